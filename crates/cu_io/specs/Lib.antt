@@ -1,0 +1,5 @@
+pub mod Fetches
+pub mod Holdings
+pub mod Puts
+pub mod Reads
+pub mod Rose
