@@ -1,0 +1,57 @@
+-- The flat code of a program: each expression stands behind its parts, and each operation's expressions behind those of
+-- the operations before it.
+use Rattle.std.specs.Prelude.{ℕ, ◌+◌, ◌-◌, List, [], ◌∷◌, ◌++◌}
+use Rattle.cu_calculus.specs.declared.Expr.{Expr}
+use Rattle.cu_calculus.specs.declared.Expr.TheVariants.{Lit, Or, Var, Whole}
+use Rattle.cu_calculus.specs.declared.ExprId.{ExprId}
+use Rattle.cu_calculus.specs.Code.{Code}
+use Rattle.cu_calculus.specs.Term as term
+use Rattle.cu_calculus.specs.Term.{Operation, Term, Terms}
+
+-- how many expressions a term has, itself and its parts
+abbrev mutual
+  pub size : Term → ℕ
+  size (term.Variable x) = 1
+  size (term.Literal l) = 1
+  size (term.Whole h arguments) = sizes arguments + 1
+  size (term.Choice left right) = size left + size right + 1
+
+  pub sizes : Terms → ℕ
+  sizes term.End = 0
+  sizes (term.More t ts) = size t + sizes ts
+
+-- where a term stands whose expressions begin at n: it is the last of them
+abbrev pub place : ℕ → Term → ExprId
+place n t = record { 0 = n + (size t - 1) }
+
+-- where the arguments of an application stand, whose expressions begin at n
+abbrev pub places : ℕ → Terms → List ExprId
+places n term.End = []
+places n (term.More t ts) = place n t ∷ places (n + size t) ts
+
+-- the expressions of a term, of which the first gets the number n
+abbrev mutual
+  pub layout : ℕ → Term → List Expr
+  layout n (term.Variable x) = Var x ∷ []
+  layout n (term.Literal l) = Lit l ∷ []
+  layout n (term.Whole h arguments) = layouts n arguments ++ Whole h (places n arguments) ∷ []
+  layout n (term.Choice left right) =
+    layout n left ++ layout (n + size left) right ++ Or (place n left) (place (n + size left) right) ∷ []
+
+  pub layouts : ℕ → Terms → List Expr
+  layouts n term.End = []
+  layouts n (term.More t ts) = layout n t ++ layouts (n + size t) ts
+
+-- the code of operations whose expressions begin at n
+abbrev pub code_from : ℕ → List Operation → Code
+code_from n [] = record { functions = []; expressions = [] }
+code_from n (o ∷ os) =
+  let others = code_from (n + size o.body) os
+  in record
+       { functions = record { arity = o.arity; body = place n o.body } ∷ others.functions
+       ; expressions = layout n o.body ++ others.expressions
+       }
+
+-- the flat code of a program
+abbrev pub code_of : List Operation → Code
+code_of program = code_from 0 program

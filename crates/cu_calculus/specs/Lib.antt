@@ -1,0 +1,4 @@
+pub mod Code
+pub mod Layout
+pub mod Term
+pub mod Value

@@ -1,0 +1,9 @@
+-- Partial values: what an expression may be worth, as far as it was asked for
+-- (González-Moreno and others, An approach to declarative programming based on a rewriting logic, 1999).
+use Rattle.cu_calculus.specs.declared.Lit.{Lit}
+
+pub data Value : Type 0 where
+  -- nothing is known
+  Bottom : Value
+  -- a literal
+  Literal : Lit → Value

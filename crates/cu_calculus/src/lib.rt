@@ -1,0 +1,86 @@
+//! What programs are made of, and the calculus that says what an expression
+//! is worth. The crate has the plain types that the definitions name, and in
+//! `specs/` the definitions themselves; it computes nothing.
+#![tactic(auto)]
+
+ghost use Rattle.std.specs.Prelude.{◌≡◌, List};
+
+use std::marker::Model;
+
+/// Curry's integers.
+pub type Int = i64;
+
+/// A literal of a program, and the value that it stands for.
+#[derive(Clone, Copy, Debug, PartialEq, Eq)]
+pub enum Lit {
+    /// An integer.
+    Int(Int),
+}
+
+/// An operation, by its place among the program's operations.
+#[derive(Clone, Copy, Debug, PartialEq, Eq)]
+pub struct FunId(pub usize);
+
+/// What stands at the head of an application.
+#[derive(Clone, Copy, Debug, PartialEq, Eq)]
+pub enum Head {
+    /// A defined operation.
+    Fun(FunId),
+}
+
+/// An expression, by its place among the program's expressions.
+#[derive(Clone, Copy, Debug, PartialEq, Eq)]
+pub struct ExprId(pub usize);
+
+/// The arguments of an application, from left to right. Contracts see a list.
+#[derive(Drop)]
+pub struct ExprIds {
+    ids: Vec<ExprId>,
+}
+
+impl Model for ExprIds {
+    ghost use Rattle.std.specs.Prelude.{List};
+    ghost use Rattle.cu_calculus.specs.declared.ExprId.{ExprId};
+
+    ghost Value = { List ExprId };
+
+    ghost view = { λ e. e.ids.items };
+}
+
+impl ExprIds {
+    /// The arguments with these numbers.
+    pub fn new(ids: Vec<ExprId>) -> ExprIds
+        ensures { result ≡ ids.items }
+    {
+        ExprIds { ids }
+    }
+
+    /// The numbers of the arguments.
+    pub fn as_slice(&self) -> &[ExprId]
+        ensures { result.now ≡ self.now }
+    {
+        self.ids.as_slice()
+    }
+}
+
+/// An expression of flat code. Its parts are named by their numbers.
+#[derive(Drop)]
+pub enum Expr {
+    /// A parameter of the operation, counted from 0.
+    Var(u32),
+    /// A literal.
+    Lit(Lit),
+    /// A head with all its arguments.
+    Whole(Head, ExprIds),
+    /// A choice between two expressions.
+    Or(ExprId, ExprId),
+}
+
+/// An operation of flat code: how many parameters it has, and its body.
+#[derive(Clone, Copy, Debug, PartialEq, Eq)]
+pub struct FlatFunction {
+    /// The number of parameters.
+    pub arity: u32,
+    /// The expression that the operation stands for.
+    pub body: ExprId,
+}

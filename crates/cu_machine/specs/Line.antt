@@ -1,0 +1,46 @@
+-- The text of a listing: a line for each answer and each branch that waits, and a last line that says how it ends.
+use Rattle.std.specs.Prelude.{ℕ, zero, suc, List, [], ◌∷◌, ◌++◌, codes, decimal}
+use Rattle.std.specs.Fmt.{signed_decimal}
+use Rattle.cu_calculus.specs.declared.Lit.TheVariants.{Int}
+use Rattle.cu_calculus.specs.Value.{Value, Bottom, Literal}
+use Rattle.cu_machine.specs.declared.End.{End}
+use Rattle.cu_machine.specs.declared.End.TheVariants.{Answers, NoMore, Rounds, Stopped}
+use Rattle.cu_machine.specs.declared.Stop.{Stop}
+use Rattle.cu_machine.specs.declared.Stop.TheVariants.{TooLarge, TooWide}
+use Rattle.cu_machine.specs.Listing.{Answered, Line, Listing, Waiting}
+
+-- a value as it is shown
+abbrev pub show : Value → List ℕ
+show (Literal (Int n)) = signed_decimal n
+show Bottom = []
+
+-- what stands before a line of a round
+abbrev pub round_mark : ℕ → List ℕ
+round_mark d = codes "[" ++ decimal d ++ codes "] "
+
+abbrev pub line_text : Line → List ℕ
+line_text (Answered d reading) = round_mark d ++ show reading.value ++ codes "\n"
+line_text (Waiting d) = round_mark d ++ codes "waits inside a set function\n"
+
+abbrev pub stop_text : Stop → List ℕ
+stop_text (TooLarge counted) = codes "too large"
+stop_text (TooWide counted) = codes "too wide"
+
+-- how many branches wait, where there are some
+abbrev pub floundered_text : ℕ → List ℕ
+floundered_text zero = []
+floundered_text (suc k) = codes "; " ++ decimal (suc k) ++ codes " floundered"
+
+abbrev pub end_text : End → List ℕ
+end_text (NoMore waits) = codes "no more" ++ floundered_text waits ++ codes "\n"
+end_text (Rounds d count) = codes "stopped at round " ++ decimal d ++ codes "; " ++ decimal count ++ codes " open\n"
+end_text (Answers count) = codes "stopped at answer " ++ decimal count ++ codes "\n"
+end_text (Stopped stop d) = stop_text stop ++ codes " at round " ++ decimal d ++ codes "\n"
+
+-- the lines of a listing, each a piece of its own
+abbrev pub line_texts : List Line → List (List ℕ)
+line_texts [] = []
+line_texts (line ∷ lines) = line_text line ∷ line_texts lines
+
+abbrev pub pieces : Listing → List (List ℕ)
+pieces listing = line_texts listing.lines ++ end_text listing.end ∷ []
