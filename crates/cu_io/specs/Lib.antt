@@ -1,5 +1,10 @@
+pub mod Calls
 pub mod Fetches
 pub mod Holdings
+pub mod Input
+pub mod Output
+pub mod Outside
 pub mod Puts
 pub mod Reads
 pub mod Rose
+pub mod Shelf

@@ -1,5 +1,5 @@
 -- What a source answers.
-use Rattle.std.specs.Prelude.{◌≡◌, ℕ, ◌+◌, ◌<◌, ◌≤◌, ◌^◌, ◌↔◌, List, [], ◌++◌, Option, None, Some, length, take, drop, IfSome}
+use Rattle.std.specs.Prelude.{◌≡◌, ℕ, ◌<◌, ◌≤◌, ◌^◌, ◌↔◌, List, [], ◌++◌, Option, None, Some, length, take, drop}
 use Rattle.cu_io.specs.declared.source.Took.{Took}
 use Rattle.cu_io.specs.declared.source.Took.TheVariants.{Bytes, Failed}
 use Rattle.cu_io.specs.Rose.{Rose}

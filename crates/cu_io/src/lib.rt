@@ -4,10 +4,21 @@
 //! and standard streams.
 #![tactic(auto)]
 
+mod calls;
+mod folder_library;
 mod library;
+mod output_sink;
+mod shelf;
 mod sink;
 mod source;
+mod vec_sink;
+mod vec_source;
 
+pub use folder_library::FolderLibrary;
 pub use library::{Fetched, Library};
+pub use output_sink::OutputSink;
+pub use shelf::ShelfLibrary;
 pub use sink::{Put, Sink};
 pub use source::{Source, Took};
+pub use vec_sink::VecSink;
+pub use vec_source::VecSource;

@@ -5,6 +5,9 @@ ghost use Rattle.cu_io.specs.Fetches.{Fetches, FetchCount};
 
 use std::alloc::{AllocError, Global};
 
+/// The most bytes of one text that a library gives.
+pub(crate) const MOST_BYTES: usize = 16_777_217;
+
 /// What a library answers when it is asked for a text.
 #[derive(Debug, Drop)]
 pub enum Fetched {
@@ -46,4 +49,18 @@ pub trait Library {
         ensures count { MatchResult result
             (λ fetched. FetchCount fetched (fault_count self.old) (fault_count self.new))
             (λ _. fault_count self.new ≡ fault_count self.old) };
+}
+
+#[cfg(test)]
+pub(crate) mod tests {
+    use super::*;
+
+    /// A text, or the name of another answer.
+    pub(crate) fn told(fetched: &Fetched) -> &[u8] {
+        match fetched {
+            Fetched::Text(text) => text.as_slice(),
+            Fetched::Absent => b"absent",
+            Fetched::Failed => b"failed",
+        }
+    }
 }

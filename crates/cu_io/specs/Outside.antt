@@ -1,0 +1,35 @@
+-- What adapters to the outside answer.
+use Rattle.std.specs.Prelude.{◌≡◌, ℕ, ◌≤◌, List, ◌++◌, Option, length, take, map, codes, if◌then◌else◌, ◌==◌}
+use Rattle.std.specs.Str.{chars, encode_utf8_all}
+use Rattle.std.specs.Io.KnownBytes.{Appends, Consumes}
+use Rattle.cu_io.specs.declared.library.Fetched.{Fetched}
+use Rattle.cu_io.specs.declared.library.Fetched.TheVariants.{Absent, Failed, Text}
+use Rattle.cu_io.specs.declared.sink.Put.{Put}
+use Rattle.cu_io.specs.declared.sink.Put.TheVariants as put
+
+-- The text is at most so many bytes long.
+abbrev pub IsTextWithin : ℕ → Fetched → Type 0
+IsTextWithin most (Text bytes) = length bytes.items ≤ most
+IsTextWithin most Absent = Unit {0}
+IsTextWithin most Failed = Unit {0}
+
+-- What a writer is known to hold grew by the piece, or where it failed by a front of it.
+abbrev pub Writes : Put → List ℕ → Option (List ℕ) → Option (List ℕ) → Type 0
+Writes put.Done piece before after = Appends before after piece
+Writes put.Failed piece before after = (n : ℕ) × (n ≤ length piece) × Appends before after (take n piece)
+
+-- So many bytes moved from the front of what a reader is known to have left to the end of a text.
+abbrev pub Moves : ℕ → Option (List ℕ) → Option (List ℕ) → List ℕ → List ℕ → Type 0
+Moves count before after old new = (bytes : List ℕ) × (length bytes ≡ count) × (new ≡ old ++ bytes) × Consumes before after bytes
+
+-- a character of a module's name in its path
+abbrev pub path_char : ℕ → ℕ
+path_char c = if c == 46 then 47 else c
+
+-- a module's name with a slash for each dot
+abbrev pub slashed : List ℕ → List ℕ
+slashed name = encode_utf8_all (map path_char (chars name))
+
+-- the path of a module's file: the directory, a slash, the name with a slash for each dot, and the ending
+abbrev pub module_path : List ℕ → List ℕ → List ℕ
+module_path dir name = dir ++ (codes "/" ++ slashed name ++ codes ".curry")

@@ -1,0 +1,201 @@
+//! Files of a file system as a library.
+ghost use Rattle.std.specs.Prelude.{◌≡◌, ◌<◌, ◌≤◌, ℕ, None, Ok, Err, ◌≢◌, IsErr, IfErr, IfOk, IfSome, MatchResult, length, take};
+ghost use Rattle.std.specs.IoError.{error_kind};
+ghost use Rattle.std.specs.String.{string_bytes};
+ghost use Rattle.std.specs.Io.KnownBytes.{IsAtEnd};
+ghost use Rattle.cu_io.specs.Fetches.{FetchCount, most_bytes};
+ghost use Rattle.cu_io.specs.Outside.{IsTextWithin, Moves, module_path, path_char, slashed};
+
+use crate::library::{Fetched, Library, MOST_BYTES};
+use std::alloc::{AllocError, Global};
+use std::io::{ErrorKind, Read};
+use std::marker::Model;
+use std::rt::Files;
+use std::{fs, io};
+
+/// The most bytes that one read takes.
+const PIECE: usize = 8192;
+
+/// Reads once at the end of a text, `most` bytes at most; tells how many, none
+/// only at the end of the file.
+fn read_piece<F: Read>(file: &mut F, text: &mut Vec<u8>, most: usize) -> io::Result<usize>
+    requires { 0 < most }
+    ensures within { IfOk result (λ count. count ≤ most) }
+    ensures moves { IfOk result (λ count.
+        Moves count (F.remaining file.old) (F.remaining file.new) text.old.items text.new.items) }
+    ensures end { IfOk result (λ count. count ≡ 0 → IsAtEnd (F.remaining file.new)) }
+{
+    let mut piece = [0; PIECE];
+    let room = &mut piece[..most.min(PIECE)];
+    let count = file.read(room)?;
+    text.extend_from_slice(&room[..count])?;
+    Ok(count)
+}
+
+/// The front of a file, `most` bytes at most.
+fn read_front<F: Read>(alloc: Global, file: &mut F, most: usize) -> io::Result<Vec<u8>>
+    ensures within { IfOk result (λ text. length text.items ≤ most) }
+    ensures told { IfOk result (λ text. IfSome (F.remaining file.old) (λ bytes.
+        text.items ≡ take most bytes)) }
+{
+    let mut text = Vec::new(alloc);
+    while text.len() < most {
+        let missing = most - text.len();
+        if read_piece(file, &mut text, missing)? == 0 {
+            return Ok(text);
+        }
+    }
+    Ok(text)
+}
+
+/// A letter of a module's name in a path.
+fn path_char(letter: char) -> char
+    ensures { result ≡ path_char letter }
+{
+    if letter == '.' { '/' } else { letter }
+}
+
+/// A module's name with a slash for each dot.
+fn slashed(alloc: Global, name: &str) -> Result<String, AllocError>
+    ensures { IfOk result (λ path. string_bytes path ≡ slashed name.now) }
+{
+    name.chars().map(path_char).collect(alloc)
+}
+
+/// The path of a module's file: `A.B` in `dir` is `dir/A/B.curry`.
+fn module_path(alloc: Global, dir: &str, name: &str) -> Result<String, AllocError>
+    ensures { IfOk result (λ path. string_bytes path ≡ module_path dir.now name.now) }
+{
+    let name = slashed(alloc, name)?;
+    format!(in alloc; "{dir}/{name}.curry")
+}
+
+/// What a file holds that couldn't be opened: nothing where it isn't there.
+fn unopened(error: io::Error) -> io::Result<Option<Vec<u8>>>
+    ensures absent { error_kind error ≡ ErrorKind.NotFound → result ≡ Ok None }
+    ensures other { error_kind error ≢ ErrorKind.NotFound → result ≡ Err error }
+{
+    if error.kind() == ErrorKind::NotFound {
+        return Ok(None);
+    }
+    Err(error)
+}
+
+/// The front of the file at a path, or `None` where it isn't there.
+fn read_file<R: Files>(files: &R, alloc: Global, path: &str) -> io::Result<Option<Vec<u8>>>
+    ensures { IfOk result (λ read. IfSome read (λ text. length text.items ≤ most_bytes)) }
+{
+    match fs::open(files, path) {
+        Ok(mut file) => Ok(Some(read_front(alloc, &mut file, MOST_BYTES)?)),
+        Err(error) => unopened(error),
+    }
+}
+
+/// Files as a library: the module `A.B` under a directory `D` is the file
+/// `D/A/B.curry`. It doesn't tell what is held. A clause sees its count of
+/// faults, which every error raises but want of memory and that a file isn't
+/// there.
+#[derive(Drop)]
+pub struct FolderLibrary<R> {
+    files: R,
+    faults: u64,
+}
+
+impl<R> Model for FolderLibrary<R> {
+    ghost use Rattle.std.specs.Prelude.{ℕ};
+
+    ghost Value = { ℕ };
+
+    ghost view = { λ s. s.faults };
+}
+
+impl<R: Files> FolderLibrary<R> {
+    /// A library over a runtime, or over a reference to one.
+    pub fn new(files: R) -> FolderLibrary<R>
+        ensures { result ≡ 0 }
+    {
+        FolderLibrary { files, faults: 0 }
+    }
+
+    /// The answer to what was read.
+    fn answer(&mut self, read: io::Result<Option<Vec<u8>>>) -> Result<Fetched, AllocError>
+        ensures text { IfOk read (λ held. IfSome held (λ text. result ≡ Ok (Fetched.Text text))) }
+        ensures absent { read ≡ Ok None → result ≡ Ok Fetched.Absent }
+        ensures memory { IfErr read (λ e. error_kind e ≡ ErrorKind.OutOfMemory → IsErr result) }
+        ensures failed { IfErr read (λ e.
+            error_kind e ≢ ErrorKind.OutOfMemory → result ≡ Ok Fetched.Failed) }
+        ensures count { MatchResult result
+            (λ fetched. FetchCount fetched self.old self.new)
+            (λ _. self.new ≡ self.old) }
+    {
+        match read {
+            Ok(Some(text)) => Ok(Fetched::Text(text)),
+            Ok(None) => Ok(Fetched::Absent),
+            Err(error) if error.kind() == ErrorKind::OutOfMemory => Err(AllocError),
+            Err(_) => {
+                self.faults = self.faults.saturating_add(1);
+                Ok(Fetched::Failed)
+            }
+        }
+    }
+
+    fn read(&mut self, alloc: Global, path: &str) -> Result<Fetched, AllocError>
+        ensures within { IfOk result (IsTextWithin most_bytes) }
+        ensures count { MatchResult result
+            (λ fetched. FetchCount fetched self.old self.new)
+            (λ _. self.new ≡ self.old) }
+    {
+        let read = read_file(&self.files, alloc, path);
+        self.answer(read)
+    }
+}
+
+impl<R: Files> Library for FolderLibrary<R> {
+    ghost fault_count = { λ s. s };
+
+    ghost holdings = { λ _. None };
+
+    fn faults(&self) -> u64 {
+        self.faults
+    }
+
+    fn fetch(&mut self, alloc: Global, dir: &str, module: &str) -> Result<Fetched, AllocError> {
+        let path = module_path(alloc, dir, module)?;
+        self.read(alloc, path.as_str())
+    }
+
+    fn file(&mut self, alloc: Global, path: &str) -> Result<Fetched, AllocError> {
+        self.read(alloc, path)
+    }
+}
+
+#[cfg(test)]
+mod tests {
+    use super::*;
+    use crate::library::tests::told;
+    use std::test::Fail;
+    use std::{env, process};
+
+    #[test]
+    fn reads_the_files_of_modules(rt: HostRuntime) -> Result<(), Fail> {
+        let alloc = rt.alloc();
+        let name = format!(in alloc; "cu_io-test-{}", process::id(rt.process()))?;
+        let dir = env::temp_dir(&rt)?.join(alloc, name.as_str())?;
+        let inner = dir.join(alloc, "A")?;
+        fs::create_dir(&rt, dir.as_path())?;
+        fs::create_dir(&rt, inner.as_path())?;
+        let file = inner.join(alloc, "B.curry")?;
+        fs::write(&rt, file.as_path(), "text")?;
+        let mut library = FolderLibrary::new(&rt);
+        let held = library.fetch(alloc, dir.as_str(), "A.B")?;
+        let absent = library.fetch(alloc, dir.as_str(), "A.C")?;
+        let before = library.faults();
+        let failed = library.file(alloc, inner.as_str())?;
+        fs::remove_dir_all(&rt, dir.as_path())?;
+        assert_eq!(rt; told(&held), b"text".as_slice());
+        assert_eq!(rt; told(&absent), b"absent".as_slice());
+        assert_eq!(rt; told(&failed), b"failed".as_slice());
+        assert_eq!(rt; (before, library.faults()), (0, 1));
+        Ok(())
+    }
+}
