@@ -36,7 +36,7 @@ abbrev mutual
   layout n (term.Literal l) = Lit l ∷ []
   layout n (term.Whole h arguments) = layouts n arguments ++ Whole h (places n arguments) ∷ []
   layout n (term.Choice left right) =
-    layout n left ++ layout (n + size left) right ++ Or (place n left) (place (n + size left) right) ∷ []
+      layout n left ++ layout (n + size left) right ++ Or (place n left) (place (n + size left) right) ∷ []
 
   pub layouts : ℕ → Terms → List Expr
   layouts n term.End = []
@@ -46,11 +46,11 @@ abbrev mutual
 abbrev pub code_from : ℕ → List Operation → Code
 code_from n [] = record { functions = []; expressions = [] }
 code_from n (o ∷ os) =
-  let others = code_from (n + size o.body) os
-  in record
-       { functions = record { arity = o.arity; body = place n o.body } ∷ others.functions
-       ; expressions = layout n o.body ++ others.expressions
-       }
+    let others = code_from (n + size o.body) os
+    in record {
+      functions = record { arity = o.arity; body = place n o.body } ∷ others.functions;
+      expressions = layout n o.body ++ others.expressions;
+    }
 
 -- the flat code of a program
 abbrev pub code_of : List Operation → Code

@@ -1,4 +1,4 @@
--- Partial values: what an expression may be worth, as far as it was asked for
+-- Partial values: approximations of what an expression may be worth
 -- (González-Moreno and others, An approach to declarative programming based on a rewriting logic, 1999).
 use Rattle.cu_calculus.specs.declared.Lit.{Lit}
 

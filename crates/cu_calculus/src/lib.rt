@@ -1,6 +1,6 @@
-//! What programs are made of, and the calculus that says what an expression
-//! is worth. The crate has the plain types that the definitions name, and in
-//! `specs/` the definitions themselves; it computes nothing.
+//! What programs are made of: the plain types that the definitions name, and
+//! in `specs/` the definitions of values, terms and flat code. It computes
+//! nothing.
 #![tactic(auto)]
 
 ghost use Rattle.std.specs.Prelude.{◌≡◌, List};

@@ -35,8 +35,8 @@ pub trait Store: Sized + Send + Drop {
         requires argument { i < length (node_at (content self.now) id).args }
         ensures { result ≡ slice_index (node_at (content self.now) id).args i };
 
-    /// Adds a node, and answers its place. An `Err` changes nothing; it also
-    /// answers a node of more than 4,294,967,295 arguments.
+    /// Adds a node, and answers its place. An `Err` changes nothing; a node of
+    /// more than 4,294,967,295 arguments gives one too.
     fn push(&mut self, kind: Kind, args: &[u32]) -> Result<u32, AllocError>
         requires { length (content self.old) < 2 ^ 32 - 1 }
         ensures place { IfOk result (λ id. id ≡ length (content self.old)) }
@@ -44,8 +44,8 @@ pub trait Store: Sized + Send + Drop {
             ≡ content self.old ++ record { kind = kind; args = args.now } ∷ []) }
         ensures err { OnErr result (content self.new ≡ content self.old) };
 
-    /// Puts another node in the place of one. An `Err` changes nothing; it
-    /// also answers a node of more than 4,294,967,295 arguments.
+    /// Puts another node in the place of one. An `Err` changes nothing; a node
+    /// of more than 4,294,967,295 arguments gives one too.
     fn put(&mut self, id: u32, kind: Kind, args: &[u32]) -> Result<(), AllocError>
         requires { id < length (content self.old) }
         ensures ok { OnOk result (content self.new

@@ -29,7 +29,7 @@ abbrev pub top_id : ℕ → Top → ℕ
 top_id next (Shared id) = id
 top_id next (Fresh node) = next
 
--- the node that is put at the place of another, which then stands for the expression
+-- the node that is written over another, which then stands for the expression: an Ind where its value is there already
 abbrev pub instead : Top → Node
 instead (Shared id) = record { kind = kind.Ind; args = id ∷ [] }
 instead (Fresh node) = node
@@ -50,9 +50,9 @@ pub record BuiltParts : Type 0 where
 abbrev pub build_parts : (ℕ → ExprId → Built) → ℕ → List ExprId → BuiltParts
 build_parts part next [] = record { nodes = []; ids = [] }
 build_parts part next (e ∷ es) =
-  let first = part next e in
-  let others = build_parts part (next + length (pushed first)) es
-  in record { nodes = pushed first ++ others.nodes; ids = place_of next first ∷ others.ids }
+    let first = part next e in
+    let others = build_parts part (next + length (pushed first)) es
+    in record { nodes = pushed first ++ others.nodes; ids = place_of next first ∷ others.ids }
 
 -- a value that is there already, or a stuck node where there is none
 abbrev pub build_variable : Option ℕ → Built

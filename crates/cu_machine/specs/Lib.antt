@@ -1,3 +1,4 @@
+pub mod Among
 pub mod Build
 pub mod Graph
 pub mod Level

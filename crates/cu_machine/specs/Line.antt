@@ -18,6 +18,7 @@ show Bottom = []
 abbrev pub round_mark : ℕ → List ℕ
 round_mark d = codes "[" ++ decimal d ++ codes "] "
 
+-- the line of an answer, and that of a branch that waits for no variable
 abbrev pub line_text : Line → List ℕ
 line_text (Answered d reading) = round_mark d ++ show reading.value ++ codes "\n"
 line_text (Waiting d) = round_mark d ++ codes "waits inside a set function\n"

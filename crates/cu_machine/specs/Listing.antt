@@ -55,9 +55,9 @@ unfoldable pub round_of : ℕ → Option ℕ → Tally → List Next → Round
 round_of d limit tally [] = nothing tally None
 round_of d limit tally (Go states ∷ outcomes) = round_of d limit tally outcomes
 round_of d limit tally (Answer reading ∷ outcomes) =
-  with_line (Answered d reading)
+    with_line (Answered d reading)
     (if is_last limit (tally.answers + 1) then nothing (one_answer tally) (Some (Answers (tally.answers + 1)))
-     else round_of d limit (one_answer tally) outcomes)
+    else round_of d limit (one_answer tally) outcomes)
 round_of d limit tally (Waits ∷ outcomes) = with_line (Waiting d) (round_of d limit (one_wait tally) outcomes)
 round_of d limit tally (Stops stop ∷ outcomes) = nothing tally (Some (Stopped stop d))
 
@@ -81,20 +81,20 @@ unless_exhausted others tally (state ∷ states) = others tally (state ∷ state
 -- one level, and what `others` lists of the level after it
 abbrev pub list_level : (Tally → List State → Listing) → Code → SearchLimits → ℕ → Tally → List State → Listing
 list_level others code limits d tally states =
-  let outcomes = map (next code limits.step) states in
-  let round = round_of d limits.answers tally outcomes
-  in after_lines round.lines (unless_ended round.end (unless_exhausted others round.tally (flat_map go_list outcomes)))
+    let outcomes = map (next code limits.step) states in
+    let round = round_of d limits.answers tally outcomes
+    in after_lines round.lines (unless_ended round.end (unless_exhausted others round.tally (flat_map go_list outcomes)))
 
--- The rounds from round d on, whose level is given, where `left` more may follow it: the end of the last round, and before
--- it a level that is too wide, end the listing.
+-- The rounds from round d on, whose level is given, where `left` more may follow it. After the last of them the round limit
+-- ends the listing; after an earlier one a level that is too wide does.
 unfoldable pub rounds : ℕ → Code → SearchLimits → ℕ → Tally → List State → Listing
 rounds zero code limits d tally states =
-  list_level (λ after following. only_end (Rounds d (length following))) code limits d tally states
+    list_level (λ after following. only_end (Rounds d (length following))) code limits d tally states
 rounds (suc left) code limits d tally states =
-  list_level
+    list_level
     (λ after following.
-      if nat_lt limits.step.width (length following) then only_end (Stopped (TooWide (length following)) (d + 1))
-      else rounds left code limits (d + 1) after following)
+    if nat_lt limits.step.width (length following) then only_end (Stopped (TooWide (length following)) (d + 1))
+    else rounds left code limits (d + 1) after following)
     code limits d tally states
 
 -- the listing of a search from its start

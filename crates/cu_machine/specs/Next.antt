@@ -49,7 +49,8 @@ abbrev pub stuck_at : State → ℕ → State
 stuck_at state id = over state (slice_set state.graph id stuck)
 
 -- The rows of the step table: what follows where the node at a place is rewritten. A call becomes the operation's body,
--- whose variables are the call's arguments; a choice becomes its left argument and its right one.
+-- whose variables are the call's arguments, so that an argument is shared by all its uses (call-time choice); a choice
+-- becomes its left argument and its right one.
 abbrev pub rewrite : Code → State → ℕ → Kind → List ℕ → List State
 rewrite code state id (kind.Call f) args = over state (written state.graph id (build_body code args (length state.graph) (body_of code f))) ∷ []
 rewrite code state id kind.Or (left ∷ right ∷ []) = renamed state id left ∷ renamed state id right ∷ []
@@ -77,5 +78,5 @@ next_by code limits state (At id) = within limits (successors code state id)
 -- the next event of a state
 unfoldable pub next : Code → Limits → State → Next
 next code limits state =
-  if is_too_large limits state then too_large limits
-  else next_by code limits state (need (length state.graph) state.graph state.root)
+    if is_too_large limits state then too_large limits
+    else next_by code limits state (need (length state.graph) state.graph state.root)

@@ -3,7 +3,10 @@
 //! `specs/` the definitions themselves; it computes nothing.
 #![tactic(auto)]
 
+mod laws;
+
 use cu_calculus::{FunId, Lit};
+pub use laws::answers_stand_at_their_depth;
 
 /// What a node of a graph is.
 #[derive(Clone, Copy, Debug, PartialEq, Eq)]
@@ -44,7 +47,7 @@ pub struct SearchLimits {
 /// answers is reached. Each holds the number that was counted.
 #[derive(Clone, Copy, Debug, PartialEq, Eq)]
 pub enum Stop {
-    /// A branch has more nodes than the limit; one more than it were counted.
+    /// A branch has more nodes than the limit; the count stops at one more.
     TooLarge(u64),
     /// A level has more open branches than the limit.
     TooWide(u64),
