@@ -1,0 +1,4 @@
+pub mod Builds
+pub mod Steps
+pub mod TooLarge
+pub mod Visits

@@ -1,0 +1,53 @@
+//! Reading and adding nodes of a graph.
+ghost use Rattle.std.specs.Prelude.{◌≡◌, ◌<◌, [], ◌∷◌, ◌++◌, IfOk, OnOk, length, slice_get};
+ghost use Rattle.cu_machine.specs.Graph.{node_at};
+
+use cu_graph::{Kind, Store};
+use std::alloc::{AllocError, Global};
+
+/// What a node is, where there is none the stuck one.
+pub(crate) fn kind_at<S: Store>(store: &S, id: u32) -> Kind
+    ensures { result ≡ (node_at (S.content store.now) id).kind }
+{
+    if id < store.len() {
+        store.kind(id)
+    } else {
+        Kind::Stuck
+    }
+}
+
+/// The first argument of a node, where there is one.
+pub(crate) fn first_arg<S: Store>(store: &S, id: u32) -> Option<u32>
+    ensures { result ≡ slice_get (node_at (S.content store.now) id).args 0 }
+{
+    if id < store.len() && 0 < store.arity(id) {
+        Some(store.arg(id, 0))
+    } else {
+        None
+    }
+}
+
+/// The arguments of a node.
+pub(crate) fn args<S: Store>(alloc: Global, store: &S, id: u32) -> Result<Vec<u32>, AllocError>
+    requires { id < length (S.content store.now) }
+    ensures { IfOk result (λ args. args.items ≡ (node_at (S.content store.now) id).args) }
+{
+    let count = store.arity(id);
+    let mut args = Vec::with_capacity(alloc, count as usize)?;
+    for i in 0..count {
+        args.push(store.arg(id, i))?;
+    }
+    Ok(args)
+}
+
+/// Adds a node, and answers its place. A full graph is out of memory.
+pub(crate) fn push<S: Store>(store: &mut S, kind: Kind, args: &[u32]) -> Result<u32, AllocError>
+    ensures place { IfOk result (λ id. id ≡ length (S.content store.old)) }
+    ensures content { OnOk result (S.content store.new
+        ≡ S.content store.old ++ record { kind = kind; args = args.now } ∷ []) }
+{
+    if store.len() == u32::MAX {
+        return Err(AllocError);
+    }
+    store.push(kind, args)
+}
