@@ -1,0 +1,16 @@
+use Rattle.std.proofs.Common.{◌≡◌, ◌++◌, length}
+use Rattle.cu_calculus.specs.Layout.{layout, place}
+use Rattle.cu_cmd.specs.Program.{choice_term}
+use Rattle.cu_cmd.proofs.ProgramLemmas.{Flattens-definition}
+use Rattle.cu_cmd.proofs.program.flat_program.Goals as goal
+
+pub loop-definition-preserved : goal.loop-definition-preserved
+loop-definition-preserved c =
+    let definition = c.definition-item.result in
+    let expressions = c.loop-definition.expressions.items in
+    let term = choice_term definition.first definition.others in
+    let written : c.push_choice.new.expressions.items ≡ expressions ++ layout (length expressions) term =
+    rw (← c.first.ensures, ← c.others.ensures) c.in_ok-body-2.ensures.pushed in
+    let body : c.in_ok-body-2.body ≡ place (length expressions) term = rw (← c.first.ensures, ← c.others.ensures) c.in_ok-body-2.ensures.place in
+    Flattens-definition _ c.args.definitions.now c.loop-definition.definition-index c.args.goal c.loop-definition.functions.items _ expressions _ definition
+    c.in_ok-body-2.body c.loop-definition.invariant c.loop-definition-test.true c.definition-item.is written body c.in_ok-push-2.ensures.items

@@ -1,0 +1,10 @@
+pub mod Asked
+pub mod Causes
+pub mod Choices
+pub mod Definition
+pub mod Due
+pub mod Faults
+pub mod Program
+pub mod Report
+pub mod SearchFaults
+pub mod Words

@@ -1,0 +1,46 @@
+-- The flat program of a module of choices, and of a goal that names one of its definitions.
+use Rattle.std.specs.Prelude.{ℕ, ◌+◌, List, [], ◌∷◌, ◌++◌, length, map}
+use Rattle.cu_calculus.specs.declared.FunId.{FunId}
+use Rattle.cu_calculus.specs.declared.Head.TheVariants.{Fun}
+use Rattle.cu_calculus.specs.declared.Lit.TheVariants.{Int}
+use Rattle.cu_calculus.specs.Term.{Operation, Term, Choice, End, Literal, More, Variable, Whole}
+use Rattle.cu_cmd.specs.declared.definition.Item.{Item}
+use Rattle.cu_cmd.specs.declared.definition.Item.TheVariants.{Earlier, Number}
+use Rattle.cu_cmd.specs.Definition.{Definition}
+
+-- The operations stand in this order: the choice operator `?`, the definitions, and the goal.
+abbrev pub choice_operator : FunId
+choice_operator = record { 0 = 0 }
+
+abbrev pub operation_of : ℕ → FunId
+operation_of k = record { 0 = k + 1 }
+
+abbrev pub goal_of : List Definition → FunId
+goal_of definitions = record { 0 = length definitions + 1 }
+
+abbrev pub call_of : ℕ → Term
+call_of k = Whole (Fun (operation_of k)) End
+
+abbrev pub item_term : Item → Term
+item_term (Number n) = Literal (Int n)
+item_term (Earlier k) = call_of k
+
+-- `?` associates to the right
+abbrev pub choice_term : Item → List Item → Term
+choice_term item [] = item_term item
+choice_term item (next ∷ items) = Whole (Fun choice_operator) (More (item_term item) (More (choice_term next items) End))
+
+-- an operation without parameters
+abbrev pub constant : Term → Operation
+constant body = record { arity = 0; body = body }
+
+-- x ? y is either of its arguments
+abbrev pub choice_operation : Operation
+choice_operation = record { arity = 2; body = Choice (Variable 0) (Variable 1) }
+
+-- the program of a module, and of the goal that names the k-th of its definitions
+abbrev pub program_of : List Definition → ℕ → List Operation
+program_of definitions k =
+    choice_operation
+    ∷ map (λ definition. constant (choice_term definition.first definition.others)) definitions
+    ++ constant (call_of k) ∷ []
