@@ -1,0 +1,3 @@
+coin = 0
+toss = 1
+coin = 2

@@ -1,0 +1,2 @@
+both = low ? 5
+low = 0 ? 1
