@@ -7,4 +7,5 @@ mod ModuleLemmas
 mod ProgramLemmas
 pub mod RoundsLemmas
 pub mod RunLemmas
+mod ScopeLemmas
 mod WordsLemmas

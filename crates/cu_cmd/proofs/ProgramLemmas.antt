@@ -1,10 +1,12 @@
 -- How far a writer of flat code has come.
-use Rattle.std.proofs.Common.{◌≡◌, ℕ, suc, ◌+◌, ◌-◌, ◌<◌, ◌≤◌, List, [], ◌∷◌, ◌++◌, Result, IfOk, map, length, get_or, take, drop, refl, ap, sym, ◌∙◌, append_assoc, length-append, drop-cons, arith}
+use Rattle.std.proofs.Common.{◌≡◌, ℕ, suc, ◌+◌, ◌-◌, ◌<◌, ◌≤◌, List, [], ◌∷◌, ◌++◌, Result, IfOk, map, length, get_or, take, drop, refl, ap, sym, ◌∙◌, append-nil, append_assoc, length-append, drop-cons, arith}
+use Rattle.std.proofs.lemmas.List.{drop_all}
 use Rattle.std.proofs.lemmas.Result.{IfOk-weaker}
 use Rattle.cu_calculus.specs.declared.Expr.{Expr}
 use Rattle.cu_calculus.specs.declared.Expr.TheVariants as expr
 use Rattle.cu_calculus.specs.declared.ExprId.{ExprId}
 use Rattle.cu_calculus.specs.declared.FlatFunction.{FlatFunction}
+use Rattle.cu_calculus.specs.Code.{Code}
 use Rattle.cu_calculus.specs.Layout.{code_from, code_of, layout, layouts, place, places, size, sizes}
 use Rattle.cu_calculus.specs.Term.{Operation, Term, Terms, Choice, End, Literal, More, Variable, Whole}
 use Rattle.cu_cmd.specs.declared.definition.Item.{Item}
@@ -14,7 +16,7 @@ use Rattle.cu_cmd.proofs.WordsLemmas.{rest_is}
 
 -- a term has as many expressions as its size says
 mutual
-  length-layout : (n : ℕ) (t : Term) → length (layout n t) ≡ size t
+  pub length-layout : (n : ℕ) (t : Term) → length (layout n t) ≡ size t
   length-layout n (Variable x) = refl
   length-layout n (Literal l) = refl
   length-layout n (Whole h arguments) =
@@ -29,7 +31,7 @@ mutual
         length-layout (n + size left) right,
       )
 
-  length-layouts : (n : ℕ) (ts : Terms) → length (layouts n ts) ≡ sizes ts
+  pub length-layouts : (n : ℕ) (ts : Terms) → length (layouts n ts) ≡ sizes ts
   length-layouts n End = refl
   length-layouts n (More t ts) =
       omega (arith, length-append (layout n t) (layouts (n + size t) ts), length-layout n t, length-layouts (n + size t) ts)
@@ -61,7 +63,10 @@ pub record Flattens (program left : List Operation) (functions : List FlatFuncti
   pub operations : functions ++ (code_from (length expressions) left).functions ≡ (code_of program).functions
   pub bodies : expressions ++ (code_from (length expressions) left).expressions ≡ (code_of program).expressions
 
-Flattens-step : (program left : List Operation) (o : Operation) (functions : List FlatFunction) (expressions : List Expr)
+pub Flattens-start : (program : List Operation) → Flattens program program [] []
+Flattens-start program = record { operations = refl; bodies = refl }
+
+pub Flattens-step : (program left : List Operation) (o : Operation) (functions : List FlatFunction) (expressions : List Expr)
     → Flattens program (o ∷ left) functions expressions
     → Flattens program left (functions ++ record { arity = o.arity; body = place (length expressions) o.body } ∷ [])
     (expressions ++ layout (length expressions) o.body)
@@ -70,6 +75,14 @@ Flattens-step program left o functions expressions f =
     let more : length (expressions ++ layout n o.body) ≡ n + size o.body =
     length-append expressions (layout n o.body) ∙ ap (λ k. n + k) (length-layout n o.body) in
     record { operations = rw (more, append_assoc) f.operations; bodies = rw (more, append_assoc) f.bodies }
+
+pub Flattens-end : (program : List Operation) (functions : List FlatFunction) (expressions : List Expr)
+    → Flattens program [] functions expressions
+    → ◌≡◌ {A = Code} (record { functions = functions; expressions = expressions }) (code_of program)
+Flattens-end program functions expressions f =
+    let a : functions ≡ (code_of program).functions = sym (append-nil functions) ∙ f.operations in
+    let b : expressions ≡ (code_of program).expressions = sym (append-nil expressions) ∙ f.bodies in
+    rw (a, b) refl
 
 -- the operations of the definitions from the i-th on, and of the goal
 abbrev pub operations_from : ℕ → List Definition → ℕ → List Operation
@@ -99,3 +112,17 @@ Flattens-definition program definitions i goal functions more expressions writte
     let here : Flattens program (operation ∷ left) functions expressions =
     rw (← operations_from-more i definitions goal definition within at_i) f in
     rw (is_more, is_body, is_written) (Flattens-step program left operation functions expressions here)
+
+-- and the goal, behind the last of them
+pub Flattens-goal : (program : List Operation) (definitions : List Definition) (i goal : ℕ) (functions more : List FlatFunction)
+    (expressions written : List Expr) (body : ExprId)
+    → Flattens program (operations_from i definitions goal) functions expressions → length definitions ≤ i
+    → written ≡ expressions ++ layout (length expressions) (call_of goal)
+    → body ≡ place (length expressions) (call_of goal)
+    → more ≡ functions ++ record { arity = 0; body = body } ∷ []
+    → ◌≡◌ {A = Code} (record { functions = more; expressions = written }) (code_of program)
+Flattens-goal program definitions i goal functions more expressions written body f past is_written is_body is_more =
+    let operation = constant (call_of goal) in
+    let none : operations_from i definitions goal ≡ operation ∷ [] = rw (drop_all i definitions past) refl in
+    let here : Flattens program (operation ∷ []) functions expressions = rw (← none) f in
+    rw (is_more, is_body, is_written) (Flattens-end program _ _ (Flattens-step program [] operation functions expressions here))

@@ -1,5 +1,5 @@
 -- What is due for a command, over plain variables.
-use Rattle.std.proofs.Common.{◌≡◌, ℕ, ◌+◌, ◌<◌, List, [], ◌∷◌, ◌++◌, Option, None, Some, Result, Ok, Err, IfOk, IfSome, IsErr, Global, length, map, slice_get, take, string_bytes, option_map, refl, ap, sym, subst, arith, length-append, codes}
+use Rattle.std.proofs.Common.{◌≡◌, ℕ, ◌+◌, ◌<◌, List, [], ◌∷◌, ◌++◌, Option, None, Some, Result, Ok, Err, IfOk, IfSome, IsErr, Global, length, slice_get, take, string_bytes, option_map, refl, ap, subst, arith, length-append, codes}
 use Rattle.std.proofs.lemmas.List.{append-nil, length-map}
 use Rattle.std.specs.List.{concat}
 use Rattle.std.specs.Prelude.{String}
@@ -22,7 +22,7 @@ use Rattle.cu_cmd.specs.declared.status.Status.TheVariants as status
 use Rattle.cu_cmd.proofs.LawsReport.{same_report}
 use Rattle.cu_cmd.specs.Choices.{Accepts, IsAbsent, Refuses, lines_of, names_of}
 use Rattle.cu_cmd.specs.Definition.{Definition}
-use Rattle.cu_cmd.specs.Due.{Ends, IsRunnable, Owes}
+use Rattle.cu_cmd.specs.Due.{Ends, Owes}
 use Rattle.cu_cmd.specs.Program.{goal_of, program_of}
 use Rattle.cu_cmd.specs.Report.{Adds, AddsFront, Held, default_limits, IsFront, Report, usage, usage_line, listed, missing, missing_line, syntax_line, wrong_goal, wrong_line}
 use Rattle.cu_cmd.specs.Words.{IsCommand, ReadsAs, Solve}

@@ -1,5 +1,6 @@
 -- The flat program of a module of choices, and of a goal that names one of its definitions.
-use Rattle.std.specs.Prelude.{ℕ, ◌+◌, List, [], ◌∷◌, ◌++◌, length, map}
+use Rattle.std.specs.Prelude.{ℕ, ◌+◌, ◌<◌, List, [], ◌∷◌, ◌++◌, length, map}
+use Rattle.std.specs.List.{All}
 use Rattle.cu_calculus.specs.declared.FunId.{FunId}
 use Rattle.cu_calculus.specs.declared.Head.TheVariants.{Fun}
 use Rattle.cu_calculus.specs.declared.Lit.TheVariants.{Int}
@@ -44,3 +45,16 @@ program_of definitions k =
     choice_operation
     ∷ map (λ definition. constant (choice_term definition.first definition.others)) definitions
     ++ constant (call_of k) ∷ []
+
+-- an item that names one of so many definitions, if it names any
+abbrev pub IsItemInScope : ℕ → Item → Type 0
+IsItemInScope count (Number n) = Unit {0}
+IsItemInScope count (Earlier k) = k < count
+
+-- a definition whose items all do
+abbrev pub IsInScope : ℕ → Definition → Type 0
+IsInScope count definition = IsItemInScope count definition.first × All (IsItemInScope count) definition.others
+
+-- definitions that name no definition but these
+abbrev pub AreInScope : List Definition → Type 0
+AreInScope definitions = All (IsInScope (length definitions)) definitions

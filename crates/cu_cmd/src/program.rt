@@ -1,7 +1,7 @@
 //! The flat program of a module of choices.
 ghost use Rattle.std.specs.Prelude.{◌≡◌, ℕ, ◌+◌, ◌<◌, ◌-◌, ◌^◌, ◌∷◌, ◌++◌, [], IfOk, OnOk, length};
 ghost use Rattle.cu_calculus.specs.Layout.{code_of, layout, place};
-ghost use Rattle.cu_cmd.specs.Program.{choice_operation, choice_term, goal_of, item_term, program_of};
+ghost use Rattle.cu_cmd.specs.Program.{AreInScope, choice_operation, choice_term, goal_of, item_term, program_of};
 
 use crate::definition::{Definition, Item};
 use cu_flat::{Expr, ExprId, ExprIds, FlatFunction, FlatProgram, FunId, Head, Lit};
@@ -14,7 +14,8 @@ pub fn flat_program(
     definitions: &[Definition],
     goal: usize,
 ) -> Result<FlatProgram, AllocError>
-    requires { goal < length definitions.now }
+    requires named { goal < length definitions.now }
+    requires scope { AreInScope definitions.now }
     ensures { IfOk result (λ program. program ≡ code_of (program_of definitions.now goal)) }
 {
     let mut functions = Vec::new(alloc);

@@ -3,14 +3,15 @@
 //! places.
 #![tactic(auto)]
 
-ghost use Rattle.std.specs.Prelude.{◌≡◌, ◌<◌, option_map, length, IsSome};
+ghost use Rattle.std.specs.Prelude.{◌≡◌, ◌<◌, option_map, length, IsSome, IsTrue};
 ghost use Rattle.cu_calculus.specs.Code.{arity_of, body_of, expr_of};
+ghost use Rattle.cu_calculus.specs.WellFormed.{is_well_formed};
 
 pub use cu_calculus::{Expr, ExprId, ExprIds, FlatFunction, FunId, Head, Int, Lit};
 use std::marker::Model;
 
 /// A flat program. Contracts see its code: the list of its operations and
-/// the list of its expressions.
+/// the list of its expressions. It is well-formed.
 #[derive(Drop)]
 pub struct FlatProgram {
     functions: Vec<FlatFunction>,
@@ -18,16 +19,21 @@ pub struct FlatProgram {
 }
 
 impl Model for FlatProgram {
+    ghost use Rattle.std.specs.Prelude.{IsTrue};
     ghost use Rattle.cu_calculus.specs.Code.{Code};
+    ghost use Rattle.cu_calculus.specs.WellFormed.{is_well_formed};
 
     ghost Value = { Code };
 
     ghost view = { λ p. record { functions = p.functions.items; expressions = p.expressions.items } };
+
+    ghost invariant = { λ p. IsTrue (is_well_formed (record { functions = p.functions.items; expressions = p.expressions.items })) };
 }
 
 impl FlatProgram {
     /// The program of these operations over these expressions.
     pub fn new(functions: Vec<FlatFunction>, expressions: Vec<Expr>) -> FlatProgram
+        requires { IsTrue (is_well_formed (record { functions = functions.items; expressions = expressions.items })) }
         ensures { result ≡ record { functions = functions.items; expressions = expressions.items } }
     {
         FlatProgram {

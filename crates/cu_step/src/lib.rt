@@ -8,6 +8,9 @@ mod rewrite;
 
 ghost use Rattle.std.specs.Prelude.{◌≡◌, ◌<◌, IfOk, length, map};
 ghost use Rattle.std.specs.List.{list_any};
+ghost use Rattle.cu_calculus.specs.declared.Expr.TheVariants as expr;
+ghost use Rattle.cu_calculus.specs.declared.Head.TheVariants.{Fun};
+ghost use Rattle.cu_calculus.specs.declared.Lit.TheVariants.{Int};
 ghost use Rattle.cu_machine.specs.Next.{Stops, is_too_large, next, too_large, within};
 ghost use Rattle.cu_machine.specs.State.{start_of};
 ghost use Rattle.cu_step.specs.Outcome.{next_of, state_of};
@@ -140,18 +143,24 @@ mod tests {
         stop: Option<Stop>,
     }
 
-    fn function(arity: u32, body: usize) -> FlatFunction {
+    fn function(arity: u32, body: usize) -> FlatFunction
+        ensures { result ≡ record { arity = arity; body = record { 0 = body } } }
+    {
         FlatFunction {
             arity,
             body: ExprId(body),
         }
     }
 
-    fn literal(n: Int) -> Expr {
+    fn literal(n: Int) -> Expr
+        ensures { result ≡ expr.Lit (Int n) }
+    {
         Expr::Lit(Lit::Int(n))
     }
 
-    fn call(alloc: Global, f: usize, arguments: &[ExprId]) -> Result<Expr, AllocError> {
+    fn call(alloc: Global, f: usize, arguments: &[ExprId]) -> Result<Expr, AllocError>
+        ensures { IfOk result (λ e. e ≡ expr.Whole (Fun (record { 0 = f })) arguments.now) }
+    {
         let arguments = ExprIds::new(Vec::from_slice(alloc, arguments)?);
         Ok(Expr::Whole(Head::Fun(FunId(f)), arguments))
     }

@@ -1,5 +1,5 @@
 -- A goal that names a definition is owed its listing, and any other a refusal.
-use Rattle.std.proofs.Common.{◌≡◌, ◌∙◌, Some, ap, sym}
+use Rattle.std.proofs.Common.{◌∙◌, Some, ap}
 use Rattle.cu_cmd.specs.Asked.{asked}
 use Rattle.cu_cmd.specs.Choices.{IsAbsent, names_of}
 use Rattle.cu_cmd.proofs.RunLemmas.{goal_is_there, owes_goal_refusal, owes_listing}
