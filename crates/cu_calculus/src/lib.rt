@@ -1,10 +1,15 @@
-//! What programs are made of: the plain types that the definitions name, and
-//! in `specs/` the definitions of values, terms and flat code. It computes
-//! nothing.
+//! What programs are made of, and the calculus that says what an expression
+//! is worth. The crate has the plain types that the definitions name, and in
+//! `specs/` the definitions themselves; it computes nothing.
 #![tactic(auto)]
 
 ghost use Rattle.std.specs.Prelude.{◌≡◌, List};
 
+mod builtin;
+mod laws;
+
+pub use builtin::{Prim, Special};
+pub use laws::{approximation_is_an_order, derivations_weaken};
 use std::marker::Model;
 
 /// Curry's integers.
@@ -15,17 +20,37 @@ pub type Int = i64;
 pub enum Lit {
     /// An integer.
     Int(Int),
+    /// A character, a Unicode scalar.
+    Char(char),
 }
 
 /// An operation, by its place among the program's operations.
 #[derive(Clone, Copy, Debug, PartialEq, Eq)]
 pub struct FunId(pub usize);
 
+/// A constructor, by its place among the program's constructors: those of
+/// the first type first, each in the order of its declaration.
+#[derive(Clone, Copy, Debug, PartialEq, Eq)]
+pub struct ConId(pub usize);
+
 /// What stands at the head of an application.
 #[derive(Clone, Copy, Debug, PartialEq, Eq)]
 pub enum Head {
     /// A defined operation.
     Fun(FunId),
+    /// A constructor.
+    Con(ConId),
+    /// The set function of an operation.
+    Set(FunId),
+}
+
+/// Whether a case distinction waits for a free variable or binds it.
+#[derive(Clone, Copy, Debug, PartialEq, Eq)]
+pub enum Mode {
+    /// It waits, as `case`.
+    Rigid,
+    /// It binds, as `fcase`.
+    Flex,
 }
 
 /// An expression, by its place among the program's expressions.

@@ -7,8 +7,8 @@ use Rattle.cu_calculus.specs.declared.Expr.TheVariants as expr
 use Rattle.cu_calculus.specs.declared.ExprId.{ExprId}
 use Rattle.cu_calculus.specs.declared.FlatFunction.{FlatFunction}
 use Rattle.cu_calculus.specs.Code.{Code}
-use Rattle.cu_calculus.specs.Layout.{code_from, code_of, layout, layouts, place, places, size, sizes}
-use Rattle.cu_calculus.specs.Term.{Operation, Term, Terms, Choice, End, Literal, More, Variable, Whole}
+use Rattle.cu_cmd.specs.Layout.{code_from, code_of, layout, layouts, place, places, size, sizes}
+use Rattle.cu_cmd.specs.Term.{Operation, Term, Terms, Choice, End, Literal, More, Variable, Whole}
 use Rattle.cu_cmd.specs.declared.definition.Item.{Item}
 use Rattle.cu_cmd.specs.Definition.{Definition}
 use Rattle.cu_cmd.specs.Program.{call_of, choice_term, constant, item_term}

@@ -5,8 +5,8 @@ use Rattle.std.specs.List.{concat}
 use Rattle.std.specs.Prelude.{String}
 use Rattle.cu_calculus.specs.declared.FunId.{FunId}
 use Rattle.cu_calculus.specs.Code.{Code}
-use Rattle.cu_calculus.specs.Layout.{code_from, code_of, size}
-use Rattle.cu_calculus.specs.Term.{Operation}
+use Rattle.cu_cmd.specs.Layout.{code_from, code_of, size}
+use Rattle.cu_cmd.specs.Term.{Operation}
 use Rattle.cu_io.specs.declared.library.Fetched.{Fetched}
 use Rattle.cu_io.specs.declared.library.Fetched.TheVariants.{Absent}
 use Rattle.cu_io.specs.Fetches.{Fetches, most_bytes}

@@ -1,5 +1,5 @@
 -- Terms whose calls are whole and whose variables are parameters, and the flat code of programs that are made of them.
-use Rattle.std.proofs.Common.{◌≡◌, ℕ, zero, suc, ◌+◌, ◌-◌, ◌<◌, ◌≤◌, Bool, ◌&&◌, IsTrue, List, [], ◌∷◌, ◌++◌, Option, Some, length, map, slice_get, option_map, get_or, refl, ap, sym, subst, ◌∙◌, arith, length-append}
+use Rattle.std.proofs.Common.{◌≡◌, ℕ, zero, suc, ◌+◌, ◌-◌, ◌<◌, ◌≤◌, Bool, ◌&&◌, IsTrue, List, [], ◌∷◌, ◌++◌, Option, None, Some, length, map, slice_get, option_map, get_or, refl, ap, sym, subst, ◌∙◌, arith, length-append}
 use Rattle.std.specs.List.{All, list_all}
 use Rattle.std.proofs.lemmas.Bool.{eq-eqb, lt-ltb}
 use Rattle.std.proofs.lemmas.List.{length-map}
@@ -9,10 +9,10 @@ use Rattle.cu_calculus.specs.declared.Expr.{Expr}
 use Rattle.cu_calculus.specs.declared.Expr.TheVariants as expr
 use Rattle.cu_calculus.specs.declared.ExprId.{ExprId}
 use Rattle.cu_calculus.specs.declared.Head.{Head}
-use Rattle.cu_calculus.specs.declared.Head.TheVariants.{Fun}
+use Rattle.cu_calculus.specs.declared.Head.TheVariants.{Con, Fun, Set}
 use Rattle.cu_calculus.specs.Code.{Code, arity_of, expr_of}
-use Rattle.cu_calculus.specs.Layout.{code_from, code_of, layout, layouts, place, places, size, sizes}
-use Rattle.cu_calculus.specs.Term.{Operation, Term, Terms, Choice, End, Literal, More, Variable, Whole}
+use Rattle.cu_cmd.specs.Layout.{code_from, code_of, layout, layouts, place, places, size, sizes}
+use Rattle.cu_cmd.specs.Term.{Operation, Term, Terms, Choice, End, Literal, More, Variable, Whole}
 use Rattle.cu_calculus.specs.WellFormed.{fits, fits_expr, function_fits, is_well_formed, is_whole}
 use Rattle.cu_cmd.specs.declared.definition.Item.{Item}
 use Rattle.cu_cmd.specs.declared.definition.Item.TheVariants.{Earlier, Number}
@@ -136,6 +136,8 @@ mutual
 -- the arities of a program's operations
 abbrev pub known : List Operation → Head → Option ℕ
 known program (Fun f) = option_map (λ o. o.arity) (slice_get program f.0)
+known program (Con c) = None
+known program (Set f) = option_map (λ o. o.arity) (slice_get program f.0)
 
 -- all bodies of operations are in scope
 abbrev pub AllScoped : (Head → Option ℕ) → List Operation → Type 0
@@ -184,6 +186,8 @@ known-all f g same (o ∷ os) s = (scope-same f g same o.arity o.body s.0, known
 -- the arities of a program are those of its code
 arity-known : (program : List Operation) (h : Head) → known program h ≡ arity_of (code_of program) h
 arity-known program (Fun f) = sym (arity-get 0 f.0 program)
+arity-known program (Con c) = refl
+arity-known program (Set f) = sym (arity-get 0 f.0 program)
 
 -- the code of a program in scope is well-formed
 pub code-well_formed : (program : List Operation) → AllScoped (known program) program → IsTrue (is_well_formed (code_of program))

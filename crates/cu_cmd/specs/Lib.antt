@@ -4,7 +4,9 @@ pub mod Choices
 pub mod Definition
 pub mod Due
 pub mod Faults
+pub mod Layout
 pub mod Program
 pub mod Report
 pub mod SearchFaults
+pub mod Term
 pub mod Words

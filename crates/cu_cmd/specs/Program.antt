@@ -4,7 +4,7 @@ use Rattle.std.specs.List.{All}
 use Rattle.cu_calculus.specs.declared.FunId.{FunId}
 use Rattle.cu_calculus.specs.declared.Head.TheVariants.{Fun}
 use Rattle.cu_calculus.specs.declared.Lit.TheVariants.{Int}
-use Rattle.cu_calculus.specs.Term.{Operation, Term, Choice, End, Literal, More, Variable, Whole}
+use Rattle.cu_cmd.specs.Term.{Operation, Term, Choice, End, Literal, More, Variable, Whole}
 use Rattle.cu_cmd.specs.declared.definition.Item.{Item}
 use Rattle.cu_cmd.specs.declared.definition.Item.TheVariants.{Earlier, Number}
 use Rattle.cu_cmd.specs.Definition.{Definition}

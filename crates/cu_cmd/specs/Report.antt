@@ -1,7 +1,7 @@
 -- The report of a run: what it writes and the status that it ends with, by its words and by what the library holds.
 use Rattle.std.specs.Prelude.{◌≡◌, ℕ, zero, suc, ◌≤◌, List, [], ◌∷◌, ◌++◌, Option, None, Some, codes, decimal, take, length, option_map, slice_get}
 use Rattle.std.specs.List.{concat}
-use Rattle.cu_calculus.specs.Layout.{code_of}
+use Rattle.cu_cmd.specs.Layout.{code_of}
 use Rattle.cu_io.specs.Fetches.{most_bytes}
 use Rattle.cu_machine.specs.declared.End.{End}
 use Rattle.cu_machine.specs.declared.End.TheVariants as ends

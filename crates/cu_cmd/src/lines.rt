@@ -1,11 +1,11 @@
 //! The lines of a listing.
-ghost use Rattle.std.specs.Prelude.{◌≡◌, IfOk, string_bytes};
+ghost use Rattle.std.specs.Prelude.{◌≡◌, ◌++◌, IfOk, codes, string_bytes};
 ghost use Rattle.cu_machine.specs.declared.End.TheVariants.{NoMore};
-ghost use Rattle.cu_machine.specs.Line.{end_text, line_text, stop_text};
+ghost use Rattle.cu_machine.specs.Line.{end_text, line_text, show_literal, shown_character, stop_text};
 ghost use Rattle.cu_machine.specs.Listing.{Answered, Waiting};
 ghost use Rattle.cu_step.specs.Outcome.{reading_of};
 
-use cu_flat::{Int, Lit};
+use cu_flat::Lit;
 use cu_machine::{End, Stop};
 use cu_step::Reading;
 use std::alloc::{AllocError, Global};
@@ -14,16 +14,43 @@ use std::alloc::{AllocError, Global};
 pub fn answer_line(alloc: Global, round: u64, reading: Reading) -> Result<String, AllocError>
     ensures { IfOk result (λ text. string_bytes text ≡ line_text (Answered round (reading_of reading))) }
 {
-    let number = integer(reading.value);
-    format!(in alloc; "[{round}] {number}\n")
+    let value = literal_text(alloc, reading.value)?;
+    format!(in alloc; "[{round}] {value}\n")
 }
 
-/// The integer that a literal stands for.
-fn integer(literal: Lit) -> Int
-    ensures { literal ≡ Lit.Int result }
+/// A literal as it is shown.
+fn literal_text(alloc: Global, literal: Lit) -> Result<String, AllocError>
+    ensures { IfOk result (λ text. string_bytes text ≡ show_literal literal) }
 {
-    let Lit::Int(number) = literal;
-    number
+    match literal {
+        Lit::Int(number) => format!(in alloc; "{number}"),
+        Lit::Char(character) => character_text(alloc, character),
+    }
+}
+
+/// The number of the last control character.
+const DELETE: u32 = 127;
+
+/// A character between quotes, with its escape where it needs one.
+fn character_text(alloc: Global, character: char) -> Result<String, AllocError>
+    ensures { IfOk result (λ text. string_bytes text ≡ codes "'" ++ (shown_character character ++ codes "'")) }
+{
+    let number = u32::from(character);
+    if character == '\\' {
+        String::from_str(alloc, r"'\\'")
+    } else if character == '\'' {
+        String::from_str(alloc, r"'\''")
+    } else if character == '\n' {
+        String::from_str(alloc, r"'\n'")
+    } else if character == '\t' {
+        String::from_str(alloc, r"'\t'")
+    } else if character == '\r' {
+        String::from_str(alloc, r"'\r'")
+    } else if number < 32 || number == DELETE {
+        format!(in alloc; "'\\{number}'")
+    } else {
+        format!(in alloc; "'{character}'")
+    }
 }
 
 /// The line of a branch that waits in a round, with its line feed.
@@ -104,6 +131,29 @@ mod tests {
         ];
         for (line, want) in table {
             assert_eq!(rt; line.as_str(), want);
+        }
+        Ok(())
+    }
+
+    #[test]
+    fn texts_of_characters(rt: HostRuntime) -> Result<(), Fail> {
+        let alloc = rt.alloc();
+        let table = [
+            ('a', "'a'"),
+            ('\'', r"'\''"),
+            ('\\', r"'\\'"),
+            ('"', "'\"'"),
+            ('\n', r"'\n'"),
+            ('\t', r"'\t'"),
+            ('\r', r"'\r'"),
+            ('\u{1}', r"'\1'"),
+            ('\u{1f}', r"'\31'"),
+            ('\u{7f}', r"'\127'"),
+            ('\u{e9}', "'\u{e9}'"),
+        ];
+        for (character, want) in table {
+            let text = literal_text(alloc, Lit::Char(character))?;
+            assert_eq!(rt; text.as_str(), want);
         }
         Ok(())
     }

@@ -1,6 +1,6 @@
 //! The flat program of a module of choices.
 ghost use Rattle.std.specs.Prelude.{◌≡◌, ℕ, ◌+◌, ◌<◌, ◌-◌, ◌^◌, ◌∷◌, ◌++◌, [], IfOk, OnOk, length};
-ghost use Rattle.cu_calculus.specs.Layout.{code_of, layout, place};
+ghost use Rattle.cu_cmd.specs.Layout.{code_of, layout, place};
 ghost use Rattle.cu_cmd.specs.Program.{AreInScope, choice_operation, choice_term, goal_of, item_term, program_of};
 
 use crate::definition::{Definition, Item};

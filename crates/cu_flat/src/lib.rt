@@ -77,8 +77,10 @@ impl FlatProgram {
         requires { IsSome (arity_of self.now head) }
         ensures { Some result ≡ arity_of self.now head }
     {
-        let Head::Fun(f) = head;
-        self.functions[f.0].arity
+        match head {
+            Head::Fun(f) | Head::Set(f) => self.functions[f.0].arity,
+            Head::Con(_) => unreachable!(),
+        }
     }
 
     /// The expression of a number, where there is such an expression.

@@ -4,7 +4,7 @@ use Rattle.std.specs.Prelude.{ℕ, zero, suc, ◌+◌, List, [], ◌∷◌, ◌+
 use Rattle.cu_calculus.specs.declared.Expr.{Expr}
 use Rattle.cu_calculus.specs.declared.Expr.TheVariants as expr
 use Rattle.cu_calculus.specs.declared.ExprId.{ExprId}
-use Rattle.cu_calculus.specs.declared.Head.TheVariants.{Fun}
+use Rattle.cu_calculus.specs.declared.Head.TheVariants.{Con, Fun, Set}
 use Rattle.cu_calculus.specs.Code.{Code, expr_of}
 use Rattle.cu_machine.specs.declared.Kind.{Kind}
 use Rattle.cu_machine.specs.declared.Kind.TheVariants as kind
@@ -63,11 +63,14 @@ build_variable None = record { parts = []; top = Fresh stuck }
 abbrev pub build_node : Kind → BuiltParts → Built
 build_node kind parts = record { parts = parts.nodes; top = Fresh (record { kind = kind; args = parts.ids }) }
 
--- one expression, whose variables have the values at the places `values`
+-- One expression, whose variables have the values at the places `values`. Constructors and set functions have no nodes yet:
+-- a stuck node stands for them.
 abbrev pub build_expr : (ℕ → ExprId → Built) → List ℕ → ℕ → Option Expr → Built
 build_expr part values next (Some (expr.Var x)) = build_variable (slice_get values x)
 build_expr part values next (Some (expr.Lit l)) = record { parts = []; top = Fresh (record { kind = kind.Lit l; args = [] }) }
 build_expr part values next (Some (expr.Whole (Fun f) arguments)) = build_node (kind.Call f) (build_parts part next arguments)
+build_expr part values next (Some (expr.Whole (Con c) arguments)) = record { parts = []; top = Fresh stuck }
+build_expr part values next (Some (expr.Whole (Set f) arguments)) = record { parts = []; top = Fresh stuck }
 build_expr part values next (Some (expr.Or left right)) = build_node kind.Or (build_parts part next (left ∷ right ∷ []))
 build_expr part values next None = record { parts = []; top = Fresh stuck }
 

@@ -1,18 +1,40 @@
 -- The text of a listing: a line for each answer and each branch that waits, and a last line that says how it ends.
-use Rattle.std.specs.Prelude.{ℕ, zero, suc, List, [], ◌∷◌, ◌++◌, codes, decimal}
+use Rattle.std.specs.Prelude.{ℕ, zero, suc, ◌||◌, if◌then◌else◌, nat_eq, nat_lt, List, [], ◌∷◌, ◌++◌, codes, decimal, encode_utf8}
 use Rattle.std.specs.Fmt.{signed_decimal}
-use Rattle.cu_calculus.specs.declared.Lit.TheVariants.{Int}
-use Rattle.cu_calculus.specs.Value.{Value, Bottom, Literal}
+use Rattle.cu_calculus.specs.declared.Lit.{Lit}
+use Rattle.cu_calculus.specs.declared.Lit.TheVariants.{Char, Int}
+use Rattle.cu_calculus.specs.Value.{Value, Literal}
 use Rattle.cu_machine.specs.declared.End.{End}
 use Rattle.cu_machine.specs.declared.End.TheVariants.{Answers, NoMore, Rounds, Stopped}
 use Rattle.cu_machine.specs.declared.Stop.{Stop}
 use Rattle.cu_machine.specs.declared.Stop.TheVariants.{TooLarge, TooWide}
 use Rattle.cu_machine.specs.Listing.{Answered, Line, Listing, Waiting}
 
--- a value as it is shown
+-- a character's number behind a backslash
+abbrev pub by_number : ℕ → List ℕ
+by_number c = codes "\\" ++ decimal c
+
+-- A character in a literal: a backslash, a quote, a line feed, a tab and a carriage return are escaped, and other control
+-- characters are written by their numbers.
+abbrev pub shown_character : ℕ → List ℕ
+shown_character c =
+    if nat_eq c 92 then codes "\\\\"
+    else if nat_eq c 39 then codes "\\'"
+    else if nat_eq c 10 then codes "\\n"
+    else if nat_eq c 9 then codes "\\t"
+    else if nat_eq c 13 then codes "\\r"
+    else if nat_lt c 32 || nat_eq c 127 then by_number c
+    else encode_utf8 c
+
+-- a literal as it is shown
+abbrev pub show_literal : Lit → List ℕ
+show_literal (Int n) = signed_decimal n
+show_literal (Char c) = codes "'" ++ (shown_character c ++ codes "'")
+
+-- a value as it is shown; the machine reads literals alone
 abbrev pub show : Value → List ℕ
-show (Literal (Int n)) = signed_decimal n
-show Bottom = []
+show (Literal l) = show_literal l
+show _ = []
 
 -- what stands before a line of a round
 abbrev pub round_mark : ℕ → List ℕ

@@ -2,11 +2,12 @@
 use Rattle.std.proofs.Common.{◌≡◌, ℕ, ◌-◌, ◌<◌, suc, List, [], ◌∷◌, Option, Some, None, ◌++◌, refl, sym, ap, ◌∙◌, arith, append-nil}
 use Rattle.std.specs.List.{slice_get}
 use Rattle.cu_calculus.specs.Code.{Code, expr_of}
+use Rattle.cu_calculus.specs.declared.ConId.{ConId}
 use Rattle.cu_calculus.specs.declared.Expr.{Expr}
 use Rattle.cu_calculus.specs.declared.Expr.TheVariants as expr
 use Rattle.cu_calculus.specs.declared.ExprId.{ExprId}
 use Rattle.cu_calculus.specs.declared.FunId.{FunId}
-use Rattle.cu_calculus.specs.declared.Head.TheVariants.{Fun}
+use Rattle.cu_calculus.specs.declared.Head.TheVariants.{Con, Fun, Set}
 use Rattle.cu_calculus.specs.declared.Lit.{Lit}
 use Rattle.cu_machine.specs.declared.Kind.TheVariants as kind
 use Rattle.cu_machine.specs.Graph.{Node, stuck}
@@ -45,6 +46,16 @@ pub build-Whole : (code : Code) (values : List ℕ) (depth next : ℕ) (e : Expr
     → build depth code values next e ≡ build_node (kind.Call f) (build_parts (build (depth - 1) code values) next arguments)
 build-Whole code values depth next e f arguments = build-deep code values depth next e (Some (expr.Whole (Fun f) arguments))
 
+pub build-Con : (code : Code) (values : List ℕ) (depth next : ℕ) (e : ExprId) (c : ConId) (arguments : List ExprId) → 0 < depth
+    → expr_of code e ≡ Some (expr.Whole (Con c) arguments)
+    → build depth code values next e ≡ record { parts = []; top = Fresh stuck }
+build-Con code values depth next e c arguments = build-deep code values depth next e (Some (expr.Whole (Con c) arguments))
+
+pub build-Set : (code : Code) (values : List ℕ) (depth next : ℕ) (e : ExprId) (f : FunId) (arguments : List ExprId) → 0 < depth
+    → expr_of code e ≡ Some (expr.Whole (Set f) arguments)
+    → build depth code values next e ≡ record { parts = []; top = Fresh stuck }
+build-Set code values depth next e f arguments = build-deep code values depth next e (Some (expr.Whole (Set f) arguments))
+
 pub build-Or : (code : Code) (values : List ℕ) (depth next : ℕ) (e left right : ExprId) → 0 < depth
     → expr_of code e ≡ Some (expr.Or left right)
     → build depth code values next e ≡ build_node kind.Or (build_parts (build (depth - 1) code values) next (left ∷ right ∷ []))
@@ -67,4 +78,13 @@ module _ (graph : List Node) (code : Code) (values : List ℕ) (depth next : ℕ
   pub parts-Lit : (l : Lit) → 0 < depth → expr_of code e ≡ Some (expr.Lit l) → graph ≡ graph ++ (build depth code values next e).parts
   parts-Lit l deep is = rw (build-Lit code values depth next e l deep is) (sym (append-nil graph))
 
-pub ruleset builds = (build-flat, build-None, build-Var, build-Lit, build-Whole, build-Or, parts-flat, parts-None, parts-Var, parts-Lit)
+  pub parts-Con : (c : ConId) (arguments : List ExprId) → 0 < depth → expr_of code e ≡ Some (expr.Whole (Con c) arguments)
+      → graph ≡ graph ++ (build depth code values next e).parts
+  parts-Con c arguments deep is = rw (build-Con code values depth next e c arguments deep is) (sym (append-nil graph))
+
+  pub parts-Set : (f : FunId) (arguments : List ExprId) → 0 < depth → expr_of code e ≡ Some (expr.Whole (Set f) arguments)
+      → graph ≡ graph ++ (build depth code values next e).parts
+  parts-Set f arguments deep is = rw (build-Set code values depth next e f arguments deep is) (sym (append-nil graph))
+
+pub ruleset builds =
+    (build-flat, build-None, build-Var, build-Lit, build-Whole, build-Con, build-Set, build-Or, parts-flat, parts-None, parts-Var, parts-Lit, parts-Con, parts-Set)

@@ -78,6 +78,8 @@ fn build<S: Store>(
             let ids = build_parts(alloc, program, store, values, depth - 1, parts)?;
             Ok(Top::Fresh(Kind::Call(*f), ids))
         }
+        Some(Expr::Whole(Head::Con(_), _)) => Ok(Top::stuck(alloc)),
+        Some(Expr::Whole(Head::Set(_), _)) => Ok(Top::stuck(alloc)),
         Some(Expr::Or(left, right)) => {
             let parts = [*left, *right];
             let ids = build_parts(alloc, program, store, values, depth - 1, &parts)?;

@@ -1,6 +1,6 @@
 use Rattle.std.proofs.Common.{◌≡◌, ◌++◌, IsTrue, length, subst, sym}
 use Rattle.cu_calculus.specs.Code.{Code}
-use Rattle.cu_calculus.specs.Layout.{layout, place}
+use Rattle.cu_cmd.specs.Layout.{layout, place}
 use Rattle.cu_calculus.specs.WellFormed.{is_well_formed}
 use Rattle.cu_cmd.specs.Program.{choice_term, program_of}
 use Rattle.cu_cmd.proofs.ProgramLemmas.{Flattens-definition, Flattens-goal}

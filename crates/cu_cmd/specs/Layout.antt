@@ -5,8 +5,8 @@ use Rattle.cu_calculus.specs.declared.Expr.{Expr}
 use Rattle.cu_calculus.specs.declared.Expr.TheVariants.{Lit, Or, Var, Whole}
 use Rattle.cu_calculus.specs.declared.ExprId.{ExprId}
 use Rattle.cu_calculus.specs.Code.{Code}
-use Rattle.cu_calculus.specs.Term as term
-use Rattle.cu_calculus.specs.Term.{Operation, Term, Terms}
+use Rattle.cu_cmd.specs.Term as term
+use Rattle.cu_cmd.specs.Term.{Operation, Term, Terms}
 
 -- how many expressions a term has, itself and its parts
 abbrev mutual

@@ -1,0 +1,23 @@
+-- The literals of the language, and what they have in common.
+use Rattle.std.specs.Prelude.{ℕ, ◌-◌, ◌^◌, Bool, false, ◌&&◌, ◌||◌, nat_eq, nat_le, nat_lt, ℤ, pos, negsuc, int_le}
+use Rattle.std.specs.Ordering.{int_eq}
+use Rattle.cu_calculus.specs.declared.Lit.{Lit}
+use Rattle.cu_calculus.specs.declared.Lit.TheVariants.{Char, Int}
+
+-- the integers of the language: 64 bits with a sign
+abbrev pub is_integer : ℤ → Bool
+is_integer n = int_le (negsuc (2 ^ 63 - 1)) n && int_le n (pos (2 ^ 63 - 1))
+
+-- a Unicode scalar: below 0x110000, and no surrogate
+abbrev pub is_scalar : ℕ → Bool
+is_scalar n = nat_lt n 0xD800 || (nat_le 0xE000 n && nat_lt n 0x110000)
+
+-- a literal of the language
+abbrev pub is_literal : Lit → Bool
+is_literal (Int n) = is_integer n
+is_literal (Char c) = is_scalar c
+
+abbrev pub same_literal : Lit → Lit → Bool
+same_literal (Int m) (Int n) = int_eq m n
+same_literal (Char m) (Char n) = nat_eq m n
+same_literal _ _ = false
