@@ -1,0 +1,23 @@
+pub mod AsciiLemmas
+pub mod ChainLemmas
+pub mod ClassLemmas
+pub mod CursorLemmas
+pub mod CutLemmas
+pub mod DecodingLemmas
+mod Examples
+pub mod FirstLemmas
+pub mod ItemLemmas
+pub mod LexLemmas
+pub mod LiteralLemmas
+pub mod LongestLemmas
+pub mod MunchLemmas
+pub mod NamedLemmas
+pub mod NumberLemmas
+pub mod PieceLemmas
+pub mod QualifiedLemmas
+pub mod QuoteLemmas
+pub mod ScanLemmas
+pub mod SpellingLemmas
+pub mod TextBeginnings
+pub mod TokenLemmas
+pub mod WordLemmas

@@ -1,0 +1,24 @@
+use Rattle.std.proofs.Common.{◌≡◌, ◌++◌, ◌∙◌, ap}
+use lib.Utf8.{encodes}
+use Rattle.cu_lex.specs.Located.{Located, characters}
+use Rattle.cu_lex.specs.Scanning.{left, position}
+use Rattle.cu_lex.proofs.CursorLemmas.{before, fits-before, boundary, taken}
+use Rattle.cu_lex.proofs.cursor.Cursor.text_to.Goals as goal
+
+pub overflow_sub-self : goal.overflow_sub-self
+unfolding left
+overflow_sub-self c =
+    fits-before (encodes (characters c.requires.0)) c.args.self.text.now c.args.end.text.now
+    (before c.requires.0 (position c.args.self) (position c.args.end) c.args.self.text.now c.args.end.text.now c.args.self.utf8 c.args.end.utf8 c.requires.1)
+
+pub range-requires-clause-end_boundary : goal.range-requires-clause-end_boundary
+unfolding left
+range-requires-clause-end_boundary c =
+    boundary (encodes (characters c.requires.0)) c.args.self.text.now c.args.end.text.now c.args.end.utf8
+    (before c.requires.0 (position c.args.self) (position c.args.end) c.args.self.text.now c.args.end.text.now c.args.self.utf8 c.args.end.utf8 c.requires.1)
+
+pub returns : goal.returns
+unfolding left
+returns c = λ front whole.
+    c.range.ensures.value ∙ taken (encodes (characters front)) c.args.self.text.now c.args.end.text.now
+    (before front (position c.args.self) (position c.args.end) c.args.self.text.now c.args.end.text.now c.args.self.utf8 c.args.end.utf8 whole)

@@ -1,0 +1,35 @@
+-- Words with qualifiers, at the front of a text.
+use Rattle.std.specs.Prelude.{◌≡◌, ℕ, ◌≤◌, true, List, ◌++◌, length, Option, None, Some, MatchOption}
+use Rattle.std.specs.Str.{byte}
+use Rattle.cu_lex.specs.declared.cursor.Cursor.{Cursor}
+use Rattle.cu_lex.specs.declared.word.Qualified.{Qualified}
+use Rattle.cu_lex.specs.declared.word.WordKind.{WordKind}
+use Rattle.cu_lex.specs.Located.{Located, characters}
+use Rattle.cu_lex.specs.Scanning.{first_of, later, left, con_id_kind, is_base, IsWord}
+use Rattle.cu_lex.specs.Words.{is_module_name}
+
+-- A name or an operator that ends before `rest`, or a ConId, a dot and such a word.
+pub data Reaches (rest : List Located) : List Located → Type 0 where
+  last : {text : List Located} (kind : WordKind) → IsWord text kind rest → is_base kind ≡ true → Reaches rest text
+  link : {text : List Located} (end : List Located) → IsWord text con_id_kind end → first_of end ≡ Some (byte ".") → Reaches rest (later end) → Reaches rest text
+
+-- A qualifier before a dot.
+pub record IsBehind (text dot base : List Located) : Type 0 where
+  pub outer : List Located
+  pub whole : outer ++ dot ≡ text
+  pub is : is_module_name (characters outer) ≡ true
+  pub dotted : first_of dot ≡ Some (byte ".")
+  pub after : base ≡ later dot
+
+-- Where the last word begins: at the start, or behind a qualifier.
+abbrev pub BeginsAt : List Located → List Located → Option Cursor → Type 0
+BeginsAt text base None = base ≡ text
+BeginsAt text base (Some dot) = IsBehind text (left dot) base
+
+-- A word with all its qualifiers: no other reaches further.
+pub record IsQualified (text : List Located) (found : Qualified) : Type 0 where
+  pub begins : BeginsAt text (left found.base) found.dot
+  pub word : IsWord (left found.base) found.word.kind (left found.word.end)
+  pub base : is_base found.word.kind ≡ true
+  pub plain : found.dot ≡ None → found.word.kind ≡ con_id_kind
+  pub most : (rest : List Located) → Reaches rest text → length (left found.word.end) ≤ length rest

@@ -1,0 +1,20 @@
+-- Laws of the definition of tokens.
+use Rattle.std.specs.Prelude.{◌≡◌, ℕ, ◌<◌, ◌↔◌, List, ◌++◌, length, None, Some, IsTrue}
+use Rattle.std.specs.Str.{IsUtf8}
+use Rattle.cu_lex.specs.Decoding.{begins_text}
+use Rattle.cu_lex.specs.Located.{Located}
+use Rattle.cu_lex.specs.Munch.{Cut, Classes, longest, IsLongest}
+
+-- `longest` gives the longest front of the classes.
+abbrev pub GivesLongest : {X : Type 0} → Classes X → Type 0
+GivesLongest {X} classes = (text : List Located) (cut : Cut X) → (longest classes text ≡ Some cut) ↔ IsLongest classes text cut
+
+-- It gives none where no front is of a class.
+abbrev pub GivesNone : {X : Type 0} → Classes X → Type 0
+GivesNone classes =
+    (text : List Located)
+    → (longest classes text ≡ None) ↔ ((front rest : List Located) → front ++ rest ≡ text → 0 < length front → classes front rest ≡ None)
+
+-- Bytes begin a UTF-8 text where some bytes complete them to one.
+abbrev pub BeginsTexts : Type 0
+BeginsTexts = (bytes : List ℕ) → IsTrue (begins_text bytes) ↔ ((rest : List ℕ) × IsUtf8 (bytes ++ rest))

@@ -1,0 +1,14 @@
+pub mod Chains
+pub mod Decoding
+pub mod Items
+pub mod Kind
+pub mod Laws
+pub mod Lexing
+pub mod Literals
+pub mod Located
+pub mod Munch
+pub mod Pieces
+pub mod Reading
+pub mod Scanning
+pub mod Tokens
+pub mod Words

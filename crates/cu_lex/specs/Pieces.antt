@@ -1,0 +1,138 @@
+-- The pieces of a module's text: its tokens, and what stands between them.
+use Rattle.std.specs.Prelude.{ℕ, ◌^◌, pos, Bool, true, not, ◌||◌, nat_lt, List, [], ◌∷◌, ◌++◌, codes, Option, None, Some, Result, Ok, Err, if◌then◌else◌}
+use Rattle.std.specs.Option.{option_and_then, option_map, option_or}
+use Rattle.std.specs.Result.{result_map_both}
+use Rattle.std.specs.Str.{byte}
+use lib.Utf8.{scalar}
+use Rattle.cu_lex.specs.declared.token.Mark.TheVariants as mark
+use Rattle.cu_lex.specs.declared.token.Special.{Special}
+use Rattle.cu_lex.specs.declared.token.Special.TheVariants as special
+use Rattle.cu_lex.specs.Kind.{Kind, Spelling}
+use Rattle.cu_lex.specs.Kind.Kind.{VarId, ConId, VarOp, ConOp, Keyword, Reserved, Mark, Int, Char, String}
+use Rattle.cu_lex.specs.Literals.{items_between}
+use Rattle.cu_lex.specs.Located.{Position, Located, first_position, characters}
+use Rattle.cu_lex.specs.Munch.{Classes, Placed}
+use Rattle.cu_lex.specs.Words.{entry, begins_with, is_single, is_separator, is_name_character, is_symbol, is_dash, is_colon, keyword_of, reserved_of, mark_of, is_var_id, is_con_id, is_operator, qualified_parts, based_number, decimal_number, is_line_comment, is_nested_comment}
+
+-- A blank, which is no token; a token; or a literal with something out of range, at its place.
+pub data Piece : Type 0 where
+  Blank : Piece
+  Token : Kind → Piece
+  OutOfRange : Position → Piece
+
+-- ---- blanks
+
+-- White space, and comments.
+abbrev pub is_blank : List ℕ → Bool
+is_blank word = is_single is_separator word || (is_line_comment word || is_nested_comment word)
+
+-- A front that is a blank.
+abbrev pub blank : List ℕ → Option Piece
+blank word = if is_blank word then Some Blank else None
+
+-- ---- names, keywords, operators and marks
+
+-- The names that mean something of their own in some places.
+unfoldable pub special_of : List ℕ → Option Special
+special_of = entry ((codes "qualified", special.Qualified) ∷ (codes "as", special.As) ∷ (codes "hiding", special.Hiding) ∷ (codes "-", special.Minus) ∷ [])
+
+-- A word with its qualifier, if it has one.
+abbrev pub spelled : Option (List ℕ) → List ℕ → Spelling
+spelled None word = record { text = word; qualifier = None; base = word; special = special_of word }
+spelled (Some outer) word = record { text = outer ++ codes "." ++ word; qualifier = Some outer; base = word; special = None }
+
+-- The kind of an operator: a ConOp begins with a colon.
+abbrev pub operator : List ℕ → Spelling → Kind
+operator word name = if begins_with is_colon word then ConOp name else VarOp name
+
+-- The kind of a VarId, a ConId or an operator behind such a qualifier.
+unfoldable pub name_kind : Option (List ℕ) → List ℕ → Option Kind
+name_kind qualifier word =
+    if is_var_id word then Some (VarId (spelled qualifier word))
+    else if is_con_id word then Some (ConId (spelled qualifier word))
+    else if is_operator word then Some (operator word (spelled qualifier word))
+    else None
+
+-- The kind of a keyword, a reserved operator, a mark, or a name, qualified or not.
+unfoldable pub word_kind : List ℕ → Option Kind
+word_kind word =
+    option_or (option_map Keyword (keyword_of word))
+    (option_or (option_map Reserved (reserved_of word))
+    (option_or (option_map Mark (mark_of word))
+    (option_or (name_kind None word)
+    (option_and_then (λ parts. name_kind (Some parts.0) parts.1) (qualified_parts word)))))
+
+-- Whether a word of this kind may stand before these characters: names and operators are whole runs of their
+-- characters, and a brace before a dash begins a comment.
+abbrev pub stands_before : Kind → List ℕ → Bool
+stands_before (VarId name) next = not (begins_with is_name_character next)
+stands_before (ConId name) next = not (begins_with is_name_character next)
+stands_before (Keyword word) next = not (begins_with is_name_character next)
+stands_before (VarOp name) next = not (begins_with is_symbol next)
+stands_before (ConOp name) next = not (begins_with is_symbol next)
+stands_before (Reserved word) next = not (begins_with is_symbol next)
+stands_before (Mark mark.OpenBrace) next = not (begins_with is_dash next)
+stands_before kind next = true
+
+-- A word of a kind, where it may stand before these characters.
+abbrev pub word_before : List ℕ → Kind → Option Piece
+word_before next kind = if stands_before kind next then Some (Token kind) else None
+
+-- A front that is such a word.
+abbrev pub word : List ℕ → List ℕ → Option Piece
+word front next = option_and_then (word_before next) (word_kind front)
+
+-- ---- literals
+
+-- The value of a number at a place: it is below 2 ^ 63.
+abbrev pub number_at : Position → ℕ → Piece
+number_at p n = if nat_lt n (2 ^ 63) then Token (Int (pos n)) else OutOfRange p
+
+-- A front that is a number.
+abbrev pub number : Position → List ℕ → List ℕ → Option Piece
+number p front next = option_map (number_at p) (option_or (decimal_number front next) (based_number front))
+
+-- The value of a character literal: it is a Unicode scalar value.
+abbrev pub character_at : Position → ℕ → Piece
+character_at p code = if scalar code then Token (Char code) else OutOfRange p
+
+-- A character literal has one item, and that has a code.
+abbrev pub one_character : List (Placed (Option ℕ)) → Option Piece
+one_character [] = None
+one_character (i ∷ []) = option_map (character_at i.at) i.what
+one_character (i ∷ j ∷ items) = None
+
+-- What an item at a place adds to the value of a string: nothing, a scalar value, or that it is out of range.
+abbrev pub with_code : Option ℕ → Position → Result (List ℕ) Position → Result (List ℕ) Position
+with_code None p more = more
+with_code (Some code) p more = if scalar code then result_map_both (λ later. code ∷ later) (λ fault. fault) more else Err p
+
+-- The value of a string literal, or the place of its first item out of range.
+abbrev pub codes_of : List (Placed (Option ℕ)) → Result (List ℕ) Position
+codes_of [] = Ok []
+codes_of (i ∷ items) = with_code i.what i.at (codes_of items)
+
+-- The piece with such a value.
+abbrev pub string_of : Result (List ℕ) Position → Piece
+string_of (Ok value) = Token (String value)
+string_of (Err p) = OutOfRange p
+
+-- A string literal with these items.
+abbrev pub string : List (Placed (Option ℕ)) → Piece
+string items = string_of (codes_of items)
+
+-- ---- all classes
+
+-- The place of a front's first character.
+abbrev pub start : List Located → Position
+start [] = first_position
+start (first ∷ text) = first.at
+
+-- What a front of a text is before what follows it: a blank, a word, a number, a character literal, a string literal.
+unfoldable pub piece : Classes Piece
+piece front rest =
+    option_or (blank (characters front))
+    (option_or (word (characters front) (characters rest))
+    (option_or (number (start front) (characters front) (characters rest))
+    (option_or (option_and_then one_character (items_between (byte "'") front))
+    (option_map string (items_between (byte "\"") front)))))

@@ -1,0 +1,268 @@
+//! The lexer.
+ghost use Rattle.std.specs.Prelude.{◌≡◌, ◌↔◌, IsTrue, Some, ◌==◌, ℕ, List, true, All, IfErr, IfOk, OnOk};
+ghost use Rattle.std.specs.Char.{is_ascii_digit};
+ghost use Rattle.cu_lex.specs.declared.fault.LexFault.TheVariants.{NoMemory};
+ghost use Rattle.cu_lex.specs.Lexing.{int_of, FindsPiece, IsNamed, IsPlain, IsSpelled, Lexes, OpensComment, with_token};
+ghost use Rattle.cu_lex.specs.Located.{characters};
+ghost use Rattle.cu_lex.specs.Scanning.{first_of, left, within, HasNoWord};
+ghost use Rattle.cu_lex.specs.Words.{begins_with};
+ghost use Rattle.cu_names.specs.Texts.{AllDiffer, Extends};
+ghost use Rattle.cu_lex.specs.Reading.{Gives, IsTokenOf, Tells};
+ghost use Rattle.cu_lex.specs.Tokens.{tokens};
+
+use crate::LexFault;
+use crate::class::Class;
+use crate::comment::after_comment;
+use crate::cursor::Cursor;
+use crate::decoding::fault_offset;
+use crate::literal::{CharLiteral, Literal, char_literal, string_literal};
+use crate::number::number_at;
+use crate::token::{Name, Token, TokenKind};
+use crate::word::{Qualified, Word, WordKind, qualified_at, unqualified};
+use crate::words::{mark, special};
+use cu_names::{NameId, Names, Place};
+use std::alloc::Global;
+
+/// The most bytes of a text.
+const MOST_BYTES: usize = 16_777_216;
+
+/// The tokens of a module's text.
+pub fn lex(
+    alloc: Global,
+    names: &mut Names,
+    module: NameId,
+    bytes: &[u8],
+) -> Result<Vec<Token>, LexFault>
+    ensures tokens { IfOk result (λ found. Gives names.new found.items (tokens bytes.now)) }
+    ensures owned { IfOk result (λ found. All (IsTokenOf «module» names.new) found.items) }
+    ensures fault { IfErr result (λ fault. Tells «module» fault (tokens bytes.now)) }
+    ensures names { Extends names.old names.new }
+    ensures differ { AllDiffer names.new }
+{
+    // Each text stands once in the table, which the count tells.
+    names.count();
+    if bytes.len() > MOST_BYTES {
+        return Err(LexFault::SourceTooBig);
+    }
+    let text = match str::from_utf8(bytes) {
+        Ok(text) => text,
+        Err(error) => {
+            let offset = fault_offset(alloc, bytes, error.valid_up_to())?;
+            return Err(LexFault::NotUtf8(offset));
+        }
+    };
+    let mut tokens = Vec::new(alloc);
+    let mut rest = Cursor::new(text);
+    while let Some(first) = rest.peek() {
+        let (kind, next) = piece(alloc, names, module, rest, first)?;
+        add_token(&mut tokens, kind, rest.place(module))?;
+        rest = next;
+    }
+    Ok(tokens)
+}
+
+/// Adds a token of a kind, if there is one.
+fn add_token(tokens: &mut Vec<Token>, kind: Option<TokenKind>, place: Place) -> Result<(), LexFault>
+    ensures ok { OnOk result (tokens.new.items ≡ with_token tokens.old.items kind place) }
+    ensures err { IfErr result (λ fault. fault ≡ NoMemory) }
+{
+    let kind = match kind {
+        Some(kind) => kind,
+        None => return Ok(()),
+    };
+    tokens.push(Token { kind, place })?;
+    Ok(())
+}
+
+/// The token at the front of a text, or none for a blank, and what follows.
+fn piece<'a>(
+    alloc: Global,
+    names: &mut Names,
+    module: NameId,
+    start: Cursor<'a>,
+    first: char,
+) -> Result<(Option<TokenKind>, Cursor<'a>), LexFault>
+    requires { first_of (left start) ≡ Some first }
+    ensures lexes { Lexes «module» names.new (left start.entry) result }
+    ensures names { Extends names.old names.new }
+    ensures differ { AllDiffer names.old → AllDiffer names.new }
+{
+    if Class::Separator.begins(start) {
+        return Ok((None, start.after()));
+    }
+    if Class::Capital.begins(start) {
+        return name(names, start, qualified_at(start));
+    }
+    if Class::Decimal.begins(start) {
+        return int(module, start);
+    }
+    if Class::Is('\'').begins(start) {
+        return character(module, start);
+    }
+    if Class::Is('"').begins(start) {
+        return string(alloc, module, start);
+    }
+    if opens_comment(start) {
+        return comment(module, start);
+    }
+    match unqualified(start) {
+        Some(word) => {
+            let found = Qualified {
+                dot: None,
+                base: start,
+                word,
+            };
+            name(names, start, found)
+        }
+        None => mark_at(module, start, first),
+    }
+}
+
+fn opens_comment<'a>(start: Cursor<'a>) -> bool
+    ensures { IsTrue result ↔ OpensComment (left start.entry) }
+{
+    start.peek() == Some('{') && start.peek_second() == Some('-')
+}
+
+fn comment<'a>(
+    module: NameId,
+    start: Cursor<'a>,
+) -> Result<(Option<TokenKind>, Cursor<'a>), LexFault>
+    requires opens { OpensComment (left start) }
+    requires plain { IsPlain (left start) }
+    ensures { (names : List (List ℕ)) → Lexes «module» names (left start.entry) result }
+{
+    match after_comment(start.after().after()) {
+        Some(rest) => Ok((None, rest)),
+        None => Err(LexFault::BadToken(start.place(module))),
+    }
+}
+
+fn mark_at<'a>(
+    module: NameId,
+    start: Cursor<'a>,
+    first: char,
+) -> Result<(Option<TokenKind>, Cursor<'a>), LexFault>
+    requires first { first_of (left start) ≡ Some first }
+    requires plain { IsPlain (left start) }
+    requires words { HasNoWord (left start) }
+    requires comments { ¬ (OpensComment (left start)) }
+    ensures { (names : List (List ℕ)) → Lexes «module» names (left start.entry) result }
+{
+    match mark(first) {
+        Some(mark) => Ok((Some(TokenKind::Mark(mark)), start.after())),
+        None => Err(LexFault::BadToken(start.place(module))),
+    }
+}
+
+fn name<'a>(
+    names: &mut Names,
+    start: Cursor<'a>,
+    found: Qualified<'a>,
+) -> Result<(Option<TokenKind>, Cursor<'a>), LexFault>
+    requires { IsNamed (left start) found }
+    ensures ok { IfOk result (FindsPiece names.new (left start.entry)) }
+    ensures err { IfErr result (λ fault. fault ≡ NoMemory) }
+    ensures names { Extends names.old names.new }
+    ensures differ { AllDiffer names.old → AllDiffer names.new }
+{
+    let Word { kind, end } = found.word;
+    let kind = match kind {
+        WordKind::Dashes => return Ok((None, Class::InLine.skip(end))),
+        WordKind::Keyword(word) => TokenKind::Keyword(word),
+        WordKind::Reserved(word) => TokenKind::Reserved(word),
+        WordKind::VarId => TokenKind::VarId(spelling(names, start, found)?),
+        WordKind::ConId => TokenKind::ConId(spelling(names, start, found)?),
+        WordKind::VarOp => TokenKind::VarOp(spelling(names, start, found)?),
+        WordKind::ConOp => TokenKind::ConOp(spelling(names, start, found)?),
+    };
+    Ok((Some(kind), end))
+}
+
+fn spelling<'a>(
+    names: &mut Names,
+    start: Cursor<'a>,
+    found: Qualified<'a>,
+) -> Result<Name, LexFault>
+    requires { IsNamed (left start) found }
+    ensures ok { IfOk result (IsSpelled names.new (left start.entry) found.entry) }
+    ensures err { IfErr result (λ fault. fault ≡ NoMemory) }
+    ensures names { Extends names.old names.new }
+    ensures differ { AllDiffer names.old → AllDiffer names.new }
+{
+    let end = found.word.end;
+    let whole = start.text_to(end);
+    let text = names.intern(whole)?;
+    let dot = match found.dot {
+        None => {
+            return Ok(Name {
+                text,
+                qualifier: None,
+                base: text,
+                special: special(whole),
+            });
+        }
+        Some(dot) => dot,
+    };
+    let qualifier = names.intern(start.text_to(dot))?;
+    let base = names.intern(found.base.text_to(end))?;
+    Ok(Name {
+        text,
+        qualifier: Some(qualifier),
+        base,
+        special: None,
+    })
+}
+
+fn int<'a>(module: NameId, start: Cursor<'a>) -> Result<(Option<TokenKind>, Cursor<'a>), LexFault>
+    requires { begins_with is_ascii_digit (characters (left start)) ≡ true }
+    ensures { (names : List (List ℕ)) → Lexes «module» names (left start.entry) result }
+{
+    let found = match number_at(start) {
+        Some(found) => found,
+        None => return Err(LexFault::BadToken(start.place(module))),
+    };
+    match int_value(found.value) {
+        Some(value) => Ok((Some(TokenKind::Int(value)), found.end)),
+        None => Err(LexFault::LiteralRange(start.place(module))),
+    }
+}
+
+fn int_value(value: Option<u64>) -> Option<i64>
+    ensures { (n : ℕ) → value ≡ within n → result ≡ int_of n }
+{
+    let value = value?;
+    if value < 0x8000_0000_0000_0000 {
+        return Some(value as i64);
+    }
+    None
+}
+
+fn character<'a>(
+    module: NameId,
+    start: Cursor<'a>,
+) -> Result<(Option<TokenKind>, Cursor<'a>), LexFault>
+    requires { begins_with (λ c. c == 39) (characters (left start)) ≡ true }
+    ensures { (names : List (List ℕ)) → Lexes «module» names (left start.entry) result }
+{
+    match char_literal(start) {
+        CharLiteral::Value(c, end) => Ok((Some(TokenKind::Char(c)), end)),
+        CharLiteral::OutOfRange(at) => Err(LexFault::LiteralRange(at.place(module))),
+        CharLiteral::Bad => Err(LexFault::BadToken(start.place(module))),
+    }
+}
+
+fn string<'a>(
+    alloc: Global,
+    module: NameId,
+    start: Cursor<'a>,
+) -> Result<(Option<TokenKind>, Cursor<'a>), LexFault>
+    requires { begins_with (λ c. c == 34) (characters (left start)) ≡ true }
+    ensures { (names : List (List ℕ)) → Lexes «module» names (left start.entry) result }
+{
+    match string_literal(alloc, start)? {
+        Literal::Value(value, end) => Ok((Some(TokenKind::String(value)), end)),
+        Literal::OutOfRange(at) => Err(LexFault::LiteralRange(at.place(module))),
+        Literal::Bad => Err(LexFault::BadToken(start.place(module))),
+    }
+}

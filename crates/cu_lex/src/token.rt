@@ -1,0 +1,118 @@
+//! Tokens and their kinds.
+use crate::Characters;
+use cu_names::{NameId, Place};
+
+/// A token, at the place of its first character.
+#[derive(Debug, Drop)]
+pub struct Token {
+    pub kind: TokenKind,
+    pub place: Place,
+}
+
+/// What a token is.
+#[derive(Debug, Drop)]
+pub enum TokenKind {
+    /// A name that begins with a small letter, after any underscores; qualified
+    /// or not.
+    VarId(Name),
+    /// A name that begins with a capital letter, qualified or not.
+    ConId(Name),
+    /// An operator that doesn't begin with a colon, qualified or not.
+    VarOp(Name),
+    /// An operator that begins with a colon, qualified or not.
+    ConOp(Name),
+    Keyword(Keyword),
+    Reserved(ReservedOperator),
+    Mark(Mark),
+    /// A number without a sign, below 2 ^ 63.
+    Int(i64),
+    Char(char),
+    String(Characters),
+}
+
+/// A name or an operator, as `Data.List.map`, with its parts.
+#[derive(Clone, Copy, Debug, PartialEq, Eq)]
+pub struct Name {
+    /// The whole text: `Data.List.map`.
+    pub text: NameId,
+    /// The module name before it, if it is qualified: `Data.List`.
+    pub qualifier: Option<NameId>,
+    /// The text without the qualifier: `map`.
+    pub base: NameId,
+    /// Which of the texts with a meaning of their own in some places it is.
+    pub special: Option<Special>,
+}
+
+/// The names that are no keywords and yet mean something in some places.
+#[derive(Clone, Copy, Debug, PartialEq, Eq)]
+pub enum Special {
+    Qualified,
+    As,
+    Hiding,
+    /// The operator `-`.
+    Minus,
+}
+
+/// The keywords.
+#[derive(Clone, Copy, Debug, PartialEq, Eq)]
+pub enum Keyword {
+    Case,
+    Data,
+    Do,
+    Else,
+    External,
+    Fcase,
+    Foreign,
+    Free,
+    If,
+    Import,
+    In,
+    Infix,
+    Infixl,
+    Infixr,
+    Let,
+    Module,
+    Newtype,
+    Of,
+    Then,
+    Type,
+    Where,
+}
+
+/// The operators that no program can declare.
+#[derive(Clone, Copy, Debug, PartialEq, Eq)]
+pub enum ReservedOperator {
+    /// `..`
+    DotDot,
+    /// `::`
+    DoubleColon,
+    /// `=`
+    Equals,
+    /// `\`
+    Backslash,
+    /// `|`
+    Bar,
+    /// `<-`
+    LeftArrow,
+    /// `->`
+    RightArrow,
+    /// `@`
+    At,
+    /// `~`
+    Tilde,
+}
+
+/// Brackets and other marks of one character.
+#[derive(Clone, Copy, Debug, PartialEq, Eq)]
+pub enum Mark {
+    OpenParen,
+    CloseParen,
+    OpenSquare,
+    CloseSquare,
+    OpenBrace,
+    CloseBrace,
+    Comma,
+    Semicolon,
+    Backquote,
+    Underscore,
+}
