@@ -1,2 +1,4 @@
 pub mod BelowLaws
+pub mod Joining
+pub mod Lists
 pub mod Weaken

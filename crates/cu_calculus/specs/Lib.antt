@@ -5,6 +5,7 @@ pub mod Claims
 pub mod Code
 pub mod Flat
 pub mod Gives
+pub mod Joined
 pub mod Literal
 pub mod Match
 pub mod Order
