@@ -1,11 +1,13 @@
 //! Laws of the definitions.
-ghost use Rattle.std.specs.Prelude.{◌≡◌, ◌≢◌, ℕ, ◌+◌, List, [], Some, length, slice_get};
+ghost use Rattle.std.specs.Prelude.{◌≡◌, ◌≢◌, ℕ, ◌+◌, List, [], ◌++◌, Some, IsTrue, length, slice_get};
+ghost use Rattle.std.specs.List.{list_all};
 ghost use Rattle.cu_calculus.specs.Below.{Below, EnvBelow};
 ghost use Rattle.cu_calculus.specs.Gives.{Claim, Gives};
 ghost use Rattle.cu_calculus.specs.Joined.{joined, moved};
 ghost use Rattle.cu_calculus.specs.Match.{Environment};
 ghost use Rattle.cu_calculus.specs.Program.{Program};
-ghost use Rattle.cu_calculus.specs.Proof.{Checks, Step, conclusion};
+ghost use Rattle.cu_calculus.specs.Proof.{Checks, Step, conclusion, is_claim_of};
+ghost use Rattle.cu_calculus.specs.Rows.{AreRows};
 ghost use Rattle.cu_calculus.specs.Term.{Term};
 ghost use Rattle.cu_calculus.specs.Value.{Value};
 
@@ -33,4 +35,18 @@ pub fn proofs_join()
         → slice_get (joined first second) k ≡ Some step }
     ensures keeps_second { (first second : List Step) (k : ℕ) (step : Step) → slice_get second k ≡ Some step
         → slice_get (joined first second) (length first + k) ≡ Some (moved (length first) step) }
+{}
+
+/// A derivation over claims is one over any claims that have the same rows,
+/// and a proof that checks still checks when the claims get further rows of
+/// the program.
+pub fn claims_extend()
+    ensures derivations { (program : Program) (claims others : List Claim) (env : Environment) (t : Term) (v : Value)
+        → AreRows claims others → Gives program claims env t v → Gives program others env t v }
+    ensures proofs { (program : Program) (claims others : List Claim) (proof : List Step)
+        → AreRows claims others → IsTrue (list_all (is_claim_of program) others) → Checks program claims proof
+        → Checks program others proof }
+    ensures further { (program : Program) (claims further : List Claim) (proof : List Step)
+        → IsTrue (list_all (is_claim_of program) further) → Checks program claims proof
+        → Checks program (claims ++ further) proof }
 {}
