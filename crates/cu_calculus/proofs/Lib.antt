@@ -1,5 +1,6 @@
 pub mod BelowLaws
 pub mod Joining
 pub mod Lists
+pub mod Matches
 pub mod MoreClaims
 pub mod Weaken

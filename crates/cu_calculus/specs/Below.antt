@@ -1,9 +1,9 @@
 -- The order of approximation on partial values: what is below says less, and never anything different.
-use Rattle.std.specs.Prelude.{ℕ}
+use Rattle.std.specs.Prelude.{◌≡◌, ℕ, [], ◌∷◌}
 use Rattle.cu_calculus.specs.declared.ConId.{ConId}
 use Rattle.cu_calculus.specs.declared.Head.{Head}
 use Rattle.cu_calculus.specs.declared.Lit.{Lit}
-use Rattle.cu_calculus.specs.Match.{Environment}
+use Rattle.cu_calculus.specs.Match.{Bindings, Environment}
 use Rattle.cu_calculus.specs.Value as value
 use Rattle.cu_calculus.specs.Value.{Value, Values}
 
@@ -23,3 +23,9 @@ mutual
 -- an environment says at most what another does
 abbrev pub EnvBelow : Environment → Environment → Type 0
 EnvBelow low high = (x : ℕ) → Below (low x) (high x)
+
+-- bindings of the same variables in pairs, to at most the values of the others
+abbrev pub BindingsBelow : Bindings → Bindings → Type 0
+BindingsBelow [] [] = Unit {0}
+BindingsBelow ((x, u) ∷ low) ((y, v) ∷ high) = (x ≡ y) × Below u v × BindingsBelow low high
+BindingsBelow _ _ = ⊥

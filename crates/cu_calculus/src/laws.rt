@@ -1,15 +1,15 @@
 //! Laws of the definitions.
 ghost use Rattle.std.specs.Prelude.{◌≡◌, ◌≢◌, ℕ, ◌+◌, List, [], ◌++◌, Some, IsTrue, length, slice_get};
 ghost use Rattle.std.specs.List.{list_all};
-ghost use Rattle.cu_calculus.specs.Below.{Below, EnvBelow};
+ghost use Rattle.cu_calculus.specs.Below.{AllBelow, Below, BindingsBelow, EnvBelow};
 ghost use Rattle.cu_calculus.specs.Gives.{Claim, Gives};
 ghost use Rattle.cu_calculus.specs.Joined.{joined, moved};
-ghost use Rattle.cu_calculus.specs.Match.{Environment};
+ghost use Rattle.cu_calculus.specs.Match.{Bindings, Environment, all_matched, bind_all, matched};
 ghost use Rattle.cu_calculus.specs.Program.{Program};
 ghost use Rattle.cu_calculus.specs.Proof.{Checks, Step, conclusion, is_claim_of};
 ghost use Rattle.cu_calculus.specs.Rows.{AreRows};
-ghost use Rattle.cu_calculus.specs.Term.{Term};
-ghost use Rattle.cu_calculus.specs.Value.{Value};
+ghost use Rattle.cu_calculus.specs.Term.{Pattern, Patterns, Term};
+ghost use Rattle.cu_calculus.specs.Value.{Value, Values};
 
 /// Approximation is a partial order.
 pub fn approximation_is_an_order()
@@ -49,4 +49,15 @@ pub fn claims_extend()
     ensures further { (program : Program) (claims further : List Claim) (proof : List Step)
         → IsTrue (list_all (is_claim_of program) further) → Checks program claims proof
         → Checks program (claims ++ further) proof }
+{}
+
+/// What a pattern matches it matches when more is known of it, with values
+/// of its variables that say at least as much.
+pub fn matches_rise()
+    ensures one { (p : Pattern) (u v : Value) (low : Bindings) → Below u v → matched p u ≡ Some low
+        → (high : Bindings) × (matched p v ≡ Some high) × BindingsBelow low high }
+    ensures all { (ps : Patterns) (us vs : Values) (low : Bindings) → AllBelow us vs → all_matched ps us ≡ Some low
+        → (high : Bindings) × (all_matched ps vs ≡ Some high) × BindingsBelow low high }
+    ensures environments { (low high : Environment) (bindings greater : Bindings) → EnvBelow low high → BindingsBelow bindings greater
+        → EnvBelow (bind_all low bindings) (bind_all high greater) }
 {}
