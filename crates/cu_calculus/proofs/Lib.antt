@@ -1,4 +1,5 @@
 pub mod BelowLaws
+pub mod Choices
 pub mod Joining
 pub mod Lists
 pub mod Matches

@@ -1,5 +1,5 @@
 -- What a pattern matches, it matches when more is known of it, and its variables stand for at least what they did.
-use Rattle.std.proofs.Common.{◌≡◌, ℕ, Bool, true, false, List, [], ◌∷◌, ◌++◌, if◌then◌else◌, nat_eq, Option, None, Some, option_map, refl, ap, ap₂, sym, ◌∙◌, subst}
+use Rattle.std.proofs.Common.{◌≡◌, ℕ, Bool, true, false, [], ◌∷◌, ◌++◌, if◌then◌else◌, nat_eq, Option, None, Some, option_map, refl, ap, ap₂, sym, ◌∙◌, subst}
 use Rattle.cu_calculus.specs.declared.ConId.{ConId}
 use Rattle.cu_calculus.specs.declared.Lit.{Lit}
 use Rattle.cu_calculus.specs.Below as below
@@ -8,9 +8,7 @@ use Rattle.cu_calculus.specs.Literal.{same_literal}
 use Rattle.cu_calculus.specs.Match.{Bindings, Environment, all_matched, bind, bind_all, both, matched, same_constructor}
 use Rattle.cu_calculus.specs.Term as term
 use Rattle.cu_calculus.specs.Term.{Pattern, Patterns}
-use Rattle.cu_calculus.specs.Value as value
 use Rattle.cu_calculus.specs.Value.{Value, Values}
-use Rattle.cu_calculus.proofs.BelowLaws.{below_itself}
 
 -- what an alias binds behind its variable
 pub record Behind (x : ℕ) (u : Value) (found : Option Bindings) (all : Bindings) : Type 0 where

@@ -1,5 +1,5 @@
 -- A derivation over claims is one over any claims that have the same rows, and so is a proof.
-use Rattle.std.proofs.Common.{◌≡◌, ℕ, List, ◌∷◌, ◌++◌, slice_get, Some, IsTrue}
+use Rattle.std.proofs.Common.{List, ◌++◌, IsTrue}
 use Rattle.std.specs.List.{list_all}
 use Rattle.cu_calculus.specs.declared.Head.{Head}
 use Rattle.cu_calculus.specs.Gives as gives

@@ -1,7 +1,8 @@
 //! Laws of the definitions.
-ghost use Rattle.std.specs.Prelude.{◌≡◌, ◌≢◌, ℕ, ◌+◌, List, [], ◌++◌, Some, IsTrue, length, slice_get};
+ghost use Rattle.std.specs.Prelude.{◌≡◌, ◌≢◌, ℕ, ◌+◌, List, [], ◌∷◌, ◌++◌, Some, IsTrue, length, slice_get};
 ghost use Rattle.std.specs.List.{list_all};
 ghost use Rattle.cu_calculus.specs.Below.{AllBelow, Below, BindingsBelow, EnvBelow};
+ghost use Rattle.cu_calculus.specs.Choose.{Chooses, Row};
 ghost use Rattle.cu_calculus.specs.Gives.{Claim, Gives};
 ghost use Rattle.cu_calculus.specs.Joined.{joined, moved};
 ghost use Rattle.cu_calculus.specs.Match.{Bindings, Environment, all_matched, bind_all, matched};
@@ -9,7 +10,7 @@ ghost use Rattle.cu_calculus.specs.Program.{Program};
 ghost use Rattle.cu_calculus.specs.Proof.{Checks, Step, conclusion, is_claim_of};
 ghost use Rattle.cu_calculus.specs.Rows.{AreRows};
 ghost use Rattle.cu_calculus.specs.Term.{Pattern, Patterns, Term};
-ghost use Rattle.cu_calculus.specs.Value.{Value, Values};
+ghost use Rattle.cu_calculus.specs.Value.{Value, Values, values_of};
 
 /// Approximation is a partial order.
 pub fn approximation_is_an_order()
@@ -60,4 +61,13 @@ pub fn matches_rise()
         → (high : Bindings) × (all_matched ps vs ≡ Some high) × BindingsBelow low high }
     ensures environments { (low high : Environment) (bindings greater : Bindings) → EnvBelow low high → BindingsBelow bindings greater
         → EnvBelow (bind_all low bindings) (bind_all high greater) }
+{}
+
+/// The alternative that values take is taken by values that say at least as
+/// much.
+pub fn choices_rise()
+    ensures one { (program : Program) (rows : List Row) (u v : Value) (choice : ℕ) → Below u v
+        → Chooses program rows (u ∷ []) choice → Chooses program rows (v ∷ []) choice }
+    ensures all { (program : Program) (rows : List Row) (us vs : List Value) (choice : ℕ) → AllBelow (values_of us) (values_of vs)
+        → Chooses program rows us choice → Chooses program rows vs choice }
 {}

@@ -9,7 +9,9 @@ mod builtin;
 mod laws;
 
 pub use builtin::{Prim, Special};
-pub use laws::{approximation_is_an_order, claims_extend, derivations_weaken, matches_rise, proofs_join};
+pub use laws::{
+    approximation_is_an_order, choices_rise, claims_extend, derivations_weaken, matches_rise, proofs_join,
+};
 use std::marker::Model;
 
 /// Curry's integers.
