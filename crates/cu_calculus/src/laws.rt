@@ -7,7 +7,7 @@ ghost use Rattle.cu_calculus.specs.Gives.{Claim, Gives};
 ghost use Rattle.cu_calculus.specs.Joined.{joined, moved};
 ghost use Rattle.cu_calculus.specs.Match.{Bindings, Environment, all_matched, bind_all, matched};
 ghost use Rattle.cu_calculus.specs.Program.{Program};
-ghost use Rattle.cu_calculus.specs.Proof.{Checks, Step, conclusion, is_claim_of};
+ghost use Rattle.cu_calculus.specs.Proof.{Checks, Statement, Step, conclusion, env_of, is_claim_of};
 ghost use Rattle.cu_calculus.specs.Rows.{AreRows};
 ghost use Rattle.cu_calculus.specs.Term.{Pattern, Patterns, Term};
 ghost use Rattle.cu_calculus.specs.Value.{Value, Values, values_of};
@@ -70,4 +70,13 @@ pub fn choices_rise()
         → Chooses program rows (u ∷ []) choice → Chooses program rows (v ∷ []) choice }
     ensures all { (program : Program) (rows : List Row) (us vs : List Value) (choice : ℕ) → AllBelow (values_of us) (values_of vs)
         → Chooses program rows us choice → Chooses program rows vs choice }
+{}
+
+/// What a statement of a proof that checks says, the relation gives.
+pub fn proofs_are_sound()
+    ensures statements { (program : Program) (claims : List Claim) (proof : List Step) (k : ℕ) (step : Step) → Checks program claims proof
+        → slice_get proof k ≡ Some step
+        → Gives program claims (env_of step.statement) step.statement.term step.statement.value }
+    ensures conclusion { (program : Program) (claims : List Claim) (proof : List Step) (last : Statement) → Checks program claims proof
+        → conclusion proof ≡ Some last → Gives program claims (env_of last) last.term last.value }
 {}
