@@ -35,8 +35,7 @@ as_list (u ∷ us) (v ∷ vs) h =
     let low = below_more (values_of (u ∷ us)) (values_of (v ∷ vs)) h v (values_of vs) refl in
     let is : value.MoreValues u (values_of us) ≡ value.MoreValues low.first low.others = low.is in
     let first : low.first ≡ u = cc in
-    let others : low.others ≡ values_of us = cc in
-    (
+    let others : low.others ≡ values_of us = cc in (
       subst (λ (x : Value). Below x v) first low.below_first,
       as_list us vs (subst (λ (x : Values). AllBelow x (values_of vs)) others low.below_others),
     )

@@ -47,10 +47,10 @@ follow_joined program claims first _ one proof.nothing = subst (λ (x : List Ste
 follow_joined program claims first _ one (proof.followed before after cited step rest cites follows e) =
     let places : length (statements first) ≡ length first = length-map first (λ s. s.statement) in
     let there : Cites (statements first ++ statements before) (map (λ k. length (statements first) + k) step.cites) cited =
-        cites_behind (statements first) (statements before) step.cites cited cites in
+    cites_behind (statements first) (statements before) step.cites cited cites in
     let moved_there : Cites (statements (joined first before)) (map (λ k. length first + k) step.cites) cited =
-        subst (λ (x : List Statement). Cites x (map (λ k. length first + k) step.cites) cited) (sym (joined_statements first before))
-        (subst (λ (n : ℕ). Cites (statements first ++ statements before) (map (λ k. n + k) step.cites) cited) places there) in
+    subst (λ (x : List Statement). Cites x (map (λ k. length first + k) step.cites) cited) (sym (joined_statements first before))
+    (subst (λ (n : ℕ). Cites (statements first ++ statements before) (map (λ k. n + k) step.cites) cited) places there) in
     proof.followed (joined first before) (joined first after) cited (moved (length first) step) (follow_joined program claims first before one rest)
     moved_there follows (ap (joined first) e ∙ joined_more first before step)
 
@@ -71,8 +71,8 @@ pub checks_joined : (program : Program) (claims : List Claim) (first second : Li
 checks_joined program claims first second one two = record {
   begun = begun_joined first second one.begun;
   speaks =
-    all_append (λ step. is_statement_of program step.statement) first (map (moved (length first)) second) one.speaks
-    (speak_moved program (length first) second two.speaks);
+      all_append (λ step. is_statement_of program step.statement) first (map (moved (length first)) second) one.speaks
+      (speak_moved program (length first) second two.speaks);
   claimed = one.claimed;
   follows = follow_joined program claims first second one.follows two.follows;
 }

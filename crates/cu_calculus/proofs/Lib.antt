@@ -1,8 +1,11 @@
 pub mod BelowLaws
 pub mod Choices
+pub mod Fitting
 pub mod Joining
 pub mod ListToRelation
 pub mod Lists
 pub mod Matches
 pub mod MoreClaims
+pub mod OfProgram
+pub mod ValuesOf
 pub mod Weaken

@@ -1,5 +1,5 @@
 //! Laws of the definitions.
-ghost use Rattle.std.specs.Prelude.{◌≡◌, ◌≢◌, ℕ, ◌+◌, List, [], ◌∷◌, ◌++◌, Some, IsTrue, length, slice_get};
+ghost use Rattle.std.specs.Prelude.{◌≡◌, ◌≢◌, ℕ, ◌+◌, List, [], ◌∷◌, ◌++◌, Some, IsTrue, true, length, slice_get};
 ghost use Rattle.std.specs.List.{list_all};
 ghost use Rattle.cu_calculus.specs.Below.{AllBelow, Below, BindingsBelow, EnvBelow};
 ghost use Rattle.cu_calculus.specs.Choose.{Chooses, Row};
@@ -9,7 +9,9 @@ ghost use Rattle.cu_calculus.specs.Match.{Bindings, Environment, all_matched, bi
 ghost use Rattle.cu_calculus.specs.Program.{Program};
 ghost use Rattle.cu_calculus.specs.Proof.{Checks, Statement, Step, conclusion, env_of, is_claim_of};
 ghost use Rattle.cu_calculus.specs.Rows.{AreRows};
+ghost use Rattle.cu_calculus.specs.Shape.{is_of};
 ghost use Rattle.cu_calculus.specs.Term.{Pattern, Patterns, Term};
+ghost use Rattle.cu_calculus.specs.Valid.{IsValid, fits_term};
 ghost use Rattle.cu_calculus.specs.Value.{Value, Values, values_of};
 
 /// Approximation is a partial order.
@@ -79,4 +81,12 @@ pub fn proofs_are_sound()
         → Gives program claims (env_of step.statement) step.statement.term step.statement.value }
     ensures conclusion { (program : Program) (claims : List Claim) (proof : List Step) (last : Statement) → Checks program claims proof
         → conclusion proof ≡ Some last → Gives program claims (env_of last) last.term last.value }
+{}
+
+/// From values of a valid program, and over claims of it, a derivation gives
+/// values of the program.
+pub fn derivations_stay_in_the_program()
+    ensures { (program : Program) (claims : List Claim) (env : Environment) (t : Term) (v : Value)
+        → IsValid program → IsTrue (list_all (is_claim_of program) claims) → ((x : ℕ) → IsTrue (is_of program (env x)))
+        → IsTrue (fits_term program (λ x. true) t) → Gives program claims env t v → IsTrue (is_of program v) }
 {}

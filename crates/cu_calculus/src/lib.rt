@@ -10,8 +10,8 @@ mod laws;
 
 pub use builtin::{Prim, Special};
 pub use laws::{
-    approximation_is_an_order, choices_rise, claims_extend, derivations_weaken, matches_rise, proofs_are_sound,
-    proofs_join,
+    approximation_is_an_order, choices_rise, claims_extend, derivations_stay_in_the_program,
+    derivations_weaken, matches_rise, proofs_are_sound, proofs_join,
 };
 use std::marker::Model;
 
