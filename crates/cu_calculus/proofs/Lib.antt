@@ -7,5 +7,7 @@ pub mod Lists
 pub mod Matches
 pub mod MoreClaims
 pub mod OfProgram
+pub mod RelationToList
+pub mod RisingBindings
 pub mod ValuesOf
 pub mod Weaken

@@ -11,6 +11,7 @@ pub mod Match
 pub mod Order
 pub mod Program
 pub mod Proof
+pub mod Proved
 pub mod Rows
 pub mod Shape
 pub mod Term

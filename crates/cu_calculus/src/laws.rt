@@ -7,7 +7,8 @@ ghost use Rattle.cu_calculus.specs.Gives.{Claim, Gives};
 ghost use Rattle.cu_calculus.specs.Joined.{joined, moved};
 ghost use Rattle.cu_calculus.specs.Match.{Bindings, Environment, all_matched, bind_all, matched};
 ghost use Rattle.cu_calculus.specs.Program.{Program};
-ghost use Rattle.cu_calculus.specs.Proof.{Checks, Statement, Step, conclusion, env_of, is_claim_of};
+ghost use Rattle.cu_calculus.specs.Proof.{Checks, Statement, Step, conclusion, is_claim_of, is_statement_of};
+ghost use Rattle.cu_calculus.specs.Proved.{IsGiven, IsProved};
 ghost use Rattle.cu_calculus.specs.Rows.{AreRows};
 ghost use Rattle.cu_calculus.specs.Shape.{is_of};
 ghost use Rattle.cu_calculus.specs.Term.{Pattern, Patterns, Term};
@@ -74,13 +75,18 @@ pub fn choices_rise()
         → Chooses program rows us choice → Chooses program rows vs choice }
 {}
 
-/// What a statement of a proof that checks says, the relation gives.
-pub fn proofs_are_sound()
-    ensures statements { (program : Program) (claims : List Claim) (proof : List Step) (k : ℕ) (step : Step) → Checks program claims proof
-        → slice_get proof k ≡ Some step
-        → Gives program claims (env_of step.statement) step.statement.term step.statement.value }
-    ensures conclusion { (program : Program) (claims : List Claim) (proof : List Step) (last : Statement) → Checks program claims proof
-        → conclusion proof ≡ Some last → Gives program claims (env_of last) last.term last.value }
+/// The two forms of the calculus agree. What a proof that checks concludes,
+/// and what any of its statements says, the relation gives; and what the
+/// relation gives of a statement of a valid program, over claims of it, some
+/// proof that checks concludes.
+pub fn forms_agree()
+    ensures sound { (program : Program) (claims : List Claim) (statement : Statement)
+        → IsProved program claims statement → IsGiven program claims statement }
+    ensures throughout { (program : Program) (claims : List Claim) (proof : List Step) (k : ℕ) (step : Step)
+        → Checks program claims proof → slice_get proof k ≡ Some step → IsGiven program claims step.statement }
+    ensures complete { (program : Program) (claims : List Claim) (statement : Statement)
+        → IsValid program → IsTrue (list_all (is_claim_of program) claims) → IsTrue (is_statement_of program statement)
+        → IsGiven program claims statement → IsProved program claims statement }
 {}
 
 /// From values of a valid program, and over claims of it, a derivation gives
