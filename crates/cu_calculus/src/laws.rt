@@ -9,7 +9,7 @@ ghost use Rattle.cu_calculus.specs.Match.{Bindings, Environment, all_matched, bi
 ghost use Rattle.cu_calculus.specs.Program.{Program};
 ghost use Rattle.cu_calculus.specs.Proof.{Checks, Statement, Step, conclusion, is_claim_of, is_statement_of};
 ghost use Rattle.cu_calculus.specs.Proved.{IsGiven, IsProved};
-ghost use Rattle.cu_calculus.specs.Rows.{AreRows};
+ghost use Rattle.cu_calculus.specs.Rows.{AreRows, cited, proof_cited};
 ghost use Rattle.cu_calculus.specs.Shape.{is_of};
 ghost use Rattle.cu_calculus.specs.Term.{Pattern, Patterns, Term};
 ghost use Rattle.cu_calculus.specs.Valid.{IsValid, fits_term};
@@ -73,6 +73,20 @@ pub fn choices_rise()
         → Chooses program rows (u ∷ []) choice → Chooses program rows (v ∷ []) choice }
     ensures all { (program : Program) (rows : List Row) (us vs : List Value) (choice : ℕ) → AllBelow (values_of us) (values_of vs)
         → Chooses program rows us choice → Chooses program rows vs choice }
+{}
+
+/// The rows that a derivation or a proof cites are rows of its claims, and
+/// they suffice: it stays over any claims of the program that have them.
+pub fn cited_claims_suffice()
+    ensures cited_by_derivation { (program : Program) (claims : List Claim) (env : Environment) (t : Term) (v : Value)
+        (given : Gives program claims env t v) → AreRows (cited program claims env t v given) claims }
+    ensures derivations { (program : Program) (claims others : List Claim) (env : Environment) (t : Term) (v : Value)
+        (given : Gives program claims env t v) → AreRows (cited program claims env t v given) others → Gives program others env t v }
+    ensures cited_by_proof { (program : Program) (claims : List Claim) (proof : List Step) (checks : Checks program claims proof)
+        → AreRows (proof_cited program claims proof checks.follows) claims }
+    ensures proofs { (program : Program) (claims others : List Claim) (proof : List Step) (checks : Checks program claims proof)
+        → IsTrue (list_all (is_claim_of program) others) → AreRows (proof_cited program claims proof checks.follows) others
+        → Checks program others proof }
 {}
 
 /// The two forms of the calculus agree. What a proof that checks concludes,
