@@ -1,5 +1,7 @@
 pub mod BelowLaws
 pub mod Choices
+pub mod Choosing
+pub mod Comparing
 pub mod Fitting
 pub mod Joining
 pub mod ListToRelation

@@ -1,8 +1,10 @@
 pub mod Below
 pub mod Builtin
 pub mod Choose
+pub mod Chosen
 pub mod Claims
 pub mod Code
+pub mod Compared
 pub mod Flat
 pub mod Gives
 pub mod Joined

@@ -1,8 +1,11 @@
 //! Laws of the definitions.
-ghost use Rattle.std.specs.Prelude.{◌≡◌, ◌≢◌, ℕ, ◌+◌, List, [], ◌∷◌, ◌++◌, Some, IsTrue, true, length, slice_get};
+ghost use Rattle.std.specs.Prelude.{◌≡◌, ◌≢◌, ◌↔◌, ℕ, ◌+◌, ◌<◌, Bool, List, [], ◌∷◌, ◌++◌, Some, IsTrue, true, length, slice_get};
 ghost use Rattle.std.specs.List.{list_all};
 ghost use Rattle.cu_calculus.specs.Below.{AllBelow, Below, BindingsBelow, EnvBelow};
-ghost use Rattle.cu_calculus.specs.Choose.{Chooses, Row};
+ghost use Rattle.cu_calculus.specs.Builtin.{AllCompare, Compares};
+ghost use Rattle.cu_calculus.specs.Choose.{Again, Chooses, Narrow, Row, look};
+ghost use Rattle.cu_calculus.specs.Chosen.{chosen, chosen_after, looks};
+ghost use Rattle.cu_calculus.specs.Compared.{all_compared, compared};
 ghost use Rattle.cu_calculus.specs.Gives.{Claim, Gives};
 ghost use Rattle.cu_calculus.specs.Joined.{joined, moved};
 ghost use Rattle.cu_calculus.specs.Match.{Bindings, Environment, all_matched, bind_all, matched};
@@ -73,6 +76,27 @@ pub fn choices_rise()
         → Chooses program rows (u ∷ []) choice → Chooses program rows (v ∷ []) choice }
     ensures all { (program : Program) (rows : List Row) (us vs : List Value) (choice : ℕ) → AllBelow (values_of us) (values_of vs)
         → Chooses program rows us choice → Chooses program rows vs choice }
+{}
+
+/// At most one alternative is taken, and a function finds it: each look
+/// leads to fewer looks, and what it leaves is chosen among in its place.
+pub fn choosing_is_a_function()
+    ensures same { (program : Program) (rows : List Row) (values : List Value) (choice : ℕ)
+        → Chooses program rows values choice ↔ (chosen program rows values ≡ Some choice) }
+    ensures one { (program : Program) (rows : List Row) (values : List Value) (choice other : ℕ)
+        → Chooses program rows values choice → Chooses program rows values other → choice ≡ other }
+    ensures looks { (program : Program) (rows : List Row) (values : List Value)
+        → chosen program rows values ≡ chosen_after (chosen program) values (look program rows values) }
+    ensures again { (program : Program) (rows fewer : List Row) (values : List Value)
+        → look program rows values ≡ Again fewer → looks fewer < looks rows }
+    ensures narrow { (program : Program) (rows fewer : List Row) (values parts : List Value)
+        → look program rows values ≡ Narrow fewer parts → looks fewer < looks rows }
+{}
+
+/// Comparing by `==` has at most one answer, and a function finds it.
+pub fn comparing_is_a_function()
+    ensures one { (u v : Value) (answer : Bool) → Compares u v answer ↔ (compared u v ≡ Some answer) }
+    ensures all { (us vs : Values) (answer : Bool) → AllCompare us vs answer ↔ (all_compared us vs ≡ Some answer) }
 {}
 
 /// The rows that a derivation or a proof cites are rows of its claims, and
