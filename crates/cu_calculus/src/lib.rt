@@ -8,9 +8,12 @@ ghost use Rattle.std.specs.Prelude.{◌≡◌, List};
 mod builtin;
 mod laws;
 
-pub use builtin::{Prim, Special};
+pub use builtin::{Primitive, Special};
 pub use laws::{approximation_is_an_order, derivations_weaken};
 use std::marker::Model;
+
+/// The operations that are built in.
+pub type Prim = Primitive;
 
 /// Curry's integers.
 pub type Int = i64;
