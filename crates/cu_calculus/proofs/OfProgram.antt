@@ -8,8 +8,8 @@ use Rattle.cu_calculus.specs.declared.ConId.{ConId}
 use Rattle.cu_calculus.specs.declared.Head.TheVariants as head
 use Rattle.cu_calculus.specs.declared.Lit.{Lit}
 use Rattle.cu_calculus.specs.declared.Lit.TheVariants.{Char, Int}
-use Rattle.cu_calculus.specs.declared.builtin.Prim.{Prim}
-use Rattle.cu_calculus.specs.declared.builtin.Prim.TheVariants as prim
+use Rattle.cu_calculus.specs.declared.builtin.Primitive.{Primitive}
+use Rattle.cu_calculus.specs.declared.builtin.Primitive.TheVariants as prim
 use Rattle.cu_calculus.specs.Below as below
 use Rattle.cu_calculus.specs.Below.{AllBelow, Below}
 use Rattle.cu_calculus.specs.Builtin as builtin
@@ -155,7 +155,7 @@ answer_unless program false answer h = h
 integer_is_of : (program : Program) (n : ℤ) → IsTrue (answer_of program (integer n))
 integer_is_of program n = answer_if program (is_integer n) (value.Literal (Int n)) (λ h. h)
 
-pub on_integers_of : (program : Program) → HasSpecial program → (operation : Prim) (m n : ℤ) → IsTrue (answer_of program (on_integers program operation m n))
+pub on_integers_of : (program : Program) → HasSpecial program → (operation : Primitive) (m n : ℤ) → IsTrue (answer_of program (on_integers program operation m n))
 on_integers_of program special prim.Add m n = integer_is_of program (m +ℤ n)
 on_integers_of program special prim.Sub m n = integer_is_of program (m -ℤ n)
 on_integers_of program special prim.Mul m n = integer_is_of program (m *ℤ n)
@@ -185,14 +185,14 @@ scalar_fits n h = by (or_cases (nat_lt n 0xD800) (nat_le 0xE000 n && nat_lt n 0x
     by (inl low) = below_bound n 0xD800 (2 ^ 63 - 1) refl low
     by (inr high) = below_bound n 0x110000 (2 ^ 63 - 1) refl (and_parts (nat_le 0xE000 n) (nat_lt n 0x110000) high).1
 
-pub on_literals_of : (program : Program) → HasSpecial program → (operation : Prim) (ls : List Lit) → IsTrue (are_of program (literals ls))
+pub on_literals_of : (program : Program) → HasSpecial program → (operation : Primitive) (ls : List Lit) → IsTrue (are_of program (literals ls))
     → IsTrue (answer_of program (on_literals program operation ls))
 on_literals_of program special operation (Int m ∷ Int n ∷ []) h = on_integers_of program special operation m n
 on_literals_of program special prim.Ord (Char c ∷ []) h = scalar_fits c (and_parts (is_scalar c) true h).0
 on_literals_of program special prim.Chr (Int n ∷ []) h = character_is_of program n
 on_literals_of program special _ _ h = refl
 
-pub answers_of : (program : Program) → HasSpecial program → (operation : Prim) (us : Values) (v : Value) → Answers program operation us v
+pub answers_of : (program : Program) → HasSpecial program → (operation : Primitive) (us : Values) (v : Value) → Answers program operation us v
     → IsTrue (are_of program us) → IsTrue (is_of program v)
 answers_of program special operation us v (builtin.of_literals _ ls _ _ e f) h =
     let arguments : IsTrue (are_of program (literals ls)) = subst (λ (x : Values). IsTrue (are_of program x)) e h in

@@ -4,8 +4,8 @@ use Rattle.std.specs.Prelude.{int_le, int_lt}
 use Rattle.std.specs.Ordering.{int_eq}
 use Rattle.cu_calculus.specs.declared.Lit.{Lit}
 use Rattle.cu_calculus.specs.declared.Lit.TheVariants.{Char, Int}
-use Rattle.cu_calculus.specs.declared.builtin.Prim.{Prim}
-use Rattle.cu_calculus.specs.declared.builtin.Prim.TheVariants as prim
+use Rattle.cu_calculus.specs.declared.builtin.Primitive.{Primitive}
+use Rattle.cu_calculus.specs.declared.builtin.Primitive.TheVariants as prim
 use Rattle.cu_calculus.specs.declared.Head.{Head}
 use Rattle.cu_calculus.specs.declared.Head.TheVariants as head
 use Rattle.cu_calculus.specs.Below as below
@@ -134,7 +134,7 @@ pub bare_unless : (b : Bool) (answer : Option Value) → is_bare answer ≡ true
 bare_unless true answer h = refl
 bare_unless false answer h = h
 
-pub bare_on_integers : (program : Program) (operation : Prim) (m n : ℤ) → is_bare (on_integers program operation m n) ≡ true
+pub bare_on_integers : (program : Program) (operation : Primitive) (m n : ℤ) → is_bare (on_integers program operation m n) ≡ true
 bare_on_integers program prim.Add m n = bare_integer (m +ℤ n)
 bare_on_integers program prim.Sub m n = bare_integer (m -ℤ n)
 bare_on_integers program prim.Mul m n = bare_integer (m *ℤ n)
@@ -150,7 +150,7 @@ pub bare_character : (n : ℤ) → is_bare (character n) ≡ true
 bare_character (pos n) = bare_if (is_scalar n) (Some (value.Literal (Char n))) refl
 bare_character (negsuc n) = refl
 
-pub bare_on_literals : (program : Program) (operation : Prim) (ls : List Lit) → is_bare (on_literals program operation ls) ≡ true
+pub bare_on_literals : (program : Program) (operation : Primitive) (ls : List Lit) → is_bare (on_literals program operation ls) ≡ true
 bare_on_literals program operation (Int m ∷ Int n ∷ []) = bare_on_integers program operation m n
 bare_on_literals program prim.Ord (Char c ∷ []) = refl
 bare_on_literals program prim.Chr (Int n ∷ []) = bare_character n
@@ -166,7 +166,7 @@ below_bare _ _ (below.constructed c us vs (below.more u v us' vs' p ps)) h = let
 below_bare _ _ (below.partial k us vs p) h = let no : ⊥ = cc in absurd no
 
 -- so is what is below the value of a built-in operation
-pub below_answer : (program : Program) (operation : Prim) (us : Values) (v w : Value) → Answers program operation us v → Below w v
+pub below_answer : (program : Program) (operation : Primitive) (us : Values) (v w : Value) → Answers program operation us v → Below w v
     → (w ≡ value.Bottom) ⊎ (w ≡ v)
 below_answer program operation us v w (builtin.of_literals _ ls _ _ e f) h =
     below_bare w v h (ap is_bare (sym f) ∙ bare_on_literals program operation ls)

@@ -4,8 +4,8 @@ use Rattle.std.specs.Ordering.{int_eq}
 use Rattle.cu_calculus.specs.declared.ConId.{ConId}
 use Rattle.cu_calculus.specs.declared.Lit.{Lit}
 use Rattle.cu_calculus.specs.declared.Lit.TheVariants.{Char, Int}
-use Rattle.cu_calculus.specs.declared.builtin.Prim.{Prim}
-use Rattle.cu_calculus.specs.declared.builtin.Prim.TheVariants as prim
+use Rattle.cu_calculus.specs.declared.builtin.Primitive.{Primitive}
+use Rattle.cu_calculus.specs.declared.builtin.Primitive.TheVariants as prim
 use Rattle.cu_calculus.specs.Literal.{is_integer, is_scalar, same_literal}
 use Rattle.cu_calculus.specs.Match.{same_constructor}
 use Rattle.cu_calculus.specs.Program.{Program}
@@ -40,7 +40,7 @@ character (pos n) = if is_scalar n then Some (value.Literal (Char n)) else None
 character (negsuc n) = None
 
 -- what an operation on integers answers
-abbrev pub on_integers : Program → Prim → ℤ → ℤ → Option Value
+abbrev pub on_integers : Program → Primitive → ℤ → ℤ → Option Value
 on_integers program prim.Add m n = integer (m +ℤ n)
 on_integers program prim.Sub m n = integer (m -ℤ n)
 on_integers program prim.Mul m n = integer (m *ℤ n)
@@ -53,7 +53,7 @@ on_integers program prim.AtLeast m n = Some (truth_of program (int_le n m))
 on_integers program _ m n = None
 
 -- what an operation on literals answers
-abbrev pub on_literals : Program → Prim → List Lit → Option Value
+abbrev pub on_literals : Program → Primitive → List Lit → Option Value
 on_literals program operation (Int m ∷ Int n ∷ []) = on_integers program operation m n
 on_literals program prim.Ord (Char c ∷ []) = Some (value.Literal (Int (pos c)))
 on_literals program prim.Chr (Int n ∷ []) = character n
@@ -82,8 +82,8 @@ mutual
         → AllCompare (MoreValues u us) (MoreValues v vs) answer
 
 -- A built-in operation on values has a value. `failed` has none.
-pub data Answers (program : Program) : Prim → Values → Value → Type 0 where
-  of_literals : (operation : Prim) (ls : List Lit) (us : Values) (v : Value) → us ≡ literals ls → on_literals program operation ls ≡ Some v
+pub data Answers (program : Program) : Primitive → Values → Value → Type 0 where
+  of_literals : (operation : Primitive) (ls : List Lit) (us : Values) (v : Value) → us ≡ literals ls → on_literals program operation ls ≡ Some v
       → Answers program operation us v
   equal : (a b v : Value) (answer : Bool) → Compares a b answer → v ≡ truth_of program answer
       → Answers program prim.Equal (MoreValues a (MoreValues b NoValue)) v

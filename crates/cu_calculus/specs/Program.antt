@@ -4,7 +4,7 @@ use Rattle.cu_calculus.specs.declared.ConId.{ConId}
 use Rattle.cu_calculus.specs.declared.FunId.{FunId}
 use Rattle.cu_calculus.specs.declared.Head.{Head}
 use Rattle.cu_calculus.specs.declared.Head.TheVariants as head
-use Rattle.cu_calculus.specs.declared.builtin.Prim.{Prim}
+use Rattle.cu_calculus.specs.declared.builtin.Primitive.{Primitive}
 use Rattle.cu_calculus.specs.declared.builtin.Special.{Special}
 use Rattle.cu_calculus.specs.Term.{Patterns, Term}
 
@@ -14,7 +14,7 @@ pub record Rule : Type 0 where
 
 pub data Body : Type 0 where
   Rules : List Rule → Body
-  External : Prim → Body
+  External : Primitive → Body
 
 pub record Function : Type 0 where
   pub arity : ℕ

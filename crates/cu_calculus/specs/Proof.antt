@@ -7,7 +7,7 @@ use Rattle.cu_calculus.specs.declared.Head.{Head}
 use Rattle.cu_calculus.specs.declared.Head.TheVariants as head
 use Rattle.cu_calculus.specs.declared.Lit.{Lit}
 use Rattle.cu_calculus.specs.declared.Mode.{Mode}
-use Rattle.cu_calculus.specs.declared.builtin.Prim.{Prim}
+use Rattle.cu_calculus.specs.declared.builtin.Primitive.{Primitive}
 use Rattle.cu_calculus.specs.Below.{Below}
 use Rattle.cu_calculus.specs.Builtin.{Answers}
 use Rattle.cu_calculus.specs.Choose.{Chooses, alternative_at, rows_from}
@@ -50,7 +50,7 @@ pub data Applies (program : Program) (claims : List Claim) : Head → Values →
       → function_of program f ≡ Some function → function.body ≡ Rules rules → slice_get rules k ≡ Some rule
       → all_matched rule.params us ≡ Some bindings → Says s (bind_all empty bindings) rule.body v
       → Applies program claims (head.Fun f) us (s ∷ []) v
-  builtin : (f : FunId) (function : Function) (operation : Prim) (us : Values) (v : Value) → function_of program f ≡ Some function
+  builtin : (f : FunId) (function : Function) (operation : Primitive) (us : Values) (v : Value) → function_of program f ≡ Some function
       → function.body ≡ External operation → Answers program operation us v → Applies program claims (head.Fun f) us [] v
   collect : (f : FunId) (claim : Claim) (k : ℕ) (c : ConId) (us : Values) (v : Value) → IsTrue (are_ground us)
       → slice_get claims k ≡ Some claim → claim.function ≡ f → claim.arguments ≡ us → program.special.values ≡ Some c

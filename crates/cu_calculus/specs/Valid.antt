@@ -1,8 +1,8 @@
 -- Valid programs: numbers name something, calls are whole, patterns are linear, and every variable is bound.
 use Rattle.std.specs.Prelude.{◌≡◌, ◌≢◌, ℕ, ◌+◌, ◌-◌, ◌^◌, ◌<◌, Bool, true, false, not, ◌&&◌, ◌||◌, List, [], ◌∷◌, ◌++◌, None, Some, IsTrue, nat_eq, nat_lt}
 use Rattle.std.specs.List.{list_all, list_any}
-use Rattle.cu_calculus.specs.declared.builtin.Prim.{Prim}
-use Rattle.cu_calculus.specs.declared.builtin.Prim.TheVariants as prim
+use Rattle.cu_calculus.specs.declared.builtin.Primitive.{Primitive}
+use Rattle.cu_calculus.specs.declared.builtin.Primitive.TheVariants as prim
 use Rattle.cu_calculus.specs.declared.builtin.Special.{Special}
 use Rattle.cu_calculus.specs.Literal.{is_literal}
 use Rattle.cu_calculus.specs.declared.ConId.{ConId}
@@ -100,7 +100,7 @@ fits_rule program arity rule =
     && fits_term program (λ x. holds x (all_variables rule.params)) rule.body
 
 -- how many arguments a built-in operation takes
-abbrev pub external_arity : Prim → ℕ
+abbrev pub external_arity : Primitive → ℕ
 external_arity prim.Ord = 1
 external_arity prim.Chr = 1
 external_arity prim.Failed = 0

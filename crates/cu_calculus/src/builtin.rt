@@ -3,7 +3,7 @@ use crate::{ConId, FunId};
 
 /// The operations that are built in.
 #[derive(Clone, Copy, Debug, PartialEq, Eq)]
-pub enum Prim {
+pub enum Primitive {
     /// The sum of two integers.
     Add,
     /// Their difference.

@@ -8,13 +8,16 @@ ghost use Rattle.std.specs.Prelude.{◌≡◌, List};
 mod builtin;
 mod laws;
 
-pub use builtin::{Prim, Special};
+pub use builtin::{Primitive, Special};
 pub use laws::{
     approximation_is_an_order, choices_rise, choosing_is_a_function, cited_claims_suffice,
     claims_extend, comparing_is_a_function, derivations_stay_in_the_program, derivations_weaken,
     forms_agree, matches_rise, proofs_join,
 };
 use std::marker::Model;
+
+/// The operations that are built in.
+pub type Prim = Primitive;
 
 /// Curry's integers.
 pub type Int = i64;
