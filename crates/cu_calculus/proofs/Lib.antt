@@ -1,3 +1,4 @@
+pub mod Answering
 pub mod BelowLaws
 pub mod Choices
 pub mod Choosing

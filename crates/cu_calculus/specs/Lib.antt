@@ -1,3 +1,4 @@
+pub mod Answered
 pub mod Below
 pub mod Builtin
 pub mod Choose

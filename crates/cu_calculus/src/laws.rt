@@ -1,8 +1,10 @@
 //! Laws of the definitions.
 ghost use Rattle.std.specs.Prelude.{◌≡◌, ◌≢◌, ◌↔◌, ℕ, ◌+◌, ◌<◌, Bool, List, [], ◌∷◌, ◌++◌, Some, IsTrue, true, length, slice_get};
 ghost use Rattle.std.specs.List.{list_all};
+ghost use Rattle.cu_calculus.specs.declared.builtin.Primitive.{Primitive};
+ghost use Rattle.cu_calculus.specs.Answered.{answered, same_value};
 ghost use Rattle.cu_calculus.specs.Below.{AllBelow, Below, BindingsBelow, EnvBelow};
-ghost use Rattle.cu_calculus.specs.Builtin.{AllCompare, Compares};
+ghost use Rattle.cu_calculus.specs.Builtin.{AllCompare, Answers, Compares};
 ghost use Rattle.cu_calculus.specs.Choose.{Again, Chooses, Narrow, Row, look};
 ghost use Rattle.cu_calculus.specs.Chosen.{chosen, chosen_after, looks};
 ghost use Rattle.cu_calculus.specs.Compared.{all_compared, compared};
@@ -97,6 +99,13 @@ pub fn choosing_is_a_function()
 pub fn comparing_is_a_function()
     ensures one { (u v : Value) (answer : Bool) → Compares u v answer ↔ (compared u v ≡ Some answer) }
     ensures all { (us vs : Values) (answer : Bool) → AllCompare us vs answer ↔ (all_compared us vs ≡ Some answer) }
+{}
+
+/// A built-in operation answers at most one value, and a function finds it.
+pub fn answering_is_a_function()
+    ensures same { (program : Program) (operation : Primitive) (us : Values) (v : Value)
+        → Answers program operation us v ↔ (answered program operation us ≡ Some v) }
+    ensures values { (u v : Value) → IsTrue (same_value u v) ↔ (u ≡ v) }
 {}
 
 /// The rows that a derivation or a proof cites are rows of its claims, and
