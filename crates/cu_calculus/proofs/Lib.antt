@@ -1,5 +1,6 @@
 pub mod Answering
 pub mod BelowLaws
+pub mod CallStatements
 pub mod Choices
 pub mod Choosing
 pub mod Comparing
@@ -12,5 +13,6 @@ pub mod MoreClaims
 pub mod OfProgram
 pub mod RelationToList
 pub mod RisingBindings
+pub mod TrueClaims
 pub mod ValuesOf
 pub mod Weaken

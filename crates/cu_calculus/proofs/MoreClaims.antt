@@ -29,7 +29,7 @@ rows_one claim others place there zero other e = let same : claim ≡ other = cc
 rows_one claim others place there (suc k) other e = let no : ⊥ = cc in absurd no
 
 -- a place in two lists is one in the first or in the second
-front_or_back : (one two : List Claim) (k : ℕ) (claim : Claim) → slice_get (one ++ two) k ≡ Some claim
+pub front_or_back : (one two : List Claim) (k : ℕ) (claim : Claim) → slice_get (one ++ two) k ≡ Some claim
     → (slice_get one k ≡ Some claim) ⊎ ((m : ℕ) × (slice_get two m ≡ Some claim))
 front_or_back [] two k claim e = inr (k, e)
 front_or_back (x ∷ one) two zero claim e = inl e

@@ -1,6 +1,7 @@
 pub mod Answered
 pub mod Below
 pub mod Builtin
+pub mod Calls
 pub mod Choose
 pub mod Chosen
 pub mod Claims

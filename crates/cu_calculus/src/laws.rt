@@ -1,12 +1,15 @@
 //! Laws of the definitions.
-ghost use Rattle.std.specs.Prelude.{◌≡◌, ◌≢◌, ◌↔◌, ℕ, ◌+◌, ◌<◌, Bool, List, [], ◌∷◌, ◌++◌, Some, IsTrue, true, length, slice_get};
+ghost use Rattle.std.specs.Prelude.{◌≡◌, ◌≢◌, ◌↔◌, ℕ, ◌+◌, ◌<◌, ◌≤◌, Bool, List, [], ◌∷◌, ◌++◌, Some, IsTrue, true, length, slice_get};
 ghost use Rattle.std.specs.List.{list_all};
+ghost use Rattle.cu_calculus.specs.declared.FunId.{FunId};
 ghost use Rattle.cu_calculus.specs.declared.builtin.Primitive.{Primitive};
 ghost use Rattle.cu_calculus.specs.Answered.{answered, same_value};
 ghost use Rattle.cu_calculus.specs.Below.{AllBelow, Below, BindingsBelow, EnvBelow};
 ghost use Rattle.cu_calculus.specs.Builtin.{AllCompare, Answers, Compares};
+ghost use Rattle.cu_calculus.specs.Calls.{call_statement};
 ghost use Rattle.cu_calculus.specs.Choose.{Again, Chooses, Narrow, Row, look};
 ghost use Rattle.cu_calculus.specs.Chosen.{chosen, chosen_after, looks};
+ghost use Rattle.cu_calculus.specs.Claims.{AreTrue, Concludes, Derives, level_of};
 ghost use Rattle.cu_calculus.specs.Compared.{all_compared, compared};
 ghost use Rattle.cu_calculus.specs.Gives.{Claim, Gives};
 ghost use Rattle.cu_calculus.specs.Joined.{joined, moved};
@@ -142,4 +145,32 @@ pub fn derivations_stay_in_the_program()
     ensures { (program : Program) (claims : List Claim) (env : Environment) (t : Term) (v : Value)
         → IsValid program → IsTrue (list_all (is_claim_of program) claims) → ((x : ℕ) → IsTrue (is_of program (env x)))
         → IsTrue (fits_term program (λ x. true) t) → Gives program claims env t v → IsTrue (is_of program v) }
+{}
+
+/// A function on argument values concludes a value exactly where a proof
+/// concludes the statement of the call, and so derivations can be read as
+/// proofs.
+pub fn calls_have_proofs()
+    ensures proved { (program : Program) (claims : List Claim) (f : FunId) (vs : Values) (v : Value)
+        → IsValid program → IsTrue (list_all (is_claim_of program) claims) → Concludes program claims f vs v
+        → IsProved program claims (call_statement f vs v) }
+    ensures concluded { (program : Program) (claims : List Claim) (f : FunId) (vs : Values) (v : Value)
+        → IsProved program claims (call_statement f vs v) → Concludes program claims f vs v }
+    ensures derived { (program : Program) (levels : List ℕ) (f : FunId) (vs : Values) (v : Value) → IsValid program
+        → Derives program levels f vs v
+        ↔ ((claims : List Claim) × AreTrue program levels (level_of levels f) claims × IsProved program claims (call_statement f vs v)) }
+{}
+
+/// True claims are of their program. Rows of true claims are true, two lists
+/// of true claims are true together, and what is true at a level is true at
+/// each that is higher.
+pub fn true_claims_combine()
+    ensures of_program { (program : Program) (levels : List ℕ) (level : ℕ) (claims : List Claim) → IsValid program
+        → AreTrue program levels level claims → IsTrue (list_all (is_claim_of program) claims) }
+    ensures rows { (program : Program) (levels : List ℕ) (level : ℕ) (claims others : List Claim)
+        → AreTrue program levels level claims → AreRows others claims → AreTrue program levels level others }
+    ensures joined { (program : Program) (levels : List ℕ) (level : ℕ) (claims others : List Claim)
+        → AreTrue program levels level claims → AreTrue program levels level others → AreTrue program levels level (claims ++ others) }
+    ensures higher { (program : Program) (levels : List ℕ) (level higher : ℕ) (claims : List Claim) → level ≤ higher
+        → AreTrue program levels level claims → AreTrue program levels higher claims }
 {}

@@ -10,9 +10,10 @@ mod laws;
 
 pub use builtin::{Primitive, Special};
 pub use laws::{
-    answering_is_a_function, approximation_is_an_order, choices_rise, choosing_is_a_function,
-    cited_claims_suffice, claims_extend, comparing_is_a_function, derivations_stay_in_the_program,
-    derivations_weaken, forms_agree, matches_rise, proofs_join,
+    answering_is_a_function, approximation_is_an_order, calls_have_proofs, choices_rise,
+    choosing_is_a_function, cited_claims_suffice, claims_extend, comparing_is_a_function,
+    derivations_stay_in_the_program, derivations_weaken, forms_agree, matches_rise, proofs_join,
+    true_claims_combine,
 };
 use std::marker::Model;
 
