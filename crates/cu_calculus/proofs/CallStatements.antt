@@ -1,5 +1,5 @@
 -- That a function on argument values concludes a value is what a proof of the call's statement says.
-use Rattle.std.proofs.Common.{◌≡◌, ◌≢◌, ℕ, zero, suc, ◌+◌, ◌<◌, Bool, true, false, ◌&&◌, List, [], ◌∷◌, Option, None, Some, IsTrue, if◌then◌else◌, nat_eq, nat_lt, slice_get, refl, ap, sym, ◌∙◌, subst, arith, add-one, eq-eqb, ne_eqb, lt-ltb}
+use Rattle.std.proofs.Common.{◌≡◌, ℕ, zero, suc, ◌+◌, Bool, true, false, ◌&&◌, List, [], ◌∷◌, Some, IsTrue, if◌then◌else◌, nat_eq, nat_lt, slice_get, refl, ap, sym, ◌∙◌, subst, arith, add-one, eq-eqb, ne_eqb, lt-ltb}
 use Rattle.std.specs.List.{list_all}
 use Rattle.std.specs.Prelude.{slice_index_or}
 use Rattle.std.proofs.lemmas.Bool.{and_from, and_parts}
@@ -9,9 +9,9 @@ use Rattle.cu_calculus.specs.declared.Head.TheVariants as head
 use Rattle.cu_calculus.specs.Calls.{bindings_from, call_statement}
 use Rattle.cu_calculus.specs.Claims.{Concludes, arguments_env, variables_from}
 use Rattle.cu_calculus.specs.Gives.{Claim, Gives}
-use Rattle.cu_calculus.specs.Match.{Bindings, Environment, bind_all, empty}
+use Rattle.cu_calculus.specs.Match.{Environment, bind_all, empty}
 use Rattle.cu_calculus.specs.Program.{Program, arity_in}
-use Rattle.cu_calculus.specs.Proof.{Checks, Statement, Step, are_rising, conclusion, env_of, is_claim_of, is_statement_of, statements}
+use Rattle.cu_calculus.specs.Proof.{Statement, Step, are_rising, env_of, is_claim_of, is_statement_of, statements}
 use Rattle.cu_calculus.specs.Proved.{IsProved}
 use Rattle.cu_calculus.specs.Shape.{are_of, is_of, takes}
 use Rattle.cu_calculus.specs.Term as term
@@ -20,7 +20,6 @@ use Rattle.cu_calculus.specs.Valid.{IsValid, fit_terms, fits_term, term_count}
 use Rattle.cu_calculus.specs.Value as value
 use Rattle.cu_calculus.specs.Value.{Value, Values, count, list_of}
 use Rattle.cu_calculus.proofs.Fitting.{any}
-use Rattle.cu_calculus.proofs.Lists.{passed_at}
 use Rattle.cu_calculus.proofs.ListToRelation.{concluded, conclusion_stands}
 use Rattle.cu_calculus.proofs.OfProgram.{EnvOf, bind_all_of, bindings_of}
 use Rattle.cu_calculus.proofs.RelationToList.{proved}

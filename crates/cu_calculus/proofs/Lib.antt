@@ -4,6 +4,7 @@ pub mod CallStatements
 pub mod Choices
 pub mod Choosing
 pub mod Comparing
+pub mod ExactClaims
 pub mod Fitting
 pub mod Joining
 pub mod ListToRelation
@@ -14,5 +15,6 @@ pub mod OfProgram
 pub mod RelationToList
 pub mod RisingBindings
 pub mod TrueClaims
+pub mod ValueOrder
 pub mod ValuesOf
 pub mod Weaken

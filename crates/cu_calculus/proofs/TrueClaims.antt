@@ -1,15 +1,15 @@
 -- True claims are of their program, rows of them are true, and so are two lists of them together and all of them at higher levels.
-use Rattle.std.proofs.Common.{◌≡◌, ℕ, zero, suc, ◌≤◌, Bool, true, false, ◌&&◌, List, [], ◌∷◌, ◌++◌, ◌⊎◌, inl, inr, Option, None, Some, IsTrue, option_map, is_some, slice_get, refl, ap, ap₂, sym, ◌∙◌, subst, arith}
+use Rattle.std.proofs.Common.{◌≡◌, ℕ, zero, suc, ◌≤◌, Bool, true, ◌&&◌, List, [], ◌∷◌, ◌++◌, ◌⊎◌, inl, inr, Option, None, Some, IsTrue, option_map, is_some, slice_get, refl, ap, ap₂, sym, subst, arith}
 use Rattle.std.specs.List.{list_all}
 use Rattle.std.proofs.lemmas.Bool.{and_from, and_parts, cases_eq}
-use Rattle.cu_calculus.specs.Claims.{AreTrue, Concludes, IsExact, level_of}
+use Rattle.cu_calculus.specs.Claims.{AreTrue, IsExact}
 use Rattle.cu_calculus.specs.Gives.{Claim}
 use Rattle.cu_calculus.specs.Program.{Function, Program, function_of}
 use Rattle.cu_calculus.specs.Proof.{is_claim_of}
 use Rattle.cu_calculus.specs.Rows.{AreRows}
 use Rattle.cu_calculus.specs.Shape.{are_of, is_of, takes}
 use Rattle.cu_calculus.specs.Valid.{IsValid}
-use Rattle.cu_calculus.specs.Value.{Value, count}
+use Rattle.cu_calculus.specs.Value.{count}
 use Rattle.cu_calculus.proofs.CallStatements.{concludes_of}
 use Rattle.cu_calculus.proofs.MoreClaims.{front_or_back, rows_one}
 

@@ -1,6 +1,8 @@
 //! Laws of the definitions.
 ghost use Rattle.std.specs.Prelude.{◌≡◌, ◌≢◌, ◌↔◌, ℕ, ◌+◌, ◌<◌, ◌≤◌, Bool, List, [], ◌∷◌, ◌++◌, Some, IsTrue, true, length, slice_get};
+ghost use Rattle.std.specs.Cmp.{IsTotalOrder};
 ghost use Rattle.std.specs.List.{list_all};
+ghost use Rattle.std.specs.declared.cmp.Ordering.TheVariants.{Equal};
 ghost use Rattle.cu_calculus.specs.declared.FunId.{FunId};
 ghost use Rattle.cu_calculus.specs.declared.builtin.Primitive.{Primitive};
 ghost use Rattle.cu_calculus.specs.Answered.{answered, same_value};
@@ -9,11 +11,12 @@ ghost use Rattle.cu_calculus.specs.Builtin.{AllCompare, Answers, Compares};
 ghost use Rattle.cu_calculus.specs.Calls.{call_statement};
 ghost use Rattle.cu_calculus.specs.Choose.{Again, Chooses, Narrow, Row, look};
 ghost use Rattle.cu_calculus.specs.Chosen.{chosen, chosen_after, looks};
-ghost use Rattle.cu_calculus.specs.Claims.{AreTrue, Concludes, Derives, level_of};
+ghost use Rattle.cu_calculus.specs.Claims.{AreTrue, Concludes, Derives, IsExact, level_of};
 ghost use Rattle.cu_calculus.specs.Compared.{all_compared, compared};
 ghost use Rattle.cu_calculus.specs.Gives.{Claim, Gives};
 ghost use Rattle.cu_calculus.specs.Joined.{joined, moved};
 ghost use Rattle.cu_calculus.specs.Match.{Bindings, Environment, all_matched, bind_all, matched};
+ghost use Rattle.cu_calculus.specs.Order.{value_order};
 ghost use Rattle.cu_calculus.specs.Program.{Program};
 ghost use Rattle.cu_calculus.specs.Proof.{Checks, Statement, Step, conclusion, is_claim_of, is_statement_of};
 ghost use Rattle.cu_calculus.specs.Proved.{IsGiven, IsProved};
@@ -30,37 +33,11 @@ pub fn approximation_is_an_order()
     ensures antisymmetric { (u v : Value) → Below u v → Below v u → u ≡ v }
 {}
 
-/// A derivation stays where its value says less and its environment says
-/// more.
-pub fn derivations_weaken()
-    ensures { (program : Program) (claims : List Claim) (low high : Environment) (t : Term) (v w : Value)
-        → Gives program claims low t v → EnvBelow low high → Below w v → Gives program claims high t w }
-{}
-
-/// Proofs can be put one after another: the whole checks, concludes what the
-/// second concludes, and has the steps of both.
-pub fn proofs_join()
-    ensures checks { (program : Program) (claims : List Claim) (first second : List Step)
-        → Checks program claims first → Checks program claims second → Checks program claims (joined first second) }
-    ensures concludes { (first second : List Step) → second ≢ [] → conclusion (joined first second) ≡ conclusion second }
-    ensures keeps_first { (first second : List Step) (k : ℕ) (step : Step) → slice_get first k ≡ Some step
-        → slice_get (joined first second) k ≡ Some step }
-    ensures keeps_second { (first second : List Step) (k : ℕ) (step : Step) → slice_get second k ≡ Some step
-        → slice_get (joined first second) (length first + k) ≡ Some (moved (length first) step) }
-{}
-
-/// A derivation over claims is one over any claims that have the same rows,
-/// and a proof that checks still checks when the claims get further rows of
-/// the program.
-pub fn claims_extend()
-    ensures derivations { (program : Program) (claims others : List Claim) (env : Environment) (t : Term) (v : Value)
-        → AreRows claims others → Gives program claims env t v → Gives program others env t v }
-    ensures proofs { (program : Program) (claims others : List Claim) (proof : List Step)
-        → AreRows claims others → IsTrue (list_all (is_claim_of program) others) → Checks program claims proof
-        → Checks program others proof }
-    ensures further { (program : Program) (claims further : List Claim) (proof : List Step)
-        → IsTrue (list_all (is_claim_of program) further) → Checks program claims proof
-        → Checks program (claims ++ further) proof }
+/// The order in which the values of a set function are listed is total, and
+/// equal in it are only equal values.
+pub fn values_have_a_total_order()
+    ensures total { IsTotalOrder value_order }
+    ensures same { (u v : Value) → (value_order u v ≡ Equal) ↔ (u ≡ v) }
 {}
 
 /// What a pattern matches it matches when more is known of it, with values
@@ -111,18 +88,31 @@ pub fn answering_is_a_function()
     ensures values { (u v : Value) → IsTrue (same_value u v) ↔ (u ≡ v) }
 {}
 
-/// The rows that a derivation or a proof cites are rows of its claims, and
-/// they suffice: it stays over any claims of the program that have them.
-pub fn cited_claims_suffice()
-    ensures cited_by_derivation { (program : Program) (claims : List Claim) (env : Environment) (t : Term) (v : Value)
-        (given : Gives program claims env t v) → AreRows (cited program claims env t v given) claims }
-    ensures derivations { (program : Program) (claims others : List Claim) (env : Environment) (t : Term) (v : Value)
-        (given : Gives program claims env t v) → AreRows (cited program claims env t v given) others → Gives program others env t v }
-    ensures cited_by_proof { (program : Program) (claims : List Claim) (proof : List Step) (checks : Checks program claims proof)
-        → AreRows (proof_cited program claims proof checks.follows) claims }
-    ensures proofs { (program : Program) (claims others : List Claim) (proof : List Step) (checks : Checks program claims proof)
-        → IsTrue (list_all (is_claim_of program) others) → AreRows (proof_cited program claims proof checks.follows) others
-        → Checks program others proof }
+/// A derivation stays where its value says less and its environment says
+/// more.
+pub fn derivations_weaken()
+    ensures { (program : Program) (claims : List Claim) (low high : Environment) (t : Term) (v w : Value)
+        → Gives program claims low t v → EnvBelow low high → Below w v → Gives program claims high t w }
+{}
+
+/// From values of a valid program, and over claims of it, a derivation gives
+/// values of the program.
+pub fn derivations_stay_in_the_program()
+    ensures { (program : Program) (claims : List Claim) (env : Environment) (t : Term) (v : Value)
+        → IsValid program → IsTrue (list_all (is_claim_of program) claims) → ((x : ℕ) → IsTrue (is_of program (env x)))
+        → IsTrue (fits_term program (λ x. true) t) → Gives program claims env t v → IsTrue (is_of program v) }
+{}
+
+/// Proofs can be put one after another: the whole checks, concludes what the
+/// second concludes, and has the steps of both.
+pub fn proofs_join()
+    ensures checks { (program : Program) (claims : List Claim) (first second : List Step)
+        → Checks program claims first → Checks program claims second → Checks program claims (joined first second) }
+    ensures concludes { (first second : List Step) → second ≢ [] → conclusion (joined first second) ≡ conclusion second }
+    ensures keeps_first { (first second : List Step) (k : ℕ) (step : Step) → slice_get first k ≡ Some step
+        → slice_get (joined first second) k ≡ Some step }
+    ensures keeps_second { (first second : List Step) (k : ℕ) (step : Step) → slice_get second k ≡ Some step
+        → slice_get (joined first second) (length first + k) ≡ Some (moved (length first) step) }
 {}
 
 /// The two forms of the calculus agree. What a proof that checks concludes,
@@ -139,14 +129,6 @@ pub fn forms_agree()
         → IsGiven program claims statement → IsProved program claims statement }
 {}
 
-/// From values of a valid program, and over claims of it, a derivation gives
-/// values of the program.
-pub fn derivations_stay_in_the_program()
-    ensures { (program : Program) (claims : List Claim) (env : Environment) (t : Term) (v : Value)
-        → IsValid program → IsTrue (list_all (is_claim_of program) claims) → ((x : ℕ) → IsTrue (is_of program (env x)))
-        → IsTrue (fits_term program (λ x. true) t) → Gives program claims env t v → IsTrue (is_of program v) }
-{}
-
 /// A function on argument values concludes a value exactly where a proof
 /// concludes the statement of the call, and so derivations can be read as
 /// proofs.
@@ -161,6 +143,34 @@ pub fn calls_have_proofs()
         ↔ ((claims : List Claim) × AreTrue program levels (level_of levels f) claims × IsProved program claims (call_statement f vs v)) }
 {}
 
+/// A derivation over claims is one over any claims that have the same rows,
+/// and a proof that checks still checks when the claims get further rows of
+/// the program.
+pub fn claims_extend()
+    ensures derivations { (program : Program) (claims others : List Claim) (env : Environment) (t : Term) (v : Value)
+        → AreRows claims others → Gives program claims env t v → Gives program others env t v }
+    ensures proofs { (program : Program) (claims others : List Claim) (proof : List Step)
+        → AreRows claims others → IsTrue (list_all (is_claim_of program) others) → Checks program claims proof
+        → Checks program others proof }
+    ensures further { (program : Program) (claims further : List Claim) (proof : List Step)
+        → IsTrue (list_all (is_claim_of program) further) → Checks program claims proof
+        → Checks program (claims ++ further) proof }
+{}
+
+/// The rows that a derivation or a proof cites are rows of its claims, and
+/// they suffice: it stays over any claims of the program that have them.
+pub fn cited_claims_suffice()
+    ensures cited_by_derivation { (program : Program) (claims : List Claim) (env : Environment) (t : Term) (v : Value)
+        (given : Gives program claims env t v) → AreRows (cited program claims env t v given) claims }
+    ensures derivations { (program : Program) (claims others : List Claim) (env : Environment) (t : Term) (v : Value)
+        (given : Gives program claims env t v) → AreRows (cited program claims env t v given) others → Gives program others env t v }
+    ensures cited_by_proof { (program : Program) (claims : List Claim) (proof : List Step) (checks : Checks program claims proof)
+        → AreRows (proof_cited program claims proof checks.follows) claims }
+    ensures proofs { (program : Program) (claims others : List Claim) (proof : List Step) (checks : Checks program claims proof)
+        → IsTrue (list_all (is_claim_of program) others) → AreRows (proof_cited program claims proof checks.follows) others
+        → Checks program others proof }
+{}
+
 /// True claims are of their program. Rows of true claims are true, two lists
 /// of true claims are true together, and what is true at a level is true at
 /// each that is higher.
@@ -173,4 +183,19 @@ pub fn true_claims_combine()
         → AreTrue program levels level claims → AreTrue program levels level others → AreTrue program levels level (claims ++ others) }
     ensures higher { (program : Program) (levels : List ℕ) (level higher : ℕ) (claims : List Claim) → level ≤ higher
         → AreTrue program levels level claims → AreTrue program levels higher claims }
+{}
+
+/// Claims are true below a level exactly where each of their rows is of a
+/// function of a lower level and holds exactly its values by claims that are
+/// true at that level. Function and arguments determine such a row.
+pub fn true_claims_are_exact()
+    ensures exact { (program : Program) (levels : List ℕ) (level : ℕ) (claims : List Claim)
+        → AreTrue program levels level claims
+        ↔ ((k : ℕ) (claim : Claim) → slice_get claims k ≡ Some claim
+        → (level_of levels claim.function < level)
+        × IsExact program (AreTrue program levels (level_of levels claim.function)) claim) }
+    ensures determined { (program : Program) (levels : List ℕ) (level other : ℕ) (claims others : List Claim) (k m : ℕ) (claim twin : Claim)
+        → AreTrue program levels level claims → AreTrue program levels other others
+        → slice_get claims k ≡ Some claim → slice_get others m ≡ Some twin
+        → claim.function ≡ twin.function → claim.arguments ≡ twin.arguments → claim.values ≡ twin.values }
 {}
