@@ -1,0 +1,9 @@
+pub mod Kernel
+pub mod KernelOf
+pub mod KernelStored
+pub mod TermStored
+pub mod TermsOf
+pub mod TypeExpr
+pub mod TypeStored
+pub mod TypesOf
+pub mod Valid

@@ -1,0 +1,21 @@
+//! Kernel programs: what modules are translated to. A program has its types,
+//! its functions with their rules, and what type inference and the printing
+//! of FlatCurry need beside them.
+#![tactic(auto)]
+
+mod declarations;
+mod program;
+mod term;
+mod type_term;
+
+pub use cu_calculus::{ConId, FunId, Head, Int, Lit, Mode, Prim, Special};
+pub use declarations::{Constructor, DataType, Goal, Mark, ModuleInfo, Operator, Side, Synonym};
+pub use program::{Program, ProgramParts};
+pub use term::{Body, Function, Pattern, Rule, Term};
+pub use type_term::{Interface, SynonymId, TypeId, TypeName, TypeTerm};
+
+/// The smallest of Curry's integers.
+pub const LEAST_INT: Int = i64::MIN;
+
+/// The greatest of Curry's integers.
+pub const GREATEST_INT: Int = i64::MAX;
