@@ -62,16 +62,23 @@ pub record Kernel : Type 0 where
   pub goal : Option Goal
   pub special : Special
 
+-- the constructors of a type at a place among the program's types
+abbrev pub constructors_of : ℕ → List Constructor → List calculus.Constructor
+constructors_of place cs = map (λ c. record { of_type = place; arity = length c.fields }) cs
+
 -- the constructors of the types from a place on: those of one type after those of the one before
 abbrev pub constructors_from : ℕ → List DataType → List calculus.Constructor
 constructors_from place [] = []
-constructors_from place (t ∷ ts) =
-    map (λ c. record { of_type = place; arity = length c.fields }) t.constructors ++ constructors_from (place + 1) ts
+constructors_from place (t ∷ ts) = constructors_of place t.constructors ++ constructors_from (place + 1) ts
+
+-- a function without its name
+abbrev pub plain_function : Function → calculus.Function
+plain_function f = record { arity = f.arity; body = f.body }
 
 -- the program of the calculus
 unfoldable pub program_of : Kernel → calculus.Program
 program_of kernel = record {
-  functions = map (λ f. record { arity = f.arity; body = f.body }) kernel.functions;
+  functions = map plain_function kernel.functions;
   constructors = constructors_from 0 kernel.types;
   special = kernel.special;
 }

@@ -1,8 +1,11 @@
+pub mod Heads
 pub mod Kernel
 pub mod KernelOf
 pub mod KernelStored
+pub mod Scope
 pub mod TermStored
 pub mod TermsOf
+pub mod Tests
 pub mod TypeExpr
 pub mod TypeStored
 pub mod TypesOf

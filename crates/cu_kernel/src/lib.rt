@@ -4,9 +4,16 @@
 #![tactic(auto)]
 
 mod declarations;
+mod declared;
+mod heads;
+mod patterns;
 mod program;
+mod scope;
+mod special;
 mod term;
+mod terms;
 mod type_term;
+mod valid;
 
 pub use cu_calculus::{ConId, FunId, Head, Int, Lit, Mode, Prim, Special};
 pub use declarations::{Constructor, DataType, Goal, Mark, ModuleInfo, Operator, Side, Synonym};
