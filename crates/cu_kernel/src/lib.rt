@@ -12,6 +12,8 @@ mod scope;
 mod special;
 mod term;
 mod terms;
+#[cfg(test)]
+mod tests;
 mod type_term;
 mod valid;
 
