@@ -1,7 +1,7 @@
 pub mod Conjunction
-pub mod Counts
 pub mod Decides
 pub mod HeadLemmas
+pub mod ListCounts
 pub mod Loops
 pub mod MarkLemmas
 pub mod PatternLemmas

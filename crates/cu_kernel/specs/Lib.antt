@@ -2,6 +2,11 @@ pub mod Heads
 pub mod Kernel
 pub mod KernelOf
 pub mod KernelStored
+pub mod LocalKernel
+pub mod LocalKernelOf
+pub mod LocalStored
+pub mod LocalTerm
+pub mod LocalTermsOf
 pub mod Scope
 pub mod TermStored
 pub mod TermsOf

@@ -6,6 +6,8 @@
 mod declarations;
 mod declared;
 mod heads;
+mod local;
+mod local_program;
 mod patterns;
 mod program;
 mod scope;
@@ -19,6 +21,8 @@ mod valid;
 
 pub use cu_calculus::{ConId, FunId, Head, Int, Lit, Mode, Prim, Special};
 pub use declarations::{Constructor, DataType, Goal, Mark, ModuleInfo, Operator, Side, Synonym};
+pub use local::{LocalBody, LocalFunction, LocalHead, LocalRule, LocalTerm, TopFunction};
+pub use local_program::{Counts, LocalParts, LocalProgram};
 pub use program::{Program, ProgramParts};
 pub use term::{Body, Function, Pattern, Rule, Term};
 pub use type_term::{Interface, SynonymId, TypeId, TypeName, TypeTerm};

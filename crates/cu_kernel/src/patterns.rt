@@ -22,7 +22,7 @@ pub(crate) fn literal_fits(literal: Lit) -> bool
 /// Whether the constructors of a pattern are the program's and have all
 /// their arguments.
 #[cycle(patterns)]
-#[tactic(auto, using(crate::specs::TermsOf::patterns_of_variants, crate::proofs::Counts::counts))]
+#[tactic(auto, using(crate::specs::TermsOf::patterns_of_variants, crate::proofs::ListCounts::counts))]
 pub(crate) fn pattern_fits(heads: &Heads, pattern: &Pattern) -> bool
     ensures { result ≡ fits_pattern (heads_program heads.now) (pattern_of pattern.now) }
 {

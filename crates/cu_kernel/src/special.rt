@@ -11,7 +11,7 @@ use crate::heads::Heads;
 use crate::{Body, ConId, Function, Head, Mode, Pattern, Rule, Special, Term};
 
 /// Whether a pattern is this constructor without arguments.
-#[tactic(auto, using(crate::specs::TermsOf::patterns_of_variants, crate::proofs::Counts::counts))]
+#[tactic(auto, using(crate::specs::TermsOf::patterns_of_variants, crate::proofs::ListCounts::counts))]
 fn is_constant_pattern(constructor: ConId, pattern: &Pattern) -> bool
     ensures { result ≡ is_constant_pattern constructor (pattern_of pattern.now) }
 {
@@ -35,7 +35,7 @@ fn is_constant_head(constructor: ConId, head: Head) -> bool
 }
 
 /// Whether a term is this constructor without arguments.
-#[tactic(auto, using(crate::specs::TermsOf::terms_of_variants, crate::proofs::Counts::counts))]
+#[tactic(auto, using(crate::specs::TermsOf::terms_of_variants, crate::proofs::ListCounts::counts))]
 fn is_constant_term(constructor: ConId, term: &Term) -> bool
     ensures { result ≡ is_constant_term constructor (term_of term.now) }
 {

@@ -17,7 +17,7 @@ use std::alloc::{AllocError, Global};
 
 /// Whether a term fits in a scope.
 #[cycle(terms)]
-#[tactic(auto, using(crate::specs::TermsOf::terms_of_variants, crate::specs::Scope::allowed_variants, crate::proofs::Counts::counts))]
+#[tactic(auto, using(crate::specs::TermsOf::terms_of_variants, crate::specs::Scope::allowed_variants, crate::proofs::ListCounts::counts))]
 fn term_fits(alloc: Global, heads: &Heads, term: &Term, scope: &Scope) -> Result<bool, AllocError>
     ensures { IfOk result (λ fits. fits ≡ fits_term (heads_program heads.now) (allowed scope.now) (term_of term.now)) }
 {
@@ -123,7 +123,7 @@ fn alternatives_fit(
 }
 
 /// Whether a rule fits a function of so many parameters.
-#[tactic(auto, using(crate::specs::Scope::allowed_variants, crate::proofs::Counts::counts))]
+#[tactic(auto, using(crate::specs::Scope::allowed_variants, crate::proofs::ListCounts::counts))]
 fn rule_fits(alloc: Global, heads: &Heads, arity: u32, rule: &Rule) -> Result<bool, AllocError>
     ensures { IfOk result (λ fits. fits ≡ fits_rule (heads_program heads.now) arity (rule_meaning rule.now)) }
 {

@@ -1,9 +1,12 @@
 //! Valid programs and programs that aren't, worked out by hand. The sample
 //! has the types `Bool` and list, `&&`, `+`, and what lifting makes of
 //! `f x = g 1 where g y = x + y`.
+ghost use Rattle.std.specs.Prelude.{◌≡◌, [], IfOk, length};
+
 use crate::{
-    Body, ConId, Constructor, DataType, FunId, Function, Goal, Head, Lit, Mark, Mode, ModuleInfo,
-    Operator, Pattern, Prim, Program, ProgramParts, Rule, Side, Special, Synonym, SynonymId, Term,
+    Body, ConId, Constructor, Counts, DataType, FunId, Function, Goal, Head, Lit, LocalBody,
+    LocalParts, LocalProgram, LocalRule, LocalTerm, Mark, Mode, ModuleInfo, Operator, Pattern,
+    Prim, Program, ProgramParts, Rule, Side, Special, Synonym, SynonymId, Term, TopFunction,
     TypeId, TypeName, TypeTerm,
 };
 use cu_names::{NameId, Place};
@@ -24,6 +27,15 @@ const BOTH: FunId = FunId(0);
 const PLUS: FunId = FunId(1);
 
 const LIFTED: FunId = FunId(3);
+
+const ENTITIES: Special = Special {
+    falsity: FALSE,
+    truth: TRUE,
+    nil: NIL,
+    cons: CONS,
+    both: BOTH,
+    values: None,
+};
 
 const NAME: NameId = NameId(0);
 
@@ -172,14 +184,7 @@ fn sample(alloc: Global, body: Term) -> Result<ProgramParts, AllocError> {
         modules: vec![in alloc; module]?,
         marks: vec![in alloc; mark(0, 0), mark(0, 0), mark(0, 0), mark(0, 1)]?,
         goal: None,
-        special: Special {
-            falsity: FALSE,
-            truth: TRUE,
-            nil: NIL,
-            cons: CONS,
-            both: BOTH,
-            values: None,
-        },
+        special: ENTITIES,
     })
 }
 
@@ -529,6 +534,78 @@ fn a_goal_names_its_parameters(rt: HostRuntime) -> Result<(), Fail> {
         }
         parts.goal = Some(Goal { function, names });
         assert_eq!(rt; parts.valid(alloc)?, right);
+    }
+    Ok(())
+}
+
+fn named_module(alloc: Global, name: NameId) -> ModuleInfo {
+    ModuleInfo {
+        name,
+        imports: Vec::new(alloc),
+        operators: Vec::new(alloc),
+    }
+}
+
+/// f = 1
+fn named_function(alloc: Global, name: NameId) -> Result<TopFunction, AllocError> {
+    let rule = LocalRule {
+        params: Vec::new(alloc),
+        body: LocalTerm::Lit(Lit::Int(1)),
+    };
+    Ok(TopFunction {
+        name,
+        arity: 0,
+        body: LocalBody::Rules(vec![in alloc; rule]?),
+        locals: Vec::new(alloc),
+    })
+}
+
+/// Parts with a module and a function of one name.
+fn named_parts(alloc: Global, start: Counts, name: NameId) -> Result<LocalParts, AllocError>
+    ensures start { IfOk result (λ parts. parts.start ≡ start) }
+    ensures types { IfOk result (λ parts. parts.types.items ≡ []) }
+    ensures functions { IfOk result (λ parts. length parts.functions.items ≡ 1) }
+    ensures synonyms { IfOk result (λ parts. parts.synonyms.items ≡ []) }
+    ensures modules { IfOk result (λ parts. length parts.modules.items ≡ 1) }
+{
+    Ok(LocalParts {
+        start,
+        types: Vec::new(alloc),
+        functions: vec![in alloc; named_function(alloc, name)?]?,
+        synonyms: Vec::new(alloc),
+        modules: vec![in alloc; named_module(alloc, name)]?,
+        marks: vec![in alloc; mark(0, 0)]?,
+        goal: None,
+        special: ENTITIES,
+    })
+}
+
+const NO_PARTS: Counts = Counts {
+    types: 0,
+    constructors: 0,
+    functions: 0,
+    synonyms: 0,
+    modules: 0,
+};
+
+#[test]
+fn modules_are_joined_in_order(rt: HostRuntime) -> Result<(), Fail> {
+    let alloc = rt.alloc();
+    let mut program = LocalProgram::new(named_parts(alloc, NO_PARTS, NameId(5))?);
+    let start = Counts {
+        functions: 1,
+        modules: 1,
+        ..NO_PARTS
+    };
+    program.join(LocalProgram::new(named_parts(alloc, start, NameId(6))?))?;
+    let parts = program.into_parts();
+    assert_eq!(rt; parts.start, NO_PARTS);
+    assert_eq!(rt; parts.marks.len(), 2);
+    for (module, name) in parts.modules.iter().zip([NameId(5), NameId(6)]) {
+        assert_eq!(rt; module.name, name);
+    }
+    for (function, name) in parts.functions.iter().zip([NameId(5), NameId(6)]) {
+        assert_eq!(rt; function.name, name);
     }
     Ok(())
 }
