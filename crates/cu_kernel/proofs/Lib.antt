@@ -1,0 +1,12 @@
+pub mod Conjunction
+pub mod Decides
+pub mod HeadLemmas
+pub mod ListCounts
+pub mod Loops
+pub mod MarkLemmas
+pub mod PatternLemmas
+pub mod SpecialLemmas
+pub mod TermLemmas
+pub mod TypeLemmas
+pub mod VariantTests
+pub mod Variants

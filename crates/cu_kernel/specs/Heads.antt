@@ -1,0 +1,17 @@
+-- The program whose functions and constructors a table of heads has.
+use Rattle.std.specs.Prelude.{map}
+use Rattle.cu_calculus.specs.Program as calculus
+use Rattle.cu_kernel.specs.Kernel.{plain_function}
+use Rattle.cu_kernel.specs.KernelOf.{function_meaning}
+use Rattle.cu_kernel.specs.declared.heads.Heads.{Heads}
+use Rattle.cu_kernel.specs.declared.heads.Shape.{Shape}
+
+abbrev pub shape_meaning : Shape → calculus.Constructor
+shape_meaning shape = record { of_type = shape.of_type; arity = shape.arity }
+
+unfoldable pub heads_program : Heads → calculus.Program
+heads_program heads = record {
+  functions = map plain_function (map function_meaning heads.functions.now);
+  constructors = map shape_meaning heads.constructors.items;
+  special = heads.special.now;
+}

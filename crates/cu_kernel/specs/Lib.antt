@@ -1,0 +1,17 @@
+pub mod Heads
+pub mod Kernel
+pub mod KernelOf
+pub mod KernelStored
+pub mod LocalKernel
+pub mod LocalKernelOf
+pub mod LocalStored
+pub mod LocalTerm
+pub mod LocalTermsOf
+pub mod Scope
+pub mod TermStored
+pub mod TermsOf
+pub mod Tests
+pub mod TypeExpr
+pub mod TypeStored
+pub mod TypesOf
+pub mod Valid

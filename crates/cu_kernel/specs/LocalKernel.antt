@@ -1,0 +1,69 @@
+-- Programs before lifting, and the program of several modules in a row.
+use Rattle.std.specs.Prelude.{◌≡◌, ℕ, ◌+◌, List, ◌++◌, Option, None, Some, length}
+use Rattle.cu_calculus.specs.Term as calculus
+use Rattle.cu_calculus.specs.declared.builtin.Primitive.{Primitive}
+use Rattle.cu_calculus.specs.declared.builtin.Special.{Special}
+use Rattle.cu_names.specs.declared.names.NameId.{NameId}
+use Rattle.cu_names.specs.declared.place.Place.{Place}
+use Rattle.cu_kernel.specs.Kernel.{DataType, Goal, Mark, Module, Synonym, constructors_from}
+use Rattle.cu_kernel.specs.LocalTerm.{LocalTerm}
+use Rattle.cu_kernel.specs.TypeExpr.{TypeExpr}
+use Rattle.cu_kernel.specs.declared.local_program.Counts.{Counts}
+
+pub record LocalRule : Type 0 where
+  pub params : calculus.Patterns
+  pub body : LocalTerm
+
+pub data LocalBody : Type 0 where
+  Rules : List LocalRule → LocalBody
+  External : Primitive → LocalBody
+
+pub record LocalFunction : Type 0 where
+  -- where its first token stands
+  pub place : Place
+  pub declared : Option TypeExpr
+  pub arity : ℕ
+  pub rules : List LocalRule
+
+pub record TopFunction : Type 0 where
+  pub name : NameId
+  pub arity : ℕ
+  pub body : LocalBody
+  pub locals : List LocalFunction
+
+pub record LocalKernel : Type 0 where
+  -- how many of each kind come before
+  pub start : Counts
+  pub types : List DataType
+  pub functions : List TopFunction
+  pub synonyms : List Synonym
+  pub modules : List Module
+  pub marks : List Mark
+  pub goal : Option Goal
+  pub special : Special
+
+-- The numbers of the second program follow those of the first.
+pub record Follows (first second : LocalKernel) : Type 0 where
+  pub types : second.start.types ≡ first.start.types + length first.types
+  pub constructors : second.start.constructors ≡ first.start.constructors + length (constructors_from 0 first.types)
+  pub functions : second.start.functions ≡ first.start.functions + length first.functions
+  pub synonyms : second.start.synonyms ≡ first.start.synonyms + length first.synonyms
+  pub modules : second.start.modules ≡ first.start.modules + length first.modules
+
+-- the last goal that there is
+abbrev pub last_goal : Option Goal → Option Goal → Option Goal
+last_goal first None = first
+last_goal first (Some goal) = Some goal
+
+-- the first program's parts and then the second's
+abbrev pub joined : LocalKernel → LocalKernel → LocalKernel
+joined first second = record {
+  start = first.start;
+  types = first.types ++ second.types;
+  functions = first.functions ++ second.functions;
+  synonyms = first.synonyms ++ second.synonyms;
+  modules = first.modules ++ second.modules;
+  marks = first.marks ++ second.marks;
+  goal = last_goal first.goal second.goal;
+  special = second.special;
+}

@@ -1,0 +1,34 @@
+//! Kernel programs: what modules are translated to. A program has its types,
+//! its functions with their rules, and what type inference and the printing
+//! of FlatCurry need beside them.
+#![tactic(auto)]
+
+mod declarations;
+mod declared;
+mod heads;
+mod local;
+mod local_program;
+mod patterns;
+mod program;
+mod scope;
+mod special;
+mod term;
+mod terms;
+#[cfg(test)]
+mod tests;
+mod type_term;
+mod valid;
+
+pub use cu_calculus::{ConId, FunId, Head, Int, Lit, Mode, Prim, Special};
+pub use declarations::{Constructor, DataType, Goal, Mark, ModuleInfo, Operator, Side, Synonym};
+pub use local::{LocalBody, LocalFunction, LocalHead, LocalRule, LocalTerm, TopFunction};
+pub use local_program::{Counts, LocalParts, LocalProgram};
+pub use program::{Program, ProgramParts};
+pub use term::{Body, Function, Pattern, Rule, Term};
+pub use type_term::{Interface, SynonymId, TypeId, TypeName, TypeTerm};
+
+/// The smallest of Curry's integers.
+pub const LEAST_INT: Int = i64::MIN;
+
+/// The greatest of Curry's integers.
+pub const GREATEST_INT: Int = i64::MAX;

@@ -1,0 +1,86 @@
+//! Terms whose local functions aren't lifted yet.
+use crate::{Head, Lit, Mode, Pattern, Prim, TypeTerm};
+use cu_names::{NameId, Place};
+
+/// What stands at the head of an application before lifting.
+#[derive(Clone, Copy, Debug, PartialEq, Eq)]
+pub enum LocalHead {
+    /// A head of the program. Functions are numbered by their places among
+    /// the top-level functions of all modules.
+    Global(Head),
+    /// A local function of the same top-level function, by its place among
+    /// these.
+    Local(u32),
+}
+
+/// A term before lifting. A variable has one number within a top-level
+/// function, so the variables that a local function captures are found by
+/// their numbers.
+#[derive(Drop)]
+pub enum LocalTerm {
+    /// A variable.
+    Var(u32),
+    /// A literal.
+    Lit(Lit),
+    /// A head with all its arguments. Those of a local function are its own
+    /// arguments, without the variables that it captures.
+    Whole(LocalHead, Vec<LocalTerm>),
+    /// A head with fewer arguments than it takes.
+    Part(LocalHead, Vec<LocalTerm>),
+    /// The function that the first term gives, on the second.
+    Apply(Box<LocalTerm>, Box<LocalTerm>),
+    /// The second term, where the variable stands for the first.
+    Let(u32, Box<LocalTerm>, Box<LocalTerm>),
+    /// The term, where the variable is free.
+    Free(u32, Box<LocalTerm>),
+    /// A choice between two terms.
+    Or(Box<LocalTerm>, Box<LocalTerm>),
+    /// A case distinction: a scrutinee, and alternatives in order.
+    Case(Mode, Box<LocalTerm>, Vec<(Pattern, LocalTerm)>),
+}
+
+/// A rule before lifting.
+#[derive(Drop)]
+pub struct LocalRule {
+    /// A pattern for each parameter.
+    pub params: Vec<Pattern>,
+    /// The right side.
+    pub body: LocalTerm,
+}
+
+/// What a top-level function computes, before lifting.
+#[derive(Drop)]
+pub enum LocalBody {
+    /// Its rules, in order.
+    Rules(Vec<LocalRule>),
+    /// What is built in.
+    External(Prim),
+}
+
+/// A local function. It has no name yet: lifting names the local functions
+/// of a top-level function in the order of their places.
+#[derive(Drop)]
+pub struct LocalFunction {
+    /// The place of its first token.
+    pub place: Place,
+    /// Its declared type, if it has one.
+    pub declared: Option<TypeTerm>,
+    /// How many parameters it has, without captured variables.
+    pub arity: u32,
+    /// Its rules, in order.
+    pub rules: Vec<LocalRule>,
+}
+
+/// A top-level function with its local functions, however deep these are
+/// nested.
+#[derive(Drop)]
+pub struct TopFunction {
+    /// Its name, without its module's.
+    pub name: NameId,
+    /// How many parameters it has.
+    pub arity: u32,
+    /// What it computes.
+    pub body: LocalBody,
+    /// Its local functions; a term names one by its place here.
+    pub locals: Vec<LocalFunction>,
+}
