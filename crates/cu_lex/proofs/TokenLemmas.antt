@@ -113,6 +113,7 @@ kind-grows old new grows (token.Mark mark) has = (refl, tt)
 kind-grows old new grows (token.Int n) has = (refl, tt)
 kind-grows old new grows (token.Char code) has = (refl, tt)
 kind-grows old new grows (token.String codes) has = (refl, tt)
+kind-grows old new grows (token.Layout mark) has = (refl, tt)
 
 pub tokens-grow : (owner : NameId) (old new : List (List ℕ)) → Extends old new → (ts : List LexerToken) → All (IsTokenOf owner old) ts → map (lexeme_of new) ts ≡ map (lexeme_of old) ts
 tokens-grow owner old new grows [] all = refl

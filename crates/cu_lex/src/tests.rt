@@ -29,6 +29,7 @@ fn class_of(kind: &TokenKind) -> &'static str {
         TokenKind::Int(_) => "Int",
         TokenKind::Char(_) => "Char",
         TokenKind::String(_) => "String",
+        TokenKind::Layout(_) => "layout",
     }
 }
 
