@@ -11,11 +11,11 @@ use Rattle.cu_lex.specs.declared.token.ReservedOperator.TheVariants as reserved
 use Rattle.cu_lex.specs.declared.token.Token.{Token}
 use Rattle.cu_lex.specs.declared.token.TokenKind.{TokenKind}
 use Rattle.cu_lex.specs.declared.token.TokenKind.TheVariants as token
-use Rattle.cu_lex.specs.Reading.{lexeme_of, kind_of, position_of, HasKind}
+use Rattle.cu_lex.specs.Reading.{is_written, lexeme_of, kind_of, position_of, HasKind}
 use Rattle.cu_lex.specs.Tokens.{Lexeme}
 use Rattle.cu_layout.specs.Blocks.{Marks, block, interleaving, last_of, layout_marks, with_marks}
 use Rattle.cu_layout.specs.Forms.{form_of, sight_of, token_form, token_sight}
-use Rattle.cu_layout.specs.Laws.{GivesTextBack, KeepsNames, KeepsTokens, ReadsAlike, is_written, without_layout}
+use Rattle.cu_layout.specs.Laws.{GivesTextBack, KeepsNames, KeepsTokens, ReadsAlike, without_layout}
 use Rattle.cu_layout.specs.Reading.{emitted_lexeme, emitted_token, lexeme_view, token_view}
 
 -- tokens laid out are those of the text with some marks

@@ -2,16 +2,9 @@
 use Rattle.std.specs.Prelude.{◌≡◌, ℕ, Bool, true, false, not, List, map, filter, All, Result, Ok}
 use Rattle.std.specs.Result.{result_map_both}
 use Rattle.cu_lex.specs.declared.token.Token.{Token}
-use Rattle.cu_lex.specs.declared.token.TokenKind.{TokenKind}
-use Rattle.cu_lex.specs.declared.token.TokenKind.TheVariants as token
-use Rattle.cu_lex.specs.Reading.{lexeme_of, HasKind}
+use Rattle.cu_lex.specs.Reading.{is_written, lexeme_of, HasKind}
 use Rattle.cu_layout.specs.Blocks.{block}
 use Rattle.cu_layout.specs.Reading.{lexeme_view, token_view}
-
--- Whether a token stands in the text itself.
-abbrev pub is_written : TokenKind → Bool
-is_written (token.Layout mark) = false
-is_written _ = true
 
 -- The tokens that stand in the text itself.
 abbrev pub without_layout : List Token → List Token

@@ -1,5 +1,5 @@
 -- What the lexer's answers stand for.
-use Rattle.std.specs.Prelude.{◌≡◌, ℕ, List, map, IfSome, Result, Ok, Err}
+use Rattle.std.specs.Prelude.{◌≡◌, ℕ, Bool, true, false, List, map, IfSome, Result, Ok, Err}
 use Rattle.std.specs.Option.{option_map}
 use Rattle.cu_names.specs.declared.place.Place.{Place}
 use Rattle.cu_names.specs.declared.names.NameId.{NameId}
@@ -75,3 +75,8 @@ HasKind names kind = Unit {0}
 pub record IsTokenOf (owner : NameId) (names : List (List ℕ)) (t : Token) : Type 0 where
   pub owned : t.place.«module» ≡ owner
   pub known : HasKind names t.kind
+
+-- The token stands in a text, and layout didn't put it in.
+abbrev pub is_written : TokenKind → Bool
+is_written (token.Layout mark) = false
+is_written kind = true
