@@ -1,5 +1,5 @@
 -- The layout rules at short texts, computed.
-use Rattle.std.proofs.Common.{◌≡◌, ℕ, zero, suc, Bool, true, false, List, [], ◌∷◌, ◌++◌, Option, None, Some, Result, Ok, Err, map, refl}
+use Rattle.std.proofs.Common.{◌≡◌, ℕ, zero, suc, Bool, true, false, List, [], ◌∷◌, Option, None, Some, Result, Ok, Err, map, refl}
 use Prim.Native.String.{String as Text}
 use Rattle.std.specs.Char.{encode_utf8}
 use Rattle.std.specs.Prelude.{codes}
@@ -7,12 +7,12 @@ use Rattle.std.specs.Str.{chars, is_utf8}
 use Rattle.cu_lex.specs.declared.token.LayoutMark.TheVariants as layout
 use Rattle.cu_lex.specs.declared.token.Mark.TheVariants as mark
 use Rattle.cu_lex.specs.Decoding.{begins_text, begun_up_to}
-use Rattle.cu_lex.specs.Kind.{Kind, Spelling}
+use Rattle.cu_lex.specs.Kind.{Kind}
 use Rattle.cu_lex.specs.Kind.Kind.{Mark, Layout}
 use Rattle.cu_lex.specs.Literals.{short_escape, numeric_escape, item_of, items_between}
-use Rattle.cu_lex.specs.Located.{Position, located_from}
-use Rattle.cu_lex.specs.Munch.{Placed, longest_after, cut_within}
-use Rattle.cu_lex.specs.Pieces.{piece, special_of, spelled, name_kind, word_kind}
+use Rattle.cu_lex.specs.Located.{located_from}
+use Rattle.cu_lex.specs.Munch.{longest_after, cut_within}
+use Rattle.cu_lex.specs.Pieces.{piece, special_of, name_kind, word_kind}
 use Rattle.cu_lex.specs.Tokens.{Lexeme, Fault, tokens}
 use Rattle.cu_lex.specs.Words.{is_separator, is_name_character, is_symbol, keyword_of, reserved_of, mark_of, is_var_id, is_con_id, is_operator, is_module_name, qualified_parts, digits_value, based_number, decimal_number, is_line_comment, closes, is_nested_comment}
 use Rattle.cu_layout.specs.declared.form.Form.TheVariants as form

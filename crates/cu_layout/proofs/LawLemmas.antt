@@ -1,5 +1,5 @@
 -- The laws of the layout rules.
-use Rattle.std.proofs.Common.{◌≡◌, ◌∙◌, ℕ, zero, suc, ◌<◌, sym, ap, subst, refl, arith, append-nil, Bool, true, false, List, [], ◌∷◌, ◌++◌, length, map, Option, None, Some, Result, Ok, Err, if◌then◌else◌}
+use Rattle.std.proofs.Common.{◌≡◌, ◌∙◌, ℕ, zero, suc, ◌<◌, sym, ap, subst, refl, arith, append-nil, Bool, true, List, [], ◌∷◌, ◌++◌, length, map, Option, None, Some, Result, Ok, Err, if◌then◌else◌}
 use Rattle.std.proofs.lemmas.List.{map-append}
 use Rattle.std.proofs.lemmas.List.Elements.{All-append, All-map, filter-append}
 use Rattle.std.specs.List.{All}
@@ -12,11 +12,10 @@ use Rattle.cu_lex.specs.declared.token.Token.{Token}
 use Rattle.cu_lex.specs.declared.token.TokenKind.{TokenKind}
 use Rattle.cu_lex.specs.declared.token.TokenKind.TheVariants as token
 use Rattle.cu_lex.specs.Reading.{is_written, lexeme_of, kind_of, position_of, HasKind}
-use Rattle.cu_lex.specs.Tokens.{Lexeme}
 use Rattle.cu_layout.specs.Blocks.{Marks, block, interleaving, last_of, layout_marks, with_marks}
 use Rattle.cu_layout.specs.Forms.{form_of, sight_of, token_form, token_sight}
 use Rattle.cu_layout.specs.Laws.{GivesTextBack, KeepsNames, KeepsTokens, ReadsAlike, without_layout}
-use Rattle.cu_layout.specs.Reading.{emitted_lexeme, emitted_token, lexeme_view, token_view}
+use Rattle.cu_layout.specs.Reading.{emitted_lexeme, emitted_token, token_view}
 
 -- tokens laid out are those of the text with some marks
 laid-with : (whole : Bool) (text laid : List Token) → block token_view whole text ≡ Ok laid → (marks : Marks) × (laid ≡ with_marks emitted_token text marks)

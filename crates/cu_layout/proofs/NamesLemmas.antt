@@ -1,5 +1,5 @@
 -- A block's state tells whether its tokens are names alone.
-use Rattle.std.proofs.Common.{◌≡◌, ◌∙◌, sym, ap, refl, true, false, List, [], ◌∷◌, ◌++◌, fold}
+use Rattle.std.proofs.Common.{◌≡◌, sym, refl, false, List, [], ◌∷◌, fold}
 use Rattle.cu_lex.specs.declared.token.Mark.TheVariants as mark
 use Rattle.cu_layout.specs.declared.begun.Begun.TheVariants as begun
 use Rattle.cu_layout.specs.declared.form.Form.{Form}

@@ -1,19 +1,17 @@
 -- The rules do the same to a stack and to the plain one.
-use Rattle.std.proofs.Common.{◌≡◌, ◌∙◌, ℕ, zero, suc, ◌+◌, sym, ap, refl, Bool, true, false, not, ◌&&◌, ◌||◌, ◌==◌, nat_lt, nat_le, List, [], ◌∷◌, ◌++◌, length, map, fold, drop, Option, None, Some, Result, Ok, Err, if◌then◌else◌}
+use Rattle.std.proofs.Common.{◌≡◌, ◌∙◌, ℕ, suc, sym, ap, refl, Bool, true, false, not, ◌&&◌, ◌||◌, ◌==◌, nat_lt, nat_le, List, [], ◌∷◌, ◌++◌, length, drop, Option, None, Some, Result, Ok, if◌then◌else◌}
 use Rattle.std.proofs.lemmas.List.{length-map}
 use Rattle.std.proofs.lemmas.List.Sums.{fold-append}
 use Rattle.std.specs.Option.{option_and_then, option_map}
 use Rattle.std.specs.Result.{result_map_both}
 use Rattle.cu_lex.specs.declared.token.LayoutMark.{LayoutMark}
 use Rattle.cu_lex.specs.declared.token.LayoutMark.TheVariants as layout
-use Rattle.cu_layout.specs.declared.begun.Begun.{Begun}
 use Rattle.cu_layout.specs.declared.begun.Begun.TheVariants as begun
 use Rattle.cu_layout.specs.declared.form.Form.{Form}
-use Rattle.cu_layout.specs.declared.form.Opening.{Opening}
 use Rattle.cu_layout.specs.Blocks.{Marks, begins_line, marks_from, marks_through, marks_with}
 use Rattle.cu_layout.specs.Entries.{begun_of, is_names, next_state, plain, plain_stack, sample, state_with}
 use Rattle.cu_layout.specs.Forms.{Sight, goes_on, is_block_keyword, is_close_brace, is_comma, is_open_brace, is_semicolon, is_where, only_names}
-use Rattle.cu_layout.specs.Rules.{Entry, Stack, Step, below_brace, block_column, block_tokens, brace_end, closes_block, closing_marks, due_block, indentation, is_partner, last_marks, layout_step, line_start, marks_then, most_entries, no_marks, opening_entry, partner_end, stack_noting, stack_with, step_at_partner, step_or_none, to_partner, token_step, tokens_with, with_entry, within_limit}
+use Rattle.cu_layout.specs.Rules.{Entry, Stack, Step, below_brace, block_column, block_tokens, brace_end, closes_block, closing_marks, due_block, indentation, is_partner, layout_step, line_start, marks_then, most_entries, no_marks, opening_entry, partner_end, stack_noting, stack_with, step_at_partner, step_or_none, to_partner, token_step, tokens_with, with_entry, within_limit}
 use Rattle.cu_layout.specs.Rules.Entry.{Block, Brace, Open}
 use Rattle.cu_layout.proofs.NamesLemmas.{only_names-begun_of}
 use Rattle.cu_layout.proofs.StackLemmas.{begun_of-sample, begun_of-tokens_with}

@@ -3,8 +3,6 @@ use Rattle.std.proofs.Common.{◌≡◌, ◌∙◌, ℕ, zero, suc, ◌+◌, ◌
 use Rattle.std.proofs.Math.ListN.{set}
 use Rattle.std.proofs.Math.Seq.{take-suc}
 use Rattle.std.proofs.lemmas.List.{drop-set-lt, map-append, reverse-append, take-append-drop, take_more_set}
-use Rattle.cu_lex.specs.declared.token.Keyword.{Keyword}
-use Rattle.cu_lex.specs.declared.token.Mark.{Mark}
 use Rattle.cu_lex.specs.declared.token.Mark.TheVariants as mark
 use Rattle.cu_layout.specs.declared.begun.Begun.{Begun}
 use Rattle.cu_layout.specs.declared.begun.Begun.TheVariants as begun
@@ -13,7 +11,7 @@ use Rattle.cu_layout.specs.declared.form.Form.TheVariants as form
 use Rattle.cu_layout.specs.declared.stack.Entry.{Entry as Standing}
 use Rattle.cu_layout.specs.declared.stack.Entry.TheVariants as standing
 use Rattle.cu_layout.specs.Entries.{begun_of, entry_of, state_with, plain, plain_stack, sample, stack_of}
-use Rattle.cu_layout.specs.Rules.{Entry, Stack, stack_noting, tokens_with}
+use Rattle.cu_layout.specs.Rules.{stack_noting, tokens_with}
 use Rattle.cu_layout.specs.Rules.Entry.{Block}
 
 pub stack_of-append : (xs ys : List Standing) → stack_of (xs ++ ys) ≡ stack_of ys ++ stack_of xs

@@ -1,5 +1,5 @@
 -- The tokens of a text with the braces and semicolons that the layout rules put in.
-use Rattle.std.specs.Prelude.{ℕ, zero, suc, Bool, true, false, not, ◌&&◌, ◌==◌, List, [], ◌∷◌, ◌++◌, map, Option, None, Some, Result, Ok, Err, if◌then◌else◌}
+use Rattle.std.specs.Prelude.{ℕ, zero, suc, Bool, true, not, ◌&&◌, ◌==◌, List, [], ◌∷◌, ◌++◌, map, Option, None, Some, Result, Ok, Err}
 use Rattle.std.specs.Result.{result_map_both}
 use Rattle.cu_lex.specs.declared.token.LayoutMark.{LayoutMark}
 use Rattle.cu_layout.specs.Forms.{Sight, is_block_keyword, is_module}

@@ -1,5 +1,5 @@
 -- Laws of the layout rules.
-use Rattle.std.specs.Prelude.{◌≡◌, ℕ, Bool, true, false, not, List, map, filter, All, Result, Ok}
+use Rattle.std.specs.Prelude.{◌≡◌, ℕ, Bool, true, List, map, filter, All, Ok}
 use Rattle.std.specs.Result.{result_map_both}
 use Rattle.cu_lex.specs.declared.token.Token.{Token}
 use Rattle.cu_lex.specs.Reading.{is_written, lexeme_of, HasKind}

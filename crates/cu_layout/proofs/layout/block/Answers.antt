@@ -1,10 +1,7 @@
-use Rattle.std.proofs.Common.{◌≡◌, ◌∙◌, sym, ap, None}
+use Rattle.std.proofs.Common.{◌∙◌, sym}
 use Rattle.std.specs.Vec.Iter.{into_iter_items}
-use Rattle.cu_layout.specs.Blocks.{last_of}
-use Rattle.cu_layout.specs.Entries.{block_from, laid_then, stack_of, with_marks_at}
 use Rattle.cu_layout.specs.Reading.{Tells}
-use Rattle.cu_layout.specs.Rules.{last_marks}
-use Rattle.cu_layout.proofs.BlockLemmas.{all-laid, counted-less, err-from-same, laid-more, last-more, start_or-place_at, text-more, too-deep}
+use Rattle.cu_layout.proofs.BlockLemmas.{all-laid, counted-less, err-from-same, laid-more, last-more, text-more, too-deep}
 use Rattle.cu_layout.proofs.layout.block.Goals as goal
 
 pub returns-in_err-lay_out-clause-fault : goal.returns-in_err-lay_out-clause-fault

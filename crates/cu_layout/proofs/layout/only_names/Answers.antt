@@ -1,4 +1,4 @@
-use Rattle.std.proofs.Common.{◌≡◌, ◌∙◌, sym, ap}
+use Rattle.std.proofs.Common.{◌∙◌, sym, ap}
 use Rattle.cu_layout.specs.Entries.{is_names, stack_of}
 use Rattle.cu_layout.specs.Rules.{block_tokens}
 use Rattle.cu_layout.proofs.NamesLemmas.{only_names-begun_of}
