@@ -6,7 +6,7 @@ use Rattle.std.specs.Char.{is_ascii_digit, is_ascii_lowercase, is_ascii_uppercas
 use Rattle.std.specs.Int.{is_in_range}
 use Rattle.std.specs.List.{list_all, list_any}
 use Rattle.std.specs.Str.{byte}
-use lib.Utf8.{encode, encodes}
+use lib.Utf8.{encodes}
 use Rattle.cu_lex.specs.Words.{is_name_character, is_separator, is_symbol}
 
 -- ---- tests at all codes below a number

@@ -1,11 +1,10 @@
 -- Words at the front of a text are whole runs, and so are unique; chains of them.
-use Rattle.std.proofs.Common.{◌≡◌, ℕ, zero, suc, ◌+◌, ◌<◌, ◌≤◌, ◌⊎◌, inl, inr, ⊎_elim, Bool, true, false, ◌&&◌, ◌||◌, ◌==◌, not, List, [], ◌∷◌, ◌++◌, length, map, Option, Some, None, is_none, if◌then◌else◌, refl, sym, ap, subst, ◌∙◌, arith, true≢false, append_assoc, eqb-true, eq-eqb}
+use Rattle.std.proofs.Common.{◌≡◌, ℕ, ◌<◌, ◌≤◌, ◌⊎◌, inl, inr, Bool, true, false, ◌&&◌, ◌||◌, ◌==◌, not, List, [], ◌∷◌, ◌++◌, length, Option, Some, None, is_none, if◌then◌else◌, refl, sym, ap, subst, ◌∙◌, arith, true≢false, append_assoc, eqb-true}
 use Rattle.std.proofs.lemmas.List.{length-append, map-append}
 use Rattle.std.proofs.lemmas.List.Folds.{list_all-append}
 use Rattle.std.proofs.lemmas.Slice.Eq.{bytes_eq-Decides}
 use Rattle.std.specs.Char.{is_ascii_lowercase, is_ascii_uppercase}
 use Rattle.std.specs.List.{list_all}
-use Rattle.std.specs.Map.{lookup}
 use Rattle.std.specs.Str.{byte, bytes_eq}
 use Rattle.cu_lex.specs.declared.cursor.Cursor.{Cursor}
 use Rattle.cu_lex.specs.declared.word.WordKind.{WordKind}
@@ -13,10 +12,10 @@ use Rattle.cu_lex.specs.declared.word.WordKind.TheVariants as kind
 use Rattle.cu_lex.specs.Chains.{Reaches, BeginsAt, IsBehind}
 use Rattle.cu_lex.specs.Chains.Reaches.{last, link}
 use Rattle.cu_lex.specs.Located.{Located, characters}
-use Rattle.cu_lex.specs.Scanning.{run, skip, first_of, later, left, is_base, is_underscore, IsWord, IsOfKind, class_of, con_id_kind, HasNoWord, HasNoBase, HasNoVariable}
-use Rattle.cu_lex.specs.Words.{begins_with, between_dots, with_first, entry, has_variable_form, is_colon, is_con_id, is_dashes, is_module_name, is_name_character, is_operator, is_run, is_symbol, is_var_id, keyword_of, keywords, reserved_of, reserved_operators}
-use Rattle.cu_lex.proofs.AsciiLemmas.{and-left, and-right, and-both, apart, all_below, capital-name, small-name, small-capital, small-small, small-symbol, small-name-character, underscore-name}
-use Rattle.cu_lex.proofs.ScanLemmas.{run-skip, all-run, skip-ended, run-unique}
+use Rattle.cu_lex.specs.Scanning.{skip, first_of, later, left, is_base, is_underscore, IsWord, IsOfKind, class_of, con_id_kind, HasNoWord, HasNoBase}
+use Rattle.cu_lex.specs.Words.{begins_with, between_dots, with_first, entry, has_variable_form, is_con_id, is_dashes, is_module_name, is_name_character, is_operator, is_run, is_symbol, is_var_id, keyword_of, keywords, reserved_of, reserved_operators}
+use Rattle.cu_lex.proofs.AsciiLemmas.{and-left, and-right, and-both, apart, small-name, small-capital, small-symbol, small-name-character, underscore-name}
+use Rattle.cu_lex.proofs.ScanLemmas.{run-unique}
 
 -- ---- tables of words
 

@@ -1,35 +1,28 @@
 -- Words, comments and blanks are the longest pieces.
-use Rattle.std.proofs.Common.{◌≡◌, ℕ, zero, suc, ◌+◌, ◌<◌, ◌≤◌, ◌⊎◌, inl, inr, ⊎_elim, Bool, true, false, ◌&&◌, ◌||◌, ◌==◌, not, List, [], ◌∷◌, ◌++◌, length, take, drop, Option, Some, None, is_none, is_some, IsSome, if◌then◌else◌, refl, sym, ap, subst, ◌∙◌, arith, true≢false, nat_le, eqb-true, append_assoc, codes}
-use Rattle.std.proofs.lemmas.Bool.{cases_lt, leb-true, le-leb}
-use Rattle.std.proofs.lemmas.List.{length-append, map-append}
-use Rattle.std.proofs.lemmas.List.Folds.{list_all-append}
-use Rattle.std.specs.Char.{is_ascii_digit, is_ascii_lowercase, is_ascii_uppercase}
+use Rattle.std.proofs.Common.{◌≡◌, ℕ, suc, ◌+◌, ◌<◌, ◌≤◌, ◌⊎◌, inl, inr, ⊎_elim, Bool, true, false, ◌&&◌, ◌||◌, ◌==◌, not, List, [], ◌∷◌, ◌++◌, length, drop, Option, Some, None, is_some, IsSome, if◌then◌else◌, refl, sym, ap, subst, ◌∙◌, arith, true≢false, nat_le}
+use Rattle.std.proofs.lemmas.Bool.{cases_lt}
+use Rattle.std.proofs.lemmas.List.{map-append}
+use Rattle.std.specs.Char.{is_ascii_digit}
 use Rattle.std.specs.List.{list_all, list_any, prefix_len}
-use Rattle.std.specs.Option.{option_map, option_or, option_and_then}
-use Rattle.std.specs.Str.{byte, bytes_eq}
-use Rattle.cu_lex.specs.declared.cursor.Cursor.{Cursor}
+use Rattle.std.specs.Option.{option_map, option_and_then}
 use Rattle.cu_lex.specs.declared.word.WordKind.{WordKind}
 use Rattle.cu_lex.specs.declared.word.WordKind.TheVariants as kind
-use Rattle.cu_lex.specs.Chains.{Reaches, BeginsAt, IsBehind, IsQualified}
-use Rattle.cu_lex.specs.Chains.Reaches.{last, link}
 use Rattle.cu_lex.specs.Kind.{Kind}
 use Rattle.cu_lex.specs.Literals.{items_between}
 use Rattle.cu_lex.specs.Lexing.{named, IsPlain}
-use Rattle.cu_lex.specs.Located.{Located, Position, characters}
+use Rattle.cu_lex.specs.Located.{Located, characters}
 use Rattle.cu_lex.specs.Munch.{cut_at, longest}
-use Rattle.cu_lex.specs.Pieces.{Piece, piece, blank, word, number, start, word_kind, word_before, one_character, is_blank, stands_before}
-use Rattle.cu_lex.specs.Pieces.Piece.{Blank, Token, OutOfRange}
-use Rattle.cu_lex.specs.Scanning.{first_of, later, left, run, skip, is_base, class_of, con_id_kind, IsWord, IsOfKind}
-use Rattle.cu_lex.specs.Words.{begins_with, is_single, is_separator, is_name_character, is_symbol, is_dash, is_dashes, is_run, keyword_of, reserved_of, mark_of, marks, is_line_comment, is_nested_comment, closes}
-use Rattle.cu_lex.proofs.AsciiLemmas.{and-left, and-right, and-both, apart, all_below, small-capital, small-digit, small-symbol, small-separator, small-name}
-use Rattle.cu_lex.proofs.ChainLemmas.{entry-none, keyword-small, reserved-symbol, var-form, con-capital, operator-first, operator-dashes, first-front, same-end, word-first, name-symbol, symbol-capitals, capital-small, class-cases, classes-differ, none-is}
-use Rattle.cu_lex.proofs.FirstLemmas.{begins_blank, is_mark, is_char, is_dashes_kind, stands-named, number-none, literal-none, mark-none, word-is, qualified-is, reserved-first, capital-no-symbol}
+use Rattle.cu_lex.specs.Pieces.{piece, blank, word, number, start, word_kind, one_character, stands_before}
+use Rattle.cu_lex.specs.Pieces.Piece.{Blank, Token}
+use Rattle.cu_lex.specs.Scanning.{class_of, IsWord, IsOfKind}
+use Rattle.cu_lex.specs.Words.{begins_with, is_single, is_separator, is_name_character, is_symbol, is_dash, is_dashes, mark_of, marks, is_line_comment, is_nested_comment}
+use Rattle.cu_lex.proofs.AsciiLemmas.{and-left, and-right, and-both, apart, all_below, small-symbol, small-name}
+use Rattle.cu_lex.proofs.ChainLemmas.{entry-none, operator-dashes, first-front, same-end, word-first, name-symbol, class-cases, classes-differ}
+use Rattle.cu_lex.proofs.FirstLemmas.{is_char, is_dashes_kind, stands-named, number-none, literal-none, word-is}
 use Rattle.cu_lex.proofs.ItemLemmas.{not-some}
-use Rattle.cu_lex.proofs.PieceLemmas.{FrontIs, front-cases, PieceIs, piece-longest, piece-none, front-first, shorter-front, kind-run, dash-symbol, dashes-run, reserved-dashes, word-of}
+use Rattle.cu_lex.proofs.PieceLemmas.{FrontIs, front-cases, PieceIs, piece-longest, front-first, shorter-front, dash-symbol, reserved-dashes}
 use Rattle.cu_lex.proofs.PieceLemmas.PieceIs.{blank_front, word_front, number_front, character_front, string_front}
 use Rattle.cu_lex.proofs.PieceLemmas.FrontIs.{plain, marked, chained}
-use Rattle.cu_lex.proofs.ScanLemmas.{run-skip, all-run}
-use Rattle.cu_lex.proofs.ItemLemmas.{run-most}
 
 pub begins-apart : (p q : ℕ → Bool) → ((c : ℕ) → p c ≡ true → c < 128) → all_below 128 (λ c. not (p c && q c)) ≡ true → (w : List ℕ) → begins_with p w ≡ true → begins_with q w ≡ false
 begins-apart p q small all [] is = refl

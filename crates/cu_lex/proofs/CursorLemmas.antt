@@ -1,6 +1,6 @@
 -- What is left of a text, character by character.
-use Rattle.std.proofs.Common.{◌≡◌, ℕ, ◌+◌, ◌*◌, ◌/◌, ◌-◌, ◌<◌, ◌≤◌, Bool, true, false, Option, true≢false, List, [], ◌∷◌, ◌++◌, length, take, slice_range, map, slice_get, Some, None, if◌then◌else◌, refl, sym, ap, ◌∙◌, arith, length-append, eq-eqb, ne_eqb}
-use Rattle.std.specs.Str.{chars, is_utf8, IsUtf8, IsCharBoundary}
+use Rattle.std.proofs.Common.{◌≡◌, ℕ, ◌+◌, ◌*◌, ◌/◌, ◌-◌, ◌<◌, ◌≤◌, true, false, Option, true≢false, List, [], ◌∷◌, ◌++◌, length, take, slice_range, slice_get, Some, None, refl, sym, ap, ◌∙◌, arith, length-append, eq-eqb, ne_eqb}
+use Rattle.std.specs.Str.{chars, is_utf8, IsCharBoundary}
 use Rattle.std.proofs.lemmas.Str.{chars-nil, chars_past_char, encodes-chars, encodes-append, IsUtf8-from_is_utf8, is_utf8-from_IsUtf8, IsUtf8-past_char, IsCharBoundary-at_seam, length-encode, len_utf8_bounds}
 use Rattle.std.proofs.lemmas.List.{map-append}
 use Rattle.std.proofs.Math.Seq.{take-append_seam}

@@ -1,8 +1,9 @@
 -- The pieces of a text, one by one.
-use Rattle.std.proofs.Common.{◌≡◌, ℕ, zero, suc, ◌<◌, ◌≤◌, List, [], ◌∷◌, ◌++◌, length, Option, Some, None, refl, sym, ap, ◌∙◌, arith}
+use Rattle.std.proofs.Common.{◌≡◌, ℕ, zero, suc, ◌<◌, ◌≤◌, List, [], ◌∷◌, length, Option, Some, None, refl, ap, ◌∙◌, arith}
 use Rattle.std.proofs.lemmas.List.{length-append}
-use Rattle.cu_lex.specs.Located.{Position, Located}
-use Rattle.cu_lex.specs.Munch.{Classes, Cut, Pieces, longest, cut_within, cut_all, no_pieces, with_piece, pieces_from}
+use Rattle.cu_lex.specs.Laws.{StepsSuffice}
+use Rattle.cu_lex.specs.Located.{Located}
+use Rattle.cu_lex.specs.Munch.{Classes, Cut, longest, cut_within, cut_all, no_pieces, with_piece, pieces_from}
 use Rattle.cu_lex.proofs.MunchLemmas.{longest-is}
 
 module _ {X : Type 0} (classes : Classes X) where
@@ -42,3 +43,6 @@ module _ {X : Type 0} (classes : Classes X) where
   unfolding cut_within
   cut-none [] is = refl
   cut-none (c ∷ text) is = ap (pieces_from (cut_within classes (length text)) c text) is
+
+  pub steps_suffice : StepsSuffice classes
+  steps_suffice = λ n text fits. cut-enough n (length text) text fits (omega arith)

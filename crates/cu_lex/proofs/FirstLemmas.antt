@@ -1,30 +1,27 @@
 -- Which classes a front can be of, by its first character.
-use Rattle.std.proofs.Common.{◌≡◌, ℕ, zero, suc, ◌+◌, ◌<◌, ◌≤◌, ◌⊎◌, inl, inr, ⊎_elim, Bool, true, false, ◌&&◌, ◌||◌, ◌==◌, not, List, [], ◌∷◌, ◌++◌, length, take, drop, Option, Some, None, is_none, is_some, IsSome, if◌then◌else◌, refl, sym, ap, subst, ◌∙◌, arith, true≢false, codes, nat_le, eqb-true, ne_eqb}
+use Rattle.std.proofs.Common.{◌≡◌, ℕ, ◌<◌, ◌≤◌, ⊎_elim, Bool, true, false, ◌&&◌, ◌||◌, ◌==◌, not, List, [], ◌∷◌, ◌++◌, take, drop, Option, Some, None, is_none, if◌then◌else◌, refl, sym, ap, ◌∙◌, arith, true≢false, codes}
 use Rattle.std.proofs.lemmas.Bool.{cases_lt, le-ltb}
-use Rattle.std.proofs.lemmas.List.{length-append}
 use Rattle.std.specs.Char.{is_ascii_digit, is_ascii_lowercase, is_ascii_uppercase}
-use Rattle.std.specs.List.{list_all, list_any, prefix_len}
-use Rattle.std.specs.Option.{option_map, option_or, option_and_then}
+use Rattle.std.specs.List.{list_any}
+use Rattle.std.specs.Option.{option_or, option_and_then}
 use Rattle.std.specs.Str.{byte, bytes_eq}
 use Rattle.cu_lex.specs.declared.token.Keyword as keywords_are
 use Rattle.cu_lex.specs.declared.token.ReservedOperator.{ReservedOperator}
 use Rattle.cu_lex.specs.declared.word.WordKind.{WordKind}
 use Rattle.cu_lex.specs.declared.word.WordKind.TheVariants as kind
-use Rattle.cu_lex.specs.Kind.{Kind, Spelling}
-use Rattle.cu_lex.specs.Kind.Kind.{VarId, ConId, VarOp, ConOp, Keyword, Reserved}
+use Rattle.cu_lex.specs.Kind.{Kind}
+use Rattle.cu_lex.specs.Kind.Kind.{VarId, ConId, VarOp, ConOp}
 use Rattle.cu_lex.specs.Lexing.{named}
 use Rattle.cu_lex.specs.Literals.{items_between}
 use Rattle.cu_lex.specs.Located.{Located, characters}
-use Rattle.cu_lex.specs.Munch.{Classes, Cut, cut_at, longest, IsLongest}
-use Rattle.cu_lex.specs.Pieces.{Piece, piece, blank, word, number, one_character, string, start, word_kind, word_before, name_kind, is_blank, spelled, stands_before}
-use Rattle.cu_lex.specs.Pieces.Piece.{Blank, Token}
+use Rattle.cu_lex.specs.Pieces.{blank, word_kind, name_kind, spelled, stands_before}
+use Rattle.cu_lex.specs.Pieces.Piece.{Blank}
 use Rattle.cu_lex.specs.Scanning.{is_underscore, is_digit_of, is_base, class_of, IsOfKind}
-use Rattle.cu_lex.specs.Words.{begins_with, is_single, is_separator, is_name_character, is_symbol, is_dash, keyword_of, keywords, reserved_of, mark_of, marks, is_var_id, is_con_id, is_operator, has_variable_form, is_module_name, around_dots, qualified_parts, is_line_comment, is_nested_comment, based_number, decimal_number, digits_value, goes_on_with_number, entry, closes, is_colon}
-use Rattle.cu_lex.proofs.AsciiLemmas.{and-left, and-right, and-both, apart, all_below, small-capital, small-small, small-digit, small-symbol, small-separator, small-name, at_below, above_range, capital-name}
+use Rattle.cu_lex.specs.Words.{begins_with, is_separator, is_name_character, is_symbol, is_dash, keyword_of, keywords, reserved_of, mark_of, marks, is_var_id, is_con_id, is_operator, has_variable_form, is_module_name, is_line_comment, is_nested_comment, based_number, decimal_number, digits_value, goes_on_with_number, closes, is_colon}
+use Rattle.cu_lex.proofs.AsciiLemmas.{apart, small-capital, small-symbol, at_below, above_range, capital-name}
 use Rattle.cu_lex.proofs.ChainLemmas.{entry-none, keyword-small, reserved-symbol, var-form, var-keyword, con-capital, con-all, operator-first, operator-reserved, capital-var, symbol-var, symbol-capital, name-apart, capital-small}
 use Rattle.cu_lex.proofs.ItemLemmas.{digits-none}
-use Rattle.cu_lex.proofs.QualifiedLemmas.{is_base_word, no-dot, capital-front, module-capital, parts-are, parts-from}
-use Rattle.cu_lex.proofs.MunchLemmas.{is-longest, longest_from_none}
+use Rattle.cu_lex.proofs.QualifiedLemmas.{is_base_word, no-dot, capital-front, module-capital, parts-are}
 
 -- ---- first characters of each class
 

@@ -1,20 +1,18 @@
 -- The longest items of literals are those that are read from the left.
-use Rattle.std.proofs.Common.{◌≡◌, ℕ, zero, suc, ◌<◌, ◌≤◌, ◌⊎◌, inl, inr, ⊎_elim, Bool, true, false, ◌&&◌, ◌||◌, ◌==◌, not, List, [], ◌∷◌, ◌++◌, length, Option, Some, None, IsSome, is_some, if◌then◌else◌, refl, sym, ap, subst, ◌∙◌, arith, true≢false, eqb-true}
-use Rattle.std.proofs.lemmas.List.{length-append}
-use Rattle.std.specs.Char.{is_ascii_control, is_digit}
+use Rattle.std.proofs.Common.{◌≡◌, ℕ, ◌<◌, ◌≤◌, Bool, true, false, ◌||◌, ◌==◌, not, List, [], ◌∷◌, ◌++◌, length, Option, Some, None, IsSome, is_some, if◌then◌else◌, refl, sym, ap, subst, ◌∙◌, arith, true≢false, eqb-true}
+use Rattle.std.specs.Char.{is_ascii_control}
 use Rattle.std.specs.List.{list_all}
 use Rattle.std.specs.Option.{option_map, option_or}
-use Rattle.std.specs.Str.{byte, bytes_eq}
-use Rattle.cu_lex.specs.Items.{Scan, numeric_scan, short_or_decimal, escape_scan, item_scan}
+use Rattle.cu_lex.specs.Items.{numeric_scan, short_or_decimal, escape_scan, item_scan}
 use Rattle.cu_lex.specs.Literals.{item, item_of, escape, short_escape, short_escapes, numeric_escape}
 use Rattle.cu_lex.specs.Located.{Located, characters}
-use Rattle.cu_lex.specs.Munch.{Cut, cut_at, longest, IsLongest}
+use Rattle.cu_lex.specs.Munch.{cut_at, longest}
 use Rattle.cu_lex.specs.Scanning.{digits, digits_from, is_digit_of, run, skip}
 use Rattle.cu_lex.specs.Words.{begins_with, digits_value, is_run}
-use Rattle.cu_lex.proofs.AsciiLemmas.{and-left, and-right, and-both}
+use Rattle.cu_lex.proofs.AsciiLemmas.{and-left, and-right}
 use Rattle.cu_lex.proofs.ChainLemmas.{entry-none}
 use Rattle.cu_lex.proofs.MunchLemmas.{is-longest, longest_from_none}
-use Rattle.cu_lex.proofs.ScanLemmas.{run-skip, all-run}
+use Rattle.cu_lex.proofs.ScanLemmas.{run-skip}
 use Rattle.cu_lex.proofs.WordLemmas.{is-run}
 
 -- ---- the longest word of a class of words

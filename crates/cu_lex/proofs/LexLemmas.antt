@@ -1,23 +1,20 @@
 -- One step of the lexer.
-use Rattle.std.proofs.Common.{◌≡◌, ℕ, ℤ, pos, zero, suc, ◌+◌, ◌<◌, ◌≤◌, ◌^◌, ⊎_elim, Bool, true, false, ◌==◌, not, List, [], ◌∷◌, ◌++◌, length, Option, Some, None, Ok, Err, is_some, nat_lt, if◌then◌else◌, refl, sym, ap, subst, ◌∙◌, arith, true≢false}
-use Rattle.std.proofs.lemmas.Bool.{ltb-true, lt-ltb}
+use Rattle.std.proofs.Common.{◌≡◌, ℕ, ℤ, pos, ◌^◌, Bool, true, false, List, [], ◌∷◌, Option, Some, None, Ok, Err, nat_lt, if◌then◌else◌, refl, sym, ap, ◌∙◌, true≢false}
 use Rattle.std.specs.Char.{is_ascii_digit}
 use Rattle.std.specs.Option.{option_map}
 use lib.Utf8.{scalar}
-use Rattle.cu_lex.specs.declared.cursor.Cursor.{Cursor}
-use Rattle.cu_lex.specs.declared.number.Number.{Number}
-use Rattle.cu_lex.specs.Items.{IsCharLiteral, string_items, item_scan, IsQuoted}
+use Rattle.cu_lex.specs.Items.{string_items, item_scan, IsQuoted}
 use Rattle.cu_lex.specs.Kind.Kind.{Int, Char, String}
 use Rattle.cu_lex.specs.Lexing.{IsPiece, int_of}
 use Rattle.cu_lex.specs.Located.{Located, Position, characters}
 use Rattle.cu_lex.specs.Munch.{cut_at, longest}
-use Rattle.cu_lex.specs.Pieces.{Piece, piece, number_at, start, codes_of, string_of, string, character_at}
-use Rattle.cu_lex.specs.Pieces.Piece.{Blank, Token, OutOfRange}
-use Rattle.cu_lex.specs.Scanning.{found_number, held, left, later, number_scan, within, position}
+use Rattle.cu_lex.specs.Pieces.{piece, number_at, start, codes_of, string_of, character_at}
+use Rattle.cu_lex.specs.Pieces.Piece.{Token, OutOfRange}
+use Rattle.cu_lex.specs.Scanning.{held, later, number_scan, within}
 use Rattle.cu_lex.specs.Words.{begins_with}
 use Rattle.cu_lex.proofs.FirstLemmas.{is_char}
 use Rattle.cu_lex.proofs.NumberLemmas.{number-longest, number-never}
-use Rattle.cu_lex.proofs.QuoteLemmas.{IsOne, character-longest, character-never, one-from, scan-from, string-longest, string-never}
+use Rattle.cu_lex.proofs.QuoteLemmas.{character-longest, character-never, one-from, scan-from, string-longest}
 
 -- ---- numbers
 

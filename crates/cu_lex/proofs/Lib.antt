@@ -21,3 +21,4 @@ pub mod SpellingLemmas
 pub mod TextBeginnings
 pub mod TokenLemmas
 pub mod WordLemmas
+pub mod WrittenLemmas

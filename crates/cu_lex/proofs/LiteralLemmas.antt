@@ -1,19 +1,18 @@
 -- What the items of a literal are worth.
-use Rattle.std.proofs.Common.{◌≡◌, ⊎_elim, ℕ, zero, suc, ◌<◌, ◌≤◌, min, Bool, true, false, ◌&&◌, ◌||◌, ◌==◌, not, List, [], ◌∷◌, ◌++◌, length, Option, Some, None, Result, Ok, Err, if◌then◌else◌, refl, sym, ap, subst, ◌∙◌, arith, true≢false, append_assoc, nat_lt, ne_eqb, eq-eqb, unwrap_or, MatchOption}
+use Rattle.std.proofs.Common.{◌≡◌, ⊎_elim, ℕ, ◌<◌, Bool, true, false, ◌==◌, not, List, [], ◌∷◌, length, Option, Some, None, Result, Ok, if◌then◌else◌, refl, sym, ap, ◌∙◌, arith, true≢false, nat_lt, ne_eqb, eq-eqb}
 use Rattle.std.proofs.lemmas.Bool.{ltb-true, eqb-true}
 use Rattle.std.specs.List.{list_all}
 use Rattle.std.specs.Option.{option_map, option_eq}
-use Rattle.std.specs.Result.{result_map_both}
 use Rattle.std.proofs.Math.Dec.{eqb}
 use Rattle.std.proofs.lemmas.List.{append-nil}
-use Rattle.std.specs.Str.{byte, bytes_eq, chars}
+use Rattle.std.specs.Str.{bytes_eq, chars}
 use lib.Utf8.{scalar}
 use Rattle.std.proofs.Math.Utf8.{scalar_cases}
 use Rattle.cu_lex.specs.declared.cursor.Cursor.{Cursor}
-use Rattle.cu_lex.specs.Items.{Scan, capped, escape_scan, item_scan, short_or_decimal, string_items, joined, so_far, Adds, IsQuoted}
+use Rattle.cu_lex.specs.Items.{Scan, capped, escape_scan, item_scan, joined, IsQuoted}
 use Rattle.cu_lex.specs.Literals.{item, short_escape, short_escapes}
-use Rattle.cu_lex.specs.Located.{Located, Position, characters}
-use Rattle.cu_lex.specs.Munch.{Pieces, cut_all, longest, no_pieces, with_piece, cut_at}
+use Rattle.cu_lex.specs.Located.{Located, Position}
+use Rattle.cu_lex.specs.Munch.{cut_all, no_pieces, cut_at}
 use Rattle.cu_lex.specs.Pieces.{codes_of, with_code}
 use Rattle.cu_lex.specs.Scanning.{cap, first_of, later, left, position}
 use Rattle.cu_lex.specs.Words.{entry}

@@ -1,38 +1,33 @@
 -- Qualified words, comments, blanks and marks are the longest pieces.
-use Rattle.std.proofs.Common.{◌≡◌, ℕ, zero, suc, ◌+◌, ◌<◌, ◌≤◌, ◌⊎◌, inl, inr, ⊎_elim, Bool, true, false, ◌&&◌, ◌||◌, ◌==◌, not, List, [], ◌∷◌, ◌++◌, length, take, drop, Option, Some, None, is_none, is_some, IsSome, if◌then◌else◌, refl, sym, ap, subst, ◌∙◌, arith, true≢false, nat_le, eqb-true, eq-eqb, ne_eqb, append_assoc, codes}
-use Rattle.std.proofs.lemmas.Bool.{cases_lt}
+use Rattle.std.proofs.Common.{◌≡◌, ℕ, zero, suc, ◌<◌, ◌≤◌, ◌⊎◌, inl, inr, Bool, true, false, ◌&&◌, ◌||◌, ◌==◌, not, List, [], ◌∷◌, ◌++◌, length, Option, Some, None, is_none, is_some, IsSome, if◌then◌else◌, refl, sym, ap, subst, ◌∙◌, arith, true≢false, nat_le, eqb-true, eq-eqb, ne_eqb, append_assoc, codes}
 use Rattle.std.proofs.lemmas.List.{length-append, map-append}
 use Rattle.std.proofs.lemmas.Slice.Eq.{bytes_eq-Decides}
 use Rattle.std.specs.Char.{is_ascii_digit, is_ascii_lowercase, is_ascii_uppercase}
-use Rattle.std.specs.List.{list_all, list_any, prefix_len}
-use Rattle.std.specs.Option.{option_map, option_or, option_and_then}
-use Rattle.std.specs.Str.{byte, bytes_eq}
-use Rattle.cu_lex.specs.declared.cursor.Cursor.{Cursor}
+use Rattle.std.specs.List.{list_all}
+use Rattle.std.specs.Str.{bytes_eq}
 use Rattle.cu_lex.specs.declared.token.Keyword as keywords_are
 use Rattle.cu_lex.specs.declared.token.Mark as mark
 use Rattle.cu_lex.specs.declared.token.Mark.TheVariants as marks_are
-use Rattle.cu_lex.specs.declared.word.Qualified.{Qualified}
 use Rattle.cu_lex.specs.declared.word.WordKind.{WordKind}
 use Rattle.cu_lex.specs.declared.word.WordKind.TheVariants as kind
-use Rattle.cu_lex.specs.Chains.{Reaches, BeginsAt, IsBehind, IsQualified}
-use Rattle.cu_lex.specs.Chains.Reaches.{last, link}
+use Rattle.cu_lex.specs.Chains.{Reaches}
+use Rattle.cu_lex.specs.Chains.Reaches.{last}
 use Rattle.cu_lex.specs.Kind.{Kind}
 use Rattle.cu_lex.specs.Kind.Kind.{Mark}
-use Rattle.cu_lex.specs.Lexing.{named, IsPlain, OpensComment}
-use Rattle.cu_lex.specs.Located.{Located, Position, characters}
+use Rattle.cu_lex.specs.Lexing.{IsPlain, OpensComment}
+use Rattle.cu_lex.specs.Located.{Located, characters}
 use Rattle.cu_lex.specs.Munch.{cut_at, longest}
-use Rattle.cu_lex.specs.Pieces.{Piece, piece, blank, word, word_kind, is_blank, stands_before, name_kind}
-use Rattle.cu_lex.specs.Pieces.Piece.{Blank, Token, OutOfRange}
-use Rattle.cu_lex.specs.Scanning.{is_underscore, first_of, later, left, run, skip, is_base, class_of, con_id_kind, comment_end, IsWord, IsOfKind, HasNoWord}
-use Rattle.cu_lex.specs.Words.{entry, begins_with, is_single, is_separator, is_name_character, is_symbol, is_dash, is_dashes, is_run, keyword_of, reserved_of, mark_of, marks, is_line_comment, is_nested_comment, closes, is_module_name, is_con_id, qualified_parts, has_variable_form}
-use Rattle.cu_lex.proofs.AsciiLemmas.{and-left, and-right, and-both, apart, all_below, small-capital, small-digit, small-symbol, small-separator, small-name}
-use Rattle.cu_lex.proofs.ChainLemmas.{var-form, form-first, entry-none, keyword-small, reserved-symbol, con-capital, operator-first, first-front, same-end, word-first, dotted, symbol-capitals, capital-small, class-cases, none-is}
-use Rattle.cu_lex.proofs.ClassLemmas.{begins-apart, no-number, no-literal, no-character, mark-size, comment-first, is-comment, blank-comment, word-some, word-most, word-piece, word-brace, dashes-comment, comment-inline, nested-first, single-first}
-use Rattle.cu_lex.proofs.FirstLemmas.{begins_blank, is_mark, is_char, is_dashes_kind, stands-named, blank-none, word-is, qualified-is, reserved-first, keyword-form, mark-none, capital-mark}
-use Rattle.cu_lex.proofs.PieceLemmas.{FrontIs, base-dashes, front-cases, PieceIs, piece-longest, piece-none, front-first, shorter-front, kind-run, dash-symbol, dashes-run}
+use Rattle.cu_lex.specs.Pieces.{Piece, piece, blank, word_kind, stands_before}
+use Rattle.cu_lex.specs.Pieces.Piece.{Blank, Token}
+use Rattle.cu_lex.specs.Scanning.{is_underscore, first_of, later, run, skip, is_base, class_of, comment_end, IsWord, IsOfKind, HasNoWord}
+use Rattle.cu_lex.specs.Words.{entry, begins_with, is_single, is_separator, is_name_character, is_symbol, is_dash, keyword_of, mark_of, marks, is_line_comment, is_nested_comment, closes, has_variable_form}
+use Rattle.cu_lex.proofs.AsciiLemmas.{and-left, and-right, small-capital, small-separator}
+use Rattle.cu_lex.proofs.ChainLemmas.{var-form, form-first, keyword-small, reserved-symbol, con-capital, operator-first, first-front, word-first, symbol-capitals, capital-small, class-cases, none-is}
+use Rattle.cu_lex.proofs.ClassLemmas.{begins-apart, no-number, no-literal, no-character, mark-size, comment-first, is-comment, word-some, word-most, word-piece, word-brace, dashes-comment, comment-inline, nested-first, single-first}
+use Rattle.cu_lex.proofs.FirstLemmas.{begins_blank, is_char, blank-none, reserved-first, keyword-form, mark-none, capital-mark}
+use Rattle.cu_lex.proofs.PieceLemmas.{FrontIs, front-cases, PieceIs, piece-longest, piece-none, front-first, shorter-front, dash-symbol, dashes-run}
 use Rattle.cu_lex.proofs.PieceLemmas.PieceIs.{blank_front, word_front, number_front, character_front, string_front}
 use Rattle.cu_lex.proofs.PieceLemmas.FrontIs.{plain, marked, chained}
-use Rattle.cu_lex.proofs.QualifiedLemmas.{module-capital, capital-front}
 use Rattle.cu_lex.proofs.ScanLemmas.{run-skip, all-run}
 use Rattle.cu_lex.proofs.ItemLemmas.{run-most, not-some}
 

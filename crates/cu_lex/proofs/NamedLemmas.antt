@@ -1,26 +1,25 @@
 -- Steps of the lexer at words, marks and comments.
-use Rattle.std.proofs.Common.{◌≡◌, ℕ, ◌<◌, ◌≤◌, Bool, true, false, ◌==◌, not, List, [], ◌∷◌, ◌++◌, length, Option, Some, None, refl, sym, ap, subst, ◌∙◌, arith, true≢false, append_assoc}
+use Rattle.std.proofs.Common.{◌≡◌, ℕ, true, not, List, [], ◌∷◌, ◌++◌, Option, Some, None, refl, sym, ap, subst, ◌∙◌, arith, true≢false, append_assoc}
 use Rattle.std.proofs.lemmas.List.{length-append, map-append}
 use Rattle.std.specs.Char.{is_ascii_uppercase}
-use Rattle.std.specs.Option.{option_map}
 use Rattle.cu_lex.specs.declared.cursor.Cursor.{Cursor}
 use Rattle.cu_lex.specs.declared.token.Mark as mark
 use Rattle.cu_lex.specs.declared.word.Qualified.{Qualified}
 use Rattle.cu_lex.specs.declared.word.WordKind.{WordKind}
 use Rattle.cu_lex.specs.declared.word.WordKind.TheVariants as kind
-use Rattle.cu_lex.specs.Chains.{BeginsAt, IsBehind, IsQualified, Reaches}
+use Rattle.cu_lex.specs.Chains.{BeginsAt, IsQualified}
 use Rattle.cu_lex.specs.Kind.Kind.{Mark}
 use Rattle.cu_lex.specs.Lexing.{IsNamed, IsOuter, IsPiece, IsPlain, OpensComment, named, word_cut}
 use Rattle.cu_lex.specs.Located.{Located, characters}
 use Rattle.cu_lex.specs.Munch.{cut_at, longest}
 use Rattle.cu_lex.specs.Pieces.{piece, stands_before, word_kind}
 use Rattle.cu_lex.specs.Pieces.Piece.{Blank, Token}
-use Rattle.cu_lex.specs.Scanning.{comment_end, first_of, later, left, is_base, class_of, con_id_kind, HasNoWord, IsWord}
+use Rattle.cu_lex.specs.Scanning.{comment_end, first_of, later, left, is_base, HasNoWord, IsWord}
 use Rattle.cu_lex.specs.Words.{begins_with, mark_of, is_separator}
 use Rattle.cu_lex.proofs.ChainLemmas.{dotted}
 use Rattle.cu_lex.proofs.ClassLemmas.{word-longest, word-some}
-use Rattle.cu_lex.proofs.FirstLemmas.{is_dashes_kind, qualified-is, stands-named, word-is}
-use Rattle.cu_lex.proofs.LongestLemmas.{capital-longest, comment-longest, comment-never, dashes-longest, mark-longest, nothing-longest, separator-longest, HasNoComment}
+use Rattle.cu_lex.proofs.FirstLemmas.{qualified-is, stands-named, word-is}
+use Rattle.cu_lex.proofs.LongestLemmas.{capital-longest, comment-longest, comment-never, dashes-longest, mark-longest, nothing-longest, separator-longest}
 use Rattle.cu_lex.proofs.PieceLemmas.{base-dashes}
 
 -- the cut of a word

@@ -1,24 +1,24 @@
 -- Numbers are the longest pieces.
-use Rattle.std.proofs.Common.{◌≡◌, ℕ, zero, suc, ◌+◌, ◌<◌, ◌≤◌, ◌⊎◌, inl, inr, ⊎_elim, Bool, true, false, ◌&&◌, ◌||◌, ◌==◌, not, List, [], ◌∷◌, ◌++◌, length, take, drop, Option, Some, None, is_none, is_some, IsSome, if◌then◌else◌, refl, sym, ap, subst, ◌∙◌, arith, true≢false, codes}
+use Rattle.std.proofs.Common.{◌≡◌, ℕ, ◌<◌, ◌≤◌, ◌⊎◌, inl, inr, ⊎_elim, Bool, true, false, ◌&&◌, ◌||◌, ◌==◌, not, List, [], ◌∷◌, ◌++◌, length, Option, Some, None, is_none, is_some, IsSome, if◌then◌else◌, refl, sym, ap, subst, ◌∙◌, arith, true≢false}
 use Rattle.std.specs.Char.{is_ascii_digit, is_ascii_lowercase, is_ascii_uppercase}
 use Rattle.std.specs.List.{list_all}
 use Rattle.std.specs.Option.{option_map, option_or, option_and_then}
 use Rattle.std.specs.Str.{byte}
 use Rattle.cu_lex.specs.Located.{Located, Position, characters}
 use Rattle.cu_lex.specs.Munch.{cut_at, longest}
-use Rattle.cu_lex.specs.Pieces.{Piece, piece, blank, word, number, number_at, start}
+use Rattle.cu_lex.specs.Pieces.{piece, blank, word, number, number_at, start}
 use Rattle.cu_lex.specs.Scanning.{later, run, skip, is_underscore, is_digit_of, digits, digits_from, digits_scan, based_scan, decimal_scan, number_scan, prefix_base, HasNoWord}
-use Rattle.cu_lex.specs.Words.{begins_with, is_symbol, is_run, entry, based_number, decimal_number, digits_value, goes_on_with_number, is_name_character, is_separator, mark_of}
-use Rattle.cu_lex.proofs.AsciiLemmas.{and-left, and-right, and-both, all_below, small-digit}
+use Rattle.cu_lex.specs.Words.{begins_with, is_symbol, is_run, entry, based_number, decimal_number, digits_value, goes_on_with_number, is_separator, mark_of}
+use Rattle.cu_lex.proofs.AsciiLemmas.{and-left, and-right, all_below, small-digit}
 use Rattle.cu_lex.proofs.ChainLemmas.{entry-none, first-front, none-is}
 use Rattle.cu_lex.proofs.ClassLemmas.{begins-apart, no-literal, no-character}
 use Rattle.cu_lex.proofs.FirstLemmas.{begins_blank, bases, begins-ten, blank-none, is_char, is_mark, mark-none}
-use Rattle.cu_lex.proofs.ItemLemmas.{digits-are, digits-none, run-most, run-some, not-some}
+use Rattle.cu_lex.proofs.ItemLemmas.{digits-are, run-most, run-some, not-some}
 use Rattle.cu_lex.proofs.LongestLemmas.{no-front-word}
 use Rattle.cu_lex.proofs.PieceLemmas.{FrontIs, front-cases, PieceIs, piece-longest, piece-none, front-first, shorter-front}
 use Rattle.cu_lex.proofs.PieceLemmas.PieceIs.{blank_front, word_front, number_front, character_front, string_front}
 use Rattle.cu_lex.proofs.PieceLemmas.FrontIs.{plain, marked, chained}
-use Rattle.cu_lex.proofs.ScanLemmas.{run-skip, run-unique, skip-none, all-run}
+use Rattle.cu_lex.proofs.ScanLemmas.{run-skip, run-unique, skip-none}
 use Rattle.cu_lex.proofs.WordLemmas.{is-run}
 
 -- ---- texts in front of which neither a word nor a blank is

@@ -1,34 +1,28 @@
 -- The longest piece at the front of a text, class by class.
-use Rattle.std.proofs.Common.{◌≡◌, ℕ, zero, suc, ◌+◌, ◌<◌, ◌≤◌, ◌⊎◌, inl, inr, ⊎_elim, Bool, true, false, ◌&&◌, ◌||◌, ◌==◌, not, List, [], ◌∷◌, ◌++◌, length, take, drop, Option, Some, None, is_none, is_some, IsSome, if◌then◌else◌, refl, sym, ap, subst, ◌∙◌, arith, true≢false, nat_le, eqb-true, append_assoc, codes}
-use Rattle.std.proofs.lemmas.List.{length-append, map-append}
-use Rattle.std.specs.Char.{is_ascii_digit, is_ascii_lowercase, is_ascii_uppercase}
-use Rattle.std.specs.List.{list_all, list_any, prefix_len}
+use Rattle.std.proofs.Common.{◌≡◌, ℕ, ◌<◌, ◌≤◌, Bool, true, false, ◌&&◌, ◌||◌, not, List, [], ◌∷◌, ◌++◌, length, Option, Some, None, is_some, IsSome, if◌then◌else◌, refl, sym, ap, subst, ◌∙◌, arith, true≢false, nat_le, eqb-true}
+use Rattle.std.proofs.lemmas.List.{length-append}
+use Rattle.std.specs.Char.{is_ascii_lowercase, is_ascii_uppercase}
+use Rattle.std.specs.List.{list_all}
 use Rattle.std.specs.Option.{option_map, option_or, option_and_then}
-use Rattle.std.specs.Str.{byte, bytes_eq}
-use Rattle.cu_lex.specs.declared.cursor.Cursor.{Cursor}
 use Rattle.cu_lex.specs.declared.token.Keyword as keyword
 use Rattle.cu_lex.specs.declared.token.Mark as mark
-use Rattle.cu_lex.specs.declared.token.Mark.TheVariants as marks_are
 use Rattle.cu_lex.specs.declared.token.ReservedOperator.{ReservedOperator}
-use Rattle.cu_lex.specs.declared.word.Qualified.{Qualified}
 use Rattle.cu_lex.specs.declared.word.WordKind.{WordKind}
 use Rattle.cu_lex.specs.declared.word.WordKind.TheVariants as kind
-use Rattle.cu_lex.specs.Chains.{Reaches, BeginsAt, IsBehind, IsQualified}
-use Rattle.cu_lex.specs.Chains.Reaches.{last, link}
-use Rattle.cu_lex.specs.Kind.{Kind, Spelling}
-use Rattle.cu_lex.specs.Kind.Kind.{VarId, ConId, VarOp, ConOp, Keyword, Reserved, Mark}
+use Rattle.cu_lex.specs.Chains.{Reaches}
+use Rattle.cu_lex.specs.Chains.Reaches.{last}
+use Rattle.cu_lex.specs.Kind.{Kind}
+use Rattle.cu_lex.specs.Kind.Kind.{Keyword, Reserved, Mark}
 use Rattle.cu_lex.specs.Literals.{items_between}
-use Rattle.cu_lex.specs.Lexing.{named}
-use Rattle.cu_lex.specs.Located.{Located, Position, characters}
-use Rattle.cu_lex.specs.Munch.{Classes, Cut, cut_at, longest, IsLongest}
-use Rattle.cu_lex.specs.Pieces.{Piece, piece, blank, word, number, one_character, string, start, word_kind, word_before, name_kind, is_blank, spelled, stands_before}
-use Rattle.cu_lex.specs.Pieces.Piece.{Blank, Token, OutOfRange}
-use Rattle.cu_lex.specs.Scanning.{first_of, later, left, run, skip, is_underscore, is_digit_of, is_base, class_of, con_id_kind, IsWord, IsOfKind, HasNoWord}
-use Rattle.cu_lex.specs.Words.{begins_with, is_single, is_separator, is_name_character, is_symbol, is_dash, is_dashes, is_run, keyword_of, keywords, reserved_of, reserved_operators, mark_of, marks, is_var_id, is_con_id, is_operator, has_variable_form, is_module_name, qualified_parts, is_line_comment, is_nested_comment, decimal_number, based_number, closes, between_dots}
-use Rattle.cu_lex.proofs.AsciiLemmas.{and-left, and-right, and-both, apart, all_below, small-capital, small-small, small-digit, small-symbol, small-separator, small-name, capital-name, small-name-character, underscore-name}
-use Rattle.cu_lex.proofs.ChainLemmas.{entry-none, keyword-small, reserved-symbol, var-form, con-capital, con-all, operator-first, operator-run, operator-dashes, first-front, same-end, same-class, fronts, word-first, name-symbol, symbol-capitals, symbol-capital, capital-small, name-apart, class-cases}
-use Rattle.cu_lex.proofs.FirstLemmas.{begins_blank, is_mark, is_char, is_dashes_kind, stands-named, Named, name-cases, blank-none, number-none, literal-none, mark-none, word-is, qualified-is, reserved-first, capital-no-symbol}
-use Rattle.cu_lex.proofs.ItemLemmas.{not-some}
+use Rattle.cu_lex.specs.Located.{Located, characters}
+use Rattle.cu_lex.specs.Munch.{cut_at, longest}
+use Rattle.cu_lex.specs.Pieces.{Piece, piece, blank, word, number, one_character, string, start, word_kind, word_before, name_kind, stands_before}
+use Rattle.cu_lex.specs.Pieces.Piece.{Token}
+use Rattle.cu_lex.specs.Scanning.{is_underscore, is_base, class_of, IsWord, IsOfKind}
+use Rattle.cu_lex.specs.Words.{begins_with, is_name_character, is_symbol, is_dash, is_dashes, is_run, keyword_of, keywords, reserved_of, reserved_operators, mark_of, is_con_id, has_variable_form, is_module_name, qualified_parts, between_dots}
+use Rattle.cu_lex.proofs.AsciiLemmas.{and-left, and-right, and-both, capital-name, small-name-character, underscore-name}
+use Rattle.cu_lex.proofs.ChainLemmas.{entry-none, var-form, con-capital, con-all, operator-run, first-front}
+use Rattle.cu_lex.proofs.FirstLemmas.{is_dashes_kind, stands-named, Named, name-cases}
 use Rattle.cu_lex.proofs.MunchLemmas.{is-longest, longest_from_none}
 use Rattle.cu_lex.proofs.QualifiedLemmas.{capital-front, chain-at, module-capital, parts-from}
 

@@ -1,20 +1,16 @@
 -- The parts of qualified words.
-use Rattle.std.proofs.Common.{◌≡◌, ℕ, zero, suc, ◌+◌, ◌<◌, ◌≤◌, ◌⊎◌, inl, inr, ⊎_elim, Bool, true, false, ◌&&◌, ◌||◌, ◌==◌, List, [], ◌∷◌, ◌++◌, length, map, Option, Some, None, if◌then◌else◌, refl, sym, ap, subst, ◌∙◌, arith, true≢false, append_assoc, eqb-true}
-use Rattle.std.proofs.lemmas.List.{length-append, map-append}
+use Rattle.std.proofs.Common.{◌≡◌, ℕ, zero, suc, ◌≤◌, Bool, true, false, ◌&&◌, ◌||◌, ◌==◌, List, [], ◌∷◌, ◌++◌, length, map, Option, Some, None, if◌then◌else◌, refl, sym, ap, subst, ◌∙◌, arith, true≢false, append_assoc, eqb-true}
+use Rattle.std.proofs.lemmas.List.{length-append}
 use Rattle.std.proofs.lemmas.List.Folds.{list_all-append}
 use Rattle.std.specs.Char.{is_ascii_uppercase}
 use Rattle.std.specs.List.{find, list_all}
 use Rattle.std.specs.Option.{option_map}
-use Rattle.std.specs.Str.{byte}
-use Rattle.cu_lex.specs.declared.word.WordKind.{WordKind}
-use Rattle.cu_lex.specs.declared.word.WordKind.TheVariants as kind
 use Rattle.cu_lex.specs.Chains.{Reaches}
-use Rattle.cu_lex.specs.Chains.Reaches.{last, link}
+use Rattle.cu_lex.specs.Chains.Reaches.{link}
 use Rattle.cu_lex.specs.Located.{Located, characters}
-use Rattle.cu_lex.specs.Scanning.{first_of, later, is_base, con_id_kind, class_of, IsWord, IsOfKind}
-use Rattle.cu_lex.specs.Words.{around_dots, begins_with, between_dots, with_first, is_colon, is_con_id, is_module_name, is_name_character, is_operator, is_symbol, is_var_id, qualified_parts}
+use Rattle.cu_lex.specs.Words.{around_dots, begins_with, between_dots, with_first, is_con_id, is_module_name, is_name_character, is_operator, is_var_id, qualified_parts}
 use Rattle.cu_lex.proofs.AsciiLemmas.{and-left, and-right, and-both, capital-name}
-use Rattle.cu_lex.proofs.ChainLemmas.{between-join, between-plain, name-dot, con-all, con-capital, var-form, capital-var, operator-first, operator-run, symbol-capitals}
+use Rattle.cu_lex.proofs.ChainLemmas.{between-join, con-all, con-capital, var-form, capital-var, operator-first, symbol-capitals}
 
 Parts : Type 0
 Parts = List ℕ × List ℕ

@@ -1,23 +1,21 @@
 -- Literals are the longest pieces.
-use Rattle.std.proofs.Common.{◌≡◌, ℕ, zero, suc, ◌+◌, ◌<◌, ◌≤◌, ◌⊎◌, inl, inr, ⊎_elim, Bool, true, false, ◌&&◌, ◌||◌, ◌==◌, not, List, [], ◌∷◌, ◌++◌, length, Option, Some, None, Result, Ok, Err, is_none, is_some, IsSome, if◌then◌else◌, refl, sym, ap, subst, ◌∙◌, arith, true≢false, append_assoc, eqb-true, eq-eqb, ne_eqb}
-use Rattle.std.proofs.lemmas.List.{length-append}
+use Rattle.std.proofs.Common.{◌≡◌, ℕ, zero, suc, ◌<◌, ◌≤◌, Bool, true, false, ◌&&◌, ◌||◌, ◌==◌, List, [], ◌∷◌, ◌++◌, length, Option, Some, None, IsSome, if◌then◌else◌, refl, sym, ap, ◌∙◌, arith, true≢false, append_assoc, eqb-true, eq-eqb}
 use Rattle.std.proofs.lemmas.Slice.Eq.{bytes_eq-Decides}
 use Rattle.std.specs.Char.{is_ascii_control, is_ascii_digit}
-use Rattle.std.specs.Option.{option_map, option_or, option_and_then}
+use Rattle.std.specs.Option.{option_map, option_and_then}
 use Rattle.std.specs.Str.{byte, bytes_eq}
 use Rattle.cu_lex.specs.Items.{Scan, numeric_scan, short_or_decimal, escape_scan, item_scan, string_items, IsQuoted}
 use Rattle.cu_lex.specs.Literals.{item, items_between, short_escape}
 use Rattle.cu_lex.specs.Located.{Located, Position, characters}
-use Rattle.cu_lex.specs.Munch.{Pieces, Placed, Cut, cut_at, cut_all, longest, no_pieces, with_piece, IsLongest}
+use Rattle.cu_lex.specs.Munch.{Placed, cut_at, cut_all, longest, with_piece, IsLongest}
 use Rattle.cu_lex.specs.Pieces.{Piece, piece, blank, word, number, one_character, character_at, string, start}
-use Rattle.cu_lex.specs.Scanning.{digits, digits_from, is_digit_of, later, run, skip, first_of}
+use Rattle.cu_lex.specs.Scanning.{digits, digits_from, is_digit_of, later, run, skip}
 use Rattle.cu_lex.specs.Words.{begins_with, is_symbol, is_separator}
-use Rattle.cu_lex.proofs.AsciiLemmas.{and-left, and-right, and-both}
 use Rattle.cu_lex.proofs.ClassLemmas.{begins-apart, no-number, no-literal, no-character}
-use Rattle.cu_lex.proofs.CutLemmas.{cut-step, cut-none, rest-shorter}
+use Rattle.cu_lex.proofs.CutLemmas.{cut-step, rest-shorter}
 use Rattle.cu_lex.proofs.FirstLemmas.{is_char, literal-none, number-none}
-use Rattle.cu_lex.proofs.ItemLemmas.{longest-item, no-longest-item, not-some}
-use Rattle.cu_lex.proofs.LiteralLemmas.{ended, Step}
+use Rattle.cu_lex.proofs.ItemLemmas.{longest-item, not-some}
+use Rattle.cu_lex.proofs.LiteralLemmas.{ended}
 use Rattle.cu_lex.proofs.MunchLemmas.{is-longest, longest-is}
 use Rattle.cu_lex.proofs.NumberLemmas.{IsAlone, alone, alone-blank, alone-word, alone-no-word}
 use Rattle.cu_lex.proofs.PieceLemmas.{PieceIs, piece-longest, piece-none, front-first, shorter-front}

@@ -1,13 +1,13 @@
 -- Runs of characters of a class, and what follows them.
-use Rattle.std.proofs.Common.{◌≡◌, ℕ, zero, suc, ◌+◌, ◌*◌, ◌<◌, ◌≤◌, ◌^◌, Bool, true, false, ◌&&◌, ◌||◌, ◌==◌, not, List, [], ◌∷◌, ◌++◌, length, map, Option, Some, None, if◌then◌else◌, refl, sym, ap, ◌∙◌, subst, arith, true≢false, eqb-true, nat_lt, ◌-◌}
-use Rattle.std.proofs.lemmas.Bool.{lt-ltb, le-ltb}
-use Rattle.std.specs.List.{list_all, list_any}
+use Rattle.std.proofs.Common.{◌≡◌, ℕ, zero, suc, ◌+◌, ◌*◌, ◌<◌, ◌≤◌, Bool, true, false, ◌&&◌, ◌==◌, List, [], ◌∷◌, ◌++◌, length, Some, None, if◌then◌else◌, refl, sym, ap, ◌∙◌, arith, true≢false, ◌-◌}
+use Rattle.std.proofs.lemmas.Bool.{lt-ltb}
+use Rattle.std.specs.List.{list_all}
 use Rattle.std.specs.Str.{byte, chars}
 use Rattle.cu_lex.specs.declared.cursor.Cursor.{Cursor}
-use Rattle.cu_lex.specs.Located.{Position, Located, characters, located_from}
+use Rattle.cu_lex.specs.Located.{Located, characters}
 use Rattle.cu_lex.specs.Scanning.{position, left, first_of, later, run, skip, comment_end, EndsIn, digits, digits_from, is_digit_of}
-use Rattle.std.specs.Char.{digit_value, is_digit}
-use Rattle.cu_lex.specs.Words.{begins_with, is_run}
+use Rattle.std.specs.Char.{digit_value}
+use Rattle.cu_lex.specs.Words.{begins_with}
 use Rattle.std.proofs.lemmas.Str.{length-le-encodes, encodes-chars, IsUtf8-from_is_utf8}
 use Rattle.cu_lex.proofs.CursorLemmas.{characters-located}
 

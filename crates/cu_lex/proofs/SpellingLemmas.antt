@@ -1,24 +1,22 @@
 -- The texts of names in a table.
-use Rattle.std.proofs.Common.{◌≡◌, ℕ, ◌<◌, ◌≤◌, ◌⊎◌, ⊎_elim, Bool, true, false, ◌&&◌, ◌||◌, ◌==◌, List, [], ◌∷◌, ◌++◌, length, Option, Some, None, slice_get, if◌then◌else◌, refl, sym, ap, subst, ◌∙◌, arith, true≢false, append_assoc, eqb-true, inl, inr}
+use Rattle.std.proofs.Common.{◌≡◌, ℕ, ◌<◌, ◌⊎◌, Bool, true, false, ◌&&◌, ◌||◌, ◌==◌, List, [], ◌∷◌, ◌++◌, Option, Some, None, slice_get, if◌then◌else◌, refl, sym, ap, subst, ◌∙◌, arith, true≢false, append_assoc, eqb-true, inl, inr}
 use Rattle.std.proofs.lemmas.List.{map-append}
 use Rattle.std.proofs.lemmas.Str.{encode_ascii, encodes-append}
 use Rattle.std.specs.List.{list_all}
-use Rattle.std.specs.Option.{option_map}
 use lib.Utf8.{encodes}
 use Rattle.cu_names.specs.declared.names.NameId.{NameId}
-use Rattle.cu_names.specs.Texts.{interned, text_of, Extends, IsKnown}
+use Rattle.cu_names.specs.Texts.{interned, text_of, Extends}
 use Rattle.cu_names.proofs.Growth.{text_of-at, known_at, text_of-extends, known-extends, extends-itself, extends-trans, interned-extends}
 use Rattle.cu_lex.specs.declared.cursor.Cursor.{Cursor}
-use Rattle.cu_lex.specs.declared.token.Name.{Name}
 use Rattle.cu_lex.specs.declared.token.Special.{Special}
 use Rattle.cu_lex.specs.declared.word.Qualified.{Qualified}
 use Rattle.cu_lex.specs.declared.word.WordKind.{WordKind}
-use Rattle.cu_lex.specs.Chains.{BeginsAt, IsBehind}
+use Rattle.cu_lex.specs.Chains.{BeginsAt}
 use Rattle.cu_lex.specs.Lexing.{IsNamed, IsOuter}
 use Rattle.cu_lex.specs.Located.{Located, characters}
 use Rattle.cu_lex.specs.Pieces.{special_of, spelled}
 use Rattle.cu_lex.specs.Reading.{spelling_of, HasName}
-use Rattle.cu_lex.specs.Scanning.{first_of, later, left, class_of, EndsIn, IsWord}
+use Rattle.cu_lex.specs.Scanning.{left, class_of, EndsIn, IsWord}
 use Rattle.cu_lex.specs.Words.{is_name_character, is_symbol, is_con_id, is_module_name, between_dots, with_first}
 use Rattle.cu_lex.proofs.AsciiLemmas.{and-left, and-right, encodes-class, small-name, small-symbol}
 use Rattle.cu_lex.proofs.ChainLemmas.{class-cases, dotted, con-all}

@@ -1,18 +1,18 @@
 -- The tokens of a text, one by one.
-use Rattle.std.proofs.Common.{◌≡◌, ◌<◌, ℕ, Bool, true, false, length, if◌then◌else◌, slice_index_or, nat_lt, arith, subst, List, [], ◌∷◌, ◌++◌, map, Option, Some, None, Result, Ok, Err, refl, sym, ap, ◌∙◌, append_assoc}
+use Rattle.std.proofs.Common.{◌≡◌, ◌<◌, ℕ, length, slice_index_or, arith, subst, List, [], ◌∷◌, ◌++◌, map, Option, Some, None, Result, Ok, Err, refl, sym, ap, ◌∙◌, append_assoc}
 use Rattle.std.specs.Result.{result_map_both, IfErr, IsErrAnd}
 use Rattle.cu_lex.specs.Lexing.{IsPiece}
-use Rattle.cu_lex.specs.Located.{Located, Position}
+use Rattle.cu_lex.specs.Located.{Located}
 use Rattle.cu_lex.specs.Munch.{cut_at, longest}
 use Rattle.cu_lex.specs.Pieces.{Piece, piece}
 use Rattle.cu_lex.specs.Tokens.{Lexeme, Fault, lexemes, lexemes_of, with_lexeme}
-use Rattle.cu_lex.specs.Tokens.Fault.{BadToken, LiteralRange}
+use Rattle.cu_lex.specs.Tokens.Fault.{BadToken}
 use Rattle.std.proofs.lemmas.Bool.{lt-ltb, le-ltb}
 use Rattle.std.proofs.lemmas.List.{append-nil}
 use Rattle.std.proofs.lemmas.Str.{IsUtf8-from_is_utf8, is_utf8-from_IsUtf8}
 use Rattle.std.specs.Option.{IfSome}
 use Rattle.std.specs.Str.{chars, is_utf8, IsUtf8}
-use Rattle.std.proofs.Common.{◌≤◌, zero, suc, ℤ}
+use Rattle.std.proofs.Common.{◌≤◌, zero, suc}
 use Rattle.std.specs.Prelude.{All}
 use Rattle.std.specs.Option.{option_map}
 use Rattle.std.proofs.lemmas.List.{map-append}
@@ -113,6 +113,7 @@ kind-grows old new grows (token.Mark mark) has = (refl, tt)
 kind-grows old new grows (token.Int n) has = (refl, tt)
 kind-grows old new grows (token.Char code) has = (refl, tt)
 kind-grows old new grows (token.String codes) has = (refl, tt)
+kind-grows old new grows (token.Layout mark) has = (refl, tt)
 
 pub tokens-grow : (owner : NameId) (old new : List (List ℕ)) → Extends old new → (ts : List LexerToken) → All (IsTokenOf owner old) ts → map (lexeme_of new) ts ≡ map (lexeme_of old) ts
 tokens-grow owner old new grows [] all = refl

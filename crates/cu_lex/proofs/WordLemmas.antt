@@ -1,14 +1,13 @@
 -- Words at the front of a text.
-use Rattle.std.proofs.Common.{◌≡◌, ℕ, zero, suc, ◌<◌, ◌≤◌, ⊎_elim, Bool, true, false, ◌&&◌, ◌||◌, ◌==◌, not, List, [], ◌∷◌, ◌++◌, Option, Some, None, is_none, if◌then◌else◌, refl, sym, ap, subst, ◌∙◌, arith, true≢false, slice_index_or, length}
+use Rattle.std.proofs.Common.{◌≡◌, ℕ, ◌<◌, Bool, true, false, ◌==◌, List, [], ◌∷◌, ◌++◌, None, if◌then◌else◌, refl, sym, ap, subst, ◌∙◌, arith, slice_index_or, length}
 use Rattle.std.specs.Char.{is_ascii_lowercase, is_ascii_uppercase}
 use Rattle.std.specs.List.{list_all}
-use Rattle.std.specs.Str.{byte}
 use lib.Utf8.{encodes}
 use Rattle.cu_lex.specs.declared.word.WordKind.{WordKind}
 use Rattle.cu_lex.specs.Located.{Located, characters}
-use Rattle.cu_lex.specs.Scanning.{run, skip, is_underscore, IsWord, IsOfKind, class_of, con_id_kind}
+use Rattle.cu_lex.specs.Scanning.{run, skip, is_underscore, IsWord, IsOfKind, class_of}
 use Rattle.cu_lex.specs.Words.{begins_with, has_variable_form, is_colon, is_con_id, is_dashes, is_name_character, is_operator, is_run, is_symbol, is_var_id, keyword_of, reserved_of}
-use Rattle.cu_lex.proofs.AsciiLemmas.{encodes-class, and-both, capital-name, small-name, small-name-character, underscore-name}
+use Rattle.cu_lex.proofs.AsciiLemmas.{encodes-class, and-both, capital-name, small-name-character, underscore-name}
 use Rattle.cu_lex.proofs.ScanLemmas.{run-skip, all-run, skip-ended}
 
 pub begins-run : (p class : ℕ → Bool) (text : List Located) → ((c : ℕ) → p c ≡ true → class c ≡ true) → begins_with p (characters text) ≡ true → begins_with p (characters (run class text)) ≡ true

@@ -13,9 +13,9 @@ use Rattle.cu_lex.specs.declared.literal.Literal.{Literal}
 use Rattle.cu_lex.specs.declared.literal.Literal.TheVariants as several
 use Rattle.cu_lex.specs.Literals.{item, short_escape}
 use Rattle.cu_lex.specs.Located.{Located, Position, characters}
-use Rattle.cu_lex.specs.Munch.{Placed, Pieces, cut_all}
+use Rattle.cu_lex.specs.Munch.{Pieces, cut_all}
 use Rattle.cu_lex.specs.Pieces.{codes_of, with_code}
-use Rattle.cu_lex.specs.Scanning.{cap, digits, digits_from, first_of, is_digit_of, later, left, position, skip}
+use Rattle.cu_lex.specs.Scanning.{cap, digits, digits_from, is_digit_of, later, left, position, skip}
 use Rattle.cu_lex.specs.Words.{begins_with}
 
 -- What an item stands for, and what follows it.

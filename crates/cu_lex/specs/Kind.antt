@@ -1,6 +1,7 @@
 -- What tokens are, with names as texts.
 use Rattle.std.specs.Prelude.{ℕ, ℤ, List, Option}
 use Rattle.cu_lex.specs.declared.token.Keyword as keyword
+use Rattle.cu_lex.specs.declared.token.LayoutMark.{LayoutMark}
 use Rattle.cu_lex.specs.declared.token.Mark as mark
 use Rattle.cu_lex.specs.declared.token.ReservedOperator.{ReservedOperator}
 use Rattle.cu_lex.specs.declared.token.Special.{Special}
@@ -24,3 +25,4 @@ pub data Kind : Type 0 where
   Int : ℤ → Kind
   Char : ℕ → Kind
   String : List ℕ → Kind
+  Layout : LayoutMark → Kind

@@ -1,9 +1,9 @@
 -- Laws of the definition of tokens.
-use Rattle.std.specs.Prelude.{◌≡◌, ℕ, ◌<◌, ◌↔◌, List, ◌++◌, length, None, Some, IsTrue}
+use Rattle.std.specs.Prelude.{◌≡◌, ℕ, ◌<◌, ◌≤◌, ◌↔◌, List, ◌++◌, length, None, Some, IsTrue}
 use Rattle.std.specs.Str.{IsUtf8}
 use Rattle.cu_lex.specs.Decoding.{begins_text}
 use Rattle.cu_lex.specs.Located.{Located}
-use Rattle.cu_lex.specs.Munch.{Cut, Classes, longest, IsLongest}
+use Rattle.cu_lex.specs.Munch.{Cut, Classes, cut_all, cut_within, longest, IsLongest}
 
 -- `longest` gives the longest front of the classes.
 abbrev pub GivesLongest : {X : Type 0} → Classes X → Type 0
@@ -18,3 +18,7 @@ GivesNone classes =
 -- Bytes begin a UTF-8 text where some bytes complete them to one.
 abbrev pub BeginsTexts : Type 0
 BeginsTexts = (bytes : List ℕ) → IsTrue (begins_text bytes) ↔ ((rest : List ℕ) × IsUtf8 (bytes ++ rest))
+
+-- The pieces of a text are the same, however many steps above the number of its characters are allowed.
+abbrev pub StepsSuffice : {X : Type 0} → Classes X → Type 0
+StepsSuffice classes = (n : ℕ) (text : List Located) → length text ≤ n → cut_within classes n text ≡ cut_all classes text

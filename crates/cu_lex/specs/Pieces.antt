@@ -62,8 +62,9 @@ word_kind word =
     (option_or (name_kind None word)
     (option_and_then (λ parts. name_kind (Some parts.0) parts.1) (qualified_parts word)))))
 
--- Whether a word of this kind may stand before these characters: names and operators are whole runs of their
--- characters, and a brace before a dash begins a comment.
+-- Whether a word of this kind may stand before these characters. No character of names follows a name or a keyword,
+-- and no symbol follows an operator, reserved or not. A brace before a dash is none, since it begins a comment. Any
+-- other mark may stand before anything.
 abbrev pub stands_before : Kind → List ℕ → Bool
 stands_before (VarId name) next = not (begins_with is_name_character next)
 stands_before (ConId name) next = not (begins_with is_name_character next)

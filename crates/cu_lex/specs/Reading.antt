@@ -1,5 +1,5 @@
 -- What the lexer's answers stand for.
-use Rattle.std.specs.Prelude.{◌≡◌, ℕ, List, map, IfSome, Result, Ok, Err}
+use Rattle.std.specs.Prelude.{◌≡◌, ℕ, Bool, true, false, List, map, IfSome, Result, Ok, Err}
 use Rattle.std.specs.Option.{option_map}
 use Rattle.cu_names.specs.declared.place.Place.{Place}
 use Rattle.cu_names.specs.declared.names.NameId.{NameId}
@@ -11,7 +11,7 @@ use Rattle.cu_lex.specs.declared.token.Token.{Token}
 use Rattle.cu_lex.specs.declared.token.TokenKind.{TokenKind}
 use Rattle.cu_lex.specs.declared.token.TokenKind.TheVariants as token
 use Rattle.cu_lex.specs.Kind.{Kind, Spelling}
-use Rattle.cu_lex.specs.Kind.Kind.{VarId, ConId, VarOp, ConOp, Keyword, Reserved, Mark, Int, Char, String}
+use Rattle.cu_lex.specs.Kind.Kind.{VarId, ConId, VarOp, ConOp, Keyword, Reserved, Mark, Int, Char, String, Layout}
 use Rattle.cu_lex.specs.Located.{Position}
 use Rattle.cu_lex.specs.Tokens.{Lexeme, Fault}
 use Rattle.cu_lex.specs.Tokens.Fault.{SourceTooBig, NotUtf8, BadToken, LiteralRange}
@@ -37,6 +37,7 @@ kind_of names (token.Mark mark) = Mark mark
 kind_of names (token.Int n) = Int n
 kind_of names (token.Char code) = Char code
 kind_of names (token.String codes) = String codes
+kind_of names (token.Layout mark) = Layout mark
 
 -- A place within its module.
 abbrev pub position_of : Place → Position
@@ -74,3 +75,8 @@ HasKind names kind = Unit {0}
 pub record IsTokenOf (owner : NameId) (names : List (List ℕ)) (t : Token) : Type 0 where
   pub owned : t.place.«module» ≡ owner
   pub known : HasKind names t.kind
+
+-- The token stands in a text, and layout didn't put it in.
+abbrev pub is_written : TokenKind → Bool
+is_written (token.Layout mark) = false
+is_written kind = true

@@ -2,7 +2,7 @@
 use Rattle.std.specs.Prelude.{◌⊎◌, ◌≡◌, ℕ, zero, suc, ◌+◌, ◌*◌, ◌^◌, ◌<◌, ◌≤◌, length, Bool, not, ◌&&◌, ◌==◌, nat_lt, true, false, min, take, codes, MatchOption, List, [], ◌∷◌, ◌++◌, fold, Option, None, Some, if◌then◌else◌}
 use Rattle.std.specs.Char.{digit_value, is_ascii_digit, is_ascii_lowercase, is_ascii_uppercase, is_digit}
 use Rattle.std.specs.List.{list_all}
-use Rattle.std.specs.Option.{option_and_then, option_map, option_or}
+use Rattle.std.specs.Option.{option_and_then, option_or}
 use Rattle.std.specs.Str.{byte, chars}
 use Rattle.cu_lex.specs.declared.class.Class.{Class}
 use Rattle.cu_lex.specs.declared.class.Class.TheVariants as class
@@ -12,7 +12,7 @@ use Rattle.cu_lex.specs.declared.number.Number.{Number}
 use Rattle.cu_lex.specs.declared.word.Word.{Word}
 use Rattle.cu_lex.specs.declared.word.WordKind.{WordKind}
 use Rattle.cu_lex.specs.declared.word.WordKind.TheVariants as kind
-use Rattle.cu_lex.specs.Words.{entry, begins_with, goes_on_with_number, is_colon, is_con_id, is_dashes, is_operator, is_var_id, keyword_of, reserved_of, has_variable_form, is_name_character, is_separator, is_symbol}
+use Rattle.cu_lex.specs.Words.{entry, begins_with, goes_on_with_number, is_colon, is_con_id, is_dashes, is_operator, is_var_id, keyword_of, reserved_of, is_name_character, is_separator, is_symbol}
 
 -- The place of a cursor.
 abbrev pub position : Cursor → Position

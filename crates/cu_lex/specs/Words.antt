@@ -149,12 +149,12 @@ based_number word =
     let base_of = entry ((codes "0x", 16) ∷ (codes "0o", 8) ∷ (codes "0b", 2) ∷ []) in
     option_and_then (λ base. digits_value base (drop 2 word)) (base_of (take 2 word))
 
--- Another digit, or a dot and a digit: what no decimal number stands before.
+-- Characters that go on with a decimal number: another digit, or a dot and a digit. The longest number has no digit behind it, and before a dot and a digit there is none.
 abbrev pub goes_on_with_number : List ℕ → Bool
 goes_on_with_number [] = false
 goes_on_with_number (c ∷ cs) = is_ascii_digit c || (c == byte "." && begins_with is_ascii_digit cs)
 
--- Decimal digits before such characters.
+-- Decimal digits, unless such characters follow.
 unfoldable pub decimal_number : List ℕ → List ℕ → Option ℕ
 decimal_number word next = if goes_on_with_number next then None else digits_value 10 word
 

@@ -7,7 +7,7 @@ ghost use Rattle.cu_lex.specs.Located.{characters};
 ghost use Rattle.cu_lex.specs.Scanning.{first_of, left, within, HasNoWord};
 ghost use Rattle.cu_lex.specs.Words.{begins_with};
 ghost use Rattle.cu_names.specs.Texts.{AllDiffer, Extends};
-ghost use Rattle.cu_lex.specs.Reading.{Gives, IsTokenOf, Tells};
+ghost use Rattle.cu_lex.specs.Reading.{Gives, IsTokenOf, Tells, is_written};
 ghost use Rattle.cu_lex.specs.Tokens.{tokens};
 
 use crate::LexFault;
@@ -35,12 +35,11 @@ pub fn lex(
 ) -> Result<Vec<Token>, LexFault>
     ensures tokens { IfOk result (λ found. Gives names.new found.items (tokens bytes.now)) }
     ensures owned { IfOk result (λ found. All (IsTokenOf «module» names.new) found.items) }
+    ensures written { IfOk result (λ found. All (λ t. is_written t.kind ≡ true) found.items) }
     ensures fault { IfErr result (λ fault. Tells «module» fault (tokens bytes.now)) }
     ensures names { Extends names.old names.new }
-    ensures differ { AllDiffer names.new }
+    ensures differ { AllDiffer names.old → AllDiffer names.new }
 {
-    // Each text stands once in the table, which the count tells.
-    names.count();
     if bytes.len() > MOST_BYTES {
         return Err(LexFault::SourceTooBig);
     }

@@ -21,4 +21,4 @@ pub use characters::Characters;
 pub use fault::LexFault;
 pub use laws::{beginnings_of_texts, maximal_munch};
 pub use lexer::lex;
-pub use token::{Keyword, Mark, Name, ReservedOperator, Special, Token, TokenKind};
+pub use token::{Keyword, LayoutMark, Mark, Name, ReservedOperator, Special, Token, TokenKind};

@@ -28,6 +28,8 @@ pub enum TokenKind {
     Int(i64),
     Char(char),
     String(Characters),
+    /// A brace or semicolon that the layout rules put in. The lexer gives none.
+    Layout(LayoutMark),
 }
 
 /// A name or an operator, as `Data.List.map`, with its parts.
@@ -115,4 +117,15 @@ pub enum Mark {
     Semicolon,
     Backquote,
     Underscore,
+}
+
+/// What the layout rules put between the tokens of a text.
+#[derive(Clone, Copy, Debug, PartialEq, Eq)]
+pub enum LayoutMark {
+    /// The brace that opens a block.
+    Open,
+    /// The brace that closes it.
+    Close,
+    /// The semicolon between two items of it.
+    Separator,
 }

@@ -1,4 +1,4 @@
-use Rattle.std.proofs.Common.{◌≡◌, ◌+◌, ◌<◌, ◌≤◌, length}
+use Rattle.std.proofs.Common.{◌≡◌, ◌+◌, ◌<◌, length}
 use Rattle.cu_lex.specs.Scanning.{comment_end, left}
 use Rattle.cu_lex.proofs.comment.after_comment.Given as goal
 

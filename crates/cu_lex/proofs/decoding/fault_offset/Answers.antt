@@ -1,4 +1,4 @@
-use Rattle.std.proofs.Common.{◌≡◌, ◌∙◌, ◌+◌, ◌≤◌, ap, subst, sym, take, true, length, arith}
+use Rattle.std.proofs.Common.{◌≡◌, ◌∙◌, ◌+◌, ◌≤◌, subst, sym, take, true, length, arith}
 use Rattle.cu_lex.specs.Decoding.{begins_text}
 use Rattle.cu_lex.proofs.DecodingLemmas.{offset-at, offset-end, begins-slice, text-begins}
 use Rattle.cu_lex.proofs.decoding.fault_offset.Goals as goal

@@ -1,5 +1,6 @@
 use Rattle.cu_lex.specs.Literals.{item}
 use Rattle.cu_lex.specs.Pieces.{piece}
+use Rattle.cu_lex.proofs.CutLemmas.{steps_suffice}
 use Rattle.cu_lex.proofs.MunchLemmas.{gives_longest, gives_none}
 use Rattle.cu_lex.proofs.laws.maximal_munch.Goals as goal
 
@@ -14,3 +15,9 @@ returns-clause-items c = λ quote. gives_longest (item quote)
 
 pub returns-clause-no_item : goal.returns-clause-no_item
 returns-clause-no_item c = λ quote. gives_none (item quote)
+
+pub returns-clause-steps : goal.returns-clause-steps
+returns-clause-steps c = steps_suffice piece
+
+pub returns-clause-item_steps : goal.returns-clause-item_steps
+returns-clause-item_steps c = λ quote. steps_suffice (item quote)

@@ -1,4 +1,4 @@
-use Rattle.std.proofs.Common.{◌≡◌, ◌∙◌, sym, ap, refl}
+use Rattle.std.proofs.Common.{◌∙◌}
 use Rattle.cu_lex.specs.Reading.{position_of}
 use Rattle.cu_lex.specs.Scanning.{left}
 use Rattle.cu_lex.proofs.LexLemmas.{character-piece-is, character-fault, character-bad}

@@ -1,4 +1,4 @@
-use Rattle.std.proofs.Common.{◌≡◌, ◌∙◌, sym, ap, refl, Some, None}
+use Rattle.std.proofs.Common.{◌∙◌, sym, refl}
 use Rattle.cu_lex.specs.Scanning.{left}
 use Rattle.cu_lex.proofs.NamedLemmas.{plain-named, qualified-named, separator-piece}
 use Rattle.cu_lex.proofs.lexer.piece.Goals as goal

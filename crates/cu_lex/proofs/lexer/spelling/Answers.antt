@@ -1,4 +1,4 @@
-use Rattle.std.proofs.Common.{◌≡◌, ◌∙◌, ◌++◌, ◌∷◌, sym, ap, refl, Some, None}
+use Rattle.std.proofs.Common.{◌∙◌, ◌++◌, ◌∷◌, ap}
 use Rattle.std.specs.Option.{option_map}
 use Rattle.cu_names.proofs.Growth.{extends-trans}
 use Rattle.cu_lex.specs.Located.{characters}

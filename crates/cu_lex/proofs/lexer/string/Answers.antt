@@ -1,4 +1,4 @@
-use Rattle.std.proofs.Common.{◌≡◌, ◌∙◌, sym, ap, subst, refl}
+use Rattle.std.proofs.Common.{subst}
 use Rattle.cu_lex.specs.Items.{IsString}
 use Rattle.cu_lex.specs.Reading.{position_of}
 use Rattle.cu_lex.specs.Scanning.{left, position}

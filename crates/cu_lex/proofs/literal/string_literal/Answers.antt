@@ -1,11 +1,10 @@
-use Rattle.std.proofs.Common.{◌≡◌, ◌<◌, ◌∙◌, sym, ap, subst, Some, None, Ok, Err, [], length, arith, refl}
-use Rattle.std.specs.Option.{option_map}
-use Rattle.cu_lex.specs.Items.{capped, item_scan, joined, so_far, string_items, IsQuoted}
+use Rattle.std.proofs.Common.{◌≡◌, ◌∙◌, sym, ap, subst, Some, Ok, refl}
+use Rattle.cu_lex.specs.Items.{item_scan, joined, so_far, string_items, IsQuoted}
 use Rattle.cu_lex.specs.Literals.{item}
 use Rattle.cu_lex.specs.Munch.{cut_all}
 use Rattle.cu_lex.specs.Pieces.{codes_of, with_code}
 use Rattle.cu_lex.specs.Scanning.{first_of, later, left, position}
-use Rattle.cu_lex.proofs.LiteralLemmas.{Found, found-item, cut-code, left-at, no-item, Step, step-item, quote-ends, ended, quoted, quoted-first, same-char, other-char, all-read}
+use Rattle.cu_lex.proofs.LiteralLemmas.{found-item, cut-code, left-at, no-item, step-item, quote-ends, ended, quoted, quoted-first, same-char, other-char, all-read}
 use Rattle.cu_lex.proofs.literal.string_literal.Goals as goal
 
 pub returns-in-None : goal.returns-in-None

@@ -1,6 +1,5 @@
-use Rattle.std.proofs.Common.{◌≡◌, ◌∙◌, sym, ap, subst, true}
-use Rattle.cu_lex.specs.Located.{characters}
-use Rattle.cu_lex.specs.Scanning.{left, run, IsOfKind}
+use Rattle.std.proofs.Common.{◌∙◌, sym, ap, subst}
+use Rattle.cu_lex.specs.Scanning.{left, IsOfKind}
 use Rattle.cu_lex.specs.Words.{is_run, is_symbol}
 use Rattle.cu_lex.proofs.AsciiLemmas.{small-symbol}
 use Rattle.cu_lex.proofs.ScanLemmas.{ends-skip}

@@ -1,8 +1,7 @@
-use Rattle.std.proofs.Common.{◌≡◌, ◌++◌, ◌+◌, ℕ, ◌*◌, ◌/◌, ◌<◌, ◌≤◌, ◌∙◌, ap, sym, subst, length, arith}
-use Rattle.std.specs.Str.{is_utf8, chars}
+use Rattle.std.proofs.Common.{◌≡◌, ◌++◌, ◌+◌, ◌≤◌, ◌∙◌, ap, sym, length, arith}
 use lib.Utf8.{encode}
-use Rattle.cu_lex.specs.Located.{Position, position_after, located_from}
-use Rattle.cu_lex.specs.Scanning.{left, position, later}
+use Rattle.cu_lex.specs.Located.{position_after}
+use Rattle.cu_lex.specs.Scanning.{left, position}
 use Rattle.cu_lex.proofs.CursorLemmas.{at_pair, later-end, later-char, utf8-later, shorter-later, after-line, after-tab, after-other, in_lines, in_columns}
 use Rattle.cu_lex.proofs.cursor.Cursor.after.Goals as goal
 use Rattle.cu_lex.proofs.cursor.Cursor.after.Goals.{then-first-eq10, else-first-eq10+then-first-eq9, else-first-eq10+else-first-eq9}

@@ -1,4 +1,3 @@
-use Rattle.std.proofs.Common.{refl}
 use Rattle.cu_lex.specs.Scanning.{left, position}
 use Rattle.cu_lex.proofs.CursorLemmas.{first-at}
 use Rattle.cu_lex.proofs.cursor.Cursor.place.Goals as goal

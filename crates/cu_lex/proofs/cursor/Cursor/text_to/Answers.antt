@@ -1,6 +1,6 @@
-use Rattle.std.proofs.Common.{◌≡◌, ◌++◌, ◌∙◌, ap}
+use Rattle.std.proofs.Common.{◌∙◌}
 use lib.Utf8.{encodes}
-use Rattle.cu_lex.specs.Located.{Located, characters}
+use Rattle.cu_lex.specs.Located.{characters}
 use Rattle.cu_lex.specs.Scanning.{left, position}
 use Rattle.cu_lex.proofs.CursorLemmas.{before, fits-before, boundary, taken}
 use Rattle.cu_lex.proofs.cursor.Cursor.text_to.Goals as goal

@@ -1,0 +1,6 @@
+pub mod BlockLemmas
+pub mod Examples
+pub mod LawLemmas
+pub mod NamesLemmas
+pub mod PlainLemmas
+pub mod StackLemmas

@@ -1,0 +1,28 @@
+-- Laws of the layout rules.
+use Rattle.std.specs.Prelude.{◌≡◌, ℕ, Bool, true, List, map, filter, All, Ok}
+use Rattle.std.specs.Result.{result_map_both}
+use Rattle.cu_lex.specs.declared.token.Token.{Token}
+use Rattle.cu_lex.specs.Reading.{is_written, lexeme_of, HasKind}
+use Rattle.cu_layout.specs.Blocks.{block}
+use Rattle.cu_layout.specs.Reading.{lexeme_view, token_view}
+
+-- The tokens that stand in the text itself.
+abbrev pub without_layout : List Token → List Token
+without_layout tokens = filter (λ t. is_written t.kind) tokens
+
+-- Leaving out what the layout rules put in gives the tokens of the text.
+abbrev pub KeepsTokens : Type 0
+KeepsTokens = (whole : Bool) (text laid : List Token) → block token_view whole text ≡ Ok laid → without_layout laid ≡ without_layout text
+
+-- So it gives the text back, where the rules had put in nothing before.
+abbrev pub GivesTextBack : Type 0
+GivesTextBack = (whole : Bool) (text laid : List Token) → All (λ t. is_written t.kind ≡ true) text → block token_view whole text ≡ Ok laid → without_layout laid ≡ text
+
+-- Layout doesn't depend on what names stand for: to read the tokens in a table of names and then lay them out is to lay them out and then read them.
+abbrev pub ReadsAlike : Type 0
+ReadsAlike = (names : List (List ℕ)) (whole : Bool) (text : List Token)
+    → block lexeme_view whole (map (lexeme_of names) text) ≡ result_map_both (map (lexeme_of names)) (λ number. number) (block token_view whole text)
+
+-- A table that has the names of the text has those of the tokens laid out.
+abbrev pub KeepsNames : Type 0
+KeepsNames = (names : List (List ℕ)) (whole : Bool) (text laid : List Token) → All (λ t. HasKind names t.kind) text → block token_view whole text ≡ Ok laid → All (λ t. HasKind names t.kind) laid

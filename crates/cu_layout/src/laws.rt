@@ -1,0 +1,16 @@
+//! Laws of the layout rules. These functions do nothing: their contracts are
+//! the laws.
+ghost use Rattle.cu_layout.specs.Laws.{GivesTextBack, KeepsNames, KeepsTokens, ReadsAlike};
+
+/// What the layout rules put in is all that tells the tokens laid out from the
+/// text.
+pub fn text_is_kept()
+    ensures kept { KeepsTokens }
+    ensures back { GivesTextBack }
+    ensures names { KeepsNames }
+{}
+
+/// Layout doesn't depend on what names stand for.
+pub fn reading_is_alike()
+    ensures { ReadsAlike }
+{}

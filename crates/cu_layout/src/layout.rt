@@ -1,0 +1,282 @@
+//! The layout rules, in one pass over the tokens of a text.
+ghost use Rattle.std.specs.Prelude.{◌≡◌, ◌∷◌, [], replicate, IfErr, IfOk, OnOk};
+ghost use Rattle.cu_lex.specs.declared.token.LayoutMark.TheVariants as layout;
+ghost use Rattle.cu_layout.specs.declared.fault.TooDeep.TheVariants.{NoMemory};
+ghost use Rattle.cu_layout.specs.Blocks.{due_at_start};
+ghost use Rattle.cu_layout.specs.Entries.{begins_line_at, cut_to, plain_stack, sight_at, stack_of, start_or, token_sights, with_marks_at, Lays, LaysOut, IsBeyond, IsWithin};
+ghost use Rattle.cu_layout.specs.Forms.{only_names};
+ghost use Rattle.cu_layout.specs.Reading.{Gives, Tells};
+ghost use Rattle.cu_layout.specs.Rules.{block_column, block_tokens, brace_end, partner_end, stack_with, last_marks, indentation, due_block};
+
+use crate::begun::Begun;
+use crate::fault::TooDeep;
+use crate::form::Form;
+use crate::stack::{Cut, Entry, below_brace, blocks, innermost, line_start, note, to_partner};
+use cu_lex::{LayoutMark, Token, TokenKind};
+use cu_names::{NameId, Place};
+use std::alloc::Global;
+
+/// The most entries of the stack.
+const MOST_ENTRIES: usize = 256;
+
+/// The tokens with the braces and semicolons that the layout rules put in. The
+/// text is a whole module, or else an expression.
+///
+/// What is put in has the place of the token before which it stands, at the end
+/// that of the last token. In a text without tokens it has line 1 and column 1
+/// in module 0, which then names no token.
+///
+/// `TooDeep::At` has the place of the first token at which more than 256
+/// blocks, brackets and keywords would stand open.
+pub fn block(alloc: Global, tokens: Vec<Token>, whole: bool) -> Result<Vec<Token>, TooDeep>
+    ensures tokens { IfOk result (λ laid. Gives whole tokens.items laid.items) }
+    ensures fault { IfErr result (λ fault. Tells whole tokens.items fault) }
+{
+    let mut due = due_at_start(tokens.as_slice(), whole);
+    let mut stack = Vec::new(alloc);
+    let mut laid = Vec::new(alloc);
+    let mut last = None;
+    for token in tokens {
+        let form = Form::of(&token.kind);
+        let place = token.place;
+        let first = begins_line(last, place);
+        lay_out(&mut laid, &mut stack, due, first, form, place)?;
+        laid.push(token)?;
+        due = form.is_block_keyword();
+        last = Some(place);
+    }
+    finish(&mut laid, stack.as_slice(), due, start_or(last))?;
+    Ok(laid)
+}
+
+/// A module without a header is a block.
+fn due_at_start(tokens: &[Token], whole: bool) -> bool
+    ensures { result ≡ due_at_start whole (token_sights tokens.now) }
+{
+    match tokens {
+        [] => whole,
+        [first, ..] => whole && !Form::of(&first.kind).is_module(),
+    }
+}
+
+/// Whether a token begins its line, after a token in another place.
+fn begins_line(last: Option<Place>, place: Place) -> bool
+    ensures { result ≡ begins_line_at last place }
+{
+    match last {
+        None => true,
+        Some(last) => last.line != place.line,
+    }
+}
+
+/// The place of the last token, or where a text without tokens begins.
+fn start_or(last: Option<Place>) -> Place
+    ensures { result ≡ start_or last }
+{
+    match last {
+        None => Place {
+            module: NameId(0),
+            line: 1,
+            column: 1,
+        },
+        Some(place) => place,
+    }
+}
+
+/// All rules at a token, but for the token itself.
+fn lay_out(
+    laid: &mut Vec<Token>,
+    stack: &mut Vec<Entry>,
+    due: bool,
+    first: bool,
+    form: Form,
+    place: Place,
+) -> Result<(), TooDeep>
+    ensures ok { OnOk result (LaysOut due first form place laid.old.items laid.new.items stack.old.items stack.new.items) }
+    ensures fault { IfErr result (IsBeyond due first form place stack.old.items) }
+{
+    open(laid, stack, due, first, form, place)?;
+    within_limit(stack.as_slice(), place)?;
+    end(laid, stack, form, place)?;
+    close_brace(laid, stack, form, place)?;
+    enter(stack, form)?;
+    within_limit(stack.as_slice(), place)?;
+    Ok(())
+}
+
+fn within_limit(stack: &[Entry], place: Place) -> Result<(), TooDeep>
+    ensures { IsWithin place (stack_of stack.now) result }
+{
+    if stack.len() > MOST_ENTRIES {
+        return Err(TooDeep::At(place));
+    }
+    Ok(())
+}
+
+/// A due block, and else the start of a line.
+fn open(
+    laid: &mut Vec<Token>,
+    stack: &mut Vec<Entry>,
+    due: bool,
+    first: bool,
+    form: Form,
+    place: Place,
+) -> Result<(), TooDeep>
+    ensures ok { OnOk result (Lays place laid.old.items laid.new.items stack.new.items (due_block due first (sight_at form place) (stack_of stack.old.items))) }
+    ensures err { IfErr result (λ fault. fault ≡ NoMemory) }
+{
+    if due && !form.is_open_brace() {
+        emit(laid, LayoutMark::Open, place)?;
+        if block_column(stack.as_slice()) < place.column {
+            stack.push(Entry::Block(place.column, Begun::Names))?;
+            return Ok(());
+        }
+        emit(laid, LayoutMark::Close, place)?;
+    }
+    if first {
+        begin_line(laid, stack, form, place)?;
+    }
+    Ok(())
+}
+
+/// The column of the innermost block, 0 where there is none or a brace is
+/// nearer.
+fn block_column(stack: &[Entry]) -> u32
+    ensures { result ≡ block_column (stack_of stack.now) }
+{
+    match innermost(stack) {
+        None => 0,
+        Some((column, _)) => column,
+    }
+}
+
+/// The first token of a line closes blocks or begins an item.
+fn begin_line(
+    laid: &mut Vec<Token>,
+    stack: &mut Vec<Entry>,
+    form: Form,
+    place: Place,
+) -> Result<(), TooDeep>
+    ensures ok { OnOk result (Lays place laid.old.items laid.new.items stack.new.items (indentation (sight_at form place) (stack_of stack.old.items) (stack_of stack.old.items))) }
+    ensures err { IfErr result (λ fault. fault ≡ NoMemory) }
+{
+    let line = line_start(stack.as_slice(), form, place);
+    close(laid, stack, line.cut, place)?;
+    if line.item {
+        emit(laid, LayoutMark::Separator, place)?;
+        stack.push(Entry::Block(place.column, Begun::Names))?;
+    }
+    Ok(())
+}
+
+/// A token ends what its partner opened.
+fn end(
+    laid: &mut Vec<Token>,
+    stack: &mut Vec<Entry>,
+    form: Form,
+    place: Place,
+) -> Result<(), TooDeep>
+    ensures ok { OnOk result (Lays place laid.old.items laid.new.items stack.new.items (partner_end form (stack_of stack.old.items))) }
+    ensures err { IfErr result (λ fault. fault ≡ NoMemory) }
+{
+    let cut = match to_partner(stack.as_slice(), form) {
+        None => return Ok(()),
+        Some(cut) => cut,
+    };
+    if form.is_comma() {
+        if cut.closed > 0 && only_names(stack.as_slice()) {
+            return Ok(());
+        }
+        return close(laid, stack, cut, place);
+    }
+    close(laid, stack, cut, place)?;
+    stack.pop();
+    Ok(())
+}
+
+/// Whether the innermost block has names alone, operators in parentheses and
+/// commas.
+fn only_names(stack: &[Entry]) -> bool
+    ensures { result ≡ only_names (block_tokens (stack_of stack.now)) }
+{
+    match innermost(stack) {
+        None => true,
+        Some((_, begun)) => begun.is_names(),
+    }
+}
+
+/// A closing brace of the text closes the blocks in it.
+fn close_brace(
+    laid: &mut Vec<Token>,
+    stack: &mut Vec<Entry>,
+    form: Form,
+    place: Place,
+) -> Result<(), TooDeep>
+    ensures ok { OnOk result (Lays place laid.old.items laid.new.items stack.new.items (brace_end form (stack_of stack.old.items))) }
+    ensures err { IfErr result (λ fault. fault ≡ NoMemory) }
+{
+    if !form.is_close_brace() {
+        return Ok(());
+    }
+    match below_brace(stack.as_slice()) {
+        None => Ok(()),
+        Some(cut) => close(laid, stack, cut, place),
+    }
+}
+
+/// The token itself stands in its block, and may open something.
+fn enter(stack: &mut Vec<Entry>, form: Form) -> Result<(), TooDeep>
+    ensures ok { OnOk result (stack_of stack.new.items ≡ plain_stack (stack_with form (stack_of stack.old.items))) }
+    ensures err { IfErr result (λ fault. fault ≡ NoMemory) }
+{
+    note(stack.as_mut_slice(), form);
+    if let Some(entry) = Entry::opened_by(form) {
+        stack.push(entry)?;
+    }
+    Ok(())
+}
+
+/// Takes entries off the stack, and closes the blocks among them.
+fn close(
+    laid: &mut Vec<Token>,
+    stack: &mut Vec<Entry>,
+    cut: Cut,
+    place: Place,
+) -> Result<(), TooDeep>
+    ensures ok { OnOk result (Lays place laid.old.items laid.new.items stack.new.items (cut_to stack.old.items cut)) }
+    ensures err { IfErr result (λ fault. fault ≡ NoMemory) }
+{
+    stack.truncate(cut.kept);
+    close_blocks(laid, cut.closed, place)
+}
+
+fn close_blocks(laid: &mut Vec<Token>, count: usize, place: Place) -> Result<(), TooDeep>
+    ensures ok { OnOk result (laid.new.items ≡ with_marks_at place (replicate count layout.Close) laid.old.items) }
+    ensures err { IfErr result (λ fault. fault ≡ NoMemory) }
+{
+    for _ in 0..count {
+        emit(laid, LayoutMark::Close, place)?;
+    }
+    Ok(())
+}
+
+/// At the end of the text a block that is due is empty, and all blocks close.
+fn finish(laid: &mut Vec<Token>, stack: &[Entry], due: bool, place: Place) -> Result<(), TooDeep>
+    ensures ok { OnOk result (laid.new.items ≡ with_marks_at place (last_marks due (stack_of stack.now)) laid.old.items) }
+    ensures err { IfErr result (λ fault. fault ≡ NoMemory) }
+{
+    if due {
+        emit(laid, LayoutMark::Open, place)?;
+        emit(laid, LayoutMark::Close, place)?;
+    }
+    close_blocks(laid, blocks(stack), place)
+}
+
+fn emit(laid: &mut Vec<Token>, mark: LayoutMark, place: Place) -> Result<(), TooDeep>
+    ensures ok { OnOk result (laid.new.items ≡ with_marks_at place (mark ∷ []) laid.old.items) }
+    ensures err { IfErr result (λ fault. fault ≡ NoMemory) }
+{
+    let kind = TokenKind::Layout(mark);
+    laid.push(Token { kind, place })?;
+    Ok(())
+}

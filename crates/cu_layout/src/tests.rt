@@ -1,0 +1,327 @@
+//! Layouts of texts, worked out by hand.
+use crate::{TooDeep, block};
+use cu_lex::{LayoutMark, Mark, Token, TokenKind, lex};
+use cu_names::{Names, Place};
+use std::alloc::{AllocError, Global};
+use std::test::Fail;
+
+/// The tokens as `Debug` shows their kinds, with layout written as in a text.
+fn shown(alloc: Global, tokens: &[Token]) -> Result<String, AllocError> {
+    let mut text = String::new(alloc);
+    for token in tokens {
+        let kind = &token.kind;
+        let one = match kind {
+            TokenKind::Layout(mark) => written(alloc, *mark),
+            _ => format!(in alloc; "{kind:?} "),
+        }?;
+        text.push_str(one.as_str())?;
+    }
+    Ok(text)
+}
+
+fn written(alloc: Global, mark: LayoutMark) -> Result<String, AllocError> {
+    let kind = TokenKind::Mark(match mark {
+        LayoutMark::Open => Mark::OpenBrace,
+        LayoutMark::Close => Mark::CloseBrace,
+        LayoutMark::Separator => Mark::Semicolon,
+    });
+    format!(in alloc; "{kind:?} ")
+}
+
+/// How many marks of each kind there are.
+fn marks(tokens: &[Token]) -> (usize, usize, usize) {
+    let count = |mark: LayoutMark| {
+        tokens
+            .iter()
+            .filter(|token| matches!(token.kind, TokenKind::Layout(found) if found == mark))
+            .count()
+    };
+    (
+        count(LayoutMark::Open),
+        count(LayoutMark::Close),
+        count(LayoutMark::Separator),
+    )
+}
+
+/// Texts, whether each is a whole module, and the texts with their layout
+/// written out.
+const TEXTS: [(bool, &str, &str); 36] = [
+    // a block before `in`
+    (false, "let x = 1 in x", "let { x = 1 } in x"),
+    // a comma that belongs outside a block
+    (false, "[y | let y = 1, y]", "[y | let { y = 1 }, y]"),
+    // a comma between variables
+    (
+        false,
+        "(let a, b free in a, 1)",
+        "(let { a, b free } in a, 1)",
+    ),
+    // operators in parentheses among them
+    (
+        false,
+        "(let (+), (`f`), a free in a, 1)",
+        "(let { (+), (`f`), a free } in a, 1)",
+    ),
+    // they begin anew after a semicolon
+    (
+        false,
+        "(let a = 1; b, c free in a, 2)",
+        "(let { a = 1; b, c free } in a, 2)",
+    ),
+    // a name in parentheses is no operator
+    (
+        false,
+        "(let (a), b free in a, 1)",
+        "(let { (a) }, b free in a, 1)",
+    ),
+    // no text
+    (false, "", ""),
+    // a module without tokens
+    (true, "", "{ }"),
+    // a module without a header
+    (true, "x = 1\ny = 2", "{ x = 1; y = 2 }"),
+    // a header
+    (
+        true,
+        "module M where\nx = 1\n  + 2\ny = 2",
+        "module M where { x = 1 + 2; y = 2 }",
+    ),
+    // a block due at the end
+    (true, "module M where", "module M where { }"),
+    // a brace of the text at the start
+    (true, "{ x = 1\n}", "{ x = 1 }"),
+    // where in where
+    (
+        true,
+        "f = a\n  where a = b\n          where b = 1\ng = 2",
+        "{ f = a where { a = b where { b = 1 } }; g = 2 }",
+    ),
+    // `where` on a block's own column
+    (
+        true,
+        "f = case x of\n  A -> y\n  where y = 1",
+        "{ f = case x of { A -> y } where { y = 1 } }",
+    ),
+    // `then` and `else` there
+    (
+        true,
+        "f = let\n  x = if a\n  then b\n  else c\n in x",
+        "{ f = let { x = if a then b else c } in x }",
+    ),
+    // a brace of the text inside a block
+    (
+        true,
+        "f = let { a = 1\n; b = 2 } in a\ng = 1",
+        "{ f = let { a = 1; b = 2 } in a; g = 1 }",
+    ),
+    // a block inside a brace of the text
+    (
+        false,
+        "case x of { A -> let y = 1 }",
+        "case x of { A -> let { y = 1 } }",
+    ),
+    // a block in parentheses
+    (
+        true,
+        "f x = (case x of A -> 1) + 2",
+        "{ f x = (case x of { A -> 1 }) + 2 }",
+    ),
+    // a due block that is not further right
+    (true, "f = x where\ng = 1", "{ f = x where { }; g = 1 }"),
+    // blocks at the end
+    (
+        false,
+        "let f x = case x of A -> let y = 1",
+        "let { f x = case x of { A -> let { y = 1 } } }",
+    ),
+    // a block before `then` and one before `else`
+    (
+        false,
+        "if case a of B -> True then case b of B -> 1 else 2",
+        "if case a of { B -> True } then case b of { B -> 1 } else 2",
+    ),
+    // `of` ends its `case`
+    (
+        false,
+        "case let x = 1 in x of y -> y",
+        "case let { x = 1 } in x of { y -> y }",
+    ),
+    // a block before the `of` of an outer `case`
+    (
+        false,
+        "case fcase a of B -> 1 of C -> 2",
+        "case fcase a of { B -> 1 } of { C -> 2 }",
+    ),
+    // the outer `let`'s `in`
+    (
+        false,
+        "let f = let g = 1 in g in f",
+        "let { f = let { g = 1 } in g } in f",
+    ),
+    // an open lambda
+    (
+        false,
+        "(\\x -> let y = x in y, 2)",
+        "(\\x -> let { y = x } in y, 2)",
+    ),
+    // two blocks before one bracket
+    (
+        false,
+        "[case a of B -> let y = 1]",
+        "[case a of { B -> let { y = 1 } }]",
+    ),
+    // brackets without partners
+    (true, "x = ) ] , in }", "{ x = ) ] , in } }"),
+    // a block before its first token's own end
+    (false, "(let)", "(let { })"),
+    // a brace hides the block around it
+    (
+        true,
+        "{ f = let a = 1\n in a }",
+        "{ f = let { a = 1 } in a }",
+    ),
+    // no tokens in a block are names alone
+    (false, "[x | let, y]", "[x | let { , y }]"),
+    // a `where` block that is not further right
+    (
+        true,
+        "f = x where\n  x = y where\n  y = 1",
+        "{ f = x where { x = y where { }; y = 1 } }",
+    ),
+    // `where` on the column of the block of another
+    (
+        true,
+        "f = g\n  where g = h\n        where h = 1",
+        "{ f = g where { g = h } where { h = 1 } }",
+    ),
+    // a `}` of the text without its `{`
+    (true, "f = 1 }\ng = 2", "{ f = 1 }; g = 2 }"),
+    // a `}` of the text where a block is due
+    (false, "let }", "let { } }"),
+    // an `in` left of the block
+    (false, "let x = 1\n in x", "let { x = 1 } in x"),
+    // a comma inside brackets of a block
+    (
+        false,
+        "(let t = (1, 2) in t, 3)",
+        "(let { t = (1, 2) } in t, 3)",
+    ),
+];
+
+#[test]
+fn texts_with_their_layout(rt: HostRuntime) -> Result<(), Fail> {
+    let alloc = rt.alloc();
+    for (whole, text, want) in TEXTS {
+        let mut names = Names::new(alloc);
+        let module = names.intern("M")?;
+        let tokens = lex(alloc, &mut names, module, text.as_bytes())?;
+        let wanted = lex(alloc, &mut names, module, want.as_bytes())?;
+        let count = tokens.len();
+        let laid = block(alloc, tokens, whole)?;
+        let (open, close, separator) = marks(laid.as_slice());
+        let want_shown = shown(alloc, wanted.as_slice())?;
+        let found = shown(alloc, laid.as_slice())?;
+        assert_eq!(rt; found.as_str(), want_shown.as_str(), "{text}");
+        assert_eq!(rt; open, close, "{text}");
+        let total = (count as u128) + (open as u128) + (close as u128) + (separator as u128);
+        assert_eq!(rt; laid.len() as u128, total, "{text}");
+    }
+    Ok(())
+}
+
+const QUEENS: &str = "module Queens (queens, boards) where
+import Perm
+import SetFunctions
+
+infix 4 `attacks`
+
+attacks :: (Int, Int) -> (Int, Int) -> Bool
+(c, r) `attacks` (d, s) = abs (c - d) == abs (r - s)
+
+safe :: [Int] -> Bool
+safe qs = and [not (p `attacks` q) | p <- places, q <- places, fst p < fst q]
+  where places = zip [1 ..] qs
+
+queens :: Int -> [Int]
+queens n | safe qs = qs
+  where qs = permute [1 .. n]
+
+boards :: Int -> [[Int]]
+boards n = let found = set1 queens n in sortValues found
+";
+
+const PERM: &str = "module Perm (permute) where
+
+permute :: [a] -> [a]
+permute []     = []
+permute (x:xs) = insert x (permute xs)
+  where insert y ys     = y : ys
+        insert y (z:zs) = z : insert y zs
+";
+
+#[test]
+fn marks_of_modules(rt: HostRuntime) -> Result<(), Fail> {
+    let alloc = rt.alloc();
+    let mut names = Names::new(alloc);
+    let module = names.intern("M")?;
+    for (text, want) in [(QUEENS, (4, 4, 10)), (PERM, (2, 2, 3))] {
+        let tokens = lex(alloc, &mut names, module, text.as_bytes())?;
+        let laid = block(alloc, tokens, true)?;
+        assert_eq!(rt; marks(laid.as_slice()), want);
+    }
+    Ok(())
+}
+
+#[test]
+fn entries_of_the_stack(rt: HostRuntime) -> Result<(), Fail> {
+    let alloc = rt.alloc();
+    let mut names = Names::new(alloc);
+    let module = names.intern("M")?;
+    let rows = [
+        ("", 257, false, Some(257)),
+        ("", 256, false, None),
+        ("f = ", 256, true, Some(260)),
+        ("f = ", 255, true, None),
+    ];
+    for (front, count, whole, want) in rows {
+        let mut text = String::from_str(alloc, front)?;
+        for _ in 0..count {
+            text.push_str("(")?;
+        }
+        let tokens = lex(alloc, &mut names, module, text.as_str().as_bytes())?;
+        let found = match block(alloc, tokens, whole) {
+            Ok(_) => None,
+            Err(fault) => Some(fault),
+        };
+        let want = want.map(|column| {
+            TooDeep::At(Place {
+                module,
+                line: 1,
+                column,
+            })
+        });
+        assert_eq!(rt; found, want, "{front}{count}");
+    }
+    Ok(())
+}
+
+#[test]
+fn places_of_marks(rt: HostRuntime) -> Result<(), Fail> {
+    let alloc = rt.alloc();
+    let mut names = Names::new(alloc);
+    let module = names.intern("M")?;
+    let tokens = lex(alloc, &mut names, module, "x = 1\ny = let".as_bytes())?;
+    let laid = block(alloc, tokens, true)?;
+    let mut shown = String::new(alloc);
+    for token in laid.as_slice() {
+        if let TokenKind::Layout(mark) = token.kind {
+            let line = token.place.line;
+            let column = token.place.column;
+            let one = format!(in alloc; "{mark:?} {line}:{column};")?;
+            shown.push_str(one.as_str())?;
+        }
+    }
+    let want = "Open 1:1;Separator 2:1;Open 2:5;Close 2:5;Close 2:5;";
+    assert_eq!(rt; shown.as_str(), want);
+    Ok(())
+}
