@@ -17,19 +17,19 @@ use Rattle.cu_lex.specs.Tokens.{Lexeme}
 use Rattle.cu_peg.specs.declared.class.Class.{Class}
 use Rattle.cu_peg.specs.declared.class.Class.TheVariants as class
 use Rattle.cu_peg.specs.declared.class.NameKind.{NameKind}
-use Rattle.cu_peg.specs.declared.class.NameKind.TheVariants as names
+use Rattle.cu_peg.specs.declared.class.NameKind.TheVariants as name_kind
 
 -- the name that a token is, if it is one of this kind
 abbrev pub spelling_in : NameKind → Kind → Option Spelling
-spelling_in names.VarId (kind.VarId name) = Some name
-spelling_in names.ConId (kind.ConId name) = Some name
-spelling_in names.VarOp (kind.VarOp name) = Some name
-spelling_in names.ConOp (kind.ConOp name) = Some name
+spelling_in name_kind.VarId (kind.VarId name) = Some name
+spelling_in name_kind.ConId (kind.ConId name) = Some name
+spelling_in name_kind.VarOp (kind.VarOp name) = Some name
+spelling_in name_kind.ConOp (kind.ConOp name) = Some name
 spelling_in _ _ = None
 
 -- whether a name is this one of those that mean something in some places
-abbrev pub is_that : Special → Option Special → Bool
-is_that wanted found = option_map_or (sameb special.the_type wanted) found false
+abbrev pub is_special : Special → Option Special → Bool
+is_special wanted found = option_map_or (sameb special.the_type wanted) found false
 
 -- whether a number is one of 0 to 9
 abbrev pub is_digit : ℤ → Bool
@@ -44,10 +44,10 @@ mark_of layout.Separator = mark.Semicolon
 
 -- whether a class has a token of a kind
 abbrev pub has_kind : Class → Kind → Bool
-has_kind (class.Unqualified sort) token = option_map_or (λ name. is_none name.qualifier) (spelling_in sort token) false
-has_kind (class.Name sort) token = is_some (spelling_in sort token)
-has_kind (class.Special wanted) (kind.VarId name) = is_that wanted name.special
-has_kind (class.Special wanted) (kind.VarOp name) = is_that wanted name.special
+has_kind (class.Unqualified wanted) token = option_map_or (λ name. is_none name.qualifier) (spelling_in wanted token) false
+has_kind (class.Name wanted) token = is_some (spelling_in wanted token)
+has_kind (class.Special wanted) (kind.VarId name) = is_special wanted name.special
+has_kind (class.Special wanted) (kind.VarOp name) = is_special wanted name.special
 has_kind (class.Keyword wanted) (kind.Keyword word) = sameb keyword.the_type wanted word
 has_kind (class.Reserved wanted) (kind.Reserved word) = sameb reserved.the_type wanted word
 has_kind (class.Mark wanted) (kind.Mark word) = sameb marks.the_type wanted word

@@ -8,7 +8,7 @@ use Rattle.cu_peg.specs.declared.node.Form.TheVariants as form
 use Rattle.cu_peg.specs.declared.node.Node.{Node}
 use Rattle.cu_peg.specs.Parse.{ParseTree, ParseTrees, Leaf, Parts, Chosen, NoTree, MoreTrees, size, sizes, spelled, spelled_all}
 
--- the first trees, as many as have this many nodes
+-- the first trees, as many as have this many nodes (none are left where the nodes spell trees)
 abbrev pub front : ℕ → ParseTrees ℕ → ParseTrees ℕ
 front zero trees = NoTree
 front (suc n) NoTree = NoTree
@@ -41,6 +41,8 @@ first_of (MoreTrees tree trees) = tree
 
 abbrev pub read : List Node → ParseTree ℕ
 read nodes = first_of (read_all nodes)
+
+-- That reading gives back what was spelled, which the code of trees needs.
 
 -- trees in front of others
 abbrev join : ParseTrees ℕ → ParseTrees ℕ → ParseTrees ℕ

@@ -2,7 +2,7 @@
 ghost use Rattle.std.specs.Prelude.{◌≡◌, ℕ, List};
 ghost use Rattle.std.specs.Option.{option_map};
 ghost use Rattle.cu_lex.specs.Reading.{kind_of, spelling_of};
-ghost use Rattle.cu_peg.specs.Classes.{has_kind, is_that, mark_of, spelling_in};
+ghost use Rattle.cu_peg.specs.Classes.{has_kind, is_special, mark_of, spelling_in};
 
 use cu_lex::{Keyword, LayoutMark, Mark, Name, ReservedOperator, Special, Token, TokenKind};
 
@@ -51,11 +51,11 @@ impl Class {
         ensures { (names : List (List ℕ)) → result ≡ has_kind self (kind_of names token.now.kind) }
     {
         match (self, &token.kind) {
-            (Class::Unqualified(sort), kind) => match name_of(sort, kind) {
+            (Class::Unqualified(wanted), kind) => match name_of(wanted, kind) {
                 Some(name) => name.qualifier.is_none(),
                 None => false,
             },
-            (Class::Name(sort), kind) => name_of(sort, kind).is_some(),
+            (Class::Name(wanted), kind) => name_of(wanted, kind).is_some(),
             (Class::Special(wanted), TokenKind::VarId(name)) => is_special(wanted, name),
             (Class::Special(wanted), TokenKind::VarOp(name)) => is_special(wanted, name),
             (Class::Keyword(wanted), TokenKind::Keyword(word)) => wanted == *word,
@@ -72,10 +72,10 @@ impl Class {
 }
 
 /// The name that a token is, if it is one of this kind.
-fn name_of(sort: NameKind, kind: &TokenKind) -> Option<Name>
-    ensures { (names : List (List ℕ)) → option_map (spelling_of names) result ≡ spelling_in sort (kind_of names kind.now) }
+fn name_of(wanted: NameKind, kind: &TokenKind) -> Option<Name>
+    ensures { (names : List (List ℕ)) → option_map (spelling_of names) result ≡ spelling_in wanted (kind_of names kind.now) }
 {
-    match (sort, kind) {
+    match (wanted, kind) {
         (NameKind::VarId, TokenKind::VarId(name)) => Some(*name),
         (NameKind::ConId, TokenKind::ConId(name)) => Some(*name),
         (NameKind::VarOp, TokenKind::VarOp(name)) => Some(*name),
@@ -85,7 +85,7 @@ fn name_of(sort: NameKind, kind: &TokenKind) -> Option<Name>
 }
 
 fn is_special(wanted: Special, name: &Name) -> bool
-    ensures { result ≡ is_that wanted name.now.special }
+    ensures { result ≡ is_special wanted name.now.special }
 {
     match name.special {
         Some(special) => wanted == special,

@@ -93,7 +93,7 @@ impl Grammar {
     }
 
     /// The ends of all rows at all places of a list of tokens.
-    pub fn ends(&self, alloc: Global, tokens: &[Token]) -> Result<Table, AllocError>
+    pub(crate) fn ends(&self, alloc: Global, tokens: &[Token]) -> Result<Table, AllocError>
         ensures long { IfOk result (λ table. length table ≡ length tokens.now + 1) }
         ensures right { (names : List (List ℕ)) → IfOk result (IsRight self.now (has_at (map (lexeme_of names) tokens.now)) (length tokens.now)) }
     {
