@@ -1,0 +1,11 @@
+pub mod CallLemmas
+pub mod ClosureLemmas
+pub mod EndLemmas
+pub mod FillLemmas
+pub mod FoundedRows
+pub mod OneTree
+pub mod OverLemmas
+pub mod ReadLemmas
+pub mod RowLemmas
+pub mod Takes
+pub mod Total

@@ -1,0 +1,13 @@
+pub mod Answer
+pub mod CallTables
+pub mod Classes
+pub mod Closure
+pub mod Cursors
+pub mod Ends
+pub mod Law
+pub mod Matches
+pub mod Order
+pub mod Parse
+pub mod Result
+pub mod Spelling
+pub mod WellFormed

@@ -1,0 +1,143 @@
+//! The ends of rows.
+ghost use Rattle.std.specs.Prelude.{◌≡◌, ◌≤◌, ◌-◌, ◌+◌, ℕ, List, length, map, OnOk, Some};
+ghost use Rattle.std.specs.Option.{option_and_then};
+ghost use Rattle.cu_lex.specs.Reading.{lexeme_of};
+ghost use Rattle.cu_peg.specs.Ends.{alone, choice_end, end_at, IsRight, joined, row_end, sequence_end, with_nodes};
+ghost use Rattle.cu_peg.specs.Order.{IsGrammar};
+ghost use Rattle.cu_peg.specs.Result.{has_at};
+
+use crate::row::Row;
+use crate::table::{End, Table};
+use cu_lex::Token;
+use std::alloc::{AllocError, Global};
+
+/// The end of a row where some tokens are left, by those of the rows that it
+/// calls there, and by its own where fewer are left.
+pub fn row_end(
+    row: &Row,
+    number: usize,
+    table: &Table,
+    tokens: &[Token],
+    left: usize,
+) -> Option<End>
+    requires { left ≤ length tokens.now }
+    ensures { (names : List (List ℕ)) → result
+        ≡ row_end (λ c. has_at (map (lexeme_of names) tokens.now) c (length tokens.now - left)) (end_at table.now) row.now number left }
+{
+    match row {
+        Row::Token(class) => {
+            if left > 0 && class.has(&tokens[tokens.len() - left]) {
+                return Some(alone(left - 1));
+            }
+            None
+        }
+        Row::Sequence(parts) => sequence_end(parts.as_slice(), table, left),
+        Row::Choice(parts) => choice_end(parts.as_slice(), table, left),
+        Row::Optional(part) => match table.end(*part as usize, left) {
+            Some(end) => Some(with_nodes(1, end)),
+            None => Some(alone(left)),
+        },
+        Row::Many(part) => match table.end(*part as usize, left) {
+            Some(end) => Some(with_nodes(end.nodes, table.end(number, end.left)?)),
+            None => Some(alone(left)),
+        },
+        Row::AtLeastOne(part) => {
+            let end = table.end(*part as usize, left)?;
+            Some(joined(end, table.end(number, end.left)))
+        }
+        Row::SeparatedBy(part, separator) => {
+            let end = table.end(*part as usize, left)?;
+            Some(joined(end, behind(*separator, number, table, end.left)))
+        }
+        Row::Ahead(part) => match table.end(*part as usize, left) {
+            Some(_) => Some(alone(left)),
+            None => None,
+        },
+        Row::NotAhead(part) => match table.end(*part as usize, left) {
+            Some(_) => None,
+            None => Some(alone(left)),
+        },
+    }
+}
+
+/// The end of a tree of one node.
+fn alone(left: usize) -> End
+    ensures { result ≡ alone left }
+{
+    End { left, nodes: 1 }
+}
+
+/// An end with more nodes.
+fn with_nodes(nodes: usize, end: End) -> End
+    ensures { result ≡ with_nodes nodes end }
+{
+    End {
+        left: end.left,
+        nodes: nodes.saturating_add(end.nodes),
+    }
+}
+
+/// A part, and the parts behind it, if there are some.
+fn joined(end: End, others: Option<End>) -> End
+    ensures { result ≡ joined end others }
+{
+    match others {
+        Some(others) => with_nodes(end.nodes, others),
+        None => with_nodes(1, end),
+    }
+}
+
+/// The end of a row behind a separator.
+fn behind(separator: u32, number: usize, table: &Table, left: usize) -> Option<End>
+    ensures { result ≡ option_and_then (λ between. end_at table.now number between.left) (end_at table.now separator left) }
+{
+    let between = table.end(separator as usize, left)?;
+    table.end(number, between.left)
+}
+
+/// The end of parts one after another.
+fn sequence_end(parts: &[u32], table: &Table, left: usize) -> Option<End>
+    ensures { result ≡ sequence_end (end_at table.now) parts.now (alone left) }
+{
+    let mut end = alone(left);
+    for part in parts {
+        let next = table.end(*part as usize, end.left)?;
+        end = with_nodes(end.nodes, next);
+    }
+    Some(end)
+}
+
+/// The end of the first part that matches.
+fn choice_end(parts: &[u32], table: &Table, left: usize) -> Option<End>
+    ensures { result ≡ choice_end (end_at table.now) parts.now left }
+{
+    for part in parts {
+        if let Some(end) = table.end(*part as usize, left) {
+            return Some(with_nodes(1, end));
+        }
+    }
+    None
+}
+
+/// Adds the ends of all rows where one token more is left.
+pub fn add_place(
+    alloc: Global,
+    rows: &[Row],
+    order: &[usize],
+    tokens: &[Token],
+    table: &mut Table,
+) -> Result<(), AllocError>
+    requires rows { IsGrammar rows.now order.now }
+    requires place { length table.old ≤ length tokens.now }
+    requires right { (names : List (List ℕ)) → IsRight rows.now (has_at (map (lexeme_of names) tokens.now)) (length tokens.now) table.old }
+    ensures long { OnOk result (length table.new ≡ length table.old + 1) }
+    ensures right { (names : List (List ℕ)) → OnOk result (IsRight rows.now (has_at (map (lexeme_of names) tokens.now)) (length tokens.now) table.new) }
+{
+    let left = table.len();
+    table.add_column(alloc, rows.len())?;
+    for row in order {
+        let end = row_end(&rows[*row], *row, table, tokens, left);
+        table.set(*row, left, end);
+    }
+    Ok(())
+}

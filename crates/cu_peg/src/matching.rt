@@ -1,0 +1,43 @@
+//! Matching of tokens by a grammar.
+ghost use Rattle.std.specs.Prelude.{◌≡◌, ◌<◌, ℕ, List, length, map, IfNone, IfOk, IfSome};
+ghost use Rattle.cu_lex.specs.Reading.{lexeme_of};
+ghost use Rattle.cu_peg.specs.Result.{HasNoTree, IsTreeOf};
+
+use crate::reading::read;
+use crate::{Grammar, Tree};
+use cu_lex::Token;
+use std::alloc::{AllocError, Global};
+
+/// The tree that a row of a grammar gives of a whole list of tokens, if it
+/// has one. Time and memory grow with the number of rows times the number of
+/// tokens, and with the size of the tree.
+///
+/// # Errors
+///
+/// Want of memory; also where the tree has more nodes than memory has room
+/// for.
+pub fn matches(
+    alloc: Global,
+    grammar: &Grammar,
+    start: u32,
+    tokens: &[Token],
+) -> Result<Option<Tree>, AllocError>
+    requires { start < length grammar.now }
+    ensures tree { (names : List (List ℕ)) → IfOk result (λ found. IfSome found (IsTreeOf grammar.now start (map (lexeme_of names) tokens.now))) }
+    ensures none { (names : List (List ℕ)) → IfOk result (λ found. IfNone found (HasNoTree grammar.now start (map (lexeme_of names) tokens.now))) }
+{
+    let table = grammar.ends(alloc, tokens)?;
+    let start = start as usize;
+    let end = match table.end(start, tokens.len()) {
+        Some(end) => end,
+        None => return Ok(None),
+    };
+    if end.left > 0 {
+        return Ok(None);
+    }
+    if end.nodes == usize::MAX {
+        return Err(AllocError);
+    }
+    let nodes = read(alloc, grammar.rows(), &table, tokens, start, end)?;
+    Ok(Some(Tree::new(nodes)))
+}
