@@ -1,5 +1,5 @@
 -- The test that a scope stands for: which variables it allows.
-use Rattle.std.specs.Prelude.{◌≡◌, ℕ, Bool, List}
+use Rattle.std.specs.Prelude.{◌≡◌, ℕ, Bool, true, List}
 use Rattle.std.proofs.Common.{sym, ap, ◌∙◌}
 use denote.Ref.{Bor}
 use Rattle.cu_calculus.specs.Valid.{also, also_all, but, holds}
@@ -14,6 +14,7 @@ held_by xs y = holds y xs
 
 -- one layer of a scope, around which a test stands
 abbrev one_scope : Scope-F (ℕ → Bool) → ℕ → Bool
+one_scope layer.All = λ x. true
 one_scope (layer.Parameters xs) = held_by xs.now
 one_scope (layer.With x around) = also x around.now
 one_scope (layer.WithAll xs around) = also_all xs.now around.now
@@ -21,6 +22,10 @@ one_scope (layer.Without x around) = but x around.now
 
 pub allowed : Scope → ℕ → Bool
 allowed = fold-Scope (ℕ → Bool) one_scope
+
+pub allowed-All : allowed scope.All ≡ (λ x. true)
+unfolding allowed
+allowed-All = ap allowed (sym scope.rolls-All) ∙ fold-roll-Scope (ℕ → Bool) one_scope layer.All
 
 pub allowed-Parameters : (xs : Bor (List ℕ)) → allowed (scope.Parameters xs) ≡ held_by xs.now
 unfolding allowed
@@ -40,4 +45,4 @@ unfolding allowed
 allowed-Without x around =
     ap allowed (sym (scope.rolls-Without x around)) ∙ fold-roll-Scope (ℕ → Bool) one_scope (layer.Without x around)
 
-pub ruleset allowed_variants = (allowed-Parameters, allowed-With, allowed-WithAll, allowed-Without)
+pub ruleset allowed_variants = (allowed-All, allowed-Parameters, allowed-With, allowed-WithAll, allowed-Without)

@@ -1,29 +1,34 @@
 //! What the heads of a program's terms take.
 ghost use Rattle.std.specs.Prelude.{◌≡◌, ◌++◌, IfOk, OnOk, map, option_map, slice_get};
-ghost use Rattle.cu_calculus.specs.Program.{arity_in};
+ghost use Rattle.cu_calculus.specs.Program.{arity_in, constructor_of};
 ghost use Rattle.cu_calculus.specs.Shape.{takes, takes_more};
 ghost use Rattle.cu_calculus.specs.Valid.{is_allowed};
 ghost use Rattle.cu_kernel.specs.Heads.{heads_program, shape_meaning};
 ghost use Rattle.cu_kernel.specs.Kernel.{constructors_from, constructors_of, program_of};
 ghost use Rattle.cu_kernel.specs.KernelOf.{constructor_meaning, kernel_of, type_meaning};
 
-use crate::{ConId, Constructor, DataType, FunId, Function, Head, ProgramParts, Special};
+use crate::{ConId, Constructor, DataType, FunId, Function, Head, Program, ProgramParts, Special};
 use std::alloc::{AllocError, Global};
 
 /// A constructor: its type's place among the program's types, and how many
 /// arguments it takes.
 #[derive(Clone, Copy)]
-pub(crate) struct Shape {
-    pub(crate) of_type: usize,
-    pub(crate) arity: usize,
+pub struct Shape {
+    /// The type's place, counted from 0.
+    pub of_type: usize,
+    /// The number of arguments.
+    pub arity: usize,
 }
 
 /// The functions and constructors of a program.
 #[derive(Drop)]
-pub(crate) struct Heads<'a> {
-    pub(crate) functions: &'a [Function],
-    pub(crate) constructors: Vec<Shape>,
-    pub(crate) special: &'a Special,
+pub struct Heads<'a> {
+    /// The functions, in order.
+    pub functions: &'a [Function],
+    /// The constructors: those of the first type first.
+    pub constructors: Vec<Shape>,
+    /// The built-in entities.
+    pub special: &'a Special,
 }
 
 /// The constructors of a type, after those of the types before it.
@@ -57,7 +62,7 @@ fn shapes(alloc: Global, types: &[DataType]) -> Result<Vec<Shape>, AllocError>
 
 impl<'a> Heads<'a> {
     /// The functions and constructors of these parts.
-    pub(crate) fn new(alloc: Global, parts: &'a ProgramParts) -> Result<Heads<'a>, AllocError>
+    pub fn new(alloc: Global, parts: &'a ProgramParts) -> Result<Heads<'a>, AllocError>
         ensures { IfOk result (λ heads. heads_program heads ≡ program_of (kernel_of parts.now)) }
     {
         let constructors = shapes(alloc, parts.types.as_slice())?;
@@ -68,8 +73,21 @@ impl<'a> Heads<'a> {
         })
     }
 
+    /// The functions and constructors of a program.
+    #[tactic(auto, unfolding(crate::specs::Heads::heads_program, crate::specs::Kernel::program_of))]
+    pub fn of(alloc: Global, program: &'a Program) -> Result<Heads<'a>, AllocError>
+        ensures { IfOk result (λ heads. heads_program heads ≡ program_of program.now) }
+    {
+        let constructors = shapes(alloc, program.types())?;
+        Ok(Heads {
+            functions: program.functions(),
+            constructors,
+            special: program.special(),
+        })
+    }
+
     /// How many arguments a head takes, where it is the program's.
-    pub(crate) fn arity(&self, head: Head) -> Option<usize>
+    pub fn arity(&self, head: Head) -> Option<usize>
         ensures { result ≡ arity_in (heads_program self.now) head }
     {
         match head {
@@ -98,7 +116,7 @@ impl<'a> Heads<'a> {
     }
 
     /// Whether a head is the program's and takes exactly so many arguments.
-    pub(crate) fn takes(&self, head: Head, count: usize) -> bool
+    pub fn takes(&self, head: Head, count: usize) -> bool
         ensures { result ≡ takes (arity_in (heads_program self.now) head) count }
     {
         match self.arity(head) {
@@ -108,7 +126,7 @@ impl<'a> Heads<'a> {
     }
 
     /// Whether a head is the program's and takes more arguments than so many.
-    pub(crate) fn takes_more(&self, head: Head, count: usize) -> bool
+    pub fn takes_more(&self, head: Head, count: usize) -> bool
         ensures { result ≡ takes_more (arity_in (heads_program self.now) head) count }
     {
         match self.arity(head) {
@@ -120,7 +138,7 @@ impl<'a> Heads<'a> {
     /// Whether a head may stand in the program: a set function only where
     /// the program has the constructor of its values.
     #[tactic(auto, unfolding(crate::specs::Heads::heads_program))]
-    pub(crate) fn allows(&self, head: Head) -> bool
+    pub fn allows(&self, head: Head) -> bool
         ensures { result ≡ is_allowed (heads_program self.now) head }
     {
         match head {
@@ -130,6 +148,16 @@ impl<'a> Heads<'a> {
                 Some(_) => true,
                 None => false,
             },
+        }
+    }
+
+    /// A constructor, where it is the program's.
+    pub fn constructor(&self, c: ConId) -> Option<Shape>
+        ensures { option_map shape_meaning result ≡ constructor_of (heads_program self.now) c }
+    {
+        match self.constructors.get(c.0) {
+            Some(shape) => Some(*shape),
+            None => None,
         }
     }
 }

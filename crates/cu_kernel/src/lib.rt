@@ -21,6 +21,7 @@ mod valid;
 
 pub use cu_calculus::{ConId, FunId, Head, Int, Lit, Mode, Prim, Special};
 pub use declarations::{Constructor, DataType, Goal, Mark, ModuleInfo, Operator, Side, Synonym};
+pub use heads::{Heads, Shape};
 pub use local::{LocalBody, LocalFunction, LocalHead, LocalRule, LocalTerm, TopFunction};
 pub use local_program::{Counts, LocalParts, LocalProgram};
 pub use program::{Program, ProgramParts};

@@ -6,6 +6,8 @@ ghost use Rattle.cu_kernel.specs.Scope.{allowed};
 /// around it, so nothing is copied where a binder is entered.
 #[derive(Drop)]
 pub(crate) enum Scope<'a> {
+    /// Every variable.
+    All,
     /// The variables of the rule's parameters.
     Parameters(&'a [u32]),
     /// One more variable than around.
@@ -23,6 +25,7 @@ impl Scope<'_> {
         ensures { result ≡ allowed self.now x }
     {
         match self {
+            Scope::All => true,
             Scope::Parameters(variables) => variables.contains(&x),
             Scope::With(y, around) => *y == x || around.allows(x),
             Scope::WithAll(variables, around) => variables.contains(&x) || around.allows(x),

@@ -1,5 +1,5 @@
 //! Which terms and rules are valid.
-ghost use Rattle.std.specs.Prelude.{◌≡◌, ◌&&◌, IfOk, map};
+ghost use Rattle.std.specs.Prelude.{◌≡◌, ◌&&◌, IfOk, map, true};
 ghost use Rattle.std.specs.List.{list_all};
 ghost use Rattle.cu_calculus.specs.Valid.{also, also_all, but, fit_alternatives, fit_terms, fits_rule, fits_term};
 ghost use Rattle.cu_kernel.specs.Heads.{heads_program};
@@ -159,4 +159,14 @@ pub(crate) fn rules_fit(
         }
     }
     Ok(true)
+}
+
+impl Heads<'_> {
+    /// Whether a term fits the program, where every variable may stand.
+    #[tactic(auto, using(crate::specs::Scope::allowed_variants))]
+    pub fn fits(&self, alloc: Global, term: &Term) -> Result<bool, AllocError>
+        ensures { IfOk result (λ fits. fits ≡ fits_term (heads_program self.now) (λ x. true) (term_of term.now)) }
+    {
+        term_fits(alloc, self, term, &Scope::All)
+    }
 }
