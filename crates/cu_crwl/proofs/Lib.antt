@@ -1,0 +1,17 @@
+pub mod Views
+pub mod Pairwise
+pub mod Same_pairs
+pub mod EnvironmentLaws
+pub mod SameTerms
+pub mod TableLaws
+pub mod Orders
+pub mod StepLaws
+pub mod Loops
+pub mod MatchLoops
+pub mod RowLaws
+pub mod Forms
+pub mod OfValues
+pub mod FollowForms
+pub mod CheckForms
+pub mod CompareLaws
+pub mod CopyLaws

@@ -1,0 +1,10 @@
+pub mod CellsOf
+pub mod Comparing
+pub mod Environments
+pub mod Meaning
+pub mod Numbers
+pub mod Rows
+pub mod Same
+pub mod StepStored
+pub mod Steps
+pub mod Table

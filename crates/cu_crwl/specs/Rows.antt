@@ -1,0 +1,44 @@
+-- The rows of patterns that the checker chooses among, and what it finds out about them.
+use Rattle.std.specs.Prelude.{Bool, ◌||◌, List, map}
+use denote.Ref.{Bor}
+use Rattle.cu_calculus.specs.Choose as calculus
+use Rattle.cu_calculus.specs.Choose.{not_literal, wants_constructor, wants_literal, wants_nothing}
+use Rattle.cu_calculus.specs.Term as clean
+use Rattle.cu_kernel.specs.TermsOf.{pattern_of}
+use Rattle.cu_kernel.specs.declared.term.Pattern.{Pattern}
+use Rattle.cu_crwl.specs.declared.choose.Demand.{Demand}
+use Rattle.cu_crwl.specs.declared.choose.Demand.TheVariants as demand
+use Rattle.cu_crwl.specs.declared.choose.Keep.{Keep}
+use Rattle.cu_crwl.specs.declared.choose.Keep.TheVariants as keep
+use Rattle.cu_crwl.specs.declared.choose.Look.{Look}
+use Rattle.cu_crwl.specs.declared.choose.Look.TheVariants as look
+use Rattle.cu_crwl.specs.declared.choose.Row.{Row}
+
+abbrev pub demand_meaning : Demand → calculus.Demand
+demand_meaning demand.Nothing = calculus.Nothing
+demand_meaning (demand.Literal l) = calculus.ALiteral l
+demand_meaning (demand.Constructor c) = calculus.AConstructor c
+
+-- patterns behind references
+abbrev pub patterns_at : List (Bor Pattern) → List clean.Pattern
+patterns_at ps = map (λ p. pattern_of p.now) ps
+
+abbrev pub row_meaning : Row → calculus.Row
+row_meaning row = record { patterns = patterns_at row.patterns.items; choice = row.choice }
+
+abbrev pub rows_meaning : List Row → List calculus.Row
+rows_meaning rows = map row_meaning rows
+
+-- which demands stay
+abbrev pub keeps : Keep → calculus.Demand → Bool
+keeps (keep.OnlyLiteral l) d = wants_literal l d
+keeps (keep.LiteralOrNothing l) d = wants_nothing d || wants_literal l d
+keeps (keep.NotLiteral l) d = not_literal l d
+keeps (keep.OnlyConstructor c) d = wants_constructor c d
+keeps (keep.ConstructorOrNothing c) d = wants_nothing d || wants_constructor c d
+
+abbrev pub look_meaning : Look → calculus.Look
+look_meaning look.Nowhere = calculus.Nowhere
+look_meaning (look.Take k) = calculus.Take k
+look_meaning (look.Again rows) = calculus.Again (rows_meaning rows.items)
+look_meaning (look.Narrow rows values) = calculus.Narrow (rows_meaning rows.items) values.items

@@ -1,0 +1,331 @@
+//! Heads on as many values as they take.
+ghost use Rattle.std.specs.Prelude.{◌≡◌, IfOk, length, map, option_map};
+ghost use Rattle.cu_calculus.specs.Answered.{same_head, same_values};
+ghost use Rattle.cu_calculus.specs.Gives.{collected, listed};
+ghost use Rattle.cu_calculus.specs.Program.{function_of};
+ghost use Rattle.cu_calculus.specs.Proof as proof;
+ghost use Rattle.cu_calculus.specs.Shape.{are_ground};
+ghost use Rattle.cu_calculus.specs.Value as value;
+ghost use Rattle.cu_calculus.specs.Value.{values_of};
+ghost use Rattle.cu_kernel.specs.Heads.{heads_program};
+ghost use Rattle.cu_kernel.specs.Kernel.{plain_function};
+ghost use Rattle.cu_kernel.specs.KernelOf.{body_meaning, function_meaning, rule_meaning};
+ghost use Rattle.cu_crwl.specs.Environments.{values_said};
+ghost use Rattle.cu_crwl.specs.Meaning.{claim_of, statement_of, statements_at};
+ghost use Rattle.cu_crwl.specs.Table.{applies, body_gives, claim_gives, claims_give, is_built, is_part, none_cited, one_cited, rule_gives, rules_give, two_cited};
+
+use crate::answer::is_answer;
+use crate::environment::{states, value_is};
+use crate::matching::match_patterns;
+use crate::{Claim, Statement};
+use cu_kernel::{Body, ConId, FunId, Function, Head, Heads, Rule};
+use cu_values::{Cell, Value};
+use std::alloc::{AllocError, Global};
+
+/// Whether values are one by one the same.
+pub(crate) fn values_are(left: &[Value], right: &[Value]) -> bool
+    ensures { result ≡ same_values (values_of left.now) (values_of right.now) }
+{
+    if left.len() != right.len() {
+        return false;
+    }
+    for i in 0..left.len() {
+        if !value_is(&left[i], &right[i]) {
+            return false;
+        }
+    }
+    true
+}
+
+/// Whether a value is a constructor on these values.
+fn is_constructed(
+    constructor: ConId,
+    arguments: &[Value],
+    value: &Value,
+) -> Result<bool, AllocError>
+    ensures { IfOk result (λ yes. yes ≡ is_built constructor (values_of arguments.now) value.now) }
+{
+    match value.head() {
+        Cell::Con(other, _) => {
+            let parts = value.arguments()?;
+            if other.0 != constructor.0 {
+                return Ok(false);
+            }
+            Ok(values_are(&parts, arguments))
+        }
+        _ => Ok(false),
+    }
+}
+
+/// Whether two heads are one.
+fn heads_are(left: Head, right: Head) -> bool
+    ensures { result ≡ same_head left right }
+{
+    match (left, right) {
+        (Head::Fun(f), Head::Fun(g)) => f.0 == g.0,
+        (Head::Con(c), Head::Con(d)) => c.0 == d.0,
+        (Head::Set(f), Head::Set(g)) => f.0 == g.0,
+        _ => false,
+    }
+}
+
+/// Whether a value is a partial application of these values.
+pub(crate) fn is_applied(head: Head, arguments: &[Value], value: &Value) -> Result<bool, AllocError>
+    ensures { IfOk result (λ yes. yes ≡ is_part head (values_of arguments.now) value.now) }
+{
+    match value.head() {
+        Cell::Part(other, _) => {
+            let parts = value.arguments()?;
+            if !heads_are(other, head) {
+                return Ok(false);
+            }
+            Ok(values_are(&parts, arguments))
+        }
+        _ => Ok(false),
+    }
+}
+
+/// The one statement that is cited.
+pub(crate) fn one<'a>(cited: &[&'a Statement]) -> Option<&'a Statement>
+    ensures { option_map (λ s. statement_of s.now) result ≡ one_cited (statements_at cited.now) }
+{
+    if cited.len() == 1 {
+        Some(cited[0])
+    } else {
+        None
+    }
+}
+
+/// The two statements that are cited.
+pub(crate) fn two<'a>(cited: &[&'a Statement]) -> Option<(&'a Statement, &'a Statement)>
+    ensures { option_map (λ pair. (statement_of pair.0.now, statement_of pair.1.now)) result ≡ two_cited (statements_at cited.now) }
+{
+    if cited.len() == 2 {
+        Some((cited[0], cited[1]))
+    } else {
+        None
+    }
+}
+
+/// Whether nothing is cited.
+pub(crate) fn none(cited: &[&Statement]) -> bool
+    ensures { result ≡ none_cited (statements_at cited.now) }
+{
+    cited.is_empty()
+}
+
+/// The values that statements give.
+pub(crate) fn given_values(
+    alloc: Global,
+    statements: &[&Statement],
+) -> Result<Vec<Value>, AllocError>
+    ensures { IfOk result (λ values. values_of values.items ≡ values_said (statements_at statements.now)) }
+{
+    let mut values = Vec::new(alloc);
+    for statement in statements {
+        values.push(statement.value.clone()?)?;
+    }
+    Ok(values)
+}
+
+/// Whether a rule's patterns match, and a statement gives its body's value.
+fn rule_gives(
+    alloc: Global,
+    rule: &Rule,
+    values: &[Value],
+    statement: &Statement,
+    value: &Value,
+) -> Result<bool, AllocError>
+    ensures { IfOk result (λ yes. yes ≡ rule_gives (values_of values.now) (statement_of statement.now) value.now (rule_meaning rule.now)) }
+{
+    match match_patterns(alloc, &rule.params, values)? {
+        Some(bindings) => Ok(states(statement, &bindings, &[], &rule.body, value)),
+        None => Ok(false),
+    }
+}
+
+/// Whether some rule does so.
+fn rules_give(
+    alloc: Global,
+    rules: &[Rule],
+    values: &[Value],
+    statement: Option<&Statement>,
+    value: &Value,
+) -> Result<bool, AllocError>
+    ensures { IfOk result (λ yes. yes
+        ≡ rules_give (values_of values.now) (option_map (λ s. statement_of s.now) statement.entry) value.now (map rule_meaning rules.now)) }
+{
+    let cited = match statement {
+        Some(cited) => cited,
+        None => return Ok(false),
+    };
+    for rule in rules {
+        if rule_gives(alloc, rule, values, cited, value)? {
+            return Ok(true);
+        }
+    }
+    Ok(false)
+}
+
+/// Whether a function's body on values gives a value.
+fn body_gives(
+    alloc: Global,
+    heads: &Heads,
+    body: &Body,
+    values: &[Value],
+    last: &[&Statement],
+    value: &Value,
+) -> Result<bool, AllocError>
+    ensures { IfOk result (λ yes. yes
+        ≡ body_gives (heads_program heads.now) (values_of values.now) (statements_at last.now) value.now (body_meaning body.now)) }
+{
+    match body {
+        Body::Rules(rules) => rules_give(alloc, rules, values, one(last), value),
+        Body::External(operation) => {
+            if none(last) {
+                is_answer(alloc, heads, *operation, values, value)
+            } else {
+                Ok(false)
+            }
+        }
+    }
+}
+
+/// A function, where it is the program's.
+pub(crate) fn function<'a>(heads: &Heads<'a>, f: FunId) -> Option<&'a Function>
+    ensures { option_map (λ g. plain_function (function_meaning g.now)) result ≡ function_of (heads_program heads.now) f }
+{
+    match heads.functions.get(f.0) {
+        Some(function) => Some(function),
+        None => None,
+    }
+}
+
+/// The value of a set call: the list of the values behind its constructor.
+#[tactic(auto, unfolding(cu_kernel::specs::Heads::heads_program))]
+fn collected(
+    alloc: Global,
+    heads: &Heads,
+    constructor: ConId,
+    values: &[Value],
+) -> Result<Value, AllocError>
+    ensures { IfOk result (λ all. all ≡ collected (heads_program heads.now) constructor values.now) }
+{
+    let mut list = Value::constructed(alloc, heads.special.nil, &[])?;
+    let mut i = values.len();
+    while i > 0 {
+        i -= 1;
+        list = longer(alloc, heads.special.cons, values[i].clone()?, list)?;
+    }
+    let mut parts = Vec::new(alloc);
+    parts.push(list)?;
+    Value::constructed(alloc, constructor, &parts)
+}
+
+/// A constructor on two values.
+fn longer(alloc: Global, cons: ConId, first: Value, rest: Value) -> Result<Value, AllocError>
+    ensures { IfOk result (λ v. v ≡ value.Constructed cons (value.MoreValues first (value.MoreValues rest value.NoValue))) }
+{
+    let mut parts = Vec::new(alloc);
+    parts.push(first)?;
+    parts.push(rest)?;
+    Value::constructed(alloc, cons, &parts)
+}
+
+/// Whether all values are ground data.
+fn all_ground(values: &[Value]) -> bool
+    ensures { result ≡ are_ground (values_of values.now) }
+{
+    for value in values {
+        if !value.is_ground_data() {
+            return false;
+        }
+    }
+    true
+}
+
+/// Whether a claim is about a function on these values, and its list is at
+/// least a value.
+fn claim_gives(
+    alloc: Global,
+    heads: &Heads,
+    constructor: ConId,
+    f: FunId,
+    values: &[Value],
+    value: &Value,
+    claim: &Claim,
+) -> Result<bool, AllocError>
+    ensures { IfOk result (λ yes. yes
+        ≡ claim_gives (heads_program heads.now) constructor f (values_of values.now) value.now (claim_of claim.now)) }
+{
+    if claim.function.0 != f.0 {
+        return Ok(false);
+    }
+    if !values_are(&claim.arguments, values) {
+        return Ok(false);
+    }
+    let all = collected(alloc, heads, constructor, &claim.values)?;
+    Ok(value.leq(&all))
+}
+
+/// Whether some claim is so.
+#[tactic(auto, unfolding(cu_kernel::specs::Heads::heads_program))]
+fn claims_give(
+    alloc: Global,
+    heads: &Heads,
+    claims: &[Claim],
+    f: FunId,
+    values: &[Value],
+    value: &Value,
+) -> Result<bool, AllocError>
+    ensures { IfOk result (λ yes. yes
+        ≡ claims_give (heads_program heads.now) (heads_program heads.now).special.values (map claim_of claims.now) f (values_of values.now) value.now) }
+{
+    let constructor = match heads.special.values {
+        Some(constructor) => constructor,
+        None => return Ok(false),
+    };
+    for claim in claims {
+        if claim_gives(alloc, heads, constructor, f, values, value, claim)? {
+            return Ok(true);
+        }
+    }
+    Ok(false)
+}
+
+/// Whether a head on as many values as it takes has a value, where these
+/// statements are cited last.
+#[tactic(auto, unfolding(crate::specs::Table::applies))]
+pub(crate) fn applies(
+    alloc: Global,
+    heads: &Heads,
+    claims: &[Claim],
+    head: Head,
+    values: &[Value],
+    last: &[&Statement],
+    value: &Value,
+) -> Result<bool, AllocError>
+    ensures { IfOk result (λ yes. yes
+        ≡ applies (heads_program heads.now) (map claim_of claims.now) head (values_of values.now) (statements_at last.now) value.now) }
+{
+    match head {
+        Head::Con(constructor) => {
+            if none(last) {
+                is_constructed(constructor, values, value)
+            } else {
+                Ok(false)
+            }
+        }
+        Head::Fun(f) => match function(heads, f) {
+            Some(function) => body_gives(alloc, heads, &function.body, values, last, value),
+            None => Ok(false),
+        },
+        Head::Set(f) => {
+            if none(last) && all_ground(values) {
+                claims_give(alloc, heads, claims, f, values, value)
+            } else {
+                Ok(false)
+            }
+        }
+    }
+}

@@ -1,0 +1,505 @@
+//! Which alternative of a case distinction a value takes.
+ghost use Rattle.std.specs.Prelude.{◌≡◌, ◌∷◌, [], ◌++◌, ◌<◌, ◌≤◌, Bool, IfOk, IsTrue, List, OnOk, filter, replicate, length, map, option_map, take, drop, slice_get};
+ghost use Rattle.cu_calculus.specs.Choose as calculus;
+ghost use Rattle.cu_calculus.specs.Choose.{arguments_of, demand_at, demand_of, has_variable, is_demanding, leftmost, narrowed, not_literal, rows_from, same_type, spliced};
+ghost use Rattle.cu_calculus.specs.Chosen.{chosen};
+ghost use Rattle.cu_kernel.specs.Heads.{heads_program};
+ghost use Rattle.cu_kernel.specs.TermsOf.{alternatives_of, pattern_of};
+ghost use Rattle.cu_crwl.specs.Rows.{demand_meaning, keeps, look_meaning, patterns_at, row_meaning, rows_meaning};
+
+use cu_kernel::{ConId, Heads, Lit, Pattern, Term};
+use cu_values::{Cell, Value};
+use std::alloc::{AllocError, Global};
+
+/// What a pattern demands of a value.
+#[derive(Clone, Copy)]
+pub(crate) enum Demand {
+    /// Nothing.
+    Nothing,
+    /// A literal.
+    Literal(Lit),
+    /// A constructor.
+    Constructor(ConId),
+}
+
+/// The patterns of an alternative that are still to be looked at, one for
+/// each value that is looked at.
+#[derive(Drop)]
+pub(crate) struct Row<'a> {
+    pub(crate) patterns: Vec<&'a Pattern>,
+    /// The alternative's place, counted from 0.
+    pub(crate) choice: usize,
+}
+
+/// Which rows stay, by what they demand at a position.
+#[derive(Clone, Copy)]
+pub(crate) enum Keep {
+    OnlyLiteral(Lit),
+    LiteralOrNothing(Lit),
+    NotLiteral(Lit),
+    OnlyConstructor(ConId),
+    ConstructorOrNothing(ConId),
+}
+
+/// What one look at rows finds out.
+#[derive(Drop)]
+pub(crate) enum Look<'a> {
+    /// No alternative is taken.
+    Nowhere,
+    /// This one is taken.
+    Take(usize),
+    /// Fewer rows are left, over the same values.
+    Again(Vec<Row<'a>>),
+    /// Fewer rows are left, over the arguments of a value.
+    Narrow(Vec<Row<'a>>, Vec<Value>),
+}
+
+/// What a pattern demands.
+#[tactic(auto, using(cu_kernel::specs::TermsOf::patterns_of_variants))]
+fn demanded(pattern: &Pattern) -> Demand
+    ensures { demand_meaning result ≡ demand_of (pattern_of pattern.now) }
+{
+    match pattern {
+        Pattern::Var(_) => Demand::Nothing,
+        Pattern::Lit(literal) => Demand::Literal(*literal),
+        Pattern::Con(constructor, _) => Demand::Constructor(*constructor),
+        Pattern::Alias(_, pattern) => demanded(pattern),
+    }
+}
+
+impl Demand {
+    /// Whether something is demanded.
+    fn is_some(self) -> bool
+        ensures { result ≡ is_demanding (demand_meaning self) }
+    {
+        match self {
+            Demand::Nothing => false,
+            Demand::Literal(_) => true,
+            Demand::Constructor(_) => true,
+        }
+    }
+}
+
+impl Keep {
+    /// Whether a row with this demand stays.
+    fn admits(self, demand: Demand) -> bool
+        ensures { result ≡ keeps self (demand_meaning demand) }
+    {
+        match (self, demand) {
+            (Keep::OnlyLiteral(literal), Demand::Literal(other)) => literal == other,
+            (Keep::OnlyLiteral(_), Demand::Nothing) => false,
+            (Keep::OnlyLiteral(_), Demand::Constructor(_)) => false,
+            (Keep::LiteralOrNothing(literal), Demand::Literal(other)) => literal == other,
+            (Keep::LiteralOrNothing(_), Demand::Nothing) => true,
+            (Keep::LiteralOrNothing(_), Demand::Constructor(_)) => false,
+            (Keep::NotLiteral(literal), Demand::Literal(other)) => literal != other,
+            (Keep::NotLiteral(_), Demand::Nothing) => true,
+            (Keep::NotLiteral(_), Demand::Constructor(_)) => true,
+            (Keep::OnlyConstructor(constructor), Demand::Constructor(other)) => constructor.0
+                == other.0,
+            (Keep::OnlyConstructor(_), Demand::Nothing) => false,
+            (Keep::OnlyConstructor(_), Demand::Literal(_)) => false,
+            (Keep::ConstructorOrNothing(constructor), Demand::Constructor(other)) => constructor.0
+                == other.0,
+            (Keep::ConstructorOrNothing(_), Demand::Nothing) => true,
+            (Keep::ConstructorOrNothing(_), Demand::Literal(_)) => false,
+        }
+    }
+}
+
+/// The leftmost position at which patterns demand something.
+fn first_demanded(patterns: &[&Pattern]) -> Option<usize>
+    ensures { result ≡ leftmost (patterns_at patterns.now) }
+{
+    for (position, pattern) in patterns.iter().enumerate() {
+        if demanded(pattern).is_some() {
+            return Some(position);
+        }
+    }
+    None
+}
+
+impl<'a> Row<'a> {
+    /// What the row demands at a position.
+    fn demand_at(&self, position: usize) -> Demand
+        ensures { demand_meaning result ≡ demand_at position (row_meaning self.now) }
+    {
+        if position < self.patterns.len() {
+            demanded(self.patterns[position])
+        } else {
+            Demand::Nothing
+        }
+    }
+
+    /// The same row.
+    fn copied(&self, alloc: Global) -> Result<Row<'a>, AllocError>
+        ensures { IfOk result (λ row. row_meaning row ≡ row_meaning self.now) }
+    {
+        let mut patterns = Vec::new(alloc);
+        patterns.extend_from_slice(self.patterns.as_slice())?;
+        Ok(Row {
+            patterns,
+            choice: self.choice,
+        })
+    }
+
+    /// The row over the arguments of what stands at a position, which are so
+    /// many.
+    fn narrowed(&self, alloc: Global, position: usize, count: usize) -> Result<Row<'a>, AllocError>
+        ensures { IfOk result (λ row. row_meaning row ≡ narrowed position count (row_meaning self.now)) }
+    {
+        if position >= self.patterns.len() {
+            return self.copied(alloc);
+        }
+        let mut patterns = Vec::new(alloc);
+        patterns.extend_from_slice(&self.patterns.as_slice()[..position])?;
+        push_arguments(&mut patterns, self.patterns[position], count)?;
+        patterns.extend_from_slice(&self.patterns.as_slice()[position + 1..])?;
+        Ok(Row {
+            patterns,
+            choice: self.choice,
+        })
+    }
+}
+
+/// Whether some row demands nothing at a position.
+fn some_is_free(rows: &[Row], position: usize) -> bool
+    ensures { result ≡ has_variable position (rows_meaning rows.now) }
+{
+    for row in rows {
+        if !row.demand_at(position).is_some() {
+            return true;
+        }
+    }
+    false
+}
+
+/// Adds the patterns for the arguments of what stands at a position.
+#[tactic(auto, using(cu_kernel::specs::TermsOf::patterns_of_variants))]
+fn push_arguments<'a>(
+    patterns: &mut Vec<&'a Pattern>,
+    pattern: &'a Pattern,
+    count: usize,
+) -> Result<(), AllocError>
+    ensures { OnOk result (patterns_at patterns.new.items ≡ patterns_at patterns.old.items ++ arguments_of count (pattern_of pattern.now)) }
+{
+    match pattern {
+        Pattern::Var(_) => push_repeated(patterns, pattern, count),
+        Pattern::Lit(_) => Ok(()),
+        Pattern::Con(_, arguments) => push_all(patterns, arguments),
+        Pattern::Alias(_, pattern) => push_arguments(patterns, pattern, count),
+    }
+}
+
+fn push_repeated<'a>(
+    patterns: &mut Vec<&'a Pattern>,
+    pattern: &'a Pattern,
+    count: usize,
+) -> Result<(), AllocError>
+    ensures { OnOk result (patterns_at patterns.new.items ≡ patterns_at patterns.old.items ++ replicate count (pattern_of pattern.now)) }
+{
+    for _ in 0..count {
+        patterns.push(pattern)?;
+    }
+    Ok(())
+}
+
+fn push_all<'a>(patterns: &mut Vec<&'a Pattern>, arguments: &'a [Pattern]) -> Result<(), AllocError>
+    ensures { OnOk result (patterns_at patterns.new.items ≡ patterns_at patterns.old.items ++ map pattern_of arguments.now) }
+{
+    for argument in arguments {
+        patterns.push(argument)?;
+    }
+    Ok(())
+}
+
+/// Adds copies of values.
+fn push_values(values: &mut Vec<Value>, more: &[Value]) -> Result<(), AllocError>
+    ensures { OnOk result (values.new.items ≡ values.old.items ++ more.now) }
+{
+    for value in more {
+        values.push(value.clone()?)?;
+    }
+    Ok(())
+}
+
+/// The values, with arguments in place of what stands at a position.
+fn spliced(
+    alloc: Global,
+    values: &[Value],
+    position: usize,
+    arguments: &[Value],
+) -> Result<Vec<Value>, AllocError>
+    requires { position < length values.now }
+    ensures { IfOk result (λ all. all.items ≡ spliced position arguments.now values.now) }
+{
+    let mut all = Vec::new(alloc);
+    push_values(&mut all, &values[..position])?;
+    push_values(&mut all, arguments)?;
+    push_values(&mut all, &values[position + 1..])?;
+    Ok(all)
+}
+
+/// The rows that stay.
+fn kept<'a>(
+    alloc: Global,
+    rows: &[Row<'a>],
+    position: usize,
+    keep: Keep,
+) -> Result<Vec<Row<'a>>, AllocError>
+    ensures { IfOk result (λ some. rows_meaning some.items ≡ filter (λ row. keeps keep (demand_at position row)) (rows_meaning rows.now)) }
+{
+    let mut some = Vec::new(alloc);
+    for row in rows {
+        if keep.admits(row.demand_at(position)) {
+            some.push(row.copied(alloc)?)?;
+        }
+    }
+    Ok(some)
+}
+
+/// The rows that stay, over the arguments of what stands at a position.
+fn all_narrowed<'a>(
+    alloc: Global,
+    rows: &[Row<'a>],
+    position: usize,
+    count: usize,
+) -> Result<Vec<Row<'a>>, AllocError>
+    ensures { IfOk result (λ all. rows_meaning all.items ≡ map (narrowed position count) (rows_meaning rows.now)) }
+{
+    let mut all = Vec::new(alloc);
+    for row in rows {
+        all.push(row.narrowed(alloc, position, count)?)?;
+    }
+    Ok(all)
+}
+
+fn narrow<'a>(
+    alloc: Global,
+    rows: &[Row<'a>],
+    values: &[Value],
+    position: usize,
+    keep: Keep,
+    arguments: &[Value],
+) -> Result<Look<'a>, AllocError>
+    requires { position < length values.now }
+    ensures { IfOk result (λ look. look_meaning look ≡ calculus.narrow position (keeps keep) (rows_meaning rows.now) arguments.now values.now) }
+{
+    let some = kept(alloc, rows, position, keep)?;
+    let fewer = all_narrowed(alloc, some.as_slice(), position, arguments.len())?;
+    let parts = spliced(alloc, values, position, arguments)?;
+    Ok(Look::Narrow(fewer, parts))
+}
+
+fn again<'a>(
+    alloc: Global,
+    rows: &[Row<'a>],
+    position: usize,
+    literal: Lit,
+) -> Result<Look<'a>, AllocError>
+    ensures { IfOk result (λ look. look_meaning look
+        ≡ calculus.Again (filter (λ row. not_literal literal (demand_at position row)) (rows_meaning rows.now))) }
+{
+    let fewer = kept(alloc, rows, position, Keep::NotLiteral(literal))?;
+    Ok(Look::Again(fewer))
+}
+
+/// A literal stands at a position.
+fn at_literal<'a>(
+    alloc: Global,
+    rows: &[Row<'a>],
+    values: &[Value],
+    position: usize,
+    literal: Lit,
+    first: Demand,
+) -> Result<Look<'a>, AllocError>
+    requires { position < length values.now }
+    ensures { IfOk result (λ look. look_meaning look
+        ≡ calculus.at_literal position literal (demand_meaning first) (has_variable position (rows_meaning rows.now)) (rows_meaning rows.now) values.now) }
+{
+    if !some_is_free(rows, position) {
+        return narrow(
+            alloc,
+            rows,
+            values,
+            position,
+            Keep::OnlyLiteral(literal),
+            &[],
+        );
+    }
+    match first {
+        Demand::Nothing => Ok(Look::Nowhere),
+        Demand::Constructor(_) => Ok(Look::Nowhere),
+        Demand::Literal(wanted) => {
+            if literal == wanted {
+                narrow(
+                    alloc,
+                    rows,
+                    values,
+                    position,
+                    Keep::LiteralOrNothing(literal),
+                    &[],
+                )
+            } else {
+                again(alloc, rows, position, wanted)
+            }
+        }
+    }
+}
+
+/// Whether two constructors are the program's and of one type.
+fn of_one_type(heads: &Heads, constructor: ConId, other: ConId) -> bool
+    ensures { result ≡ same_type (heads_program heads.now) constructor other }
+{
+    match heads.constructor(constructor) {
+        Some(shape) => match heads.constructor(other) {
+            Some(second) => shape.of_type == second.of_type,
+            None => false,
+        },
+        None => false,
+    }
+}
+
+/// A constructor stands at a position.
+fn at_constructor<'a>(
+    alloc: Global,
+    heads: &Heads,
+    rows: &[Row<'a>],
+    values: &[Value],
+    position: usize,
+    constructor: ConId,
+    arguments: &[Value],
+    first: Demand,
+) -> Result<Look<'a>, AllocError>
+    requires { position < length values.now }
+    ensures { IfOk result (λ look. look_meaning look
+        ≡ calculus.at_constructor (heads_program heads.now) position constructor (demand_meaning first) (has_variable position (rows_meaning rows.now))
+        (rows_meaning rows.now) arguments.now values.now) }
+{
+    if !some_is_free(rows, position) {
+        return narrow(
+            alloc,
+            rows,
+            values,
+            position,
+            Keep::OnlyConstructor(constructor),
+            arguments,
+        );
+    }
+    match first {
+        Demand::Nothing => Ok(Look::Nowhere),
+        Demand::Constructor(wanted) => {
+            if of_one_type(heads, constructor, wanted) {
+                narrow(
+                    alloc,
+                    rows,
+                    values,
+                    position,
+                    Keep::ConstructorOrNothing(constructor),
+                    arguments,
+                )
+            } else {
+                Ok(Look::Nowhere)
+            }
+        }
+        Demand::Literal(wanted) => again(alloc, rows, position, wanted),
+    }
+}
+
+/// A look at a position at which the first row demands something.
+fn look_at<'a>(
+    alloc: Global,
+    heads: &Heads,
+    rows: &[Row<'a>],
+    values: &[Value],
+    position: usize,
+    first: Demand,
+) -> Result<Look<'a>, AllocError>
+    ensures { IfOk result (λ look. (row : calculus.Row) → demand_at position row ≡ demand_meaning first → look_meaning look
+        ≡ calculus.look_at (heads_program heads.now) position row (rows_meaning rows.now) values.now (slice_get values.now position)) }
+{
+    if position >= values.len() {
+        return Ok(Look::Nowhere);
+    }
+    match values[position].head() {
+        Cell::Lit(literal) => at_literal(alloc, rows, values, position, literal, first),
+        Cell::Con(constructor, _) => {
+            let arguments = values[position].arguments()?;
+            at_constructor(
+                alloc,
+                heads,
+                rows,
+                values,
+                position,
+                constructor,
+                &arguments,
+                first,
+            )
+        }
+        _ => Ok(Look::Nowhere),
+    }
+}
+
+/// One look at rows over values.
+fn one_look<'a>(
+    alloc: Global,
+    heads: &Heads,
+    rows: &[Row<'a>],
+    values: &[Value],
+) -> Result<Look<'a>, AllocError>
+    ensures { IfOk result (λ look. look_meaning look ≡ calculus.look (heads_program heads.now) (rows_meaning rows.now) values.now) }
+{
+    if rows.is_empty() {
+        return Ok(Look::Nowhere);
+    }
+    let first = &rows[0];
+    match first_demanded(first.patterns.as_slice()) {
+        None => Ok(Look::Take(first.choice)),
+        Some(position) => look_at(
+            alloc,
+            heads,
+            rows,
+            values,
+            position,
+            first.demand_at(position),
+        ),
+    }
+}
+
+/// A row for each alternative.
+fn rows_of(alloc: Global, alternatives: &[(Pattern, Term)]) -> Result<Vec<Row<'_>>, AllocError>
+    ensures { IfOk result (λ rows. rows_meaning rows.items ≡ rows_from 0 (alternatives_of alternatives.now)) }
+{
+    let mut rows = Vec::new(alloc);
+    for (choice, alternative) in alternatives.iter().enumerate() {
+        let mut patterns = Vec::new(alloc);
+        patterns.push(&alternative.0)?;
+        rows.push(Row { patterns, choice })?;
+    }
+    Ok(rows)
+}
+
+/// The alternative that a value takes, by its place, if it takes one.
+pub(crate) fn chosen(
+    alloc: Global,
+    heads: &Heads,
+    alternatives: &[(Pattern, Term)],
+    value: &Value,
+) -> Result<Option<usize>, AllocError>
+    ensures { IfOk result (λ choice. choice ≡ chosen (heads_program heads.now) (rows_from 0 (alternatives_of alternatives.now)) (value.now ∷ [])) }
+{
+    let mut rows = rows_of(alloc, alternatives)?;
+    let mut values = Vec::new(alloc);
+    values.push(value.clone()?)?;
+    loop {
+        match one_look(alloc, heads, rows.as_slice(), values.as_slice())? {
+            Look::Nowhere => return Ok(None),
+            Look::Take(choice) => return Ok(Some(choice)),
+            Look::Again(fewer) => rows = fewer,
+            Look::Narrow(fewer, parts) => {
+                rows = fewer;
+                values = parts;
+            }
+        }
+    }
+}

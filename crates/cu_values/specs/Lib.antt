@@ -1,0 +1,11 @@
+pub mod Approximation
+pub mod CellKinds
+pub mod Cells
+pub mod Display
+pub mod HeadsOrder
+pub mod LabelsOf
+pub mod Parts
+pub mod ProgramLabels
+pub mod Shapes
+pub mod Spelling
+pub mod Tasks

@@ -1,0 +1,19 @@
+-- What stands at the head of a value, and its arguments.
+use Rattle.cu_calculus.specs.Value as value
+use Rattle.cu_calculus.specs.Value.{Value, Values, count}
+use Rattle.cu_values.specs.declared.cell.Cell.{Cell}
+use Rattle.cu_values.specs.declared.cell.Cell.TheVariants as cell
+
+abbrev pub head_of : Value → Cell
+head_of value.Bottom = cell.Bottom
+head_of (value.Variable x) = cell.LVar x
+head_of (value.Literal l) = cell.Lit l
+head_of (value.Constructed c vs) = cell.Con c (count vs)
+head_of (value.Partial h vs) = cell.Part h (count vs)
+
+abbrev pub arguments_of : Value → Values
+arguments_of value.Bottom = value.NoValue
+arguments_of (value.Variable x) = value.NoValue
+arguments_of (value.Literal l) = value.NoValue
+arguments_of (value.Constructed c vs) = vs
+arguments_of (value.Partial h vs) = vs

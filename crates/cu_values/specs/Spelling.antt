@@ -1,0 +1,44 @@
+-- Reading gives back the value that was spelled, so that cells spell at most one value.
+use Rattle.std.specs.Prelude.{◌≡◌, List, [], ◌++◌, refl}
+use Rattle.std.specs.Coded.{Coded, code_by, coded_list}
+use Rattle.std.proofs.Common.{add-one, append_assoc, append-nil}
+use Rattle.cu_calculus.specs.Value as value
+use Rattle.cu_calculus.specs.Value.{Value, Values, count}
+use Rattle.cu_values.specs.contracts.cell.Cell as cell_contract
+use Rattle.cu_values.specs.declared.cell.Cell.{Cell}
+use Rattle.cu_values.specs.Cells.{back, front, read, read_all, spell, spell_all}
+
+-- values, and then others
+abbrev pub join : Values → Values → Values
+join value.NoValue ws = ws
+join (value.MoreValues v vs) ws = value.MoreValues v (join vs ws)
+
+pub front-join : (vs ws : Values) → front (count vs) (join vs ws) ≡ vs
+front-join value.NoValue ws = refl
+front-join (value.MoreValues v vs) ws = rw (add-one, front-join vs ws) refl
+
+pub back-join : (vs ws : Values) → back (count vs) (join vs ws) ≡ ws
+back-join value.NoValue ws = refl
+back-join (value.MoreValues v vs) ws = rw (add-one, back-join vs ws) refl
+
+mutual
+  pub read_all-spell : (v : Value) (cells : List Cell) → read_all (spell v ++ cells) ≡ value.MoreValues v (read_all cells)
+  read_all-spell value.Bottom cells = refl
+  read_all-spell (value.Variable x) cells = refl
+  read_all-spell (value.Literal l) cells = refl
+  read_all-spell (value.Constructed c vs) cells =
+      rw (read_all-spell_all vs cells, front-join vs (read_all cells), back-join vs (read_all cells)) refl
+  read_all-spell (value.Partial h vs) cells =
+      rw (read_all-spell_all vs cells, front-join vs (read_all cells), back-join vs (read_all cells)) refl
+
+  pub read_all-spell_all : (vs : Values) (cells : List Cell) → read_all (spell_all vs ++ cells) ≡ join vs (read_all cells)
+  read_all-spell_all value.NoValue cells = refl
+  read_all-spell_all (value.MoreValues v vs) cells =
+      rw (append_assoc (spell v) (spell_all vs) cells, read_all-spell v (spell_all vs ++ cells), read_all-spell_all vs cells) refl
+
+pub read-spell : (v : Value) → read (spell v) ≡ v
+read-spell v = rw (← append-nil (spell v), read_all-spell v []) refl
+
+-- what tells values apart: their cells
+abbrev pub value_code : Coded Value
+value_code = code_by (List Cell) (coded_list cell_contract.the_row.coded) spell read read-spell

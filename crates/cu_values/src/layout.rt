@@ -1,0 +1,282 @@
+//! The walk over a value that displays it.
+use crate::Cell;
+use crate::labels::ProgramNames;
+use crate::literals::{push_literal, push_variable};
+use crate::names::{is_tuple, push_constructor, push_partial};
+use crate::shape::Shape;
+use crate::string::push_string;
+use crate::task::Task;
+use crate::walk::end_of;
+use cu_kernel::ConId;
+use std::alloc::AllocError;
+
+/// The cells of a value, and the shapes of the values that begin at them.
+#[derive(Clone, Copy)]
+pub(crate) struct Layout<'a> {
+    pub(crate) names: &'a ProgramNames<'a>,
+    pub(crate) cells: &'a [Cell],
+    pub(crate) shapes: &'a [Shape],
+}
+
+impl Layout<'_> {
+    ghost use Rattle.std.specs.Prelude.{◌≡◌, ◌∷◌, ◌++◌, [], true, IfOk, slice_index_or};
+    ghost use Rattle.std.specs.String.{string_bytes};
+    ghost use Rattle.cu_values.specs.LabelsOf.{labels_meaning};
+    ghost use Rattle.cu_values.specs.Shapes.{is_no_list, shapes_at};
+    ghost use Rattle.cu_values.specs.Tasks.{Ready, Step};
+
+    /// Writes a part of the display, whose values begin at a place, puts what
+    /// it leaves to do on the tasks, and answers the place that was reached.
+    pub(crate) fn step(
+        &self,
+        at: usize,
+        task: Task,
+        tasks: &mut Vec<Task>,
+        text: &mut String,
+    ) -> Result<usize, AllocError>
+        requires shapes { self.now.shapes.now ≡ shapes_at (labels_meaning self.now.names.now) self.now.cells.now }
+        requires ready { Ready (labels_meaning self.now.names.now) self.now.cells.now at (tasks.old.items ++ task ∷ []) }
+        ensures { IfOk result (λ next. Step (labels_meaning self.now.names.now) self.now.cells.now 1 at
+            (tasks.old.items ++ task ∷ []) (string_bytes text.old) next tasks.new.items (string_bytes text.new)) }
+    {
+        match task {
+            Task::Alone => self.value(at, tasks, text),
+            Task::Argument => self.argument(at, tasks, text),
+            Task::Arguments(count) => self.arguments(at, count, tasks, text),
+            Task::Components(count) => self.components(at, count, tasks, text),
+            Task::Elements => self.elements(at, tasks, text),
+            Task::OpenRest => self.open_rest(at, tasks, text),
+            Task::ClosingParenthesis => {
+                text.push_str(")")?;
+                Ok(at)
+            }
+            Task::ClosingBracket => {
+                text.push_str("]")?;
+                Ok(at)
+            }
+        }
+    }
+
+    /// Begins a value.
+    fn value(
+        &self,
+        at: usize,
+        tasks: &mut Vec<Task>,
+        text: &mut String,
+    ) -> Result<usize, AllocError>
+        requires shapes { self.now.shapes.now ≡ shapes_at (labels_meaning self.now.names.now) self.now.cells.now }
+        requires ready { Ready (labels_meaning self.now.names.now) self.now.cells.now at (tasks.old.items ++ Task.Alone ∷ []) }
+        ensures { IfOk result (λ next. Step (labels_meaning self.now.names.now) self.now.cells.now 6 at
+            (tasks.old.items ++ Task.Alone ∷ []) (string_bytes text.old) next tasks.new.items (string_bytes text.new)) }
+    {
+        match self.cells[at] {
+            Cell::Bottom => Ok(at + 1),
+            Cell::LVar(number) => {
+                push_variable(text, number)?;
+                Ok(at + 1)
+            }
+            Cell::Lit(literal) => {
+                push_literal(text, literal)?;
+                Ok(at + 1)
+            }
+            Cell::Con(constructor, arity) => self.constructed(at, constructor, arity, tasks, text),
+            Cell::Part(head, _) => {
+                push_partial(text, self.names, head)?;
+                Ok(end_of(self.cells, at))
+            }
+        }
+    }
+
+    /// Begins a constructor with arguments.
+    fn constructed(
+        &self,
+        at: usize,
+        constructor: ConId,
+        arity: u32,
+        tasks: &mut Vec<Task>,
+        text: &mut String,
+    ) -> Result<usize, AllocError>
+        requires shapes { self.now.shapes.now ≡ shapes_at (labels_meaning self.now.names.now) self.now.cells.now }
+        requires ready { Ready (labels_meaning self.now.names.now) self.now.cells.now at (tasks.old.items ++ Task.Alone ∷ []) }
+        requires cell { slice_index_or self.now.cells.now at Cell.Bottom ≡ Cell.Con constructor arity }
+        ensures { IfOk result (λ next. Step (labels_meaning self.now.names.now) self.now.cells.now 6 at
+            (tasks.old.items ++ Task.Alone ∷ []) (string_bytes text.old) next tasks.new.items (string_bytes text.new)) }
+    {
+        match self.shapes[at] {
+            Shape::Text => self.string(at, tasks, text),
+            Shape::Empty => {
+                text.push_str("[]")?;
+                Ok(at + 1)
+            }
+            Shape::List => {
+                text.push_str("[")?;
+                tasks.push(Task::ClosingBracket)?;
+                tasks.push(Task::Elements)?;
+                tasks.push(Task::Alone)?;
+                Ok(at + 1)
+            }
+            Shape::Open => {
+                tasks.push(Task::OpenRest)?;
+                tasks.push(Task::Argument)?;
+                Ok(at + 1)
+            }
+            _ => self.other(at, constructor, arity, tasks, text),
+        }
+    }
+
+    /// Writes a string.
+    fn string(
+        &self,
+        at: usize,
+        tasks: &mut Vec<Task>,
+        text: &mut String,
+    ) -> Result<usize, AllocError>
+        requires shapes { self.now.shapes.now ≡ shapes_at (labels_meaning self.now.names.now) self.now.cells.now }
+        requires ready { Ready (labels_meaning self.now.names.now) self.now.cells.now at (tasks.old.items ++ Task.Alone ∷ []) }
+        requires shape { slice_index_or self.now.shapes.now at Shape.Character ≡ Shape.Text }
+        ensures { IfOk result (λ next. Step (labels_meaning self.now.names.now) self.now.cells.now 6 at
+            (tasks.old.items ++ Task.Alone ∷ []) (string_bytes text.old) next tasks.new.items (string_bytes text.new)) }
+    {
+        text.push_str("\"")?;
+        let next = push_string(text, self.cells, at)?;
+        text.push_str("\"")?;
+        Ok(next)
+    }
+
+    /// Begins a constructor with arguments that is no list.
+    fn other(
+        &self,
+        at: usize,
+        constructor: ConId,
+        arity: u32,
+        tasks: &mut Vec<Task>,
+        text: &mut String,
+    ) -> Result<usize, AllocError>
+        requires shapes { self.now.shapes.now ≡ shapes_at (labels_meaning self.now.names.now) self.now.cells.now }
+        requires ready { Ready (labels_meaning self.now.names.now) self.now.cells.now at (tasks.old.items ++ Task.Alone ∷ []) }
+        requires cell { slice_index_or self.now.cells.now at Cell.Bottom ≡ Cell.Con constructor arity }
+        requires shape { is_no_list (slice_index_or self.now.shapes.now at Shape.Character) ≡ true }
+        ensures { IfOk result (λ next. Step (labels_meaning self.now.names.now) self.now.cells.now 6 at
+            (tasks.old.items ++ Task.Alone ∷ []) (string_bytes text.old) next tasks.new.items (string_bytes text.new)) }
+    {
+        let name = self.names.constructor(constructor);
+        if is_tuple(name.as_bytes()) {
+            text.push_str("(")?;
+            tasks.push(Task::ClosingParenthesis)?;
+            if arity == 0 {
+                return Ok(at + 1);
+            }
+            tasks.push(Task::Components(arity - 1))?;
+            tasks.push(Task::Alone)?;
+            return Ok(at + 1);
+        }
+        push_constructor(text, name)?;
+        tasks.push(Task::Arguments(arity))?;
+        Ok(at + 1)
+    }
+
+    /// Begins a value, in parentheses where it takes them.
+    fn argument(
+        &self,
+        at: usize,
+        tasks: &mut Vec<Task>,
+        text: &mut String,
+    ) -> Result<usize, AllocError>
+        requires shapes { self.now.shapes.now ≡ shapes_at (labels_meaning self.now.names.now) self.now.cells.now }
+        requires ready { Ready (labels_meaning self.now.names.now) self.now.cells.now at (tasks.old.items ++ Task.Argument ∷ []) }
+        ensures { IfOk result (λ next. Step (labels_meaning self.now.names.now) self.now.cells.now 5 at
+            (tasks.old.items ++ Task.Argument ∷ []) (string_bytes text.old) next tasks.new.items (string_bytes text.new)) }
+    {
+        if !self.shapes[at].takes_parentheses() {
+            return self.value(at, tasks, text);
+        }
+        text.push_str("(")?;
+        tasks.push(Task::ClosingParenthesis)?;
+        self.value(at, tasks, text)
+    }
+
+    /// Begins the first of so many arguments.
+    fn arguments(
+        &self,
+        at: usize,
+        count: u32,
+        tasks: &mut Vec<Task>,
+        text: &mut String,
+    ) -> Result<usize, AllocError>
+        requires shapes { self.now.shapes.now ≡ shapes_at (labels_meaning self.now.names.now) self.now.cells.now }
+        requires ready { Ready (labels_meaning self.now.names.now) self.now.cells.now at (tasks.old.items ++ Task.Arguments count ∷ []) }
+        ensures { IfOk result (λ next. Step (labels_meaning self.now.names.now) self.now.cells.now 1 at
+            (tasks.old.items ++ Task.Arguments count ∷ []) (string_bytes text.old) next tasks.new.items (string_bytes text.new)) }
+    {
+        if count == 0 {
+            return Ok(at);
+        }
+        text.push_str(" ")?;
+        tasks.push(Task::Arguments(count - 1))?;
+        self.argument(at, tasks, text)
+    }
+
+    /// Begins the first of so many components.
+    fn components(
+        &self,
+        at: usize,
+        count: u32,
+        tasks: &mut Vec<Task>,
+        text: &mut String,
+    ) -> Result<usize, AllocError>
+        requires shapes { self.now.shapes.now ≡ shapes_at (labels_meaning self.now.names.now) self.now.cells.now }
+        requires ready { Ready (labels_meaning self.now.names.now) self.now.cells.now at (tasks.old.items ++ Task.Components count ∷ []) }
+        ensures { IfOk result (λ next. Step (labels_meaning self.now.names.now) self.now.cells.now 1 at
+            (tasks.old.items ++ Task.Components count ∷ []) (string_bytes text.old) next tasks.new.items (string_bytes text.new)) }
+    {
+        if count == 0 {
+            return Ok(at);
+        }
+        text.push_str(",")?;
+        tasks.push(Task::Components(count - 1))?;
+        self.value(at, tasks, text)
+    }
+
+    /// Goes on with a finite list behind an element.
+    fn elements(
+        &self,
+        at: usize,
+        tasks: &mut Vec<Task>,
+        text: &mut String,
+    ) -> Result<usize, AllocError>
+        requires shapes { self.now.shapes.now ≡ shapes_at (labels_meaning self.now.names.now) self.now.cells.now }
+        requires ready { Ready (labels_meaning self.now.names.now) self.now.cells.now at (tasks.old.items ++ Task.Elements ∷ []) }
+        ensures { IfOk result (λ next. Step (labels_meaning self.now.names.now) self.now.cells.now 1 at
+            (tasks.old.items ++ Task.Elements ∷ []) (string_bytes text.old) next tasks.new.items (string_bytes text.new)) }
+    {
+        if self.cells[at].arity() == 0 {
+            return Ok(at + 1);
+        }
+        text.push_str(",")?;
+        tasks.push(Task::Elements)?;
+        tasks.push(Task::Alone)?;
+        Ok(at + 1)
+    }
+
+    /// Goes on with a list that ends in a variable behind an element.
+    fn open_rest(
+        &self,
+        at: usize,
+        tasks: &mut Vec<Task>,
+        text: &mut String,
+    ) -> Result<usize, AllocError>
+        requires shapes { self.now.shapes.now ≡ shapes_at (labels_meaning self.now.names.now) self.now.cells.now }
+        requires ready { Ready (labels_meaning self.now.names.now) self.now.cells.now at (tasks.old.items ++ Task.OpenRest ∷ []) }
+        ensures { IfOk result (λ next. Step (labels_meaning self.now.names.now) self.now.cells.now 1 at
+            (tasks.old.items ++ Task.OpenRest ∷ []) (string_bytes text.old) next tasks.new.items (string_bytes text.new)) }
+    {
+        text.push_str(":")?;
+        if let Cell::LVar(number) = self.cells[at] {
+            push_variable(text, number)?;
+            return Ok(at + 1);
+        }
+        tasks.push(Task::OpenRest)?;
+        tasks.push(Task::Argument)?;
+        Ok(at + 1)
+    }
+}

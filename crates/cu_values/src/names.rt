@@ -1,0 +1,87 @@
+//! Names in a display.
+ghost use Rattle.std.specs.Prelude.{◌≡◌, ◌++◌, OnOk, codes};
+ghost use Rattle.std.specs.String.{string_bytes};
+ghost use Rattle.cu_values.specs.Display.{closes, head_text, in_parentheses, is_operator, is_tuple};
+ghost use Rattle.cu_values.specs.LabelsOf.{labels_meaning};
+
+use crate::labels::ProgramNames;
+use cu_kernel::Head;
+use itoa::Buffer;
+use std::alloc::AllocError;
+
+/// Whether these are commas and then a closing parenthesis.
+fn closes(rest: &[u8]) -> bool
+    ensures { result ≡ closes rest.now }
+{
+    for (i, byte) in rest.iter().enumerate() {
+        if i == rest.len() - 1 {
+            return *byte == b')';
+        }
+        if *byte != b',' {
+            return false;
+        }
+    }
+    false
+}
+
+/// Whether this is the name of unit or of a tuple's constructor.
+pub(crate) fn is_tuple(name: &[u8]) -> bool
+    ensures { result ≡ is_tuple name.now }
+{
+    match name {
+        [first, rest @ ..] => *first == b'(' && closes(rest),
+        [] => false,
+    }
+}
+
+/// Whether this is the name of an operator.
+fn is_operator(name: &[u8]) -> bool
+    ensures { result ≡ is_operator name.now }
+{
+    match name {
+        [first, ..] => *first == b':',
+        [] => false,
+    }
+}
+
+/// Writes a constructor's name; that of an operator in parentheses.
+pub(crate) fn push_constructor(text: &mut String, name: &str) -> Result<(), AllocError>
+    ensures { OnOk result (string_bytes text.new ≡ string_bytes text.old ++ in_parentheses (is_operator name.now) name.now) }
+{
+    if is_operator(name.as_bytes()) {
+        text.push_str("(")?;
+        text.push_str(name)?;
+        text.push_str(")")
+    } else {
+        text.push_str(name)
+    }
+}
+
+/// Writes the head of a partial application.
+fn push_head(text: &mut String, names: &ProgramNames, head: Head) -> Result<(), AllocError>
+    ensures { OnOk result (string_bytes text.new ≡ string_bytes text.old ++ head_text (labels_meaning names.now) head) }
+{
+    match head {
+        Head::Fun(f) => text.push_str(names.function(f)),
+        Head::Con(c) => text.push_str(names.constructor(c)),
+        Head::Set(f) => {
+            text.push_str("set")?;
+            let mut buffer = Buffer::new();
+            text.push_str(buffer.format(names.arity(f)))
+        }
+    }
+}
+
+/// Writes a partial application.
+pub(crate) fn push_partial(
+    text: &mut String,
+    names: &ProgramNames,
+    head: Head,
+) -> Result<(), AllocError>
+    ensures { OnOk result (string_bytes text.new
+        ≡ string_bytes text.old ++ (codes "<" ++ (head_text (labels_meaning names.now) head ++ codes ">"))) }
+{
+    text.push_str("<")?;
+    push_head(text, names, head)?;
+    text.push_str(">")
+}

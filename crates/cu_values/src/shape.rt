@@ -1,0 +1,142 @@
+//! What its neighbours must know of a value to display it.
+ghost use Rattle.std.specs.Prelude.{◌≡◌, ◌≤◌, IfOk, length};
+ghost use Rattle.cu_calculus.specs.Value as value;
+ghost use Rattle.cu_calculus.specs.Value.{Values};
+ghost use Rattle.cu_values.specs.Cells.{arity_of, first, front, put, IsSpelled};
+ghost use Rattle.cu_values.specs.Shapes.{list_shape, other_shape, shape_of, shapes_at, stacked};
+ghost use Rattle.cu_values.specs.LabelsOf.{labels_meaning};
+
+use crate::Cell;
+use crate::labels::ProgramNames;
+use crate::names::is_tuple;
+use cu_kernel::{ConId, Lit};
+use std::alloc::{AllocError, Global};
+
+/// How a value is written, as far as its neighbours must know.
+#[derive(Clone, Copy)]
+pub(crate) enum Shape {
+    /// A character.
+    Character,
+    /// A variable.
+    Variable,
+    /// The empty list.
+    Empty,
+    /// A list of characters, at least one.
+    Text,
+    /// Any other finite list.
+    List,
+    /// A list that ends in a variable.
+    Open,
+    /// A negative integer or an application with arguments.
+    Compound,
+    /// All else.
+    Simple,
+}
+
+/// The shape of a `:` with parts of these shapes; `other` where it is no list.
+fn list_shape(element: Shape, rest: Shape, other: Shape) -> Shape
+    ensures { result ≡ list_shape element rest other }
+{
+    match (element, rest) {
+        (Shape::Character, Shape::Empty | Shape::Text) => Shape::Text,
+        (_, Shape::Empty | Shape::Text | Shape::List) => Shape::List,
+        (_, Shape::Variable | Shape::Open) => Shape::Open,
+        _ => other,
+    }
+}
+
+impl Shape {
+    ghost use Rattle.std.specs.Prelude.{◌≡◌};
+    ghost use Rattle.cu_values.specs.Shapes.{is_enclosed};
+
+    /// Whether the value stands in parentheses as an argument.
+    pub(crate) fn takes_parentheses(self) -> bool
+        ensures { result ≡ is_enclosed self }
+    {
+        matches!(self, Shape::Open | Shape::Compound)
+    }
+}
+
+/// The shape of a constructor with arguments that is no list.
+fn other_shape(names: &ProgramNames, constructor: ConId) -> Shape
+    ensures { result ≡ other_shape (labels_meaning names.now) constructor }
+{
+    if is_tuple(names.constructor(constructor).as_bytes()) {
+        Shape::Simple
+    } else {
+        Shape::Compound
+    }
+}
+
+/// The shape of a constructor, of which the arguments' shapes are the last
+/// ones, the first argument's last.
+fn constructed_shape(
+    names: &ProgramNames,
+    constructor: ConId,
+    arity: u32,
+    behind: &[Shape],
+) -> Shape
+    requires { arity ≤ length behind.now }
+    ensures { (vs : Values) → behind.now ≡ stacked (labels_meaning names.now) vs → result ≡ shape_of (labels_meaning names.now) (value.Constructed constructor (front arity vs)) }
+{
+    if arity == 0 {
+        return if constructor == names.nil {
+            Shape::Empty
+        } else {
+            Shape::Simple
+        };
+    }
+    let other = other_shape(names, constructor);
+    if arity == 2 && constructor == names.cons {
+        let nearest = behind.len() - 1;
+        list_shape(behind[nearest], behind[nearest - 1], other)
+    } else {
+        other
+    }
+}
+
+/// The shape of the value with a head, of which the values behind it have
+/// these shapes, the nearest last.
+fn shape_of(names: &ProgramNames, cell: Cell, behind: &[Shape]) -> Shape
+    requires { arity_of cell ≤ length behind.now }
+    ensures { (vs : Values) → behind.now ≡ stacked (labels_meaning names.now) vs → result ≡ shape_of (labels_meaning names.now) (first (put cell vs)) }
+{
+    match cell {
+        Cell::Bottom => Shape::Simple,
+        Cell::LVar(_) => Shape::Variable,
+        Cell::Lit(Lit::Int(n)) => {
+            if n < 0 {
+                Shape::Compound
+            } else {
+                Shape::Simple
+            }
+        }
+        Cell::Lit(Lit::Char(_)) => Shape::Character,
+        Cell::Con(constructor, arity) => constructed_shape(names, constructor, arity, behind),
+        Cell::Part(_, _) => Shape::Simple,
+    }
+}
+
+/// For each cell, the shape of the value that begins there.
+pub(crate) fn shapes(
+    alloc: Global,
+    names: &ProgramNames,
+    cells: &[Cell],
+) -> Result<Vec<Shape>, AllocError>
+    requires { IsSpelled cells.now }
+    ensures { IfOk result (λ shapes. shapes.items ≡ shapes_at (labels_meaning names.now) cells.now) }
+{
+    let mut shapes = Vec::new(alloc);
+    let mut behind = Vec::new(alloc);
+    let mut at = cells.len();
+    while at > 0 {
+        at -= 1;
+        let shape = shape_of(names, cells[at], behind.as_slice());
+        let others = behind.len() - cells[at].arity() as usize;
+        behind.truncate(others);
+        behind.push(shape)?;
+        shapes.push(shape)?;
+    }
+    shapes.reverse();
+    Ok(shapes)
+}
