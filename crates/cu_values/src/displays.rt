@@ -83,20 +83,21 @@ const STRINGS: [(&str, &str); 9] = [
     ("\u{e9}\u{1f600}", "\"\u{e9}\u{1f600}\""),
 ];
 
+/// A character before a list.
+fn longer(alloc: Global, c: char, list: Value) -> Result<Value, AllocError> {
+    let character = Value::literal(alloc, Lit::Char(c))?;
+    Value::constructed(alloc, ConId(1), &[character, list])
+}
+
 /// The list of a text's characters.
 fn string(alloc: Global, text: &str) -> Result<Value, AllocError> {
     let mut list = Value::constructed(alloc, ConId(0), &[])?;
     for c in text.chars().rev() {
-        list = Value::constructed(
-            alloc,
-            ConId(1),
-            &[Value::literal(alloc, Lit::Char(c))?, list],
-        )?;
+        list = longer(alloc, c, list)?;
     }
     Ok(list)
 }
 
-/// Names and functions for the displays.
 fn function(alloc: Global, name: NameId, arity: u32) -> Function {
     Function {
         name,
@@ -105,32 +106,62 @@ fn function(alloc: Global, name: NameId, arity: u32) -> Function {
     }
 }
 
-#[test]
-fn displays(rt: HostRuntime) -> Result<(), Fail> {
-    let alloc = rt.alloc();
-    let mut names = Names::new(alloc);
-    let functions = vec![in alloc;
-        function(alloc, names.intern("f")?, 1),
-        function(alloc, names.intern("g'")?, 2),
-    ]?;
+/// The functions `f` and `g'`.
+fn functions(alloc: Global, names: &mut Names) -> Result<Vec<Function>, AllocError> {
+    let first = names.intern("f")?;
+    let second = names.intern("g'")?;
+    Ok(vec![in alloc; function(alloc, first, 1), function(alloc, second, 2)]?)
+}
+
+fn constructors(alloc: Global, names: &mut Names) -> Result<Vec<NameId>, AllocError> {
     let mut constructors = Vec::new(alloc);
     for name in CONSTRUCTORS {
         constructors.push(names.intern(name)?)?;
     }
-    let labels = ProgramNames::of(
+    Ok(constructors)
+}
+
+/// Whether a value is displayed so.
+fn is_shown(
+    alloc: Global,
+    value: &Value,
+    names: &ProgramNames,
+    text: &str,
+) -> Result<bool, AllocError> {
+    Ok(displayed(alloc, value, names)?.as_str() == text)
+}
+
+/// How many samples and strings are displayed as they should be.
+fn count_shown(alloc: Global, names: &ProgramNames) -> Result<u64, AllocError> {
+    let mut count: u64 = 0;
+    for (place, text) in DISPLAYS.iter().enumerate() {
+        let value = sample(alloc, place as u32)?;
+        if is_shown(alloc, &value, names, text)? {
+            count = count.saturating_add(1);
+        }
+    }
+    for (characters, text) in STRINGS {
+        let value = string(alloc, characters)?;
+        if is_shown(alloc, &value, names, text)? {
+            count = count.saturating_add(1);
+        }
+    }
+    Ok(count)
+}
+
+#[test]
+fn displays(rt: HostRuntime) -> Result<(), Fail> {
+    let alloc = rt.alloc();
+    let mut names = Names::new(alloc);
+    let functions = functions(alloc, &mut names)?;
+    let constructors = constructors(alloc, &mut names)?;
+    let names = ProgramNames::of(
         &names,
         functions.as_slice(),
         constructors,
         ConId(0),
         ConId(1),
     );
-    for (place, text) in DISPLAYS.iter().enumerate() {
-        let value = sample(alloc, place as u32)?;
-        assert_eq!(rt; displayed(alloc, &value, &labels)?.as_str(), *text);
-    }
-    for (characters, text) in STRINGS {
-        let value = string(alloc, characters)?;
-        assert_eq!(rt; displayed(alloc, &value, &labels)?.as_str(), text);
-    }
+    assert_eq!(rt; count_shown(alloc, &names)?, 21);
     Ok(())
 }

@@ -86,9 +86,12 @@ fn program(alloc: Global, names: &mut Names) -> Result<ProgramParts, AllocError>
         imports: Vec::new(alloc),
         operators: Vec::new(alloc),
     };
+    let booleans = bool_type(alloc, names)?;
+    let lists = list_type(alloc, names)?;
+    let both = both(alloc, names)?;
     Ok(ProgramParts {
-        types: vec![in alloc; bool_type(alloc, names)?, list_type(alloc, names)?]?,
-        functions: vec![in alloc; both(alloc, names)?]?,
+        types: vec![in alloc; booleans, lists]?,
+        functions: vec![in alloc; both]?,
         synonyms: Vec::new(alloc),
         modules: vec![in alloc; module]?,
         marks: vec![in alloc; mark(prelude)]?,
@@ -104,6 +107,29 @@ fn program(alloc: Global, names: &mut Names) -> Result<ProgramParts, AllocError>
     })
 }
 
+/// `[True, False]`
+fn list(alloc: Global) -> Result<Value, AllocError> {
+    let cells = vec![in alloc;
+        Cell::Con(ConId(3), 2),
+        Cell::Con(ConId(1), 0),
+        Cell::Con(ConId(3), 2),
+        Cell::Con(ConId(0), 0),
+        Cell::Con(ConId(2), 0),
+    ]?;
+    Ok(Value::spelled(cells))
+}
+
+/// A list, a function and a set function, displayed behind a text.
+fn text(alloc: Global, program: &Program, names: &Names) -> Result<Vec<u8>, AllocError> {
+    let mut out = Vec::from_slice(alloc, b"> ")?;
+    show(alloc, &list(alloc)?, program, names, &mut out)?;
+    for head in [Head::Fun(FunId(0)), Head::Set(FunId(0))] {
+        let value = Value::partial(alloc, head, &[])?;
+        show(alloc, &value, program, names, &mut out)?;
+    }
+    Ok(out)
+}
+
 #[test]
 fn displays_by_a_program(rt: HostRuntime) -> Result<(), Fail> {
     let alloc = rt.alloc();
@@ -112,20 +138,7 @@ fn displays_by_a_program(rt: HostRuntime) -> Result<(), Fail> {
     let valid = parts.valid(alloc)?;
     assert!(rt; valid);
     let program = Program::new(parts);
-    let cells = vec![in alloc;
-        Cell::Con(ConId(3), 2),
-        Cell::Con(ConId(1), 0),
-        Cell::Con(ConId(3), 2),
-        Cell::Con(ConId(0), 0),
-        Cell::Con(ConId(2), 0),
-    ]?;
-    let list = Value::spelled(cells);
-    let function = Value::partial(alloc, Head::Fun(FunId(0)), &[])?;
-    let set = Value::partial(alloc, Head::Set(FunId(0)), &[])?;
-    let mut out = Vec::from_slice(alloc, b"> ")?;
-    show(alloc, &list, &program, &names, &mut out)?;
-    show(alloc, &function, &program, &names, &mut out)?;
-    show(alloc, &set, &program, &names, &mut out)?;
+    let out = text(alloc, &program, &names)?;
     assert_eq!(rt; out.as_slice(), b"> [True,False]<&&><set2>".as_slice());
     Ok(())
 }
