@@ -83,18 +83,27 @@ texts_paired true _ shape.Open t = refl
 texts_paired true _ _ true = refl
 texts_paired true _ _ false = refl
 
-pub char_paired : (b : Bool) (x rest : Shape) (t : Bool) → is_char (paired b x rest t) ≡ false
-char_paired false x rest true = refl
-char_paired false x rest false = refl
-char_paired true shape.Character shape.Empty t = refl
-char_paired true shape.Character shape.Text t = refl
-char_paired true _ shape.Empty t = refl
-char_paired true _ shape.Text t = refl
-char_paired true _ shape.List t = refl
-char_paired true _ shape.Variable t = refl
-char_paired true _ shape.Open t = refl
-char_paired true _ _ true = refl
-char_paired true _ _ false = refl
+-- a test that is false of two shapes is false of either
+pub neither : (test : Shape → Bool) (s t : Shape) → test s ≡ false → test t ≡ false → (b : Bool) → test (if b then s else t) ≡ false
+neither test s t e f true = e
+neither test s t e f false = f
+
+-- a test that is false of tuples and applications
+pub not_closed : (test : Shape → Bool) → test shape.Simple ≡ false → test shape.Compound ≡ false → (t : Bool) → test (closed t) ≡ false
+not_closed test e f t = neither test shape.Simple shape.Compound e f t
+
+-- a test that is false of each shape that a constructor with two arguments may have
+pub not_paired : (test : Shape → Bool) → test shape.Text ≡ false → test shape.List ≡ false → test shape.Open ≡ false → test shape.Simple ≡ false
+    → test shape.Compound ≡ false → (b : Bool) (x rest : Shape) (t : Bool) → test (paired b x rest t) ≡ false
+not_paired test text list open_one simple compound false x rest t = not_closed test simple compound t
+not_paired test text list open_one simple compound true shape.Character shape.Empty t = text
+not_paired test text list open_one simple compound true shape.Character shape.Text t = text
+not_paired test text list open_one simple compound true _ shape.Empty t = list
+not_paired test text list open_one simple compound true _ shape.Text t = list
+not_paired test text list open_one simple compound true _ shape.List t = list
+not_paired test text list open_one simple compound true _ shape.Variable t = open_one
+not_paired test text list open_one simple compound true _ shape.Open t = open_one
+not_paired test text list open_one simple compound true _ _ t = not_closed test simple compound t
 
 -- what isn't a list stands in parentheses unless it is a tuple
 pub enclosed_paired : (b : Bool) (x rest : Shape) (t : Bool)
@@ -115,22 +124,6 @@ pub not_both : (b : Bool) → (b && false) ≡ false
 not_both true = refl
 not_both false = refl
 
-pub lists_closed : (t : Bool) → lists (closed t) ≡ false
-lists_closed true = refl
-lists_closed false = refl
-
-pub texts_closed : (t : Bool) → texts (closed t) ≡ false
-texts_closed true = refl
-texts_closed false = refl
-
-pub opens_closed : (t : Bool) → opens (closed t) ≡ false
-opens_closed true = refl
-opens_closed false = refl
-
-pub char_closed : (t : Bool) → is_char (closed t) ≡ false
-char_closed true = refl
-char_closed false = refl
-
 pub enclosed_closed : (t : Bool) → not t ≡ is_enclosed (closed t)
 enclosed_closed true = refl
 enclosed_closed false = refl
@@ -143,34 +136,6 @@ pub texts_empty : (b : Bool) → b ≡ texts (if b then shape.Empty else shape.S
 texts_empty true = refl
 texts_empty false = refl
 
-pub opens_empty : (b : Bool) → false ≡ opens (if b then shape.Empty else shape.Simple)
-opens_empty true = refl
-opens_empty false = refl
-
-pub char_empty : (b : Bool) → is_char (if b then shape.Empty else shape.Simple) ≡ false
-char_empty true = refl
-char_empty false = refl
-
-pub enclosed_empty : (b : Bool) → false ≡ is_enclosed (if b then shape.Empty else shape.Simple)
-enclosed_empty true = refl
-enclosed_empty false = refl
-
-pub lists_number : (b : Bool) → false ≡ lists (if b then shape.Compound else shape.Simple)
-lists_number true = refl
-lists_number false = refl
-
-pub texts_number : (b : Bool) → false ≡ texts (if b then shape.Compound else shape.Simple)
-texts_number true = refl
-texts_number false = refl
-
-pub opens_number : (b : Bool) → false ≡ opens (if b then shape.Compound else shape.Simple)
-opens_number true = refl
-opens_number false = refl
-
-pub char_number : (b : Bool) → is_char (if b then shape.Compound else shape.Simple) ≡ false
-char_number true = refl
-char_number false = refl
-
 pub enclosed_number : (b : Bool) → b ≡ is_enclosed (if b then shape.Compound else shape.Simple)
 enclosed_number true = refl
 enclosed_number false = refl
@@ -181,36 +146,36 @@ tuple_named labels c = d.is_tuple (labels.constructor c)
 pub list_by_shape : (labels : Labels) (v : Value) → d.is_list labels v ≡ lists (shape_of labels v)
 list_by_shape labels value.Bottom = refl
 list_by_shape labels (value.Variable n) = refl
-list_by_shape labels (value.Literal (lit.Int n)) = lists_number (is_negative n)
+list_by_shape labels (value.Literal (lit.Int n)) = sym (neither lists shape.Compound shape.Simple refl refl (is_negative n))
 list_by_shape labels (value.Literal (lit.Char c)) = refl
 list_by_shape labels (value.Partial h vs) = refl
 list_by_shape labels (value.Constructed c value.NoValue) = lists_empty (same_constructor c labels.nil)
-list_by_shape labels (value.Constructed c (value.MoreValues x value.NoValue)) = sym (lists_closed (tuple_named labels c))
+list_by_shape labels (value.Constructed c (value.MoreValues x value.NoValue)) = sym (not_closed lists refl refl (tuple_named labels c))
 list_by_shape labels (value.Constructed c (value.MoreValues x (value.MoreValues rest value.NoValue))) =
     ap (λ b. same_constructor c labels.cons && b) (list_by_shape labels rest)
     ∙ lists_paired (same_constructor c labels.cons) (shape_of labels x) (shape_of labels rest) (tuple_named labels c)
-list_by_shape labels (value.Constructed c (value.MoreValues x (value.MoreValues y (value.MoreValues z zs)))) = sym (lists_closed (tuple_named labels c))
+list_by_shape labels (value.Constructed c (value.MoreValues x (value.MoreValues y (value.MoreValues z zs)))) = sym (not_closed lists refl refl (tuple_named labels c))
 
 pub open_by_shape : (labels : Labels) (v : Value) → d.is_open labels v ≡ opens (shape_of labels v)
 open_by_shape labels value.Bottom = refl
 open_by_shape labels (value.Variable n) = refl
-open_by_shape labels (value.Literal (lit.Int n)) = opens_number (is_negative n)
+open_by_shape labels (value.Literal (lit.Int n)) = sym (neither opens shape.Compound shape.Simple refl refl (is_negative n))
 open_by_shape labels (value.Literal (lit.Char c)) = refl
 open_by_shape labels (value.Partial h vs) = refl
-open_by_shape labels (value.Constructed c value.NoValue) = opens_empty (same_constructor c labels.nil)
-open_by_shape labels (value.Constructed c (value.MoreValues x value.NoValue)) = sym (opens_closed (tuple_named labels c))
+open_by_shape labels (value.Constructed c value.NoValue) = sym (neither opens shape.Empty shape.Simple refl refl (same_constructor c labels.nil))
+open_by_shape labels (value.Constructed c (value.MoreValues x value.NoValue)) = sym (not_closed opens refl refl (tuple_named labels c))
 open_by_shape labels (value.Constructed c (value.MoreValues x (value.MoreValues rest value.NoValue))) =
     ap (λ b. same_constructor c labels.cons && b) (open_by_shape labels rest)
     ∙ opens_paired (same_constructor c labels.cons) (shape_of labels x) (shape_of labels rest) (tuple_named labels c)
-open_by_shape labels (value.Constructed c (value.MoreValues x (value.MoreValues y (value.MoreValues z zs)))) = sym (opens_closed (tuple_named labels c))
+open_by_shape labels (value.Constructed c (value.MoreValues x (value.MoreValues y (value.MoreValues z zs)))) = sym (not_closed opens refl refl (tuple_named labels c))
 
 -- a constructor makes no character
 pub char_constructed : (labels : Labels) (c : ConId) (vs : Values) → is_char (shape_of labels (value.Constructed c vs)) ≡ false
-char_constructed labels c value.NoValue = char_empty (same_constructor c labels.nil)
-char_constructed labels c (value.MoreValues x value.NoValue) = char_closed (tuple_named labels c)
+char_constructed labels c value.NoValue = neither is_char shape.Empty shape.Simple refl refl (same_constructor c labels.nil)
+char_constructed labels c (value.MoreValues x value.NoValue) = not_closed is_char refl refl (tuple_named labels c)
 char_constructed labels c (value.MoreValues x (value.MoreValues rest value.NoValue)) =
-    char_paired (same_constructor c labels.cons) (shape_of labels x) (shape_of labels rest) (tuple_named labels c)
-char_constructed labels c (value.MoreValues x (value.MoreValues y (value.MoreValues z zs))) = char_closed (tuple_named labels c)
+    not_paired is_char refl refl refl refl refl (same_constructor c labels.cons) (shape_of labels x) (shape_of labels rest) (tuple_named labels c)
+char_constructed labels c (value.MoreValues x (value.MoreValues y (value.MoreValues z zs))) = not_closed is_char refl refl (tuple_named labels c)
 
 -- a `:` whose element is no character is no text
 pub no_text : (labels : Labels) (c : ConId) (x rest : Value) → is_char (shape_of labels x) ≡ false
@@ -234,16 +199,16 @@ text_of_many labels c _ y z zs = refl
 pub text_by_shape : (labels : Labels) (v : Value) → d.is_text labels v ≡ texts (shape_of labels v)
 text_by_shape labels value.Bottom = refl
 text_by_shape labels (value.Variable n) = refl
-text_by_shape labels (value.Literal (lit.Int n)) = texts_number (is_negative n)
+text_by_shape labels (value.Literal (lit.Int n)) = sym (neither texts shape.Compound shape.Simple refl refl (is_negative n))
 text_by_shape labels (value.Literal (lit.Char c)) = refl
 text_by_shape labels (value.Partial h vs) = refl
 text_by_shape labels (value.Constructed c value.NoValue) = texts_empty (same_constructor c labels.nil)
-text_by_shape labels (value.Constructed c (value.MoreValues x value.NoValue)) = text_of_one labels c x ∙ sym (texts_closed (tuple_named labels c))
+text_by_shape labels (value.Constructed c (value.MoreValues x value.NoValue)) = text_of_one labels c x ∙ sym (not_closed texts refl refl (tuple_named labels c))
 text_by_shape labels (value.Constructed c (value.MoreValues (value.Literal (lit.Char k)) (value.MoreValues rest value.NoValue))) =
     ap (λ b. same_constructor c labels.cons && b) (text_by_shape labels rest)
     ∙ texts_paired (same_constructor c labels.cons) shape.Character (shape_of labels rest) (tuple_named labels c)
 text_by_shape labels (value.Constructed c (value.MoreValues (value.Literal (lit.Int n)) (value.MoreValues rest value.NoValue))) =
-    no_text labels c (value.Literal (lit.Int n)) rest (char_number (is_negative n))
+    no_text labels c (value.Literal (lit.Int n)) rest (neither is_char shape.Compound shape.Simple refl refl (is_negative n))
 text_by_shape labels (value.Constructed c (value.MoreValues value.Bottom (value.MoreValues rest value.NoValue))) =
     no_text labels c value.Bottom rest refl
 text_by_shape labels (value.Constructed c (value.MoreValues (value.Variable n) (value.MoreValues rest value.NoValue))) =
@@ -253,7 +218,7 @@ text_by_shape labels (value.Constructed c (value.MoreValues (value.Partial h us)
 text_by_shape labels (value.Constructed c (value.MoreValues (value.Constructed k us) (value.MoreValues rest value.NoValue))) =
     no_text labels c (value.Constructed k us) rest (char_constructed labels k us)
 text_by_shape labels (value.Constructed c (value.MoreValues x (value.MoreValues y (value.MoreValues z zs)))) =
-    text_of_many labels c x y z zs ∙ sym (texts_closed (tuple_named labels c))
+    text_of_many labels c x y z zs ∙ sym (not_closed texts refl refl (tuple_named labels c))
 
 pub enclosed_by_shape : (labels : Labels) (v : Value) → d.takes_parentheses labels v ≡ is_enclosed (shape_of labels v)
 enclosed_by_shape labels value.Bottom = refl
@@ -261,7 +226,7 @@ enclosed_by_shape labels (value.Variable n) = refl
 enclosed_by_shape labels (value.Literal (lit.Int n)) = enclosed_number (is_negative n)
 enclosed_by_shape labels (value.Literal (lit.Char c)) = refl
 enclosed_by_shape labels (value.Partial h vs) = refl
-enclosed_by_shape labels (value.Constructed c value.NoValue) = enclosed_empty (same_constructor c labels.nil)
+enclosed_by_shape labels (value.Constructed c value.NoValue) = sym (neither is_enclosed shape.Empty shape.Simple refl refl (same_constructor c labels.nil))
 enclosed_by_shape labels (value.Constructed c (value.MoreValues x value.NoValue)) = enclosed_closed (tuple_named labels c)
 enclosed_by_shape labels (value.Constructed c (value.MoreValues x (value.MoreValues rest value.NoValue))) =
     let whole = value.Constructed c (value.MoreValues x (value.MoreValues rest value.NoValue)) in
@@ -323,36 +288,19 @@ abbrev pub is_empty_shape : Shape → Bool
 is_empty_shape shape.Empty = true
 is_empty_shape _ = false
 
-pub empty_closed : (t : Bool) → is_empty_shape (closed t) ≡ false
-empty_closed true = refl
-empty_closed false = refl
-
-pub empty_paired : (b : Bool) (x rest : Shape) (t : Bool) → is_empty_shape (paired b x rest t) ≡ false
-empty_paired false x rest true = refl
-empty_paired false x rest false = refl
-empty_paired true shape.Character shape.Empty t = refl
-empty_paired true shape.Character shape.Text t = refl
-empty_paired true _ shape.Empty t = refl
-empty_paired true _ shape.Text t = refl
-empty_paired true _ shape.List t = refl
-empty_paired true _ shape.Variable t = refl
-empty_paired true _ shape.Open t = refl
-empty_paired true _ _ true = refl
-empty_paired true _ _ false = refl
-
 pub shown_empty : (labels : Labels) (c : ConId) (vs : Values) → shape_of labels (value.Constructed c vs) ≡ shape.Empty
     → (vs ≡ value.NoValue) × (d.display labels (value.Constructed c vs) ≡ codes "[]")
 shown_empty labels c value.NoValue e =
     let list : same_constructor c labels.nil ≡ true = list_by_shape labels (value.Constructed c value.NoValue) ∙ ap lists e in
     (refl, rw list refl)
 shown_empty labels c (value.MoreValues x value.NoValue) e =
-    let no : true ≡ false = sym (ap is_empty_shape e) ∙ empty_closed (tuple_named labels c) in absurd (true≢false no)
+    let no : true ≡ false = sym (ap is_empty_shape e) ∙ not_closed is_empty_shape refl refl (tuple_named labels c) in absurd (true≢false no)
 shown_empty labels c (value.MoreValues x (value.MoreValues rest value.NoValue)) e =
     let no : true ≡ false =
-    sym (ap is_empty_shape e) ∙ empty_paired (same_constructor c labels.cons) (shape_of labels x) (shape_of labels rest) (tuple_named labels c) in
+    sym (ap is_empty_shape e) ∙ not_paired is_empty_shape refl refl refl refl refl (same_constructor c labels.cons) (shape_of labels x) (shape_of labels rest) (tuple_named labels c) in
     absurd (true≢false no)
 shown_empty labels c (value.MoreValues x (value.MoreValues y (value.MoreValues z zs))) e =
-    let no : true ≡ false = sym (ap is_empty_shape e) ∙ empty_closed (tuple_named labels c) in absurd (true≢false no)
+    let no : true ≡ false = sym (ap is_empty_shape e) ∙ not_closed is_empty_shape refl refl (tuple_named labels c) in absurd (true≢false no)
 
 pub shown_list : (labels : Labels) (c : ConId) (vs : Values) → shape_of labels (value.Constructed c vs) ≡ shape.List
     → d.display labels (value.Constructed c vs) ≡ codes "[" ++ (d.elements labels vs ++ codes "]")
@@ -402,34 +350,13 @@ abbrev pub is_variable_shape : Shape → Bool
 is_variable_shape shape.Variable = true
 is_variable_shape _ = false
 
-pub variable_paired : (b : Bool) (x rest : Shape) (t : Bool) → is_variable_shape (paired b x rest t) ≡ false
-variable_paired false x rest true = refl
-variable_paired false x rest false = refl
-variable_paired true shape.Character shape.Empty t = refl
-variable_paired true shape.Character shape.Text t = refl
-variable_paired true _ shape.Empty t = refl
-variable_paired true _ shape.Text t = refl
-variable_paired true _ shape.List t = refl
-variable_paired true _ shape.Variable t = refl
-variable_paired true _ shape.Open t = refl
-variable_paired true _ _ true = refl
-variable_paired true _ _ false = refl
-
-pub variable_closed : (t : Bool) → is_variable_shape (closed t) ≡ false
-variable_closed true = refl
-variable_closed false = refl
-
-pub variable_empty : (b : Bool) → is_variable_shape (if b then shape.Empty else shape.Simple) ≡ false
-variable_empty true = refl
-variable_empty false = refl
-
 -- a constructor makes no variable
 pub variable_constructed : (labels : Labels) (c : ConId) (vs : Values) → is_variable_shape (shape_of labels (value.Constructed c vs)) ≡ false
-variable_constructed labels c value.NoValue = variable_empty (same_constructor c labels.nil)
-variable_constructed labels c (value.MoreValues x value.NoValue) = variable_closed (tuple_named labels c)
+variable_constructed labels c value.NoValue = neither is_variable_shape shape.Empty shape.Simple refl refl (same_constructor c labels.nil)
+variable_constructed labels c (value.MoreValues x value.NoValue) = not_closed is_variable_shape refl refl (tuple_named labels c)
 variable_constructed labels c (value.MoreValues x (value.MoreValues rest value.NoValue)) =
-    variable_paired (same_constructor c labels.cons) (shape_of labels x) (shape_of labels rest) (tuple_named labels c)
-variable_constructed labels c (value.MoreValues x (value.MoreValues y (value.MoreValues z zs))) = variable_closed (tuple_named labels c)
+    not_paired is_variable_shape refl refl refl refl refl (same_constructor c labels.cons) (shape_of labels x) (shape_of labels rest) (tuple_named labels c)
+variable_constructed labels c (value.MoreValues x (value.MoreValues y (value.MoreValues z zs))) = not_closed is_variable_shape refl refl (tuple_named labels c)
 
 pub no_list_by : (s : Shape) → (s ≡ shape.Text → ⊥) → (s ≡ shape.Empty → ⊥) → (s ≡ shape.List → ⊥) → (s ≡ shape.Open → ⊥)
     → is_variable_shape s ≡ false → is_no_list s ≡ true
@@ -445,7 +372,7 @@ no_list_by shape.Simple a b c d e = refl
 -- any value of the shape of a text is shown as one
 pub shown_text_any : (labels : Labels) (v : Value) → shape_of labels v ≡ shape.Text → d.display labels v ≡ 34 ∷ (d.string_text (d.characters v) ++ 34 ∷ [])
 shown_text_any labels (value.Constructed c vs) e = shown_text labels c vs e
-shown_text_any labels (value.Literal (lit.Int n)) e = absurd (true≢false (sym (ap texts e) ∙ sym (texts_number (is_negative n))))
+shown_text_any labels (value.Literal (lit.Int n)) e = absurd (true≢false (sym (ap texts e) ∙ neither texts shape.Compound shape.Simple refl refl (is_negative n)))
 shown_text_any labels (value.Literal (lit.Char c)) e = let no : ⊥ = cc in absurd no
 shown_text_any labels value.Bottom e = let no : ⊥ = cc in absurd no
 shown_text_any labels (value.Variable n) e = let no : ⊥ = cc in absurd no

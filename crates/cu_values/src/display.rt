@@ -14,9 +14,10 @@ use cu_kernel::Program;
 use cu_names::Names;
 use std::alloc::{AllocError, Global};
 
-/// Appends the display of a value to a text, by the names that a program
-/// gives its constructors and functions. A name that the table lacks is shown
-/// as nothing, and so is Bottom.
+/// Appends the display of a value to a text in UTF-8, by the names that a
+/// program gives its constructors and functions. A name that the table lacks
+/// is shown as nothing, and so is Bottom. The one error is want of memory, and
+/// the text is then as it was.
 pub fn show(
     alloc: Global,
     value: &Value,

@@ -7,15 +7,31 @@ use crate::{Cell, Value};
 use cu_kernel::{Body, ConId, FunId, Function, Head, Lit};
 use cu_names::{NameId, Names};
 use std::alloc::{AllocError, Global};
+use std::process::Abort;
 use std::test::Fail;
+
+/// The names of the constructors, by their numbers.
+const CONSTRUCTORS: [&str; 9] = [
+    "[]", ":", "()", "(,)", "(,,)", "Just", "Nothing", ":+", "Tree",
+];
 
 const NIL: Cell = Cell::Con(ConId(0), 0);
 
 const CONS: Cell = Cell::Con(ConId(1), 2);
 
-const JUST: Cell = Cell::Con(ConId(5), 1);
+const UNIT: Cell = Cell::Con(ConId(2), 0);
 
 const PAIR: Cell = Cell::Con(ConId(3), 2);
+
+const TRIPLE: Cell = Cell::Con(ConId(4), 3);
+
+const JUST: Cell = Cell::Con(ConId(5), 1);
+
+const NOTHING: Cell = Cell::Con(ConId(6), 0);
+
+const PLUS: Cell = Cell::Con(ConId(7), 2);
+
+const TREE: Cell = Cell::Con(ConId(8), 3);
 
 const ONE: Cell = Cell::Lit(Lit::Int(1));
 
@@ -23,52 +39,122 @@ const TWO: Cell = Cell::Lit(Lit::Int(2));
 
 const MINUS_ONE: Cell = Cell::Lit(Lit::Int(-1));
 
+const LEAST: Cell = Cell::Lit(Lit::Int(i64::MIN));
+
+const A: Cell = Cell::Lit(Lit::Char('a'));
+
 const X: Cell = Cell::LVar(1);
 
-/// The names of the constructors, by their numbers.
-const CONSTRUCTORS: [&str; 9] = [
-    "[]", ":", "()", "(,)", "(,,)", "Just", "Nothing", ":+", "Tree",
-];
+const Y: Cell = Cell::LVar(2);
 
-fn value(alloc: Global, cells: &[Cell]) -> Result<Value, AllocError>
+/// Expects the display of the value that cells spell.
+fn expect<R: Abort>(
+    rt: &R,
+    alloc: Global,
+    names: &ProgramNames,
+    cells: &[Cell],
+    text: &str,
+) -> Result<(), Fail>
     requires { IsOneSpelled cells.now }
 {
-    Ok(Value::spelled(Vec::from_slice(alloc, cells)?))
+    let value = Value::spelled(Vec::from_slice(alloc, cells)?);
+    assert_eq!(rt; displayed(alloc, &value, names)?.as_str(), text);
+    Ok(())
 }
 
-/// Values, one for each form of the display.
-fn sample(alloc: Global, place: u32) -> Result<Value, AllocError> {
-    match place {
-        0 => value(alloc, &[MINUS_ONE]),
-        1 => value(alloc, &[Cell::Lit(Lit::Char('\''))]),
-        2 => value(alloc, &[NIL]),
-        3 => value(alloc, &[Cell::Con(ConId(2), 0)]),
-        4 => value(alloc, &[JUST, MINUS_ONE]),
-        5 => value(alloc, &[Cell::Con(ConId(7), 2), ONE, TWO]),
-        6 => value(alloc, &[JUST, Cell::Part(Head::Fun(FunId(1)), 1), ONE]),
-        7 => value(alloc, &[Cell::Part(Head::Set(FunId(1)), 1), JUST, ONE]),
-        8 => value(alloc, &[CONS, CONS, ONE, NIL, CONS, NIL, NIL]),
-        9 => value(alloc, &[CONS, CONS, ONE, X, X]),
-        10 => value(alloc, &[JUST, CONS, ONE, TWO]),
-        _ => value(alloc, &[PAIR, JUST, ONE, CONS, MINUS_ONE, X]),
-    }
+fn expect_numbers<R: Abort>(rt: &R, alloc: Global, names: &ProgramNames) -> Result<(), Fail> {
+    expect(rt, alloc, names, &[ONE], "1")?;
+    expect(rt, alloc, names, &[MINUS_ONE], "-1")?;
+    expect(rt, alloc, names, &[LEAST], "-9223372036854775808")?;
+    expect(rt, alloc, names, &[X], "_1")
 }
 
-/// Their displays.
-const DISPLAYS: [&str; 12] = [
-    "-1",
-    "'\\''",
-    "[]",
-    "()",
-    "Just (-1)",
-    "(:+) 1 2",
-    "Just <g'>",
-    "<set2>",
-    "[[1],[]]",
-    "(1:_1):_1",
-    "Just ((:) 1 2)",
-    "(Just 1,(-1):_1)",
+/// Expects the display of a character.
+fn expect_character<R: Abort>(
+    rt: &R,
+    alloc: Global,
+    names: &ProgramNames,
+    character: char,
+    text: &str,
+) -> Result<(), Fail> {
+    expect(rt, alloc, names, &[Cell::Lit(Lit::Char(character))], text)
+}
+
+/// Characters, and their displays.
+const CHARACTERS: [(char, &str); 8] = [
+    ('a', "'a'"),
+    ('\n', "'\\n'"),
+    ('\'', "'\\''"),
+    ('"', "'\"'"),
+    ('\\', "'\\\\'"),
+    ('\u{1f}', "'\\31'"),
+    ('\u{7f}', "'\\127'"),
+    ('\u{e9}', "'\u{e9}'"),
 ];
+
+fn expect_characters<R: Abort>(rt: &R, alloc: Global, names: &ProgramNames) -> Result<(), Fail> {
+    for (character, text) in CHARACTERS {
+        expect_character(rt, alloc, names, character, text)?;
+    }
+    Ok(())
+}
+
+fn expect_applications<R: Abort>(rt: &R, alloc: Global, names: &ProgramNames) -> Result<(), Fail> {
+    expect(rt, alloc, names, &[NOTHING], "Nothing")?;
+    expect(rt, alloc, names, &[JUST, ONE], "Just 1")?;
+    expect(rt, alloc, names, &[JUST, MINUS_ONE], "Just (-1)")?;
+    expect(rt, alloc, names, &[JUST, JUST, UNIT], "Just (Just ())")?;
+    expect(rt, alloc, names, &[PLUS, ONE, TWO], "(:+) 1 2")?;
+    let tree = [TREE, JUST, MINUS_ONE, NOTHING, X];
+    expect(rt, alloc, names, &tree, "Tree (Just (-1)) Nothing _1")
+}
+
+fn expect_partial<R: Abort>(rt: &R, alloc: Global, names: &ProgramNames) -> Result<(), Fail> {
+    let function = Cell::Part(Head::Fun(FunId(0)), 0);
+    expect(rt, alloc, names, &[function], "<f>")?;
+    let function = Cell::Part(Head::Fun(FunId(1)), 1);
+    expect(rt, alloc, names, &[JUST, function, ONE], "Just <g'>")?;
+    let constructor = Cell::Part(Head::Con(ConId(1)), 1);
+    expect(rt, alloc, names, &[constructor, ONE], "<:>")?;
+    let set_function = Cell::Part(Head::Set(FunId(1)), 1);
+    expect(rt, alloc, names, &[set_function, JUST, ONE], "<set2>")
+}
+
+fn expect_lists<R: Abort>(rt: &R, alloc: Global, names: &ProgramNames) -> Result<(), Fail> {
+    expect(rt, alloc, names, &[NIL], "[]")?;
+    expect(rt, alloc, names, &[JUST, NIL], "Just []")?;
+    expect(rt, alloc, names, &[CONS, MINUS_ONE, NIL], "[-1]")?;
+    expect(rt, alloc, names, &[CONS, ONE, CONS, TWO, NIL], "[1,2]")?;
+    expect(rt, alloc, names, &[CONS, A, CONS, ONE, NIL], "['a',1]")?;
+    expect(rt, alloc, names, &[JUST, CONS, ONE, NIL], "Just [1]")?;
+    let lists = [CONS, CONS, ONE, NIL, CONS, NIL, NIL];
+    expect(rt, alloc, names, &lists, "[[1],[]]")
+}
+
+/// Lists that end in variables, and a `:` that is no list.
+fn expect_open_lists<R: Abort>(rt: &R, alloc: Global, names: &ProgramNames) -> Result<(), Fail> {
+    expect(rt, alloc, names, &[CONS, ONE, CONS, TWO, X], "1:2:_1")?;
+    expect(rt, alloc, names, &[CONS, A, X], "'a':_1")?;
+    expect(rt, alloc, names, &[CONS, CONS, ONE, X, X], "(1:_1):_1")?;
+    expect(rt, alloc, names, &[CONS, CONS, ONE, NIL, Y], "[1]:_2")?;
+    expect(rt, alloc, names, &[JUST, CONS, ONE, X], "Just (1:_1)")?;
+    expect(rt, alloc, names, &[JUST, CONS, ONE, TWO], "Just ((:) 1 2)")?;
+    let applied = [CONS, MINUS_ONE, CONS, JUST, ONE, X];
+    expect(rt, alloc, names, &applied, "(-1):(Just 1):_1")?;
+    let inner = [CONS, JUST, ONE, CONS, CONS, ONE, X, NIL];
+    expect(rt, alloc, names, &inner, "[Just 1,1:_1]")
+}
+
+fn expect_tuples<R: Abort>(rt: &R, alloc: Global, names: &ProgramNames) -> Result<(), Fail> {
+    expect(rt, alloc, names, &[UNIT], "()")?;
+    expect(rt, alloc, names, &[PAIR, ONE, MINUS_ONE], "(1,-1)")?;
+    expect(rt, alloc, names, &[JUST, PAIR, ONE, TWO], "Just (1,2)")?;
+    expect(rt, alloc, names, &[CONS, PAIR, ONE, TWO, X], "(1,2):_1")?;
+    let pair = [PAIR, JUST, ONE, CONS, MINUS_ONE, X];
+    expect(rt, alloc, names, &pair, "(Just 1,(-1):_1)")?;
+    let triple = [TRIPLE, A, CONS, A, NIL, PLUS, ONE, TWO];
+    expect(rt, alloc, names, &triple, "('a',\"a\",(:+) 1 2)")
+}
 
 /// Strings, by their characters.
 const STRINGS: [(&str, &str); 9] = [
@@ -98,6 +184,26 @@ fn string(alloc: Global, text: &str) -> Result<Value, AllocError> {
     Ok(list)
 }
 
+/// Expects the display of the string with a text's characters.
+fn expect_string<R: Abort>(
+    rt: &R,
+    alloc: Global,
+    names: &ProgramNames,
+    characters: &str,
+    text: &str,
+) -> Result<(), Fail> {
+    let value = string(alloc, characters)?;
+    assert_eq!(rt; displayed(alloc, &value, names)?.as_str(), text);
+    Ok(())
+}
+
+fn expect_strings<R: Abort>(rt: &R, alloc: Global, names: &ProgramNames) -> Result<(), Fail> {
+    for (characters, text) in STRINGS {
+        expect_string(rt, alloc, names, characters, text)?;
+    }
+    Ok(())
+}
+
 fn function(alloc: Global, name: NameId, arity: u32) -> Function {
     Function {
         name,
@@ -121,32 +227,15 @@ fn constructors(alloc: Global, names: &mut Names) -> Result<Vec<NameId>, AllocEr
     Ok(constructors)
 }
 
-/// Whether a value is displayed so.
-fn is_shown(
-    alloc: Global,
-    value: &Value,
-    names: &ProgramNames,
-    text: &str,
-) -> Result<bool, AllocError> {
-    Ok(displayed(alloc, value, names)?.as_str() == text)
-}
-
-/// How many samples and strings are displayed as they should be.
-fn count_shown(alloc: Global, names: &ProgramNames) -> Result<u64, AllocError> {
-    let mut count: u64 = 0;
-    for (place, text) in DISPLAYS.iter().enumerate() {
-        let value = sample(alloc, place as u32)?;
-        if is_shown(alloc, &value, names, text)? {
-            count = count.saturating_add(1);
-        }
-    }
-    for (characters, text) in STRINGS {
-        let value = string(alloc, characters)?;
-        if is_shown(alloc, &value, names, text)? {
-            count = count.saturating_add(1);
-        }
-    }
-    Ok(count)
+fn expect_all<R: Abort>(rt: &R, alloc: Global, names: &ProgramNames) -> Result<(), Fail> {
+    expect_numbers(rt, alloc, names)?;
+    expect_characters(rt, alloc, names)?;
+    expect_applications(rt, alloc, names)?;
+    expect_partial(rt, alloc, names)?;
+    expect_lists(rt, alloc, names)?;
+    expect_open_lists(rt, alloc, names)?;
+    expect_tuples(rt, alloc, names)?;
+    expect_strings(rt, alloc, names)
 }
 
 #[test]
@@ -162,6 +251,5 @@ fn displays(rt: HostRuntime) -> Result<(), Fail> {
         ConId(0),
         ConId(1),
     );
-    assert_eq!(rt; count_shown(alloc, &names)?, 21);
-    Ok(())
+    expect_all(&rt, alloc, &names)
 }

@@ -19,7 +19,7 @@ pub(crate) struct ProgramNames<'a> {
     pub(crate) cons: ConId,
 }
 
-/// The text of a name.
+/// The text of a name; none where the table lacks it.
 fn text(names: &Names, id: NameId) -> &str
     ensures { result.now ≡ text_of names.now id }
 {
@@ -75,7 +75,7 @@ impl<'a> ProgramNames<'a> {
         })
     }
 
-    /// These names.
+    /// Names without a program.
     #[cfg(test)]
     pub(crate) fn of(
         names: &'a Names,

@@ -46,7 +46,7 @@ fn list_type(alloc: Global, names: &mut Names) -> Result<DataType, AllocError> {
     Ok(data_type(names.intern("[]")?, 1, vec![in alloc; empty, more]?))
 }
 
-/// A rule of `&&` with a constructor on the left.
+/// A rule of `&&` whose first pattern is a constructor.
 fn rule(alloc: Global, left: ConId, body: Term) -> Result<Rule, AllocError> {
     Ok(Rule {
         params: vec![in alloc; Pattern::Con(left, Vec::new(alloc)), Pattern::Var(0)]?,
@@ -54,6 +54,7 @@ fn rule(alloc: Global, left: ConId, body: Term) -> Result<Rule, AllocError> {
     })
 }
 
+/// `True && x = x` and `False && x = False`.
 fn both(alloc: Global, names: &mut Names) -> Result<Function, AllocError> {
     let yes = rule(alloc, ConId(1), Term::Var(0))?;
     let no = rule(alloc, ConId(0), constant(alloc, ConId(0)))?;
