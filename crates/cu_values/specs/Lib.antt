@@ -4,6 +4,7 @@ pub mod Cells
 pub mod Display
 pub mod HeadsOrder
 pub mod LabelsOf
+pub mod Layouts
 pub mod Parts
 pub mod ProgramLabels
 pub mod Shapes

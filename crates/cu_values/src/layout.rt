@@ -19,11 +19,10 @@ pub(crate) struct Layout<'a> {
 }
 
 impl Layout<'_> {
-    ghost use Rattle.std.specs.Prelude.{◌≡◌, ◌∷◌, ◌++◌, [], true, IfOk, slice_index_or};
+    ghost use Rattle.std.specs.Prelude.{◌≡◌, true, IfOk, slice_index_or};
     ghost use Rattle.std.specs.String.{string_bytes};
-    ghost use Rattle.cu_values.specs.LabelsOf.{labels_meaning};
-    ghost use Rattle.cu_values.specs.Shapes.{is_no_list, shapes_at};
-    ghost use Rattle.cu_values.specs.Tasks.{Ready, Step};
+    ghost use Rattle.cu_values.specs.Layouts.{Awaits, Begun, IsShaped};
+    ghost use Rattle.cu_values.specs.Shapes.{is_no_list};
 
     /// Writes a part of the display, whose values begin at a place, puts what
     /// it leaves to do on the tasks, and answers the place that was reached.
@@ -34,10 +33,9 @@ impl Layout<'_> {
         tasks: &mut Vec<Task>,
         text: &mut String,
     ) -> Result<usize, AllocError>
-        requires shapes { self.now.shapes.now ≡ shapes_at (labels_meaning self.now.names.now) self.now.cells.now }
-        requires ready { Ready (labels_meaning self.now.names.now) self.now.cells.now at (tasks.old.items ++ task ∷ []) }
-        ensures { IfOk result (λ next. Step (labels_meaning self.now.names.now) self.now.cells.now 1 at
-            (tasks.old.items ++ task ∷ []) (string_bytes text.old) next tasks.new.items (string_bytes text.new)) }
+        requires shapes { IsShaped self.now }
+        requires ready { Awaits self.now at tasks.old.items task }
+        ensures { IfOk result (λ next. Begun self.now 1 at tasks.old.items task (string_bytes text.old) next tasks.new.items (string_bytes text.new)) }
     {
         match task {
             Task::Alone => self.value(at, tasks, text),
@@ -64,10 +62,9 @@ impl Layout<'_> {
         tasks: &mut Vec<Task>,
         text: &mut String,
     ) -> Result<usize, AllocError>
-        requires shapes { self.now.shapes.now ≡ shapes_at (labels_meaning self.now.names.now) self.now.cells.now }
-        requires ready { Ready (labels_meaning self.now.names.now) self.now.cells.now at (tasks.old.items ++ Task.Alone ∷ []) }
-        ensures { IfOk result (λ next. Step (labels_meaning self.now.names.now) self.now.cells.now 6 at
-            (tasks.old.items ++ Task.Alone ∷ []) (string_bytes text.old) next tasks.new.items (string_bytes text.new)) }
+        requires shapes { IsShaped self.now }
+        requires ready { Awaits self.now at tasks.old.items Task.Alone }
+        ensures { IfOk result (λ next. Begun self.now 6 at tasks.old.items Task.Alone (string_bytes text.old) next tasks.new.items (string_bytes text.new)) }
     {
         match self.cells[at] {
             Cell::Bottom => Ok(at + 1),
@@ -96,11 +93,10 @@ impl Layout<'_> {
         tasks: &mut Vec<Task>,
         text: &mut String,
     ) -> Result<usize, AllocError>
-        requires shapes { self.now.shapes.now ≡ shapes_at (labels_meaning self.now.names.now) self.now.cells.now }
-        requires ready { Ready (labels_meaning self.now.names.now) self.now.cells.now at (tasks.old.items ++ Task.Alone ∷ []) }
+        requires shapes { IsShaped self.now }
+        requires ready { Awaits self.now at tasks.old.items Task.Alone }
         requires cell { slice_index_or self.now.cells.now at Cell.Bottom ≡ Cell.Con constructor arity }
-        ensures { IfOk result (λ next. Step (labels_meaning self.now.names.now) self.now.cells.now 6 at
-            (tasks.old.items ++ Task.Alone ∷ []) (string_bytes text.old) next tasks.new.items (string_bytes text.new)) }
+        ensures { IfOk result (λ next. Begun self.now 6 at tasks.old.items Task.Alone (string_bytes text.old) next tasks.new.items (string_bytes text.new)) }
     {
         match self.shapes[at] {
             Shape::Text => self.string(at, tasks, text),
@@ -131,11 +127,10 @@ impl Layout<'_> {
         tasks: &mut Vec<Task>,
         text: &mut String,
     ) -> Result<usize, AllocError>
-        requires shapes { self.now.shapes.now ≡ shapes_at (labels_meaning self.now.names.now) self.now.cells.now }
-        requires ready { Ready (labels_meaning self.now.names.now) self.now.cells.now at (tasks.old.items ++ Task.Alone ∷ []) }
+        requires shapes { IsShaped self.now }
+        requires ready { Awaits self.now at tasks.old.items Task.Alone }
         requires shape { slice_index_or self.now.shapes.now at Shape.Character ≡ Shape.Text }
-        ensures { IfOk result (λ next. Step (labels_meaning self.now.names.now) self.now.cells.now 6 at
-            (tasks.old.items ++ Task.Alone ∷ []) (string_bytes text.old) next tasks.new.items (string_bytes text.new)) }
+        ensures { IfOk result (λ next. Begun self.now 6 at tasks.old.items Task.Alone (string_bytes text.old) next tasks.new.items (string_bytes text.new)) }
     {
         text.push_str("\"")?;
         let next = push_string(text, self.cells, at)?;
@@ -152,12 +147,11 @@ impl Layout<'_> {
         tasks: &mut Vec<Task>,
         text: &mut String,
     ) -> Result<usize, AllocError>
-        requires shapes { self.now.shapes.now ≡ shapes_at (labels_meaning self.now.names.now) self.now.cells.now }
-        requires ready { Ready (labels_meaning self.now.names.now) self.now.cells.now at (tasks.old.items ++ Task.Alone ∷ []) }
+        requires shapes { IsShaped self.now }
+        requires ready { Awaits self.now at tasks.old.items Task.Alone }
         requires cell { slice_index_or self.now.cells.now at Cell.Bottom ≡ Cell.Con constructor arity }
         requires shape { is_no_list (slice_index_or self.now.shapes.now at Shape.Character) ≡ true }
-        ensures { IfOk result (λ next. Step (labels_meaning self.now.names.now) self.now.cells.now 6 at
-            (tasks.old.items ++ Task.Alone ∷ []) (string_bytes text.old) next tasks.new.items (string_bytes text.new)) }
+        ensures { IfOk result (λ next. Begun self.now 6 at tasks.old.items Task.Alone (string_bytes text.old) next tasks.new.items (string_bytes text.new)) }
     {
         let name = self.names.constructor(constructor);
         if is_tuple(name.as_bytes()) {
@@ -182,10 +176,9 @@ impl Layout<'_> {
         tasks: &mut Vec<Task>,
         text: &mut String,
     ) -> Result<usize, AllocError>
-        requires shapes { self.now.shapes.now ≡ shapes_at (labels_meaning self.now.names.now) self.now.cells.now }
-        requires ready { Ready (labels_meaning self.now.names.now) self.now.cells.now at (tasks.old.items ++ Task.Argument ∷ []) }
-        ensures { IfOk result (λ next. Step (labels_meaning self.now.names.now) self.now.cells.now 5 at
-            (tasks.old.items ++ Task.Argument ∷ []) (string_bytes text.old) next tasks.new.items (string_bytes text.new)) }
+        requires shapes { IsShaped self.now }
+        requires ready { Awaits self.now at tasks.old.items Task.Argument }
+        ensures { IfOk result (λ next. Begun self.now 5 at tasks.old.items Task.Argument (string_bytes text.old) next tasks.new.items (string_bytes text.new)) }
     {
         if !self.shapes[at].takes_parentheses() {
             return self.value(at, tasks, text);
@@ -203,10 +196,9 @@ impl Layout<'_> {
         tasks: &mut Vec<Task>,
         text: &mut String,
     ) -> Result<usize, AllocError>
-        requires shapes { self.now.shapes.now ≡ shapes_at (labels_meaning self.now.names.now) self.now.cells.now }
-        requires ready { Ready (labels_meaning self.now.names.now) self.now.cells.now at (tasks.old.items ++ Task.Arguments count ∷ []) }
-        ensures { IfOk result (λ next. Step (labels_meaning self.now.names.now) self.now.cells.now 1 at
-            (tasks.old.items ++ Task.Arguments count ∷ []) (string_bytes text.old) next tasks.new.items (string_bytes text.new)) }
+        requires shapes { IsShaped self.now }
+        requires ready { Awaits self.now at tasks.old.items (Task.Arguments count) }
+        ensures { IfOk result (λ next. Begun self.now 1 at tasks.old.items (Task.Arguments count) (string_bytes text.old) next tasks.new.items (string_bytes text.new)) }
     {
         if count == 0 {
             return Ok(at);
@@ -224,10 +216,9 @@ impl Layout<'_> {
         tasks: &mut Vec<Task>,
         text: &mut String,
     ) -> Result<usize, AllocError>
-        requires shapes { self.now.shapes.now ≡ shapes_at (labels_meaning self.now.names.now) self.now.cells.now }
-        requires ready { Ready (labels_meaning self.now.names.now) self.now.cells.now at (tasks.old.items ++ Task.Components count ∷ []) }
-        ensures { IfOk result (λ next. Step (labels_meaning self.now.names.now) self.now.cells.now 1 at
-            (tasks.old.items ++ Task.Components count ∷ []) (string_bytes text.old) next tasks.new.items (string_bytes text.new)) }
+        requires shapes { IsShaped self.now }
+        requires ready { Awaits self.now at tasks.old.items (Task.Components count) }
+        ensures { IfOk result (λ next. Begun self.now 1 at tasks.old.items (Task.Components count) (string_bytes text.old) next tasks.new.items (string_bytes text.new)) }
     {
         if count == 0 {
             return Ok(at);
@@ -244,10 +235,9 @@ impl Layout<'_> {
         tasks: &mut Vec<Task>,
         text: &mut String,
     ) -> Result<usize, AllocError>
-        requires shapes { self.now.shapes.now ≡ shapes_at (labels_meaning self.now.names.now) self.now.cells.now }
-        requires ready { Ready (labels_meaning self.now.names.now) self.now.cells.now at (tasks.old.items ++ Task.Elements ∷ []) }
-        ensures { IfOk result (λ next. Step (labels_meaning self.now.names.now) self.now.cells.now 1 at
-            (tasks.old.items ++ Task.Elements ∷ []) (string_bytes text.old) next tasks.new.items (string_bytes text.new)) }
+        requires shapes { IsShaped self.now }
+        requires ready { Awaits self.now at tasks.old.items Task.Elements }
+        ensures { IfOk result (λ next. Begun self.now 1 at tasks.old.items Task.Elements (string_bytes text.old) next tasks.new.items (string_bytes text.new)) }
     {
         if self.cells[at].arity() == 0 {
             return Ok(at + 1);
@@ -265,10 +255,9 @@ impl Layout<'_> {
         tasks: &mut Vec<Task>,
         text: &mut String,
     ) -> Result<usize, AllocError>
-        requires shapes { self.now.shapes.now ≡ shapes_at (labels_meaning self.now.names.now) self.now.cells.now }
-        requires ready { Ready (labels_meaning self.now.names.now) self.now.cells.now at (tasks.old.items ++ Task.OpenRest ∷ []) }
-        ensures { IfOk result (λ next. Step (labels_meaning self.now.names.now) self.now.cells.now 1 at
-            (tasks.old.items ++ Task.OpenRest ∷ []) (string_bytes text.old) next tasks.new.items (string_bytes text.new)) }
+        requires shapes { IsShaped self.now }
+        requires ready { Awaits self.now at tasks.old.items Task.OpenRest }
+        ensures { IfOk result (λ next. Begun self.now 1 at tasks.old.items Task.OpenRest (string_bytes text.old) next tasks.new.items (string_bytes text.new)) }
     {
         text.push_str(":")?;
         if let Cell::LVar(number) = self.cells[at] {
