@@ -20,6 +20,7 @@ pub(crate) enum Met {
     Arguments,
 }
 
+/// What two heads say about the values.
 fn heads_meet(left: Cell, right: Cell) -> Met
     ensures { result ≡ heads_meet left right }
 {

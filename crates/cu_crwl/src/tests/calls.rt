@@ -7,7 +7,6 @@ use super::draft::{
 use super::sample::{BOTH, COIN, DOUBLE, FALSE, KEEP, PLUS, TRUE};
 use cu_kernel::{ConId, Head};
 use std::alloc::Global;
-use std::test::Fail;
 
 /// `0` has a value.
 fn zero(alloc: Global, value: i64) -> Draft {
@@ -17,10 +16,10 @@ fn zero(alloc: Global, value: i64) -> Draft {
 }
 
 #[test]
-fn a_literal_is_itself(rt: HostRuntime) -> Result<(), Fail> {
+fn a_literal_is_itself(rt: HostRuntime) {
     let alloc = rt.alloc();
-    expect(&rt, true, zero(alloc, 0))?;
-    expect(&rt, false, zero(alloc, 1))
+    expect(&rt, true, zero(alloc, 0));
+    expect(&rt, false, zero(alloc, 1));
 }
 
 /// `double coin` has a value, where `coin` gives a number, and the uses of
@@ -47,12 +46,12 @@ fn doubled(alloc: Global, given: i64, uses: (i64, i64), value: i64) -> Draft {
 }
 
 #[test]
-fn an_argument_is_chosen_once(rt: HostRuntime) -> Result<(), Fail> {
+fn an_argument_is_chosen_once(rt: HostRuntime) {
     let alloc = rt.alloc();
-    expect(&rt, true, doubled(alloc, 0, (0, 0), 0))?;
-    expect(&rt, true, doubled(alloc, 1, (1, 1), 2))?;
-    expect(&rt, false, doubled(alloc, 0, (0, 1), 1))?;
-    expect(&rt, false, doubled(alloc, 1, (0, 1), 1))
+    expect(&rt, true, doubled(alloc, 0, (0, 0), 0));
+    expect(&rt, true, doubled(alloc, 1, (1, 1), 2));
+    expect(&rt, false, doubled(alloc, 0, (0, 1), 1));
+    expect(&rt, false, doubled(alloc, 1, (0, 1), 1));
 }
 
 /// `coin + coin` has a value, where the two calls give 0 and 1.
@@ -77,10 +76,10 @@ fn added(alloc: Global, value: i64) -> Draft {
 }
 
 #[test]
-fn two_calls_choose_by_themselves(rt: HostRuntime) -> Result<(), Fail> {
+fn two_calls_choose_by_themselves(rt: HostRuntime) {
     let alloc = rt.alloc();
-    expect(&rt, true, added(alloc, 1))?;
-    expect(&rt, false, added(alloc, 2))
+    expect(&rt, true, added(alloc, 1));
+    expect(&rt, false, added(alloc, 2));
 }
 
 fn truth_constructor(holds: bool) -> ConId {
@@ -120,13 +119,13 @@ fn joined(alloc: Global, left: bool, right: bool, by_first: bool, value: bool) -
 }
 
 #[test]
-fn a_rule_is_for_what_its_patterns_match(rt: HostRuntime) -> Result<(), Fail> {
+fn a_rule_is_for_what_its_patterns_match(rt: HostRuntime) {
     let alloc = rt.alloc();
-    expect(&rt, true, joined(alloc, true, true, true, true))?;
-    expect(&rt, true, joined(alloc, true, false, true, false))?;
-    expect(&rt, true, joined(alloc, false, true, false, false))?;
-    expect(&rt, false, joined(alloc, false, true, true, true))?;
-    expect(&rt, false, joined(alloc, true, true, false, false))
+    expect(&rt, true, joined(alloc, true, true, true, true));
+    expect(&rt, true, joined(alloc, true, false, true, false));
+    expect(&rt, true, joined(alloc, false, true, false, false));
+    expect(&rt, false, joined(alloc, false, true, true, true));
+    expect(&rt, false, joined(alloc, true, true, false, false));
 }
 
 /// `coin && True` is False by the second rule, where `coin` isn't known.
@@ -157,9 +156,9 @@ fn joined_with_unknown(alloc: Global) -> Draft {
 }
 
 #[test]
-fn a_constructor_does_not_match_what_is_unknown(rt: HostRuntime) -> Result<(), Fail> {
+fn a_constructor_does_not_match_what_is_unknown(rt: HostRuntime) {
     let alloc = rt.alloc();
-    expect(&rt, false, joined_with_unknown(alloc))
+    expect(&rt, false, joined_with_unknown(alloc));
 }
 
 /// `keep 1 coin` is 1, where `coin` gives something, and the second variable
@@ -192,10 +191,10 @@ fn kept(alloc: Global, coin_is_known: bool, bound_to: Option<i64>) -> Draft {
 }
 
 #[test]
-fn an_argument_may_stay_unknown(rt: HostRuntime) -> Result<(), Fail> {
+fn an_argument_may_stay_unknown(rt: HostRuntime) {
     let alloc = rt.alloc();
-    expect(&rt, true, kept(alloc, false, None))?;
-    expect(&rt, true, kept(alloc, true, Some(1)))?;
-    expect(&rt, false, kept(alloc, false, Some(1)))?;
-    expect(&rt, false, kept(alloc, true, None))
+    expect(&rt, true, kept(alloc, false, None));
+    expect(&rt, true, kept(alloc, true, Some(1)));
+    expect(&rt, false, kept(alloc, false, Some(1)));
+    expect(&rt, false, kept(alloc, true, None));
 }

@@ -1,13 +1,12 @@
 //! Choices and case distinctions.
 
 use super::draft::{
-    Bindings, Draft, Made, case, constant, expect, int, number, on_two, one_binding, or, pair,
-    pair_of, two_bindings, unknown, variable,
+    Bindings, Draft, Made, Rows, case, constant, expect, int, number, on_two, one_binding, or,
+    pair, pair_of, two_bindings, unknown, variable,
 };
 use super::sample::{COIN, PAIR};
 use cu_kernel::{Head, Lit, Pattern, Term};
 use std::alloc::{AllocError, Global};
-use std::test::Fail;
 
 /// `1 ? 2` has a value, since a number has its own.
 fn either(alloc: Global, cited: i64, value: i64) -> Draft {
@@ -18,31 +17,31 @@ fn either(alloc: Global, cited: i64, value: i64) -> Draft {
 }
 
 #[test]
-fn a_choice_has_the_values_of_both_sides(rt: HostRuntime) -> Result<(), Fail> {
+fn a_choice_has_the_values_of_both_sides(rt: HostRuntime) {
     let alloc = rt.alloc();
-    expect(&rt, true, either(alloc, 1, 1))?;
-    expect(&rt, true, either(alloc, 2, 2))?;
-    expect(&rt, false, either(alloc, 3, 3))?;
-    expect(&rt, false, either(alloc, 1, 2))?;
-    expect(&rt, false, either(alloc, 2, 1))
+    expect(&rt, true, either(alloc, 1, 1));
+    expect(&rt, true, either(alloc, 2, 2));
+    expect(&rt, false, either(alloc, 3, 3));
+    expect(&rt, false, either(alloc, 1, 2));
+    expect(&rt, false, either(alloc, 2, 1));
 }
-
-type Row = Result<(Pattern, Term), AllocError>;
 
 /// `0 -> 1`
-fn zero_row() -> Row {
-    Ok((Pattern::Lit(Lit::Int(0)), Term::Lit(Lit::Int(1))))
+fn zero_row() -> (Pattern, Term) {
+    (Pattern::Lit(Lit::Int(0)), Term::Lit(Lit::Int(1)))
 }
 
-/// `x -> 2`
-fn other_row() -> Row {
-    Ok((Pattern::Var(0), Term::Lit(Lit::Int(2))))
+/// `0 -> 1`, `x -> 2`
+fn number_rows(alloc: Global) -> Rows {
+    let other = (Pattern::Var(0), Term::Lit(Lit::Int(2)));
+    Ok(vec![in alloc; zero_row(), other]?)
 }
 
-/// `y@x -> y`
-fn alias_row(alloc: Global) -> Row {
+/// `0 -> 1`, `y@x -> y`
+fn alias_rows(alloc: Global) -> Rows {
     let pattern = Box::new(alloc, Pattern::Var(0))?;
-    Ok((Pattern::Alias(1, pattern), Term::Var(1)))
+    let other = (Pattern::Alias(1, pattern), Term::Var(1));
+    Ok(vec![in alloc; zero_row(), other]?)
 }
 
 /// `case n of { 0 -> 1; x -> 2 }` is 1 by the first alternative, or 2 by the
@@ -63,19 +62,19 @@ fn of_number(alloc: Global, n: i64, by_first: bool) -> Draft {
     }
     draft.step(
         &[0, 1],
-        case(alloc, int(n), zero_row(), other_row()),
+        case(alloc, int(n), number_rows(alloc)),
         number(alloc, value),
     );
     draft
 }
 
 #[test]
-fn the_first_of_overlapping_alternatives_is_taken(rt: HostRuntime) -> Result<(), Fail> {
+fn the_first_of_overlapping_alternatives_is_taken(rt: HostRuntime) {
     let alloc = rt.alloc();
-    expect(&rt, true, of_number(alloc, 0, true))?;
-    expect(&rt, false, of_number(alloc, 0, false))?;
-    expect(&rt, false, of_number(alloc, 5, true))?;
-    expect(&rt, true, of_number(alloc, 5, false))
+    expect(&rt, true, of_number(alloc, 0, true));
+    expect(&rt, false, of_number(alloc, 0, false));
+    expect(&rt, false, of_number(alloc, 5, true));
+    expect(&rt, true, of_number(alloc, 5, false));
 }
 
 /// `case 5 of { 0 -> 1; y@x -> y }` is 5 where the variables stand for these.
@@ -85,45 +84,36 @@ fn by_alias(alloc: Global, env: Bindings) -> Draft {
     draft.step_with(env, &[], variable(1), number(alloc, 5));
     draft.step(
         &[0, 1],
-        case(alloc, int(5), zero_row(), alias_row(alloc)),
+        case(alloc, int(5), alias_rows(alloc)),
         number(alloc, 5),
     );
     draft
 }
 
 #[test]
-fn an_alias_stands_for_the_whole(rt: HostRuntime) -> Result<(), Fail> {
+fn an_alias_stands_for_the_whole(rt: HostRuntime) {
     let alloc = rt.alloc();
     let both = two_bindings(alloc, 0, number(alloc, 5), 1, number(alloc, 5));
-    expect(&rt, true, by_alias(alloc, both))?;
+    expect(&rt, true, by_alias(alloc, both));
     let one = one_binding(alloc, 1, number(alloc, 5));
-    expect(&rt, false, by_alias(alloc, one))
+    expect(&rt, false, by_alias(alloc, one));
 }
 
 fn pair_pattern(alloc: Global, first: Pattern, second: Pattern) -> Result<Pattern, AllocError> {
     Ok(Pattern::Con(PAIR, vec![in alloc; first, second]?))
 }
 
-/// `(1, x) -> x`
-fn first_pair_row(alloc: Global) -> Row {
-    let pattern = pair_pattern(alloc, Pattern::Lit(Lit::Int(1)), Pattern::Var(0))?;
-    Ok((pattern, Term::Var(0)))
-}
-
-/// `(y, 2) -> 7`
-fn second_pair_row(alloc: Global) -> Row {
-    let pattern = pair_pattern(alloc, Pattern::Var(1), Pattern::Lit(Lit::Int(2)))?;
-    Ok((pattern, Term::Lit(Lit::Int(7))))
+/// `(1, x) -> x`, `(y, 2) -> 7`
+fn pair_rows(alloc: Global) -> Rows {
+    let first = pair_pattern(alloc, Pattern::Lit(Lit::Int(1)), Pattern::Var(0))?;
+    let second = pair_pattern(alloc, Pattern::Var(1), Pattern::Lit(Lit::Int(2)))?;
+    let seven = Term::Lit(Lit::Int(7));
+    Ok(vec![in alloc; (first, Term::Var(0)), (second, seven)]?)
 }
 
 /// `case a of { (1, x) -> x; (y, 2) -> 7 }`
 fn case_of(alloc: Global, scrutinee: Made) -> Made {
-    case(
-        alloc,
-        scrutinee,
-        first_pair_row(alloc),
-        second_pair_row(alloc),
-    )
+    case(alloc, scrutinee, pair_rows(alloc))
 }
 
 /// That case distinction over a pair of numbers has the second number as its
@@ -156,13 +146,13 @@ fn of_pair(alloc: Global, first: i64, second: i64, by_first: bool) -> Draft {
 }
 
 #[test]
-fn patterns_are_looked_at_from_the_left(rt: HostRuntime) -> Result<(), Fail> {
+fn patterns_are_looked_at_from_the_left(rt: HostRuntime) {
     let alloc = rt.alloc();
-    expect(&rt, true, of_pair(alloc, 1, 2, true))?;
-    expect(&rt, false, of_pair(alloc, 1, 2, false))?;
-    expect(&rt, false, of_pair(alloc, 3, 2, true))?;
-    expect(&rt, true, of_pair(alloc, 3, 2, false))?;
-    expect(&rt, false, of_pair(alloc, 3, 4, false))
+    expect(&rt, true, of_pair(alloc, 1, 2, true));
+    expect(&rt, false, of_pair(alloc, 1, 2, false));
+    expect(&rt, false, of_pair(alloc, 3, 2, true));
+    expect(&rt, true, of_pair(alloc, 3, 2, false));
+    expect(&rt, false, of_pair(alloc, 3, 4, false));
 }
 
 /// That case distinction over `(coin, 2)`, where `coin` isn't known, is 7 by
@@ -190,7 +180,7 @@ fn of_unknown(alloc: Global) -> Draft {
 }
 
 #[test]
-fn nothing_is_taken_where_the_demanded_is_unknown(rt: HostRuntime) -> Result<(), Fail> {
+fn nothing_is_taken_where_the_demanded_is_unknown(rt: HostRuntime) {
     let alloc = rt.alloc();
-    expect(&rt, false, of_unknown(alloc))
+    expect(&rt, false, of_unknown(alloc));
 }

@@ -8,7 +8,6 @@ use super::sample::{AND, COIN, CONS, EQUAL, FALSE, NIL, PAIR, PLUS, TRUE, UNIFY}
 use cu_kernel::{FunId, Head};
 use cu_values::Value;
 use std::alloc::Global;
-use std::test::Fail;
 
 /// An operation on two pairs of numbers has a value.
 fn of_pairs(
@@ -39,29 +38,29 @@ fn of_pairs(
 }
 
 #[test]
-fn pairs_that_are_the_same(rt: HostRuntime) -> Result<(), Fail> {
+fn pairs_that_are_the_same(rt: HostRuntime) {
     let alloc = rt.alloc();
-    expect(&rt, true, of_pairs(alloc, EQUAL, (1, 2), (1, 2), true))?;
-    expect(&rt, false, of_pairs(alloc, EQUAL, (1, 2), (1, 2), false))?;
-    expect(&rt, true, of_pairs(alloc, UNIFY, (1, 2), (1, 2), true))?;
-    expect(&rt, false, of_pairs(alloc, UNIFY, (1, 2), (1, 2), false))
+    expect(&rt, true, of_pairs(alloc, EQUAL, (1, 2), (1, 2), true));
+    expect(&rt, false, of_pairs(alloc, EQUAL, (1, 2), (1, 2), false));
+    expect(&rt, true, of_pairs(alloc, UNIFY, (1, 2), (1, 2), true));
+    expect(&rt, false, of_pairs(alloc, UNIFY, (1, 2), (1, 2), false));
 }
 
 #[test]
-fn pairs_with_another_second_part(rt: HostRuntime) -> Result<(), Fail> {
+fn pairs_with_another_second_part(rt: HostRuntime) {
     let alloc = rt.alloc();
-    expect(&rt, true, of_pairs(alloc, EQUAL, (1, 2), (1, 3), false))?;
-    expect(&rt, false, of_pairs(alloc, EQUAL, (1, 2), (1, 3), true))?;
-    expect(&rt, false, of_pairs(alloc, UNIFY, (1, 2), (1, 3), true))?;
-    expect(&rt, false, of_pairs(alloc, UNIFY, (1, 2), (1, 3), false))
+    expect(&rt, true, of_pairs(alloc, EQUAL, (1, 2), (1, 3), false));
+    expect(&rt, false, of_pairs(alloc, EQUAL, (1, 2), (1, 3), true));
+    expect(&rt, false, of_pairs(alloc, UNIFY, (1, 2), (1, 3), true));
+    expect(&rt, false, of_pairs(alloc, UNIFY, (1, 2), (1, 3), false));
 }
 
 #[test]
-fn pairs_with_another_first_part(rt: HostRuntime) -> Result<(), Fail> {
+fn pairs_with_another_first_part(rt: HostRuntime) {
     let alloc = rt.alloc();
-    expect(&rt, true, of_pairs(alloc, EQUAL, (1, 2), (3, 2), false))?;
-    expect(&rt, false, of_pairs(alloc, EQUAL, (1, 2), (3, 2), true))?;
-    expect(&rt, false, of_pairs(alloc, UNIFY, (1, 2), (3, 2), true))
+    expect(&rt, true, of_pairs(alloc, EQUAL, (1, 2), (3, 2), false));
+    expect(&rt, false, of_pairs(alloc, EQUAL, (1, 2), (3, 2), true));
+    expect(&rt, false, of_pairs(alloc, UNIFY, (1, 2), (3, 2), true));
 }
 
 /// An operation on two lists of one number each has a value.
@@ -100,12 +99,12 @@ fn of_lists(alloc: Global, operation: FunId, left: i64, right: i64, verdict: boo
 }
 
 #[test]
-fn lists_of_one_number(rt: HostRuntime) -> Result<(), Fail> {
+fn lists_of_one_number(rt: HostRuntime) {
     let alloc = rt.alloc();
-    expect(&rt, true, of_lists(alloc, EQUAL, 0, 1, false))?;
-    expect(&rt, false, of_lists(alloc, EQUAL, 0, 1, true))?;
-    expect(&rt, true, of_lists(alloc, UNIFY, 3, 3, true))?;
-    expect(&rt, false, of_lists(alloc, UNIFY, 3, 4, true))
+    expect(&rt, true, of_lists(alloc, EQUAL, 0, 1, false));
+    expect(&rt, false, of_lists(alloc, EQUAL, 0, 1, true));
+    expect(&rt, true, of_lists(alloc, UNIFY, 3, 3, true));
+    expect(&rt, false, of_lists(alloc, UNIFY, 3, 4, true));
 }
 
 /// `[] == [0]` has a value.
@@ -129,10 +128,10 @@ fn of_lengths(alloc: Global, verdict: bool) -> Draft {
 }
 
 #[test]
-fn lists_of_two_lengths(rt: HostRuntime) -> Result<(), Fail> {
+fn lists_of_two_lengths(rt: HostRuntime) {
     let alloc = rt.alloc();
-    expect(&rt, true, of_lengths(alloc, false))?;
-    expect(&rt, false, of_lengths(alloc, true))
+    expect(&rt, true, of_lengths(alloc, false));
+    expect(&rt, false, of_lengths(alloc, true));
 }
 
 /// `(coin, 1) == (coin, 2)` is False, where `coin` isn't known.
@@ -196,12 +195,12 @@ fn unknown_second(alloc: Global, left: i64, right: i64, verdict: bool) -> Draft 
 }
 
 #[test]
-fn the_first_difference_from_the_left_decides(rt: HostRuntime) -> Result<(), Fail> {
+fn the_first_difference_from_the_left_decides(rt: HostRuntime) {
     let alloc = rt.alloc();
-    expect(&rt, true, unknown_second(alloc, 1, 2, false))?;
-    expect(&rt, false, unknown_second(alloc, 1, 1, true))?;
-    expect(&rt, false, unknown_second(alloc, 1, 1, false))?;
-    expect(&rt, false, unknown_first(alloc))
+    expect(&rt, true, unknown_second(alloc, 1, 2, false));
+    expect(&rt, false, unknown_second(alloc, 1, 1, true));
+    expect(&rt, false, unknown_second(alloc, 1, 1, false));
+    expect(&rt, false, unknown_first(alloc));
 }
 
 /// An operation on a variable and itself is True, where it stands for
@@ -270,14 +269,14 @@ fn of_functions(alloc: Global, operation: FunId) -> Draft {
 }
 
 #[test]
-fn what_is_no_total_data(rt: HostRuntime) -> Result<(), Fail> {
+fn what_is_no_total_data(rt: HostRuntime) {
     let alloc = rt.alloc();
-    expect(&rt, true, unbound(alloc, UNIFY))?;
-    expect(&rt, false, unbound(alloc, EQUAL))?;
-    expect(&rt, false, half_known(alloc, UNIFY))?;
-    expect(&rt, false, half_known(alloc, EQUAL))?;
-    expect(&rt, false, of_functions(alloc, UNIFY))?;
-    expect(&rt, false, of_functions(alloc, EQUAL))
+    expect(&rt, true, unbound(alloc, UNIFY));
+    expect(&rt, false, unbound(alloc, EQUAL));
+    expect(&rt, false, half_known(alloc, UNIFY));
+    expect(&rt, false, half_known(alloc, EQUAL));
+    expect(&rt, false, of_functions(alloc, UNIFY));
+    expect(&rt, false, of_functions(alloc, EQUAL));
 }
 
 /// `a & b` has a value, where a and b are True or False.
@@ -301,11 +300,11 @@ fn conjoined(alloc: Global, left: bool, right: bool, value: bool) -> Draft {
 }
 
 #[test]
-fn a_conjunction_is_true_or_nothing(rt: HostRuntime) -> Result<(), Fail> {
+fn a_conjunction_is_true_or_nothing(rt: HostRuntime) {
     let alloc = rt.alloc();
-    expect(&rt, true, conjoined(alloc, true, true, true))?;
-    expect(&rt, false, conjoined(alloc, true, true, false))?;
-    expect(&rt, false, conjoined(alloc, true, false, true))?;
-    expect(&rt, false, conjoined(alloc, true, false, false))?;
-    expect(&rt, false, conjoined(alloc, false, true, true))
+    expect(&rt, true, conjoined(alloc, true, true, true));
+    expect(&rt, false, conjoined(alloc, true, true, false));
+    expect(&rt, false, conjoined(alloc, true, false, true));
+    expect(&rt, false, conjoined(alloc, true, false, false));
+    expect(&rt, false, conjoined(alloc, false, true, true));
 }

@@ -6,7 +6,6 @@ use cu_kernel::{ConId, FunId, Head, Lit, Mode, Pattern, Term};
 use cu_values::Value;
 use std::alloc::{AllocError, Global};
 use std::process::Abort;
-use std::test::Fail;
 
 /// A term, if there was memory for it.
 pub(crate) type Made = Result<Term, AllocError>;
@@ -26,12 +25,25 @@ pub(crate) fn constant(alloc: Global, head: Head) -> Made {
     Ok(Term::Whole(head, Vec::new(alloc)))
 }
 
+/// Two terms in order.
+fn two_terms(alloc: Global, first: Made, second: Made) -> Result<Vec<Term>, AllocError> {
+    let mut terms = Vec::new(alloc);
+    push_term(&mut terms, first)?;
+    push_term(&mut terms, second)?;
+    Ok(terms)
+}
+
+fn push_term(terms: &mut Vec<Term>, term: Made) -> Result<(), AllocError> {
+    terms.push(term?)?;
+    Ok(())
+}
+
 pub(crate) fn on_one(alloc: Global, head: Head, argument: Made) -> Made {
     Ok(Term::Whole(head, vec![in alloc; argument?]?))
 }
 
 pub(crate) fn on_two(alloc: Global, head: Head, first: Made, second: Made) -> Made {
-    Ok(Term::Whole(head, vec![in alloc; first?, second?]?))
+    Ok(Term::Whole(head, two_terms(alloc, first, second)?))
 }
 
 pub(crate) fn part(alloc: Global, head: Head) -> Made {
@@ -42,18 +54,29 @@ pub(crate) fn part_on_one(alloc: Global, head: Head, argument: Made) -> Made {
     Ok(Term::Part(head, vec![in alloc; argument?]?))
 }
 
-pub(crate) fn boxed(alloc: Global, term: Made) -> Result<Box<Term>, AllocError> {
+fn boxed(alloc: Global, term: Made) -> Result<Box<Term>, AllocError> {
     Ok(Box::new(alloc, term?)?)
+}
+
+fn both_boxed(
+    alloc: Global,
+    first: Made,
+    second: Made,
+) -> Result<(Box<Term>, Box<Term>), AllocError> {
+    let first = boxed(alloc, first)?;
+    Ok((first, boxed(alloc, second)?))
 }
 
 /// A function applied to an argument.
 pub(crate) fn apply(alloc: Global, function: Made, argument: Made) -> Made {
-    Ok(Term::Apply(boxed(alloc, function)?, boxed(alloc, argument)?))
+    let (function, argument) = both_boxed(alloc, function, argument)?;
+    Ok(Term::Apply(function, argument))
 }
 
 /// `let x = a in b`
 pub(crate) fn let_in(alloc: Global, x: u32, definition: Made, body: Made) -> Made {
-    Ok(Term::Let(x, boxed(alloc, definition)?, boxed(alloc, body)?))
+    let (definition, body) = both_boxed(alloc, definition, body)?;
+    Ok(Term::Let(x, definition, body))
 }
 
 /// `let x free in b`
@@ -63,21 +86,17 @@ pub(crate) fn free_in(alloc: Global, x: u32, body: Made) -> Made {
 
 /// `a ? b`
 pub(crate) fn or(alloc: Global, left: Made, right: Made) -> Made {
-    Ok(Term::Or(boxed(alloc, left)?, boxed(alloc, right)?))
+    let (left, right) = both_boxed(alloc, left, right)?;
+    Ok(Term::Or(left, right))
 }
 
-/// `case a of { p -> t; q -> u }`
-pub(crate) fn case(
-    alloc: Global,
-    scrutinee: Made,
-    first: Result<(Pattern, Term), AllocError>,
-    second: Result<(Pattern, Term), AllocError>,
-) -> Made {
-    Ok(Term::Case(
-        Mode::Flex,
-        boxed(alloc, scrutinee)?,
-        vec![in alloc; first?, second?]?,
-    ))
+/// Alternatives of a case distinction.
+pub(crate) type Rows = Result<Vec<(Pattern, Term)>, AllocError>;
+
+/// `case a of` these alternatives.
+pub(crate) fn case(alloc: Global, scrutinee: Made, rows: Rows) -> Made {
+    let scrutinee = boxed(alloc, scrutinee)?;
+    Ok(Term::Case(Mode::Flex, scrutinee, rows?))
 }
 
 /// The pair of two numbers, as a term.
@@ -146,15 +165,19 @@ pub(crate) type Bindings = Result<Vec<(u32, Value)>, AllocError>;
 
 pub(crate) fn one_binding(alloc: Global, x: u32, value: Worth) -> Bindings {
     let mut bindings = Vec::new(alloc);
-    bindings.push((x, value?))?;
+    push_binding(&mut bindings, x, value)?;
     Ok(bindings)
 }
 
 pub(crate) fn two_bindings(alloc: Global, x: u32, first: Worth, y: u32, second: Worth) -> Bindings {
-    let mut bindings = Vec::new(alloc);
-    bindings.push((x, first?))?;
-    bindings.push((y, second?))?;
+    let mut bindings = one_binding(alloc, x, first)?;
+    push_binding(&mut bindings, y, second)?;
     Ok(bindings)
+}
+
+fn push_binding(bindings: &mut Vec<(u32, Value)>, x: u32, value: Worth) -> Result<(), AllocError> {
+    bindings.push((x, value?))?;
+    Ok(())
 }
 
 /// A proof and its claims, while they are written. Want of memory is kept for
@@ -274,20 +297,24 @@ impl Draft {
     }
 
     /// The proof and its claims.
-    pub(crate) fn finish<R: Abort>(self, rt: &R) -> Result<(Claims, Proof), Fail> {
+    pub(crate) fn finish<R: Abort>(self, rt: &R) -> Result<(Claims, Proof), AllocError> {
         if let Some(fault) = self.fault {
-            return Err(Fail::from(fault));
+            return Err(fault);
         }
         assert!(rt; !self.steps.is_empty());
         Ok((Claims { rows: self.claims }, Proof::new(self.steps)))
     }
 }
 
-/// Expects that a proof is accepted, or that it is refused.
-pub(crate) fn expect<R: Abort>(rt: &R, accepted: bool, draft: Draft) -> Result<(), Fail> {
+/// What the checker says of a proof over the sample program.
+fn verdict<R: Abort>(rt: &R, draft: Draft) -> Result<bool, AllocError> {
     let alloc = draft.alloc;
     let (claims, proof) = draft.finish(rt)?;
     let program = sample(rt, alloc)?;
-    assert_eq!(rt; checks(alloc, &program, &claims, &proof)?, accepted);
-    Ok(())
+    checks(alloc, &program, &claims, &proof)
+}
+
+/// Expects that a proof is accepted, or that it is refused.
+pub(crate) fn expect<R: Abort>(rt: &R, accepted: bool, draft: Draft) {
+    assert_eq!(rt; verdict(rt, draft).ok(), Some(accepted));
 }

@@ -9,7 +9,6 @@ use cu_kernel::{
 use cu_names::{NameId, Place};
 use std::alloc::{AllocError, Global};
 use std::process::Abort;
-use std::test::Fail;
 
 pub(crate) const FALSE: ConId = ConId(0);
 
@@ -126,7 +125,7 @@ fn false_rule(alloc: Global) -> Result<Rule, AllocError> {
     Ok(rule(params, body))
 }
 
-/// `coin = 0` or `coin = 1`
+/// `coin =` a number
 fn coin_rule(alloc: Global, number: i64) -> Rule {
     rule(Vec::new(alloc), Term::Lit(Lit::Int(number)))
 }
@@ -150,22 +149,24 @@ fn loop_rule(alloc: Global) -> Rule {
     rule(Vec::new(alloc), body)
 }
 
+/// `True && x = x`, `False && _ = False`
+fn both(alloc: Global) -> Result<Function, AllocError> {
+    let rules = vec![in alloc; true_rule(alloc)?, false_rule(alloc)?]?;
+    Ok(function(2, Body::Rules(rules)))
+}
+
+/// `coin = 0`, `coin = 1`
+fn coin(alloc: Global) -> Result<Function, AllocError> {
+    let rules = vec![in alloc; coin_rule(alloc, 0), coin_rule(alloc, 1)]?;
+    Ok(function(0, Body::Rules(rules)))
+}
+
 fn by_one_rule(
     alloc: Global,
     arity: u32,
     rule: Result<Rule, AllocError>,
 ) -> Result<Function, AllocError> {
     let rules = vec![in alloc; rule?]?;
-    Ok(function(arity, Body::Rules(rules)))
-}
-
-fn by_two_rules(
-    alloc: Global,
-    arity: u32,
-    first: Result<Rule, AllocError>,
-    second: Result<Rule, AllocError>,
-) -> Result<Function, AllocError> {
-    let rules = vec![in alloc; first?, second?]?;
     Ok(function(arity, Body::Rules(rules)))
 }
 
@@ -181,14 +182,8 @@ fn add_functions_with_rules(
     alloc: Global,
     functions: &mut Vec<Function>,
 ) -> Result<(), AllocError> {
-    add_function(
-        functions,
-        by_two_rules(alloc, 2, true_rule(alloc), false_rule(alloc)),
-    )?;
-    add_function(
-        functions,
-        by_two_rules(alloc, 0, Ok(coin_rule(alloc, 0)), Ok(coin_rule(alloc, 1))),
-    )?;
+    add_function(functions, both(alloc))?;
+    add_function(functions, coin(alloc))?;
     add_function(functions, by_one_rule(alloc, 1, double_rule(alloc)))?;
     add_function(functions, by_one_rule(alloc, 2, keep_rule(alloc)))?;
     add_function(functions, by_one_rule(alloc, 0, Ok(loop_rule(alloc))))
@@ -265,7 +260,7 @@ fn no_parts(alloc: Global) -> ProgramParts {
 }
 
 /// The sample program.
-pub(crate) fn sample<R: Abort>(rt: &R, alloc: Global) -> Result<Program, Fail> {
+pub(crate) fn sample<R: Abort>(rt: &R, alloc: Global) -> Result<Program, AllocError> {
     let mut parts = no_parts(alloc);
     add_parts(alloc, &mut parts)?;
     assert!(rt; parts.valid(alloc)?);

@@ -8,7 +8,6 @@ use super::sample::{COIN, CONS, DOUBLE, NIL, PAIR, VALUES};
 use cu_kernel::{FunId, Head};
 use cu_values::Value;
 use std::alloc::{AllocError, Global};
-use std::test::Fail;
 
 fn one(alloc: Global, value: Worth) -> Result<Vec<Value>, AllocError> {
     Ok(vec![in alloc; value?]?)
@@ -47,24 +46,24 @@ fn unclaimed_coins(alloc: Global) -> Draft {
 }
 
 #[test]
-fn a_set_call_is_worth_the_claimed_list(rt: HostRuntime) -> Result<(), Fail> {
+fn a_set_call_is_worth_the_claimed_list(rt: HostRuntime) {
     let alloc = rt.alloc();
     let both = list(alloc, &[0, 1]);
-    expect(&rt, true, claimed_coins(alloc, &[0, 1], both))?;
+    expect(&rt, true, claimed_coins(alloc, &[0, 1], both));
     let fewer = list(alloc, &[0]);
-    expect(&rt, false, claimed_coins(alloc, &[0, 1], fewer))?;
+    expect(&rt, false, claimed_coins(alloc, &[0, 1], fewer));
     let swapped = list(alloc, &[1, 0]);
-    expect(&rt, false, claimed_coins(alloc, &[0, 1], swapped))?;
-    expect(&rt, false, unclaimed_coins(alloc))
+    expect(&rt, false, claimed_coins(alloc, &[0, 1], swapped));
+    expect(&rt, false, unclaimed_coins(alloc));
 }
 
 #[test]
-fn a_set_call_is_worth_less_and_not_more(rt: HostRuntime) -> Result<(), Fail> {
+fn a_set_call_is_worth_less_and_not_more(rt: HostRuntime) {
     let alloc = rt.alloc();
     let begun = list_before(alloc, &[0], unknown(alloc));
-    expect(&rt, true, claimed_coins(alloc, &[0, 1], begun))?;
+    expect(&rt, true, claimed_coins(alloc, &[0, 1], begun));
     let longer = list(alloc, &[0, 1, 2]);
-    expect(&rt, false, claimed_coins(alloc, &[0, 1], longer))
+    expect(&rt, false, claimed_coins(alloc, &[0, 1], longer));
 }
 
 /// The set call of `coin` is worth the list of a value, where the claims say
@@ -78,12 +77,12 @@ fn claimed_coin(alloc: Global, claimed: Worth, value: Worth) -> Draft {
 }
 
 #[test]
-fn no_value_above_the_list_is_accepted(rt: HostRuntime) -> Result<(), Fail> {
+fn no_value_above_the_list_is_accepted(rt: HostRuntime) {
     let alloc = rt.alloc();
     let known = claimed_coin(alloc, number(alloc, 0), unknown(alloc));
-    expect(&rt, true, known)?;
+    expect(&rt, true, known);
     let above = claimed_coin(alloc, unknown(alloc), number(alloc, 0));
-    expect(&rt, false, above)
+    expect(&rt, false, above);
 }
 
 /// The set call of `double` on a number is worth the list of 2, where the
@@ -101,10 +100,10 @@ fn doubles(alloc: Global, n: i64) -> Draft {
 }
 
 #[test]
-fn a_claim_is_for_its_arguments(rt: HostRuntime) -> Result<(), Fail> {
+fn a_claim_is_for_its_arguments(rt: HostRuntime) {
     let alloc = rt.alloc();
-    expect(&rt, true, doubles(alloc, 1))?;
-    expect(&rt, false, doubles(alloc, 2))
+    expect(&rt, true, doubles(alloc, 1));
+    expect(&rt, false, doubles(alloc, 2));
 }
 
 /// The set call of `double` on a variable is worth the list of 2, where the
@@ -123,7 +122,7 @@ fn doubles_of(alloc: Global, claimed: Worth, bound_to: Worth, given: Worth, agai
 }
 
 #[test]
-fn arguments_of_a_set_call_are_ground(rt: HostRuntime) -> Result<(), Fail> {
+fn arguments_of_a_set_call_are_ground(rt: HostRuntime) {
     let alloc = rt.alloc();
     let ground = doubles_of(
         alloc,
@@ -132,7 +131,7 @@ fn arguments_of_a_set_call_are_ground(rt: HostRuntime) -> Result<(), Fail> {
         number(alloc, 1),
         number(alloc, 1),
     );
-    expect(&rt, true, ground)?;
+    expect(&rt, true, ground);
     let nothing = doubles_of(
         alloc,
         unknown(alloc),
@@ -140,7 +139,7 @@ fn arguments_of_a_set_call_are_ground(rt: HostRuntime) -> Result<(), Fail> {
         unknown(alloc),
         unknown(alloc),
     );
-    expect(&rt, false, nothing)?;
+    expect(&rt, false, nothing);
     let open = doubles_of(
         alloc,
         Value::variable(alloc, 1),
@@ -148,7 +147,7 @@ fn arguments_of_a_set_call_are_ground(rt: HostRuntime) -> Result<(), Fail> {
         Value::variable(alloc, 1),
         Value::variable(alloc, 1),
     );
-    expect(&rt, false, open)
+    expect(&rt, false, open);
 }
 
 /// The set function of `double` in part, applied to 1, is worth the list of a
@@ -168,10 +167,10 @@ fn applied(alloc: Global, value: i64) -> Draft {
 }
 
 #[test]
-fn a_set_function_may_stand_in_part(rt: HostRuntime) -> Result<(), Fail> {
+fn a_set_function_may_stand_in_part(rt: HostRuntime) {
     let alloc = rt.alloc();
-    expect(&rt, true, applied(alloc, 2))?;
-    expect(&rt, false, applied(alloc, 3))
+    expect(&rt, true, applied(alloc, 2));
+    expect(&rt, false, applied(alloc, 3));
 }
 
 /// A proof that uses no claim, with one that says that a function without
@@ -184,12 +183,12 @@ fn beside_claim(alloc: Global, function: FunId, value: Worth) -> Draft {
 }
 
 #[test]
-fn claims_speak_of_the_program(rt: HostRuntime) -> Result<(), Fail> {
+fn claims_speak_of_the_program(rt: HostRuntime) {
     let alloc = rt.alloc();
     let right = beside_claim(alloc, COIN, number(alloc, 0));
-    expect(&rt, true, right)?;
+    expect(&rt, true, right);
     let no_function = beside_claim(alloc, FunId(99), number(alloc, 0));
-    expect(&rt, false, no_function)?;
+    expect(&rt, false, no_function);
     let no_value = beside_claim(alloc, COIN, constructed(alloc, PAIR));
-    expect(&rt, false, no_value)
+    expect(&rt, false, no_value);
 }
