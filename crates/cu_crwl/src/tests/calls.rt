@@ -15,13 +15,6 @@ fn zero(alloc: Global, value: i64) -> Draft {
     draft
 }
 
-#[test]
-fn a_literal_is_itself(rt: HostRuntime) {
-    let alloc = rt.alloc();
-    expect(&rt, true, zero(alloc, 0));
-    expect(&rt, false, zero(alloc, 1));
-}
-
 /// `double coin` has a value, where `coin` gives a number, and the uses of
 /// the variable give two.
 fn doubled(alloc: Global, given: i64, uses: (i64, i64), value: i64) -> Draft {
@@ -43,15 +36,6 @@ fn doubled(alloc: Global, given: i64, uses: (i64, i64), value: i64) -> Draft {
         number(alloc, value),
     );
     draft
-}
-
-#[test]
-fn an_argument_is_chosen_once(rt: HostRuntime) {
-    let alloc = rt.alloc();
-    expect(&rt, true, doubled(alloc, 0, (0, 0), 0));
-    expect(&rt, true, doubled(alloc, 1, (1, 1), 2));
-    expect(&rt, false, doubled(alloc, 0, (0, 1), 1));
-    expect(&rt, false, doubled(alloc, 1, (0, 1), 1));
 }
 
 /// `coin + coin` has a value, where the two calls give 0 and 1.
@@ -76,8 +60,14 @@ fn added(alloc: Global, value: i64) -> Draft {
 }
 
 #[test]
-fn two_calls_choose_by_themselves(rt: HostRuntime) {
+fn an_argument_is_chosen_once(rt: HostRuntime) {
     let alloc = rt.alloc();
+    expect(&rt, true, zero(alloc, 0));
+    expect(&rt, false, zero(alloc, 1));
+    expect(&rt, true, doubled(alloc, 0, (0, 0), 0));
+    expect(&rt, true, doubled(alloc, 1, (1, 1), 2));
+    expect(&rt, false, doubled(alloc, 0, (0, 1), 1));
+    expect(&rt, false, doubled(alloc, 1, (0, 1), 1));
     expect(&rt, true, added(alloc, 1));
     expect(&rt, false, added(alloc, 2));
 }
@@ -118,16 +108,6 @@ fn joined(alloc: Global, left: bool, right: bool, by_first: bool, value: bool) -
     draft
 }
 
-#[test]
-fn a_rule_is_for_what_its_patterns_match(rt: HostRuntime) {
-    let alloc = rt.alloc();
-    expect(&rt, true, joined(alloc, true, true, true, true));
-    expect(&rt, true, joined(alloc, true, false, true, false));
-    expect(&rt, true, joined(alloc, false, true, false, false));
-    expect(&rt, false, joined(alloc, false, true, true, true));
-    expect(&rt, false, joined(alloc, true, true, false, false));
-}
-
 /// `coin && True` is False by the second rule, where `coin` isn't known.
 fn joined_with_unknown(alloc: Global) -> Draft {
     let coin = Head::Fun(COIN);
@@ -153,12 +133,6 @@ fn joined_with_unknown(alloc: Global) -> Draft {
         truth(alloc, false),
     );
     draft
-}
-
-#[test]
-fn a_constructor_does_not_match_what_is_unknown(rt: HostRuntime) {
-    let alloc = rt.alloc();
-    expect(&rt, false, joined_with_unknown(alloc));
 }
 
 /// `keep 1 coin` is 1, where `coin` gives something, and the second variable
@@ -191,8 +165,14 @@ fn kept(alloc: Global, coin_is_known: bool, bound_to: Option<i64>) -> Draft {
 }
 
 #[test]
-fn an_argument_may_stay_unknown(rt: HostRuntime) {
+fn a_rule_is_for_what_its_patterns_match(rt: HostRuntime) {
     let alloc = rt.alloc();
+    expect(&rt, true, joined(alloc, true, true, true, true));
+    expect(&rt, true, joined(alloc, true, false, true, false));
+    expect(&rt, true, joined(alloc, false, true, false, false));
+    expect(&rt, false, joined(alloc, false, true, true, true));
+    expect(&rt, false, joined(alloc, true, true, false, false));
+    expect(&rt, false, joined_with_unknown(alloc));
     expect(&rt, true, kept(alloc, false, None));
     expect(&rt, true, kept(alloc, true, Some(1)));
     expect(&rt, false, kept(alloc, false, Some(1)));

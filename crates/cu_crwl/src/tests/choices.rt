@@ -68,15 +68,6 @@ fn of_number(alloc: Global, n: i64, by_first: bool) -> Draft {
     draft
 }
 
-#[test]
-fn the_first_of_overlapping_alternatives_is_taken(rt: HostRuntime) {
-    let alloc = rt.alloc();
-    expect(&rt, true, of_number(alloc, 0, true));
-    expect(&rt, false, of_number(alloc, 0, false));
-    expect(&rt, false, of_number(alloc, 5, true));
-    expect(&rt, true, of_number(alloc, 5, false));
-}
-
 /// `case 5 of { 0 -> 1; y@x -> y }` is 5 where the variables stand for these.
 fn by_alias(alloc: Global, env: Bindings) -> Draft {
     let mut draft = Draft::new(alloc);
@@ -91,8 +82,12 @@ fn by_alias(alloc: Global, env: Bindings) -> Draft {
 }
 
 #[test]
-fn an_alias_stands_for_the_whole(rt: HostRuntime) {
+fn the_first_of_overlapping_alternatives_is_taken(rt: HostRuntime) {
     let alloc = rt.alloc();
+    expect(&rt, true, of_number(alloc, 0, true));
+    expect(&rt, false, of_number(alloc, 0, false));
+    expect(&rt, false, of_number(alloc, 5, true));
+    expect(&rt, true, of_number(alloc, 5, false));
     let both = two_bindings(alloc, 0, number(alloc, 5), 1, number(alloc, 5));
     expect(&rt, true, by_alias(alloc, both));
     let one = one_binding(alloc, 1, number(alloc, 5));
@@ -145,16 +140,6 @@ fn of_pair(alloc: Global, first: i64, second: i64, by_first: bool) -> Draft {
     draft
 }
 
-#[test]
-fn patterns_are_looked_at_from_the_left(rt: HostRuntime) {
-    let alloc = rt.alloc();
-    expect(&rt, true, of_pair(alloc, 1, 2, true));
-    expect(&rt, false, of_pair(alloc, 1, 2, false));
-    expect(&rt, false, of_pair(alloc, 3, 2, true));
-    expect(&rt, true, of_pair(alloc, 3, 2, false));
-    expect(&rt, false, of_pair(alloc, 3, 4, false));
-}
-
 /// That case distinction over `(coin, 2)`, where `coin` isn't known, is 7 by
 /// the second alternative.
 fn of_unknown(alloc: Global) -> Draft {
@@ -180,7 +165,12 @@ fn of_unknown(alloc: Global) -> Draft {
 }
 
 #[test]
-fn nothing_is_taken_where_the_demanded_is_unknown(rt: HostRuntime) {
+fn patterns_are_looked_at_from_the_left(rt: HostRuntime) {
     let alloc = rt.alloc();
+    expect(&rt, true, of_pair(alloc, 1, 2, true));
+    expect(&rt, false, of_pair(alloc, 1, 2, false));
+    expect(&rt, false, of_pair(alloc, 3, 2, true));
+    expect(&rt, true, of_pair(alloc, 3, 2, false));
+    expect(&rt, false, of_pair(alloc, 3, 4, false));
     expect(&rt, false, of_unknown(alloc));
 }

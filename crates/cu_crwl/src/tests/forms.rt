@@ -10,7 +10,7 @@ use cu_values::Value;
 use std::alloc::Global;
 
 /// A variable is worth something where variables stand for these.
-fn looked_up(env: Bindings, x: u32, value: Worth, alloc: Global) -> Draft {
+fn looked_up(alloc: Global, env: Bindings, x: u32, value: Worth) -> Draft {
     let mut draft = Draft::new(alloc);
     draft.step_with(env, &[], variable(x), value);
     draft
@@ -27,21 +27,16 @@ fn a_variable_is_worth_what_it_stands_for_or_less(rt: HostRuntime) {
     let whole = pair_of(alloc, number(alloc, 1), number(alloc, 2));
     let less = pair_of(alloc, unknown(alloc), number(alloc, 2));
     let other = pair_of(alloc, number(alloc, 2), number(alloc, 2));
-    expect(&rt, true, looked_up(bound_pair(alloc), 0, whole, alloc));
-    expect(&rt, true, looked_up(bound_pair(alloc), 0, less, alloc));
-    expect(&rt, false, looked_up(bound_pair(alloc), 0, other, alloc));
-}
-
-#[test]
-fn an_unbound_variable_is_unknown(rt: HostRuntime) {
-    let alloc = rt.alloc();
+    expect(&rt, true, looked_up(alloc, bound_pair(alloc), 0, whole));
+    expect(&rt, true, looked_up(alloc, bound_pair(alloc), 0, less));
+    expect(&rt, false, looked_up(alloc, bound_pair(alloc), 0, other));
     let nothing = unknown(alloc);
     let something = number(alloc, 1);
-    expect(&rt, true, looked_up(bound_pair(alloc), 1, nothing, alloc));
+    expect(&rt, true, looked_up(alloc, bound_pair(alloc), 1, nothing));
     expect(
         &rt,
         false,
-        looked_up(bound_pair(alloc), 1, something, alloc),
+        looked_up(alloc, bound_pair(alloc), 1, something),
     );
 }
 
@@ -50,13 +45,6 @@ fn failing(alloc: Global, value: Worth) -> Draft {
     let mut draft = Draft::new(alloc);
     draft.step(&[], constant(alloc, Head::Fun(FAILED)), value);
     draft
-}
-
-#[test]
-fn all_terms_are_worth_what_is_unknown(rt: HostRuntime) {
-    let alloc = rt.alloc();
-    expect(&rt, true, failing(alloc, unknown(alloc)));
-    expect(&rt, false, failing(alloc, number(alloc, 0)));
 }
 
 /// `(1, 2)` is worth `(unknown, 2)`, where 1 is worth something.
@@ -73,8 +61,10 @@ fn half_known(alloc: Global, first: Worth) -> Draft {
 }
 
 #[test]
-fn a_constructor_is_worth_itself_on_values_of_its_arguments(rt: HostRuntime) {
+fn all_terms_are_worth_what_is_unknown(rt: HostRuntime) {
     let alloc = rt.alloc();
+    expect(&rt, true, failing(alloc, unknown(alloc)));
+    expect(&rt, false, failing(alloc, number(alloc, 0)));
     expect(&rt, true, half_known(alloc, unknown(alloc)));
     expect(&rt, false, half_known(alloc, number(alloc, 1)));
 }
@@ -124,6 +114,14 @@ fn freely(alloc: Global, env: Bindings) -> Draft {
     draft
 }
 
+/// `let x free in x` has a value, where x stands for 3.
+fn free_three(alloc: Global, value: i64) -> Draft {
+    let mut draft = Draft::new(alloc);
+    draft.use_of_zero(3);
+    draft.step(&[0], free_in(alloc, 0, variable(0)), number(alloc, value));
+    draft
+}
+
 #[test]
 fn a_free_variable_stands_for_total_data(rt: HostRuntime) {
     let alloc = rt.alloc();
@@ -139,19 +137,6 @@ fn a_free_variable_stands_for_total_data(rt: HostRuntime) {
     expect(&rt, false, freely(alloc, half));
     let function = one_binding(alloc, 0, partial(alloc, Head::Fun(PLUS)));
     expect(&rt, false, freely(alloc, function));
-}
-
-/// `let x free in x` has a value, where x stands for 3.
-fn free_three(alloc: Global, value: i64) -> Draft {
-    let mut draft = Draft::new(alloc);
-    draft.use_of_zero(3);
-    draft.step(&[0], free_in(alloc, 0, variable(0)), number(alloc, value));
-    draft
-}
-
-#[test]
-fn a_free_variable_is_worth_what_it_stands_for(rt: HostRuntime) {
-    let alloc = rt.alloc();
     expect(&rt, true, free_three(alloc, 3));
     expect(&rt, false, free_three(alloc, 4));
 }
@@ -174,19 +159,6 @@ fn completed(alloc: Global, head: Head, value: Worth) -> Draft {
     draft
 }
 
-#[test]
-fn a_partial_application_takes_its_last_argument(rt: HostRuntime) {
-    let alloc = rt.alloc();
-    let plus = Head::Fun(PLUS);
-    expect(&rt, true, completed(alloc, plus, number(alloc, 3)));
-    expect(&rt, false, completed(alloc, plus, number(alloc, 4)));
-    let pair = Head::Con(PAIR);
-    let right = pair_of(alloc, number(alloc, 1), number(alloc, 2));
-    expect(&rt, true, completed(alloc, pair, right));
-    let swapped = pair_of(alloc, number(alloc, 2), number(alloc, 1));
-    expect(&rt, false, completed(alloc, pair, swapped));
-}
-
 /// `(+)` applied to 1 is the partial application of it to a number.
 fn extended(alloc: Global, argument: i64) -> Draft {
     let plus = Head::Fun(PLUS);
@@ -199,13 +171,6 @@ fn extended(alloc: Global, argument: i64) -> Draft {
         partial_on_one(alloc, plus, number(alloc, argument)),
     );
     draft
-}
-
-#[test]
-fn a_partial_application_takes_one_argument_more(rt: HostRuntime) {
-    let alloc = rt.alloc();
-    expect(&rt, true, extended(alloc, 1));
-    expect(&rt, false, extended(alloc, 2));
 }
 
 /// The function `double`, applied to 1, has a value, where the variable of
@@ -231,8 +196,18 @@ fn doubled(alloc: Global, bound_to: i64, value: i64) -> Draft {
 }
 
 #[test]
-fn a_completed_call_goes_by_a_rule(rt: HostRuntime) {
+fn a_partial_application_takes_one_argument_more(rt: HostRuntime) {
     let alloc = rt.alloc();
+    let plus = Head::Fun(PLUS);
+    expect(&rt, true, completed(alloc, plus, number(alloc, 3)));
+    expect(&rt, false, completed(alloc, plus, number(alloc, 4)));
+    let pair = Head::Con(PAIR);
+    let right = pair_of(alloc, number(alloc, 1), number(alloc, 2));
+    expect(&rt, true, completed(alloc, pair, right));
+    let swapped = pair_of(alloc, number(alloc, 2), number(alloc, 1));
+    expect(&rt, false, completed(alloc, pair, swapped));
+    expect(&rt, true, extended(alloc, 1));
+    expect(&rt, false, extended(alloc, 2));
     expect(&rt, true, doubled(alloc, 1, 2));
     expect(&rt, false, doubled(alloc, 0, 0));
 }

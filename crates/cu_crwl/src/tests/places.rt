@@ -10,7 +10,6 @@ use cu_kernel::{Head, Lit, Term};
 use cu_values::Cell;
 use std::alloc::{AllocError, Global};
 use std::process::Abort;
-use std::test::Fail;
 
 /// `loop` has a value, since it has it.
 fn from_itself(alloc: Global, value: Worth) -> Draft {
@@ -37,15 +36,6 @@ fn from_unknown(alloc: Global) -> Draft {
     draft
 }
 
-#[test]
-fn steps_cite_earlier_ones(rt: HostRuntime) {
-    let alloc = rt.alloc();
-    expect(&rt, true, from_unknown(alloc));
-    expect(&rt, false, from_itself(alloc, number(alloc, 0)));
-    expect(&rt, false, from_itself(alloc, unknown(alloc)));
-    expect(&rt, false, from_later(alloc));
-}
-
 /// `(1, 2)` is worth itself, by the steps at these places.
 fn from_places(alloc: Global, cites: &[usize]) -> Draft {
     let mut draft = Draft::new(alloc);
@@ -53,15 +43,6 @@ fn from_places(alloc: Global, cites: &[usize]) -> Draft {
     draft.int(2);
     draft.pair(cites, (1, 2));
     draft
-}
-
-#[test]
-fn arguments_are_cited_in_order(rt: HostRuntime) {
-    let alloc = rt.alloc();
-    expect(&rt, true, from_places(alloc, &[0, 1]));
-    expect(&rt, false, from_places(alloc, &[1, 0]));
-    expect(&rt, false, from_places(alloc, &[0]));
-    expect(&rt, false, from_places(alloc, &[0, 7]));
 }
 
 /// 0 is worth itself, beside a step of which it makes no use.
@@ -73,8 +54,16 @@ fn beside_step(alloc: Global, value: i64) -> Draft {
 }
 
 #[test]
-fn every_step_follows(rt: HostRuntime) {
+fn steps_cite_earlier_ones_in_order(rt: HostRuntime) {
     let alloc = rt.alloc();
+    expect(&rt, true, from_unknown(alloc));
+    expect(&rt, false, from_itself(alloc, number(alloc, 0)));
+    expect(&rt, false, from_itself(alloc, unknown(alloc)));
+    expect(&rt, false, from_later(alloc));
+    expect(&rt, true, from_places(alloc, &[0, 1]));
+    expect(&rt, false, from_places(alloc, &[1, 0]));
+    expect(&rt, false, from_places(alloc, &[0]));
+    expect(&rt, false, from_places(alloc, &[0, 7]));
     expect(&rt, true, beside_step(alloc, 5));
     expect(&rt, false, beside_step(alloc, 6));
 }
@@ -87,7 +76,7 @@ fn of_unknown(alloc: Global, env: Bindings, term: Made) -> Draft {
 }
 
 #[test]
-fn terms_fit_the_program(rt: HostRuntime) {
+fn statements_are_the_programs(rt: HostRuntime) {
     let alloc = rt.alloc();
     let whole = on_two(alloc, Head::Fun(PLUS), int(1), int(2));
     expect(&rt, true, of_unknown(alloc, Ok(Vec::new(alloc)), whole));
@@ -95,11 +84,6 @@ fn terms_fit_the_program(rt: HostRuntime) {
     expect(&rt, false, of_unknown(alloc, Ok(Vec::new(alloc)), short));
     let open = Ok(Term::Var(7));
     expect(&rt, true, of_unknown(alloc, Ok(Vec::new(alloc)), open));
-}
-
-#[test]
-fn values_are_the_programs(rt: HostRuntime) {
-    let alloc = rt.alloc();
     let plus = Head::Fun(PLUS);
     let right = one_binding(alloc, 0, partial_on_one(alloc, plus, number(alloc, 1)));
     expect(&rt, true, of_unknown(alloc, right, variable(0)));
@@ -108,26 +92,12 @@ fn values_are_the_programs(rt: HostRuntime) {
     expect(&rt, false, of_unknown(alloc, full, variable(0)));
     let short = one_binding(alloc, 0, one_value(alloc, PAIR, number(alloc, 1)));
     expect(&rt, false, of_unknown(alloc, short, variable(0)));
-}
-
-#[test]
-fn bindings_rise(rt: HostRuntime) {
-    let alloc = rt.alloc();
     let rising = two_bindings(alloc, 0, number(alloc, 1), 1, number(alloc, 1));
     expect(&rt, true, of_unknown(alloc, rising, variable(0)));
     let falling = two_bindings(alloc, 1, number(alloc, 1), 0, number(alloc, 1));
     expect(&rt, false, of_unknown(alloc, falling, variable(0)));
     let repeated = two_bindings(alloc, 0, number(alloc, 1), 0, number(alloc, 1));
     expect(&rt, false, of_unknown(alloc, repeated, variable(0)));
-}
-
-/// What a proof of two steps proves.
-fn concluded<R: Abort>(rt: &R, alloc: Global) -> Result<Statement, AllocError> {
-    let mut draft = Draft::new(alloc);
-    draft.int(1);
-    draft.use_of_zero(2);
-    let (_, proof) = draft.finish(rt)?;
-    conclusion(alloc, &proof)
 }
 
 /// Whether a statement says that the variable 0, which alone is bound, is 2.
@@ -139,9 +109,17 @@ fn is_use_of_two(statement: &Statement) -> bool {
     is_variable && statement.env.len() == 1 && statement.value.head() == Cell::Lit(Lit::Int(2))
 }
 
+/// Whether a proof whose last step says so proves that.
+fn concludes_use_of_two<R: Abort>(rt: &R, alloc: Global) -> Result<bool, AllocError> {
+    let mut draft = Draft::new(alloc);
+    draft.int(1);
+    draft.use_of_zero(2);
+    let (_, proof) = draft.finish(rt)?;
+    let statement = conclusion(alloc, &proof)?;
+    Ok(is_use_of_two(&statement))
+}
+
 #[test]
-fn the_last_statement_is_the_conclusion(rt: HostRuntime) -> Result<(), Fail> {
-    let statement = concluded(&rt, rt.alloc())?;
-    assert!(rt; is_use_of_two(&statement));
-    Ok(())
+fn the_last_statement_is_the_conclusion(rt: HostRuntime) {
+    assert_eq!(rt; concludes_use_of_two(&rt, rt.alloc()).ok(), Some(true));
 }
