@@ -1,6 +1,6 @@
 pub mod Views
 pub mod Pairwise
-pub mod Same_pairs
+pub mod SamePairs
 pub mod EnvironmentLaws
 pub mod SameTerms
 pub mod TableLaws

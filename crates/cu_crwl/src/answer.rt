@@ -254,6 +254,7 @@ fn on_integers(
     }
 }
 
+/// True or False, as an answer.
 fn some_truth(alloc: Global, heads: &Heads, holds: bool) -> Result<Option<Value>, AllocError>
     ensures { IfOk result (λ found. found ≡ Some (truth_of (heads_program heads.now) holds)) }
 {
@@ -261,6 +262,7 @@ fn some_truth(alloc: Global, heads: &Heads, holds: bool) -> Result<Option<Value>
     Ok(Some(answer))
 }
 
+/// The literal of a number, where there is one.
 fn some_integer(alloc: Global, number: Option<Int>) -> Result<Option<Value>, AllocError>
     ensures { IfOk result (λ found. found ≡ option_map (λ n. value.Literal (Lit.Int n)) number) }
 {
@@ -273,6 +275,7 @@ fn some_integer(alloc: Global, number: Option<Int>) -> Result<Option<Value>, All
     }
 }
 
+/// The literal of a character, where there is one.
 fn some_character(alloc: Global, character: Option<char>) -> Result<Option<Value>, AllocError>
     ensures { IfOk result (λ found. found ≡ option_map (λ c. value.Literal (Lit.Char c)) character) }
 {

@@ -191,6 +191,7 @@ fn push_arguments<'a>(
     }
 }
 
+/// Adds a pattern so many times.
 fn push_repeated<'a>(
     patterns: &mut Vec<&'a Pattern>,
     pattern: &'a Pattern,
@@ -204,6 +205,7 @@ fn push_repeated<'a>(
     Ok(())
 }
 
+/// Adds patterns, in order.
 fn push_all<'a>(patterns: &mut Vec<&'a Pattern>, arguments: &'a [Pattern]) -> Result<(), AllocError>
     ensures { OnOk result (patterns_at patterns.new.items ≡ patterns_at patterns.old.items ++ map pattern_of arguments.now) }
 {
@@ -274,6 +276,8 @@ fn all_narrowed<'a>(
     Ok(all)
 }
 
+/// The rows that stay, and the values, over the arguments of what stands at a
+/// position.
 fn narrow<'a>(
     alloc: Global,
     rows: &[Row<'a>],
@@ -291,6 +295,7 @@ fn narrow<'a>(
     Ok(Look::Narrow(fewer, parts))
 }
 
+/// The rows that don't demand a literal at a position, over the same values.
 fn again<'a>(
     alloc: Global,
     rows: &[Row<'a>],

@@ -20,6 +20,7 @@ pub(crate) enum Met {
     Arguments,
 }
 
+/// What two heads say about the values.
 fn heads_meet(left: Cell, right: Cell) -> Met
     ensures { result ≡ heads_meet left right }
 {
@@ -48,8 +49,8 @@ fn heads_meet(left: Cell, right: Cell) -> Met
 #[derive(Drop)]
 pub(crate) struct Pending {
     pub(crate) pairs: Vec<(Value, Value)>,
-    /// Whether nothing is left out behind the pairs: without that there is no
-    /// answer where all pairs are the same.
+    /// Whether these pairs are all. If not, there is no answer where each of
+    /// them is the same.
     pub(crate) whole: bool,
 }
 
@@ -80,8 +81,9 @@ impl Pending {
     ghost use Rattle.cu_calculus.specs.Value.{values_of};
     ghost use Rattle.cu_crwl.specs.Comparing.{ending, list_weight, stack_compared, stack_weight};
 
-    /// Puts the arguments of two values before the pairs. Where their numbers
-    /// differ, nothing behind them counts.
+    /// Puts the arguments of two values before the pairs. Where one has more
+    /// of them, the other pairs don't count, and nor do the arguments that
+    /// have no partner.
     fn push(&mut self, mut values: Vec<Value>, mut others: Vec<Value>) -> Result<(), AllocError>
         ensures answer { OnOk result (stack_compared self.new.pairs.items (ending self.new.whole)
             ≡ and_compared (all_compared (values_of values.items) (values_of others.items)) (stack_compared self.old.pairs.items (ending self.old.whole))) }

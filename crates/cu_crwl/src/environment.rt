@@ -1,5 +1,5 @@
 //! Bindings, and statements about terms in an environment.
-ghost use Rattle.std.specs.Prelude.{◌≡◌, Option, None, Some, unwrap_or};
+ghost use Rattle.std.specs.Prelude.{◌≡◌, ◌∷◌, [], IfOk, Option, None, Some, unwrap_or};
 ghost use Rattle.std.specs.Option.{option_copied};
 ghost use Rattle.std.specs.List.{list_all};
 ghost use Rattle.cu_calculus.specs.Answered.{same_value};
@@ -13,6 +13,7 @@ use crate::Statement;
 use crate::same::term_is;
 use cu_kernel::Term;
 use cu_values::{Cell, Value};
+use std::alloc::{AllocError, Global};
 
 /// Whether two values are one.
 #[tactic(auto, using(crate::proofs::Orders::alike))]
@@ -20,6 +21,19 @@ pub(crate) fn value_is(left: &Value, right: &Value) -> bool
     ensures { result ≡ same_value left.now right.now }
 {
     left.cmp(right).is_eq()
+}
+
+/// The binding of a variable to a value.
+pub(crate) fn one_binding(
+    alloc: Global,
+    variable: u32,
+    value: &Value,
+) -> Result<Vec<(u32, Value)>, AllocError>
+    ensures { IfOk result (λ bindings. bindings.items ≡ (variable, value.now) ∷ []) }
+{
+    let mut bindings = Vec::new(alloc);
+    bindings.push((variable, value.clone()?))?;
+    Ok(bindings)
 }
 
 /// The value of a variable, where it is bound: that of its first binding.

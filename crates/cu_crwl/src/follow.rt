@@ -15,7 +15,7 @@ ghost use Rattle.cu_crwl.specs.Table.{alternative_gives, application_gives, appl
 use crate::answer::total_data;
 use crate::apply::{applies, given_values, is_applied, none, one, two};
 use crate::choose::chosen;
-use crate::environment::{bound, concern_all, concerns, is_unknown, states};
+use crate::environment::{bound, concern_all, concerns, is_unknown, one_binding, states};
 use crate::matching::{literal_is, match_pattern};
 use crate::of_program::is_of;
 use crate::{Claim, Statement};
@@ -186,6 +186,8 @@ pub(crate) fn let_follows(
     }
 }
 
+/// Whether two statements say so: of the definition, and of the body where
+/// the variable stands for the definition's value.
 fn let_gives(
     alloc: Global,
     first: &Statement,
@@ -204,14 +206,6 @@ fn let_gives(
     }
     let binding = one_binding(alloc, variable, &first.value)?;
     Ok(states(second, &binding, env, body, value))
-}
-
-fn one_binding(alloc: Global, variable: u32, value: &Value) -> Result<Vec<(u32, Value)>, AllocError>
-    ensures { IfOk result (λ bindings. bindings.items ≡ (variable, value.now) ∷ []) }
-{
-    let mut bindings = Vec::new(alloc);
-    bindings.push((variable, value.clone()?))?;
-    Ok(bindings)
 }
 
 /// The row of a free variable: it stands for what the cited statement says of
@@ -234,6 +228,8 @@ pub(crate) fn free_follows(
     }
 }
 
+/// Whether a statement says so of the body, where the variable stands for
+/// total data of the program.
 #[tactic(auto, using(crate::proofs::EnvironmentLaws::free_bound))]
 fn free_gives(
     alloc: Global,
@@ -341,6 +337,7 @@ fn choice_gives(
     }
 }
 
+/// Whether it gives the value of the alternative at a place.
 fn alternative_gives(
     alloc: Global,
     statement: &Statement,

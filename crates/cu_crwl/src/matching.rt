@@ -1,10 +1,11 @@
 //! Patterns matched with values.
-ghost use Rattle.std.specs.Prelude.{◌≡◌, ◌++◌, ◌∷◌, [], Some, IfOk, OnOk, option_map};
+ghost use Rattle.std.specs.Prelude.{◌≡◌, ◌++◌, ◌∷◌, IfOk, OnOk, option_map};
 ghost use Rattle.cu_calculus.specs.Match.{all_matched, matched};
 ghost use Rattle.cu_calculus.specs.Value.{values_of};
 ghost use Rattle.cu_kernel.specs.TermsOf.{pattern_of, patterns_of};
 ghost use Rattle.cu_crwl.specs.Table.{is_literal_value};
 
+use crate::environment::one_binding;
 use cu_kernel::{Lit, Pattern};
 use cu_values::{Cell, Value};
 use std::alloc::{AllocError, Global};
@@ -30,7 +31,10 @@ pub(crate) fn match_pattern(
     ensures { IfOk result (λ found. option_map (λ bindings. bindings.items) found ≡ matched (pattern_of pattern.now) value.now) }
 {
     match pattern {
-        Pattern::Var(variable) => one_binding(alloc, *variable, value),
+        Pattern::Var(variable) => {
+            let bindings = one_binding(alloc, *variable, value)?;
+            Ok(Some(bindings))
+        }
         Pattern::Lit(literal) => {
             if literal_is(*literal, value) {
                 Ok(Some(Vec::new(alloc)))
@@ -75,19 +79,6 @@ pub(crate) fn match_patterns(
             None => return Ok(None),
         }
     }
-    Ok(Some(bindings))
-}
-
-/// A variable that stands for a value.
-fn one_binding(
-    alloc: Global,
-    variable: u32,
-    value: &Value,
-) -> Result<Option<Vec<(u32, Value)>>, AllocError>
-    ensures { IfOk result (λ found. option_map (λ bindings. bindings.items) found ≡ Some ((variable, value.now) ∷ [])) }
-{
-    let mut bindings = Vec::new(alloc);
-    bindings.push((variable, value.clone()?))?;
     Ok(Some(bindings))
 }
 

@@ -1,6 +1,6 @@
 use Rattle.std.proofs.Common.{sym, ◌∙◌}
 use Rattle.cu_crwl.proofs.Pairwise.{ends, goes_on, lengths_differ, stops}
-use Rattle.cu_crwl.proofs.Same_pairs.{all_patterns, by_patterns, one_pattern}
+use Rattle.cu_crwl.proofs.SamePairs.{all_patterns, by_patterns, one_pattern}
 use Rattle.cu_crwl.proofs.Views.{not-pattern-Alias, not-pattern-Con, not-pattern-Lit, not-pattern-Var}
 use Rattle.cu_crwl.proofs.same.+patterns.Goals as goal
 

@@ -1,8 +1,8 @@
 use Rattle.std.proofs.Common.{sym, ◌∙◌}
 use Rattle.cu_crwl.proofs.Pairwise.{ends, goes_on, lengths_differ, stops}
-use Rattle.cu_crwl.proofs.Same_pairs.{all_alternatives, all_terms, by_alternatives, by_terms, one_alternative, one_term}
+use Rattle.cu_crwl.proofs.SamePairs.{all_alternatives, all_terms, by_alternatives, by_terms, one_alternative, one_term}
 use Rattle.cu_crwl.proofs.Views.{not-term-Apply, not-term-Case, not-term-Free, not-term-Let, not-term-Lit, not-term-Or, not-term-Part, not-term-Var, not-term-Whole}
-use Rattle.cu_crwl.proofs.Same_pairs.{cases_same}
+use Rattle.cu_crwl.proofs.SamePairs.{cases_same}
 use Rattle.cu_crwl.proofs.same.+terms.Goals as goal
 
 pub term_is-returns-in_default : goal.term_is-returns-in_default
