@@ -12,7 +12,6 @@ use crate::{
 use cu_names::{NameId, Place};
 use std::alloc::{AllocError, Global};
 use std::process::Abort;
-use std::test::Fail;
 
 const FALSE: ConId = ConId(0);
 
@@ -54,6 +53,15 @@ fn and<T: Drop>(
     let mut items = items?;
     items.push(item?)?;
     Ok(items)
+}
+
+/// Two values, if both are there.
+fn pair_of<A: Drop, B: Drop>(
+    first: Result<A, AllocError>,
+    second: Result<B, AllocError>,
+) -> Result<(A, B), AllocError> {
+    let first = first?;
+    Ok((first, second?))
 }
 
 fn boxed<T: Drop>(alloc: Global, item: Result<T, AllocError>) -> Result<Box<T>, AllocError> {
@@ -116,23 +124,24 @@ fn pair(alloc: Global, first: Pattern, second: Pattern) -> Result<Vec<Pattern>, 
     and(one(alloc, Ok(first)), Ok(second))
 }
 
-fn rule(params: Result<Vec<Pattern>, AllocError>, body: Term) -> Result<Rule, AllocError> {
-    Ok(Rule {
-        params: params?,
-        body,
-    })
+fn rule(
+    params: Result<Vec<Pattern>, AllocError>,
+    body: Result<Term, AllocError>,
+) -> Result<Rule, AllocError> {
+    let (params, body) = pair_of(params, body)?;
+    Ok(Rule { params, body })
 }
 
 /// True && x = x
 fn true_rule(alloc: Global) -> Result<Rule, AllocError> {
     let params = pair(alloc, constant_pattern(alloc, TRUE), Pattern::Var(0));
-    rule(params, Term::Var(0))
+    rule(params, Ok(Term::Var(0)))
 }
 
 /// False && _ = False
 fn false_rule(alloc: Global) -> Result<Rule, AllocError> {
     let params = pair(alloc, constant_pattern(alloc, FALSE), Pattern::Var(0));
-    rule(params, constant(alloc, FALSE))
+    rule(params, Ok(constant(alloc, FALSE)))
 }
 
 /// The cases of a term.
@@ -142,15 +151,15 @@ fn cases(
     term: Term,
     rows: Result<Vec<(Pattern, Term)>, AllocError>,
 ) -> Result<Term, AllocError> {
-    let rows = rows?;
-    Ok(Term::Case(mode, boxed(alloc, Ok(term))?, rows))
+    let (term, rows) = pair_of(boxed(alloc, Ok(term)), rows)?;
+    Ok(Term::Case(mode, term, rows))
 }
 
 /// x && y = fcase x of { False -> False; True -> y }
 fn case_rule(alloc: Global, mode: Mode) -> Result<Rule, AllocError> {
     let no = (constant_pattern(alloc, FALSE), constant(alloc, FALSE));
     let yes = (constant_pattern(alloc, TRUE), Term::Var(1));
-    let body = cases(alloc, mode, Term::Var(0), and(one(alloc, Ok(no)), Ok(yes)))?;
+    let body = cases(alloc, mode, Term::Var(0), and(one(alloc, Ok(no)), Ok(yes)));
     rule(pair(alloc, Pattern::Var(0), Pattern::Var(1)), body)
 }
 
@@ -171,14 +180,14 @@ fn both(alloc: Global) -> Result<Function, AllocError> {
 }
 
 /// f x = the body
-fn caller(alloc: Global, body: Term) -> Result<Function, AllocError> {
+fn caller(alloc: Global, body: Result<Term, AllocError>) -> Result<Function, AllocError> {
     let params = one(alloc, Ok(Pattern::Var(0)));
     of_rules(1, one(alloc, rule(params, body)))
 }
 
 /// f#1 x y = x + y
 fn lifted(alloc: Global, arity: u32) -> Result<Function, AllocError> {
-    let body = whole_of_two(alloc, Head::Fun(PLUS), Term::Var(0), Term::Var(1))?;
+    let body = whole_of_two(alloc, Head::Fun(PLUS), Term::Var(0), Term::Var(1));
     let params = pair(alloc, Pattern::Var(0), Pattern::Var(1));
     of_rules(arity, one(alloc, rule(params, body)))
 }
@@ -198,13 +207,16 @@ fn mark(module: u32, captured: u32) -> Mark {
 }
 
 /// The first three functions, of which the last has this right side.
-fn top_functions(alloc: Global, body: Term) -> Result<Vec<Function>, AllocError> {
+fn top_functions(
+    alloc: Global,
+    body: Result<Term, AllocError>,
+) -> Result<Vec<Function>, AllocError> {
     let plus = function(2, Body::External(Prim::Add));
     let built_in = and(one(alloc, both(alloc)), Ok(plus));
     and(built_in, caller(alloc, body))
 }
 
-fn functions(alloc: Global, body: Term) -> Result<Vec<Function>, AllocError> {
+fn functions(alloc: Global, body: Result<Term, AllocError>) -> Result<Vec<Function>, AllocError> {
     and(top_functions(alloc, body), lifted(alloc, 2))
 }
 
@@ -239,10 +251,10 @@ fn parts_of(
     functions: Result<Vec<Function>, AllocError>,
     marks: Result<Vec<Mark>, AllocError>,
 ) -> Result<ProgramParts, AllocError> {
-    let functions = functions?;
-    let marks = marks?;
-    let modules = one(alloc, module_of(alloc))?;
-    let types = and(one(alloc, bool_type(alloc)), list_type(alloc))?;
+    let types = and(one(alloc, bool_type(alloc)), list_type(alloc));
+    let modules = one(alloc, module_of(alloc));
+    let declared = pair_of(types, modules);
+    let ((types, modules), (functions, marks)) = pair_of(declared, pair_of(functions, marks))?;
     Ok(ProgramParts {
         types,
         functions,
@@ -256,7 +268,7 @@ fn parts_of(
 
 /// The sample with this right side of `f x`.
 fn sample(alloc: Global, body: Result<Term, AllocError>) -> Result<ProgramParts, AllocError> {
-    parts_of(alloc, functions(alloc, body?), marks(alloc))
+    parts_of(alloc, functions(alloc, body), marks(alloc))
 }
 
 /// The sample as lifting makes it.
@@ -295,8 +307,8 @@ fn let_term(
     value: Term,
     body: Result<Term, AllocError>,
 ) -> Result<Term, AllocError> {
-    let body = boxed(alloc, body)?;
-    Ok(Term::Let(x, boxed(alloc, Ok(value))?, body))
+    let (value, body) = pair_of(boxed(alloc, Ok(value)), boxed(alloc, body))?;
+    Ok(Term::Let(x, value, body))
 }
 
 /// let 1 = 1 in let 2 = the variable 1 in the variable 2
@@ -310,13 +322,13 @@ fn free_term(alloc: Global, x: u32, body: Term) -> Result<Term, AllocError> {
 }
 
 fn or_term(alloc: Global, left: Term, right: Term) -> Result<Term, AllocError> {
-    let left = boxed(alloc, Ok(left))?;
-    Ok(Term::Or(left, boxed(alloc, Ok(right))?))
+    let (left, right) = pair_of(boxed(alloc, Ok(left)), boxed(alloc, Ok(right)))?;
+    Ok(Term::Or(left, right))
 }
 
 fn apply(alloc: Global, function: Term, argument: Term) -> Result<Term, AllocError> {
-    let function = boxed(alloc, Ok(function))?;
-    Ok(Term::Apply(function, boxed(alloc, Ok(argument))?))
+    let (function, argument) = pair_of(boxed(alloc, Ok(function)), boxed(alloc, Ok(argument)))?;
+    Ok(Term::Apply(function, argument))
 }
 
 /// The row of a pattern whose right side is a variable.
@@ -365,135 +377,103 @@ fn expect_parts<R: Abort>(
     alloc: Global,
     right: bool,
     parts: Result<ProgramParts, AllocError>,
-) -> Result<(), Fail> {
-    assert_eq!(rt; validity(alloc, parts)?, right);
-    Ok(())
+) {
+    match validity(alloc, parts) {
+        Ok(found) => assert_eq!(rt; found, right),
+        Err(_) => panic!(rt; "out of memory"),
+    }
 }
 
 /// `f x` may have this right side, or may not, as it should be.
-fn expect<R: Abort>(
-    rt: &R,
-    alloc: Global,
-    right: bool,
-    body: Result<Term, AllocError>,
-) -> Result<(), Fail> {
-    expect_parts(rt, alloc, right, sample(alloc, body))
-}
-
-#[test]
-fn the_sample_is_valid(rt: HostRuntime) -> Result<(), Fail> {
-    let alloc = rt.alloc();
-    expect_parts(&rt, alloc, true, plain(alloc))
+fn expect<R: Abort>(rt: &R, alloc: Global, right: bool, body: Result<Term, AllocError>) {
+    expect_parts(rt, alloc, right, sample(alloc, body));
 }
 
 /// The sample, with one parameter more than the rule of its last function has.
 fn with_larger_arity(alloc: Global) -> Result<ProgramParts, AllocError> {
-    let top = top_functions(alloc, call(alloc)?);
+    let top = top_functions(alloc, call(alloc));
     parts_of(alloc, and(top, lifted(alloc, 3)), marks(alloc))
 }
 
 #[test]
-fn rules_have_the_arity_of_their_function(rt: HostRuntime) -> Result<(), Fail> {
+fn the_sample_is_valid(rt: HostRuntime) {
     let alloc = rt.alloc();
-    expect_parts(&rt, alloc, false, with_larger_arity(alloc))
+    expect_parts(&rt, alloc, true, plain(alloc));
+    expect_parts(&rt, alloc, false, with_larger_arity(alloc));
 }
 
-/// The sample as a program.
-fn program<R: Abort>(rt: &R, alloc: Global) -> Result<Program, Fail> {
+/// The sample as a program, if it is valid.
+fn program(alloc: Global) -> Result<Option<Program>, AllocError> {
     let parts = plain(alloc)?;
-    assert!(rt; parts.valid(alloc)?);
-    Ok(Program::new(parts))
+    if parts.valid(alloc)? {
+        return Ok(Some(Program::new(parts)));
+    }
+    Ok(None)
 }
 
-fn read_declarations<R: Abort>(rt: &R, program: &Program) {
-    assert_eq!(rt; program.types().len(), 2);
-    assert_eq!(rt; program.functions().len(), 4);
-    assert_eq!(rt; program.synonyms().len(), 0);
-    assert_eq!(rt; program.modules().len(), 1);
+fn expect_length<R: Abort>(rt: &R, found: usize, length: usize) {
+    assert_eq!(rt; found, length);
 }
 
-fn read_rest<R: Abort>(rt: &R, program: &Program) {
-    assert_eq!(rt; program.marks().len(), 4);
+fn read<R: Abort>(rt: &R, program: &Program) {
+    expect_length(rt, program.types().len(), 2);
+    expect_length(rt, program.functions().len(), 4);
+    expect_length(rt, program.synonyms().len(), 0);
+    expect_length(rt, program.modules().len(), 1);
+    expect_length(rt, program.marks().len(), 4);
     assert!(rt; program.goal().is_none());
-    assert_eq!(rt; program.special().cons, CONS);
+    assert!(rt; program.special().cons == CONS);
 }
 
 #[test]
-fn a_program_is_read(rt: HostRuntime) -> Result<(), Fail> {
-    let alloc = rt.alloc();
-    let program = program(&rt, alloc)?;
-    read_declarations(&rt, &program);
-    read_rest(&rt, &program);
-    Ok(())
+fn a_program_is_read(rt: HostRuntime) {
+    match program(rt.alloc()) {
+        Ok(Some(program)) => read(&rt, &program),
+        _ => panic!(rt; "no program"),
+    }
 }
 
 #[test]
-fn parts_lack_arguments(rt: HostRuntime) -> Result<(), Fail> {
+fn heads_have_their_arguments(rt: HostRuntime) {
     let alloc = rt.alloc();
     let head = Head::Fun(LIFTED);
     let part = part_of_one(alloc, head, Term::Var(0));
-    expect(&rt, alloc, true, part)?;
+    expect(&rt, alloc, true, part);
     let all = part_of_two(alloc, head, Term::Var(0), int(1));
-    expect(&rt, alloc, false, all)
-}
-
-#[test]
-fn calls_are_whole(rt: HostRuntime) -> Result<(), Fail> {
-    let alloc = rt.alloc();
-    let head = Head::Fun(LIFTED);
+    expect(&rt, alloc, false, all);
     let whole = whole_of_two(alloc, head, Term::Var(0), int(1));
-    expect(&rt, alloc, true, whole)?;
+    expect(&rt, alloc, true, whole);
     let short = whole_of_one(alloc, head, Term::Var(0));
-    expect(&rt, alloc, false, short)
+    expect(&rt, alloc, false, short);
+    expect(&rt, alloc, true, Ok(constant(alloc, NIL)));
+    expect(&rt, alloc, false, Ok(constant(alloc, CONS)));
 }
 
 #[test]
-fn constructors_have_their_fields(rt: HostRuntime) -> Result<(), Fail> {
+fn heads_are_the_programs(rt: HostRuntime) {
     let alloc = rt.alloc();
-    expect(&rt, alloc, true, Ok(constant(alloc, NIL)))?;
-    expect(&rt, alloc, false, Ok(constant(alloc, CONS)))
-}
-
-#[test]
-fn heads_are_the_programs(rt: HostRuntime) -> Result<(), Fail> {
-    let alloc = rt.alloc();
-    expect(&rt, alloc, false, Ok(constant(alloc, ConId(4))))?;
+    expect(&rt, alloc, false, Ok(constant(alloc, ConId(4))));
     let unknown = whole_of_one(alloc, Head::Fun(FunId(4)), int(1));
-    expect(&rt, alloc, false, unknown)?;
+    expect(&rt, alloc, false, unknown);
     let search = whole_of_two(alloc, Head::Set(LIFTED), Term::Var(0), int(1));
-    expect(&rt, alloc, false, search)
+    expect(&rt, alloc, false, search);
 }
 
 #[test]
-fn variables_are_bound(rt: HostRuntime) -> Result<(), Fail> {
+fn variables_are_bound(rt: HostRuntime) {
     let alloc = rt.alloc();
-    expect(&rt, alloc, true, Ok(Term::Var(0)))?;
-    expect(&rt, alloc, false, Ok(Term::Var(1)))
-}
-
-#[test]
-fn free_variables_are_bound(rt: HostRuntime) -> Result<(), Fail> {
-    let alloc = rt.alloc();
-    expect(&rt, alloc, true, free_term(alloc, 1, Term::Var(1)))?;
-    expect(&rt, alloc, false, free_term(alloc, 1, Term::Var(2)))
-}
-
-#[test]
-fn both_sides_of_a_choice_are_bound(rt: HostRuntime) -> Result<(), Fail> {
-    let alloc = rt.alloc();
+    expect(&rt, alloc, true, Ok(Term::Var(0)));
+    expect(&rt, alloc, false, Ok(Term::Var(1)));
+    expect(&rt, alloc, true, free_term(alloc, 1, Term::Var(1)));
+    expect(&rt, alloc, false, free_term(alloc, 1, Term::Var(2)));
     let right = or_term(alloc, Term::Var(0), int(2));
-    expect(&rt, alloc, true, right)?;
+    expect(&rt, alloc, true, right);
     let wrong = or_term(alloc, Term::Var(0), Term::Var(1));
-    expect(&rt, alloc, false, wrong)
-}
-
-#[test]
-fn both_sides_of_an_application_are_bound(rt: HostRuntime) -> Result<(), Fail> {
-    let alloc = rt.alloc();
+    expect(&rt, alloc, false, wrong);
     let wrong = apply(alloc, Term::Var(1), Term::Var(0));
-    expect(&rt, alloc, false, wrong)?;
+    expect(&rt, alloc, false, wrong);
     let right = apply(alloc, Term::Var(0), Term::Var(0));
-    expect(&rt, alloc, true, right)
+    expect(&rt, alloc, true, right);
 }
 
 /// let x = the variable y in x
@@ -502,17 +482,12 @@ fn let_of(alloc: Global, x: u32, y: u32) -> Result<Term, AllocError> {
 }
 
 #[test]
-fn no_let_is_recursive(rt: HostRuntime) -> Result<(), Fail> {
+fn no_let_is_recursive(rt: HostRuntime) {
     let alloc = rt.alloc();
-    expect(&rt, alloc, true, let_of(alloc, 1, 0))?;
-    expect(&rt, alloc, false, let_of(alloc, 1, 1))?;
-    expect(&rt, alloc, false, let_of(alloc, 0, 0))
-}
-
-#[test]
-fn a_let_may_stand_in_another(rt: HostRuntime) -> Result<(), Fail> {
-    let alloc = rt.alloc();
-    expect(&rt, alloc, true, nested_let(alloc))
+    expect(&rt, alloc, true, let_of(alloc, 1, 0));
+    expect(&rt, alloc, false, let_of(alloc, 1, 1));
+    expect(&rt, alloc, false, let_of(alloc, 0, 0));
+    expect(&rt, alloc, true, nested_let(alloc));
 }
 
 /// Whether a case may have this pattern, with the variable on its right side.
@@ -522,31 +497,21 @@ fn expect_pattern<R: Abort>(
     right: bool,
     pattern: Result<Pattern, AllocError>,
     x: u32,
-) -> Result<(), Fail> {
-    expect(rt, alloc, right, case_term(alloc, pattern, x))
+) {
+    expect(rt, alloc, right, case_term(alloc, pattern, x));
 }
 
 #[test]
-fn constructor_patterns_are_linear(rt: HostRuntime) -> Result<(), Fail> {
+fn patterns_are_linear(rt: HostRuntime) {
     let alloc = rt.alloc();
-    expect_pattern(&rt, alloc, true, cons_pattern(alloc, 1, 2), 2)?;
-    expect_pattern(&rt, alloc, false, cons_pattern(alloc, 1, 1), 1)?;
-    expect_pattern(&rt, alloc, false, short_pattern(alloc), 1)
-}
-
-#[test]
-fn alias_patterns_are_linear(rt: HostRuntime) -> Result<(), Fail> {
-    let alloc = rt.alloc();
-    expect_pattern(&rt, alloc, true, alias(alloc, 1, 2), 2)?;
-    expect_pattern(&rt, alloc, false, alias(alloc, 1, 1), 1)
-}
-
-#[test]
-fn patterns_bind_in_their_own_row(rt: HostRuntime) -> Result<(), Fail> {
-    let alloc = rt.alloc();
+    expect_pattern(&rt, alloc, true, cons_pattern(alloc, 1, 2), 2);
+    expect_pattern(&rt, alloc, false, cons_pattern(alloc, 1, 1), 1);
+    expect_pattern(&rt, alloc, false, short_pattern(alloc), 1);
+    expect_pattern(&rt, alloc, true, alias(alloc, 1, 2), 2);
+    expect_pattern(&rt, alloc, false, alias(alloc, 1, 1), 1);
     let letter = Ok(Pattern::Lit(Lit::Char('a')));
-    expect_pattern(&rt, alloc, true, letter, 0)?;
-    expect(&rt, alloc, false, second_unbound(alloc))
+    expect_pattern(&rt, alloc, true, letter, 0);
+    expect(&rt, alloc, false, second_unbound(alloc));
 }
 
 /// The sample with another operation as its conjunction.
@@ -554,7 +519,7 @@ fn with_both(
     alloc: Global,
     rules: Result<Vec<Rule>, AllocError>,
 ) -> Result<ProgramParts, AllocError> {
-    let functions = functions(alloc, call(alloc)?);
+    let functions = functions(alloc, call(alloc));
     let functions = and(functions, of_rules(2, rules));
     let mut parts = parts_of(alloc, functions, and(marks(alloc), Ok(mark(0, 0))))?;
     parts.special = Special {
@@ -565,23 +530,18 @@ fn with_both(
 }
 
 #[test]
-fn conjunction_has_two_rules(rt: HostRuntime) -> Result<(), Fail> {
+fn conjunction_has_its_rules(rt: HostRuntime) {
     let alloc = rt.alloc();
     let right = and(one(alloc, true_rule(alloc)), false_rule(alloc));
-    expect_parts(&rt, alloc, true, with_both(alloc, right))?;
+    expect_parts(&rt, alloc, true, with_both(alloc, right));
     let swapped = and(one(alloc, false_rule(alloc)), true_rule(alloc));
-    expect_parts(&rt, alloc, false, with_both(alloc, swapped))?;
+    expect_parts(&rt, alloc, false, with_both(alloc, swapped));
     let short = one(alloc, true_rule(alloc));
-    expect_parts(&rt, alloc, false, with_both(alloc, short))
-}
-
-#[test]
-fn conjunction_has_a_flexible_case(rt: HostRuntime) -> Result<(), Fail> {
-    let alloc = rt.alloc();
+    expect_parts(&rt, alloc, false, with_both(alloc, short));
     let flexible = one(alloc, case_rule(alloc, Mode::Flex));
-    expect_parts(&rt, alloc, true, with_both(alloc, flexible))?;
+    expect_parts(&rt, alloc, true, with_both(alloc, flexible));
     let rigid = one(alloc, case_rule(alloc, Mode::Rigid));
-    expect_parts(&rt, alloc, false, with_both(alloc, rigid))
+    expect_parts(&rt, alloc, false, with_both(alloc, rigid));
 }
 
 fn with_special(alloc: Global, special: Special) -> Result<ProgramParts, AllocError> {
@@ -618,12 +578,12 @@ const CONS_OF_VALUES: Special = Special {
 };
 
 #[test]
-fn special_entities_are_there(rt: HostRuntime) -> Result<(), Fail> {
+fn special_entities_are_there(rt: HostRuntime) {
     let alloc = rt.alloc();
-    expect_parts(&rt, alloc, false, with_special(alloc, SWAPPED))?;
-    expect_parts(&rt, alloc, false, with_special(alloc, TWO_CONS))?;
-    expect_parts(&rt, alloc, false, with_special(alloc, CONS_OF_VALUES))?;
-    expect_parts(&rt, alloc, true, with_special(alloc, ENTITIES))
+    expect_parts(&rt, alloc, false, with_special(alloc, SWAPPED));
+    expect_parts(&rt, alloc, false, with_special(alloc, TWO_CONS));
+    expect_parts(&rt, alloc, false, with_special(alloc, CONS_OF_VALUES));
+    expect_parts(&rt, alloc, true, with_special(alloc, ENTITIES));
 }
 
 /// The sample with these marks.
@@ -631,7 +591,7 @@ fn with_marks(
     alloc: Global,
     marks: Result<Vec<Mark>, AllocError>,
 ) -> Result<ProgramParts, AllocError> {
-    parts_of(alloc, functions(alloc, call(alloc)?), marks)
+    parts_of(alloc, functions(alloc, call(alloc)), marks)
 }
 
 /// The sample with another mark of its last function.
@@ -640,12 +600,12 @@ fn with_mark(alloc: Global, mark: Mark) -> Result<ProgramParts, AllocError> {
 }
 
 #[test]
-fn marks_match_the_functions(rt: HostRuntime) -> Result<(), Fail> {
+fn marks_match_the_functions(rt: HostRuntime) {
     let alloc = rt.alloc();
-    expect_parts(&rt, alloc, false, with_marks(alloc, top_marks(alloc)))?;
-    expect_parts(&rt, alloc, true, with_mark(alloc, mark(0, 2)))?;
-    expect_parts(&rt, alloc, false, with_mark(alloc, mark(0, 3)))?;
-    expect_parts(&rt, alloc, false, with_mark(alloc, mark(1, 0)))
+    expect_parts(&rt, alloc, false, with_marks(alloc, top_marks(alloc)));
+    expect_parts(&rt, alloc, true, with_mark(alloc, mark(0, 2)));
+    expect_parts(&rt, alloc, false, with_mark(alloc, mark(0, 3)));
+    expect_parts(&rt, alloc, false, with_mark(alloc, mark(1, 0)));
 }
 
 fn synonym(body: TypeTerm) -> Synonym {
@@ -670,36 +630,27 @@ fn named(alloc: Global, name: TypeName) -> TypeTerm {
     TypeTerm::Named(name, Vec::new(alloc))
 }
 
-fn expect_synonym<R: Abort>(
-    rt: &R,
-    alloc: Global,
-    right: bool,
-    body: TypeTerm,
-) -> Result<(), Fail> {
-    expect_parts(rt, alloc, right, with_synonym(alloc, body))
+fn expect_synonym<R: Abort>(rt: &R, alloc: Global, right: bool, body: TypeTerm) {
+    expect_parts(rt, alloc, right, with_synonym(alloc, body));
+}
+
+fn data(alloc: Global, number: usize) -> TypeTerm {
+    named(alloc, TypeName::Data(TypeId(number)))
+}
+
+fn other(alloc: Global, number: usize) -> TypeTerm {
+    named(alloc, TypeName::Synonym(SynonymId(number)))
 }
 
 #[test]
-fn types_have_their_variables(rt: HostRuntime) -> Result<(), Fail> {
+fn types_name_types(rt: HostRuntime) {
     let alloc = rt.alloc();
-    expect_synonym(&rt, alloc, true, TypeTerm::Var(1))?;
-    expect_synonym(&rt, alloc, false, TypeTerm::Var(2))
-}
-
-#[test]
-fn types_name_types(rt: HostRuntime) -> Result<(), Fail> {
-    let alloc = rt.alloc();
-    let data = |number: usize| named(alloc, TypeName::Data(TypeId(number)));
-    expect_synonym(&rt, alloc, true, data(1))?;
-    expect_synonym(&rt, alloc, false, data(2))
-}
-
-#[test]
-fn types_name_synonyms(rt: HostRuntime) -> Result<(), Fail> {
-    let alloc = rt.alloc();
-    let other = |number: usize| named(alloc, TypeName::Synonym(SynonymId(number)));
-    expect_synonym(&rt, alloc, true, other(0))?;
-    expect_synonym(&rt, alloc, false, other(1))
+    expect_synonym(&rt, alloc, true, TypeTerm::Var(1));
+    expect_synonym(&rt, alloc, false, TypeTerm::Var(2));
+    expect_synonym(&rt, alloc, true, data(alloc, 1));
+    expect_synonym(&rt, alloc, false, data(alloc, 2));
+    expect_synonym(&rt, alloc, true, other(alloc, 0));
+    expect_synonym(&rt, alloc, false, other(alloc, 1));
 }
 
 /// A goal with so many names.
@@ -718,22 +669,17 @@ fn with_goal(alloc: Global, goal: Result<Goal, AllocError>) -> Result<ProgramPar
     Ok(parts)
 }
 
-#[test]
-fn a_goal_names_its_parameters(rt: HostRuntime) -> Result<(), Fail> {
-    let alloc = rt.alloc();
-    let right = goal(alloc, LIFTED, 2);
-    expect_parts(&rt, alloc, true, with_goal(alloc, right))?;
-    let short = goal(alloc, LIFTED, 1);
-    expect_parts(&rt, alloc, false, with_goal(alloc, short))
+fn expect_goal<R: Abort>(rt: &R, alloc: Global, right: bool, goal: Result<Goal, AllocError>) {
+    expect_parts(rt, alloc, right, with_goal(alloc, goal));
 }
 
 #[test]
-fn a_goal_has_rules(rt: HostRuntime) -> Result<(), Fail> {
+fn a_goal_names_its_parameters(rt: HostRuntime) {
     let alloc = rt.alloc();
-    let external = goal(alloc, PLUS, 2);
-    expect_parts(&rt, alloc, false, with_goal(alloc, external))?;
-    let unknown = goal(alloc, FunId(4), 0);
-    expect_parts(&rt, alloc, false, with_goal(alloc, unknown))
+    expect_goal(&rt, alloc, true, goal(alloc, LIFTED, 2));
+    expect_goal(&rt, alloc, false, goal(alloc, LIFTED, 1));
+    expect_goal(&rt, alloc, false, goal(alloc, PLUS, 2));
+    expect_goal(&rt, alloc, false, goal(alloc, FunId(4), 0));
 }
 
 fn named_module(alloc: Global, name: NameId) -> ModuleInfo {
@@ -798,16 +744,34 @@ const NO_PARTS: Counts = Counts {
     modules: 0,
 };
 
-fn expect_modules<R: Abort>(rt: &R, modules: &[ModuleInfo]) {
-    for (module, name) in modules.iter().zip([NameId(5), NameId(6)]) {
-        assert_eq!(rt; module.name, name);
+fn module_name(modules: &[ModuleInfo], place: usize) -> Option<NameId> {
+    match modules.get(place) {
+        Some(module) => Some(module.name),
+        None => None,
     }
 }
 
-fn expect_functions<R: Abort>(rt: &R, functions: &[TopFunction]) {
-    for (function, name) in functions.iter().zip([NameId(5), NameId(6)]) {
-        assert_eq!(rt; function.name, name);
+fn function_name(functions: &[TopFunction], place: usize) -> Option<NameId> {
+    match functions.get(place) {
+        Some(function) => Some(function.name),
+        None => None,
     }
+}
+
+fn expect_name<R: Abort>(rt: &R, found: Option<NameId>, name: NameId) {
+    assert_eq!(rt; found, Some(name));
+}
+
+fn expect_modules<R: Abort>(rt: &R, modules: &[ModuleInfo]) {
+    expect_length(rt, modules.len(), 2);
+    expect_name(rt, module_name(modules, 0), NameId(5));
+    expect_name(rt, module_name(modules, 1), NameId(6));
+}
+
+fn expect_functions<R: Abort>(rt: &R, functions: &[TopFunction]) {
+    expect_length(rt, functions.len(), 2);
+    expect_name(rt, function_name(functions, 0), NameId(5));
+    expect_name(rt, function_name(functions, 1), NameId(6));
 }
 
 /// The parts of two modules, joined.
@@ -823,12 +787,17 @@ fn joined(alloc: Global) -> Result<LocalParts, AllocError> {
     Ok(program.into_parts())
 }
 
+fn expect_joined<R: Abort>(rt: &R, parts: &LocalParts) {
+    assert!(rt; parts.start == NO_PARTS);
+    expect_length(rt, parts.marks.len(), 2);
+    expect_modules(rt, parts.modules.as_slice());
+    expect_functions(rt, parts.functions.as_slice());
+}
+
 #[test]
-fn modules_are_joined_in_order(rt: HostRuntime) -> Result<(), Fail> {
-    let parts = joined(rt.alloc())?;
-    assert_eq!(rt; parts.start, NO_PARTS);
-    assert_eq!(rt; parts.marks.len(), 2);
-    expect_modules(&rt, parts.modules.as_slice());
-    expect_functions(&rt, parts.functions.as_slice());
-    Ok(())
+fn modules_are_joined_in_order(rt: HostRuntime) {
+    match joined(rt.alloc()) {
+        Ok(parts) => expect_joined(&rt, &parts),
+        Err(_) => panic!(rt; "out of memory"),
+    }
 }
