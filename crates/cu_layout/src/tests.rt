@@ -1,46 +1,67 @@
 //! Layouts of texts, worked out by hand.
 use crate::{TooDeep, block};
-use cu_lex::{LayoutMark, Mark, Token, TokenKind, lex};
-use cu_names::{Names, Place};
+use cu_lex::{LayoutMark, LexFault, Mark, Token, TokenKind, lex};
+use cu_names::{NameId, Names, Place};
 use std::alloc::{AllocError, Global};
 use std::test::Fail;
 
-/// The tokens as `Debug` shows their kinds, with layout written as in a text.
+/// The tokens of a text, whose module has the number 0.
+fn tokens_of(alloc: Global, text: &str) -> Result<Vec<Token>, LexFault> {
+    let mut names = Names::new(alloc);
+    let module = names.intern("M")?;
+    lex(alloc, &mut names, module, text.as_bytes())
+}
+
+/// The tokens of a text with its layout.
+fn laid(alloc: Global, whole: bool, text: &str) -> Result<Vec<Token>, Fail> {
+    let tokens = tokens_of(alloc, text)?;
+    Ok(block(alloc, tokens, whole)?)
+}
+
+/// Tokens as `Debug` shows their kinds, with layout written as in a text.
 fn shown(alloc: Global, tokens: &[Token]) -> Result<String, AllocError> {
     let mut text = String::new(alloc);
     for token in tokens {
-        let kind = &token.kind;
-        let one = match kind {
-            TokenKind::Layout(mark) => written(alloc, *mark),
-            _ => format!(in alloc; "{kind:?} "),
-        }?;
+        let one = shown_kind(alloc, &token.kind)?;
         text.push_str(one.as_str())?;
     }
     Ok(text)
 }
 
-fn written(alloc: Global, mark: LayoutMark) -> Result<String, AllocError> {
-    let kind = TokenKind::Mark(match mark {
+fn shown_kind(alloc: Global, kind: &TokenKind) -> Result<String, AllocError> {
+    match kind {
+        TokenKind::Layout(mark) => {
+            let mark = written(*mark);
+            format!(in alloc; "Mark({mark:?}) ")
+        }
+        _ => format!(in alloc; "{kind:?} "),
+    }
+}
+
+fn written(mark: LayoutMark) -> Mark {
+    match mark {
         LayoutMark::Open => Mark::OpenBrace,
         LayoutMark::Close => Mark::CloseBrace,
         LayoutMark::Separator => Mark::Semicolon,
-    });
-    format!(in alloc; "{kind:?} ")
+    }
 }
 
-/// How many marks of each kind there are.
-fn marks(tokens: &[Token]) -> (usize, usize, usize) {
-    let count = |mark: LayoutMark| {
-        tokens
-            .iter()
-            .filter(|token| matches!(token.kind, TokenKind::Layout(found) if found == mark))
-            .count()
-    };
-    (
-        count(LayoutMark::Open),
-        count(LayoutMark::Close),
-        count(LayoutMark::Separator),
-    )
+fn shown_layout(alloc: Global, whole: bool, text: &str) -> Result<String, Fail> {
+    let found = laid(alloc, whole, text)?;
+    Ok(shown(alloc, found.as_slice())?)
+}
+
+fn shown_text(alloc: Global, text: &str) -> Result<String, Fail> {
+    let tokens = tokens_of(alloc, text)?;
+    Ok(shown(alloc, tokens.as_slice())?)
+}
+
+/// How many marks of one kind there are.
+fn count(tokens: &[Token], mark: LayoutMark) -> usize {
+    tokens
+        .iter()
+        .filter(|token| matches!(token.kind, TokenKind::Layout(found) if found == mark))
+        .count()
 }
 
 /// Texts, whether each is a whole module, and the texts with their layout
@@ -212,19 +233,9 @@ const TEXTS: [(bool, &str, &str); 36] = [
 fn texts_with_their_layout(rt: HostRuntime) -> Result<(), Fail> {
     let alloc = rt.alloc();
     for (whole, text, want) in TEXTS {
-        let mut names = Names::new(alloc);
-        let module = names.intern("M")?;
-        let tokens = lex(alloc, &mut names, module, text.as_bytes())?;
-        let wanted = lex(alloc, &mut names, module, want.as_bytes())?;
-        let count = tokens.len();
-        let laid = block(alloc, tokens, whole)?;
-        let (open, close, separator) = marks(laid.as_slice());
-        let want_shown = shown(alloc, wanted.as_slice())?;
-        let found = shown(alloc, laid.as_slice())?;
-        assert_eq!(rt; found.as_str(), want_shown.as_str(), "{text}");
-        assert_eq!(rt; open, close, "{text}");
-        let total = (count as u128) + (open as u128) + (close as u128) + (separator as u128);
-        assert_eq!(rt; laid.len() as u128, total, "{text}");
+        let found = shown_layout(alloc, whole, text)?;
+        let wanted = shown_text(alloc, want)?;
+        assert_eq!(rt; found.as_str(), wanted.as_str(), "{text}");
     }
     Ok(())
 }
@@ -262,65 +273,75 @@ permute (x:xs) = insert x (permute xs)
 #[test]
 fn marks_of_modules(rt: HostRuntime) -> Result<(), Fail> {
     let alloc = rt.alloc();
-    let mut names = Names::new(alloc);
-    let module = names.intern("M")?;
-    for (text, want) in [(QUEENS, (4, 4, 10)), (PERM, (2, 2, 3))] {
-        let tokens = lex(alloc, &mut names, module, text.as_bytes())?;
-        let laid = block(alloc, tokens, true)?;
-        assert_eq!(rt; marks(laid.as_slice()), want);
+    for (text, blocks, separators) in [(QUEENS, 4, 10), (PERM, 2, 3)] {
+        let found = laid(alloc, true, text)?;
+        assert_eq!(rt; count(found.as_slice(), LayoutMark::Open), blocks);
+        assert_eq!(rt; count(found.as_slice(), LayoutMark::Close), blocks);
+        assert_eq!(rt; count(found.as_slice(), LayoutMark::Separator), separators);
     }
     Ok(())
+}
+
+/// What so many opening parentheses behind a front give.
+fn parentheses(
+    alloc: Global,
+    whole: bool,
+    front: &str,
+    count: u16,
+) -> Result<Option<TooDeep>, Fail> {
+    let mut text = String::from_str(alloc, front)?;
+    for _ in 0..count {
+        text.push_str("(")?;
+    }
+    let tokens = tokens_of(alloc, text.as_str())?;
+    match block(alloc, tokens, whole) {
+        Ok(_) => Ok(None),
+        Err(fault) => Ok(Some(fault)),
+    }
 }
 
 #[test]
 fn entries_of_the_stack(rt: HostRuntime) -> Result<(), Fail> {
     let alloc = rt.alloc();
-    let mut names = Names::new(alloc);
-    let module = names.intern("M")?;
-    let rows = [
-        ("", 257, false, Some(257)),
-        ("", 256, false, None),
-        ("f = ", 256, true, Some(260)),
-        ("f = ", 255, true, None),
-    ];
-    for (front, count, whole, want) in rows {
-        let mut text = String::from_str(alloc, front)?;
-        for _ in 0..count {
-            text.push_str("(")?;
-        }
-        let tokens = lex(alloc, &mut names, module, text.as_str().as_bytes())?;
-        let found = match block(alloc, tokens, whole) {
-            Ok(_) => None,
-            Err(fault) => Some(fault),
-        };
-        let want = want.map(|column| {
-            TooDeep::At(Place {
-                module,
-                line: 1,
-                column,
-            })
-        });
-        assert_eq!(rt; found, want, "{front}{count}");
-    }
+    let at = |column: u32| {
+        let module = NameId(0);
+        let line = 1;
+        TooDeep::At(Place {
+            module,
+            line,
+            column,
+        })
+    };
+    assert_eq!(rt; parentheses(alloc, false, "", 257)?, Some(at(257)));
+    assert_eq!(rt; parentheses(alloc, false, "", 256)?, None);
+    assert_eq!(rt; parentheses(alloc, true, "f = ", 256)?, Some(at(260)));
+    assert_eq!(rt; parentheses(alloc, true, "f = ", 255)?, None);
     Ok(())
+}
+
+/// The marks with their places.
+fn shown_marks(alloc: Global, tokens: &[Token]) -> Result<String, AllocError> {
+    let mut shown = String::new(alloc);
+    for token in tokens {
+        if let TokenKind::Layout(mark) = token.kind {
+            let one = shown_mark(alloc, mark, token.place)?;
+            shown.push_str(one.as_str())?;
+        }
+    }
+    Ok(shown)
+}
+
+fn shown_mark(alloc: Global, mark: LayoutMark, place: Place) -> Result<String, AllocError> {
+    let line = place.line;
+    let column = place.column;
+    format!(in alloc; "{mark:?} {line}:{column};")
 }
 
 #[test]
 fn places_of_marks(rt: HostRuntime) -> Result<(), Fail> {
     let alloc = rt.alloc();
-    let mut names = Names::new(alloc);
-    let module = names.intern("M")?;
-    let tokens = lex(alloc, &mut names, module, "x = 1\ny = let".as_bytes())?;
-    let laid = block(alloc, tokens, true)?;
-    let mut shown = String::new(alloc);
-    for token in laid.as_slice() {
-        if let TokenKind::Layout(mark) = token.kind {
-            let line = token.place.line;
-            let column = token.place.column;
-            let one = format!(in alloc; "{mark:?} {line}:{column};")?;
-            shown.push_str(one.as_str())?;
-        }
-    }
+    let found = laid(alloc, true, "x = 1\ny = let")?;
+    let shown = shown_marks(alloc, found.as_slice())?;
     let want = "Open 1:1;Separator 2:1;Open 2:5;Close 2:5;Close 2:5;";
     assert_eq!(rt; shown.as_str(), want);
     Ok(())
