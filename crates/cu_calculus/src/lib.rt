@@ -3,8 +3,6 @@
 //! `specs/` the definitions themselves; it computes nothing.
 #![tactic(auto)]
 
-ghost use Rattle.std.specs.Prelude.{◌≡◌, List};
-
 mod builtin;
 mod laws;
 
@@ -15,7 +13,6 @@ pub use laws::{
     derivations_stay_in_the_program, derivations_weaken, forms_agree, matches_rise, proofs_join,
     true_claims_are_exact, true_claims_combine, values_have_a_total_order,
 };
-use std::marker::Model;
 
 /// The operations that are built in.
 pub type Prim = Primitive;
@@ -64,56 +61,3 @@ pub enum Mode {
 /// An expression, by its place among the program's expressions.
 #[derive(Clone, Copy, Debug, PartialEq, Eq)]
 pub struct ExprId(pub usize);
-
-/// The arguments of an application, from left to right. Contracts see a list.
-#[derive(Drop)]
-pub struct ExprIds {
-    ids: Vec<ExprId>,
-}
-
-impl Model for ExprIds {
-    ghost use Rattle.std.specs.Prelude.{List};
-    ghost use Rattle.cu_calculus.specs.declared.ExprId.{ExprId};
-
-    ghost Value = { List ExprId };
-
-    ghost view = { λ e. e.ids.items };
-}
-
-impl ExprIds {
-    /// The arguments with these numbers.
-    pub fn new(ids: Vec<ExprId>) -> ExprIds
-        ensures { result ≡ ids.items }
-    {
-        ExprIds { ids }
-    }
-
-    /// The numbers of the arguments.
-    pub fn as_slice(&self) -> &[ExprId]
-        ensures { result.now ≡ self.now }
-    {
-        self.ids.as_slice()
-    }
-}
-
-/// An expression of flat code. Its parts are named by their numbers.
-#[derive(Drop)]
-pub enum Expr {
-    /// A parameter of the operation, counted from 0.
-    Var(u32),
-    /// A literal.
-    Lit(Lit),
-    /// A head with all its arguments.
-    Whole(Head, ExprIds),
-    /// A choice between two expressions.
-    Or(ExprId, ExprId),
-}
-
-/// An operation of flat code: how many parameters it has, and its body.
-#[derive(Clone, Copy, Debug, PartialEq, Eq)]
-pub struct FlatFunction {
-    /// The number of parameters.
-    pub arity: u32,
-    /// The expression that the operation stands for.
-    pub body: ExprId,
-}

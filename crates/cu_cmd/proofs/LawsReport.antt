@@ -1,7 +1,7 @@
 -- A run has at most one report: what holds in one of its forms excludes the others, and gives the same one in its own.
 use Rattle.std.proofs.Common.{◌≡◌, ℕ, List, [], ◌∷◌, None, Some, codes, refl, sym, ◌∙◌, ap, slice_get, take}
 use Rattle.cu_io.specs.Fetches.{most_bytes}
-use Rattle.cu_machine.specs.Line.{pieces}
+use Rattle.cu_cmd.specs.Line.{pieces}
 use Rattle.cu_cmd.specs.declared.status.Status.{Status}
 use Rattle.cu_cmd.specs.declared.status.Status.TheVariants as status
 use Rattle.cu_cmd.specs.Choices.{Accepts, IsAbsent, Refuses, lines_of, names_of}

@@ -9,14 +9,15 @@ use Rattle.std.specs.Option.{is_some, option_map, option_or}
 use Rattle.std.specs.Prelude.{Err, Ok, OnErr, Result, flat_map, if◌then◌else◌, nat_eq, nat_lt}
 use Rattle.cu_calculus.specs.Code.{Code}
 use Rattle.cu_machine.specs.declared.SearchLimits.{SearchLimits}
+use Rattle.cu_machine.specs.declared.Waited.{Waited}
 use Rattle.cu_machine.specs.declared.Stop.{Stop}
 use Rattle.cu_machine.specs.declared.Stop.TheVariants.{TooWide}
 use Rattle.cu_machine.specs.declared.End.{End}
 use Rattle.cu_machine.specs.declared.End.TheVariants.{Answers, NoMore, Rounds, Stopped}
 use Rattle.cu_machine.specs.Level.{go_list}
-use Rattle.cu_machine.specs.Line.{end_text, line_text, line_texts, pieces}
+use Rattle.cu_cmd.specs.Line.{end_text, line_text, line_texts, pieces}
 use Rattle.cu_machine.specs.Listing.{Answered, Line, Listing, Round, Tally, Waiting, after_lines, is_last, list_level, listing, nothing, one_answer, one_wait, only_end, round_of, rounds, unless_ended, unless_exhausted, with_line}
-use Rattle.cu_machine.specs.Next.{Next, Answer, Go, Reading, Stops, Waits, next}
+use Rattle.cu_machine.specs.Next.{Next, Answer, Fails, Go, Reading, Stops, Waits, next}
 use Rattle.cu_machine.specs.State.{State}
 use Rattle.cu_cmd.specs.Report.{Adds, AddsFront}
 
@@ -96,7 +97,8 @@ unfolding round_of
 round_of-cons d limit tally (Go states) outcomes = refl
 round_of-cons d limit tally (Answer reading) outcomes =
     then_round-answer (is_last limit (tally.answers + 1)) (Answered d reading) (one_answer tally) (Answers (tally.answers + 1)) (λ after. round_of d limit after outcomes)
-round_of-cons d limit tally Waits outcomes = refl
+round_of-cons d limit tally Fails outcomes = refl
+round_of-cons d limit tally (Waits names) outcomes = refl
 round_of-cons d limit tally (Stops stop) outcomes = refl
 
 round_of-nil : (d : ℕ) (limit : Option ℕ) (tally : Tally) → round_of d limit tally [] ≡ nothing tally None
@@ -107,9 +109,14 @@ pub round_of-Go : (d : ℕ) (limit : Option ℕ) (tally : Tally) (states : List 
 unfolding round_of
 round_of-Go d limit tally states = refl
 
-pub round_of-Waits : (d : ℕ) (limit : Option ℕ) (tally : Tally) → round_of d limit tally (Waits ∷ []) ≡ with_line (Waiting d) (nothing (one_wait tally) None)
+pub round_of-Fails : (d : ℕ) (limit : Option ℕ) (tally : Tally) → round_of d limit tally (Fails ∷ []) ≡ nothing tally None
 unfolding round_of
-round_of-Waits d limit tally = refl
+round_of-Fails d limit tally = refl
+
+pub round_of-Waits : (d : ℕ) (limit : Option ℕ) (tally : Tally) (names : List Waited)
+    → round_of d limit tally (Waits names ∷ []) ≡ with_line (Waiting d names) (nothing (one_wait tally) None)
+unfolding round_of
+round_of-Waits d limit tally names = refl
 
 pub round_of-Stops : (d : ℕ) (limit : Option ℕ) (tally : Tally) (stop : Stop) → round_of d limit tally (Stops stop ∷ []) ≡ nothing tally (Some (Stopped stop d))
 unfolding round_of
@@ -127,7 +134,7 @@ unfolding round_of
 round_of-Answer d limit tally reading = with_line-end (is_last limit (tally.answers + 1)) (Answered d reading) (one_answer tally) (Answers (tally.answers + 1))
 
 -- what a round is over one outcome
-pub ruleset one_outcome = (round_of-Go, round_of-Answer, round_of-Waits, round_of-Stops)
+pub ruleset one_outcome = (round_of-Go, round_of-Answer, round_of-Fails, round_of-Waits, round_of-Stops)
 
 -- a front of a line, as that of a list of one line
 pub one_line_front : (a b : Option (List ℕ)) (line : Line) → AddsFront a b (line_text line) → AddsFront a b (lines_bytes (line ∷ []))

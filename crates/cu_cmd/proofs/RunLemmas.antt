@@ -1,18 +1,19 @@
 -- What is due for a command, over plain variables.
-use Rattle.std.proofs.Common.{◌≡◌, ℕ, ◌+◌, ◌<◌, List, [], ◌∷◌, ◌++◌, Option, None, Some, Result, Ok, Err, IfOk, IfSome, IsErr, Global, length, slice_get, take, string_bytes, option_map, refl, ap, subst, arith, length-append, codes}
+use Rattle.std.proofs.Common.{◌≡◌, ℕ, ◌<◌, List, [], ◌∷◌, ◌++◌, Option, None, Some, Result, Ok, Err, IfOk, IfSome, IsErr, IsTrue, Global, length, slice_get, take, string_bytes, option_map, refl, ap, subst, ◌∙◌, arith, codes}
 use Rattle.std.proofs.lemmas.List.{append-nil, length-map}
+use Rattle.std.proofs.lemmas.Option.{slice_get_within}
 use Rattle.std.specs.List.{concat}
-use Rattle.std.specs.Prelude.{String}
+use Rattle.std.specs.Prelude.{String, Vec}
 use Rattle.cu_calculus.specs.declared.FunId.{FunId}
-use Rattle.cu_calculus.specs.Code.{Code}
-use Rattle.cu_cmd.specs.Layout.{code_from, code_of, size}
-use Rattle.cu_cmd.specs.Term.{Operation}
+use Rattle.cu_calculus.specs.Code.{Code, body_of, is_rule}
+use Rattle.cu_cmd.specs.Layout.{code_of}
 use Rattle.cu_io.specs.declared.library.Fetched.{Fetched}
-use Rattle.cu_io.specs.declared.library.Fetched.TheVariants.{Absent}
+use Rattle.cu_io.specs.declared.library.Fetched.TheVariants.{Absent, Text}
 use Rattle.cu_io.specs.Fetches.{Fetches, most_bytes}
 use Rattle.cu_io.specs.Holdings.{Holdings}
-use Rattle.cu_machine.specs.Line.{pieces}
+use Rattle.cu_cmd.specs.Line.{pieces}
 use Rattle.cu_machine.specs.Listing.{listing}
+use Rattle.cu_machine.specs.Sets.{code_is_without_sets}
 use Rattle.cu_machine.specs.State.{start_of}
 use Rattle.cu_cmd.specs.declared.due.Due.{Due}
 use Rattle.cu_cmd.specs.declared.due.Due.TheVariants.{Listing, Refusal}
@@ -20,10 +21,11 @@ use Rattle.cu_cmd.specs.declared.rounds.SearchFault.{SearchFault}
 use Rattle.cu_cmd.specs.declared.status.Status.{Status}
 use Rattle.cu_cmd.specs.declared.status.Status.TheVariants as status
 use Rattle.cu_cmd.proofs.LawsReport.{same_report}
+use Rattle.cu_cmd.proofs.ScopeLemmas.{goal-has_rule, program-without_sets}
 use Rattle.cu_cmd.specs.Choices.{Accepts, IsAbsent, Refuses, lines_of, names_of}
 use Rattle.cu_cmd.specs.Definition.{Definition}
-use Rattle.cu_cmd.specs.Due.{Ends, Owes}
-use Rattle.cu_cmd.specs.Program.{goal_of, program_of}
+use Rattle.cu_cmd.specs.Due.{Ends, Owes, OwesTo}
+use Rattle.cu_cmd.specs.Program.{AreSound, goal_of, program_of}
 use Rattle.cu_cmd.specs.Report.{Adds, AddsFront, Held, default_limits, IsFront, Report, usage, usage_line, listed, missing, missing_line, syntax_line, wrong_goal, wrong_line}
 use Rattle.cu_cmd.specs.Words.{IsCommand, ReadsAs, Solve}
 
@@ -56,16 +58,17 @@ pub owes_missing_refusal : (solve : Solve) (line : List ℕ) (held : Held) (word
 owes_missing_refusal solve line held words is_line is_absent reads =
     missing (line ∷ []) solve reads is_absent (ap (λ l. l ∷ []) is_line)
 
--- code has as many operations as its program
-pub length-code_from : (n : ℕ) (operations : List Operation) → length (code_from n operations).functions ≡ length operations
-length-code_from n [] = refl
-length-code_from n (o ∷ os) = rw (length-code_from (n + size o.body) os) refl
-
--- the goal is an operation of its program
-pub goal_is_there : (definitions : List Definition) (k : ℕ) (program : Code) (goal : FunId)
-    → program ≡ code_of (program_of definitions k) → goal ≡ goal_of definitions → goal.0 < length program.functions
-goal_is_there definitions k program goal is_program is_goal =
-    rw (is_program, is_goal, length-code_from 0 (program_of definitions k)) (simp (length-append, length-map) (omega arith))
+-- the goal is an operation with a rule, and the program has no set functions
+pub goal_runs : (definitions : List Definition) (k : ℕ) (name : List ℕ) (program : Code) (goal : FunId)
+    → slice_get (names_of definitions) k ≡ Some name → AreSound definitions → program ≡ code_of (program_of definitions k) → goal ≡ goal_of definitions
+    → IsTrue (is_rule (body_of program goal)) × IsTrue (code_is_without_sets program)
+goal_runs definitions k name program goal named sound is_program is_goal =
+    let within : k < length definitions =
+    omega (arith, slice_get_within (names_of definitions) k name named, length-map definitions (λ d. d.name)) in
+    rw (is_program, is_goal) (
+      goal-has_rule definitions k,
+      program-without_sets definitions k within sound,
+    )
 
 -- what holds of an Ok holds as far as it implies
 pub if_ok : {A E : Type 0} (r : Result A E) (P Q : A → Type 0) → ((x : A) → P x → Q x) → IfOk r P → IfOk r Q
@@ -84,6 +87,19 @@ pub owes_absent : (told : Option Holdings) (solve : Solve) (line : List ℕ) (fe
 owes_absent None solve line fetched is_absent fetches is_line = fetches
 owes_absent (Some held) solve line fetched is_absent fetches is_line = λ words reads.
     owes_missing_refusal solve line held.module_at words is_line (absent_is_none (held.module_at solve.folder solve.name) fetched is_absent fetches) reads
+
+-- and a text is owed what is owed to what is held
+pub owes_fetched : (told : Option Holdings) (solve : Solve) (due : Due) (fetched : Fetched) (text : Vec ℕ Global) (bytes : List ℕ) → fetched ≡ Text text
+    → bytes ≡ text.items → IfSome told (λ held. Fetches (held.module_at solve.folder solve.name) fetched)
+    → ((held : Held) (whole : List ℕ) → held solve.folder solve.name ≡ Some whole → bytes ≡ take most_bytes whole → OwesTo solve due held)
+    → IfSome told (λ held. OwesTo solve due held.module_at)
+owes_fetched None solve due fetched text bytes is_text is_bytes fetches owes = fetches
+owes_fetched (Some held) solve due fetched text bytes is_text is_bytes fetches owes =
+    of_place (held.module_at solve.folder solve.name) refl (rw is_text at fetches)
+  where
+    of_place : (place : Option (List ℕ)) → held.module_at solve.folder solve.name ≡ place → Fetches place (Text text) → OwesTo solve due held.module_at
+    of_place None is front = absurd front
+    of_place (Some whole) is front = owes held.module_at whole is (is_bytes ∙ front)
 
 -- Nothing is a front of whatever the report is.
 pub nothing_added : (before : Option (List ℕ)) (bytes : List ℕ) → AddsFront before before bytes
@@ -136,7 +152,7 @@ refusal_front due line bytes words held before after is_refusal is_line owed fro
 -- a listing of which a front was written
 pub listing_front : (due : Due) (program : Code) (goal : FunId) (words : List (List ℕ)) (held : Held) (before after : Option (List ℕ))
     → due ≡ Listing program goal → Owes due words held
-    → AddsFront before after (concat (pieces (listing program default_limits (start_of goal)))) → IsFront words held before after
+    → AddsFront before after (concat (pieces (listing program default_limits (start_of program goal)))) → IsFront words held before after
 listing_front due program goal words held before after is_listing owed front =
     let report : Owes (Listing program goal) words held = rw is_listing at owed in
     front_of_report words held before after _ _ report front

@@ -1,24 +1,37 @@
 -- Terms whose calls are whole and whose variables are parameters, and the flat code of programs that are made of them.
-use Rattle.std.proofs.Common.{◌≡◌, ℕ, zero, suc, ◌+◌, ◌-◌, ◌<◌, ◌≤◌, Bool, ◌&&◌, IsTrue, List, [], ◌∷◌, ◌++◌, Option, None, Some, length, map, slice_get, option_map, get_or, refl, ap, sym, subst, ◌∙◌, arith, length-append}
+use Rattle.std.proofs.Common.{◌≡◌, ℕ, zero, suc, ◌+◌, ◌-◌, ◌*◌, ◌^◌, ◌<◌, ◌≤◌, Bool, true, not, ◌&&◌, IsTrue, List, [], ◌∷◌, ◌++◌, Option, None, Some, length, map, nat_eq, nat_le, pos, slice_get, option_map, get_or, refl, ap, sym, subst, ◌∙◌, arith, add-zero, append-nil, leb-true, length-append}
+use Rattle.std.specs.Cmp.Lexicographic.{pointwise}
 use Rattle.std.specs.List.{All, list_all}
-use Rattle.std.proofs.lemmas.Bool.{eq-eqb, lt-ltb}
+use Rattle.std.proofs.lemmas.Bool.{eq-eqb, le-leb}
 use Rattle.std.proofs.lemmas.List.{length-map}
 use Rattle.std.proofs.lemmas.List.Elements.{All-append, All-nil, All-weaker}
 use Rattle.std.proofs.lemmas.Option.{slice_get-get_or, slice_get-map, slice_get_within}
-use Rattle.cu_calculus.specs.declared.Expr.{Expr}
-use Rattle.cu_calculus.specs.declared.Expr.TheVariants as expr
 use Rattle.cu_calculus.specs.declared.ExprId.{ExprId}
 use Rattle.cu_calculus.specs.declared.Head.{Head}
 use Rattle.cu_calculus.specs.declared.Head.TheVariants.{Con, Fun, Set}
-use Rattle.cu_calculus.specs.Code.{Code, arity_of, expr_of}
-use Rattle.cu_cmd.specs.Layout.{code_from, code_of, layout, layouts, place, places, size, sizes}
-use Rattle.cu_cmd.specs.Term.{Operation, Term, Terms, Choice, End, Literal, More, Variable, Whole}
-use Rattle.cu_calculus.specs.WellFormed.{fits, fits_expr, function_fits, is_well_formed, is_whole}
+use Rattle.cu_calculus.specs.declared.Lit.{Lit}
+use Rattle.cu_calculus.specs.declared.Lit.TheVariants.{Int}
+use Rattle.cu_calculus.specs.declared.Mode.TheVariants.{Flex}
+use Rattle.cu_calculus.specs.Code as code
+use Rattle.cu_calculus.specs.Code.{Code, Expr, arity_of, body_of, expr_of, is_rule}
+use Rattle.cu_calculus.specs.Literal.{is_literal}
+use Rattle.cu_calculus.specs.Program.{Constructor}
+use Rattle.cu_calculus.specs.Shape.{takes}
+use Rattle.cu_calculus.specs.Valid.{holds, is_arity, is_linear}
+use Rattle.cu_calculus.specs.WellFormed.{fits, fits_case, fits_expr, fits_function, is_allowed, is_well_formed}
+use Rattle.cu_calculus.proofs.Lists.{all_append}
+use Rattle.cu_machine.proofs.Fuel.{left_true, right_true}
+use Rattle.cu_machine.specs.Sets.{code_is_without_sets, has_set_head, is_set_head}
+use Rattle.cu_cmd.specs.Builtin.{constructors, falsity, truth}
+use Rattle.cu_cmd.specs.Layout.{branches, code_of, layout, layouts, operations_from, place, places, size, sizes}
+use Rattle.cu_cmd.specs.Term.{Operation, Term, Terms, Choice, Decision, End, Literal, More, Variable, Whole}
 use Rattle.cu_cmd.specs.declared.definition.Item.{Item}
 use Rattle.cu_cmd.specs.declared.definition.Item.TheVariants.{Earlier, Number}
-use Rattle.cu_cmd.specs.Choices.{Accepts, IsChoice, IsItem, IsModule, nothing, blank, line, names_of}
+use Rattle.cu_cmd.specs.Choices.{Accepts, IsChoice, IsItem, IsModule, IsNumeral, nothing, blank, line, names_of, value_from}
 use Rattle.cu_cmd.specs.Definition.{Definition}
-use Rattle.cu_cmd.specs.Program.{AreInScope, IsInScope, IsItemInScope, call_of, choice_operator, choice_term, constant, item_term, operation_of, program_of}
+use Rattle.cu_cmd.specs.Program.{AreSound, IsSound, IsSoundItem, call_of, choice_operation, choice_operator, choice_term, conjunction_operation, constant, goal_of, item_term, operation_of, program_of}
+use Rattle.cu_cmd.specs.Words.{is_digit}
+use Rattle.cu_cmd.proofs.ChoicesLemmas.{below_digits}
 use Rattle.cu_cmd.proofs.ProgramLemmas.{length-layout, length-layouts}
 
 -- how many arguments there are
@@ -26,17 +39,19 @@ abbrev pub count : Terms → ℕ
 count End = 0
 count (More t ts) = count ts + 1
 
--- a term under so many parameters, where `known` says the arities of heads
+-- a term whose variables are in scope, where `known` says the arities of heads
 abbrev mutual
-  pub IsScoped : (Head → Option ℕ) → ℕ → Term → Type 0
-  IsScoped known arity (Variable x) = x < arity
-  IsScoped known arity (Literal l) = Unit {0}
-  IsScoped known arity (Whole h ts) = (known h ≡ Some (count ts)) × AreScoped known arity ts
-  IsScoped known arity (Choice left right) = IsScoped known arity left × IsScoped known arity right
+  pub IsScoped : (Head → Option ℕ) → List ℕ → Term → Type 0
+  IsScoped known scope (Variable x) = IsTrue (holds x scope)
+  IsScoped known scope (Literal l) = IsTrue (is_literal l)
+  IsScoped known scope (Whole h ts) = (known h ≡ Some (count ts)) × AreScoped known scope ts
+  IsScoped known scope (Choice left right) = IsScoped known scope left × IsScoped known scope right
+  IsScoped known scope (Decision variables value if_false if_true) =
+      (variables ≡ scope) × IsScoped known scope value × IsScoped known scope if_false × IsScoped known scope if_true
 
-  pub AreScoped : (Head → Option ℕ) → ℕ → Terms → Type 0
-  AreScoped known arity End = Unit {0}
-  AreScoped known arity (More t ts) = IsScoped known arity t × AreScoped known arity ts
+  pub AreScoped : (Head → Option ℕ) → List ℕ → Terms → Type 0
+  AreScoped known scope End = Unit {0}
+  AreScoped known scope (More t ts) = IsScoped known scope t × AreScoped known scope ts
 
 -- a part of a list stands from the place n on
 pub record Stands (es : List Expr) (n : ℕ) (part : List Expr) : Type 0 where
@@ -78,143 +93,333 @@ length-places n (More t ts) = omega (arith, length-places (n + size t) ts)
 both : (a b : Bool) → IsTrue a → IsTrue b → IsTrue (a && b)
 both a b p q = rw (p, q) refl
 
--- a call with the arguments that it takes is whole
-whole : (known : Option ℕ) (arity count : ℕ) → known ≡ Some arity → count ≡ arity → IsTrue (is_whole known count)
-whole known arity count is same = rw is (eq-eqb arity count (sym same))
+-- a list of numbers is itself
+pointwise-same : (xs : List ℕ) → IsTrue (pointwise nat_eq xs xs)
+pointwise-same [] = refl
+pointwise-same (x ∷ xs) = both (nat_eq x x) (pointwise nat_eq xs xs) (eq-eqb x x refl) (pointwise-same xs)
 
 -- an expression fits where its kind does
-fits-deep : (code : Code) (arity depth : ℕ) (e : ExprId) (found : Expr) → 1 ≤ depth → expr_of code e ≡ Some found
-    → IsTrue (fits_expr (fits (depth - 1) code arity) code arity (Some found)) → IsTrue (fits depth code arity e)
-fits-deep code arity zero e found deep is h = absurd (omega arith)
-fits-deep code arity (suc depth) e found deep is h =
+fits-deep : (program : Code) (scope : List ℕ) (depth : ℕ) (e : ExprId) (found : Expr) → 1 ≤ depth → expr_of program e ≡ Some found
+    → IsTrue (fits_expr (fits (depth - 1) program) program scope (Some found)) → IsTrue (fits depth program scope e)
+fits-deep program scope zero e found deep is h = absurd (omega arith)
+fits-deep program scope (suc depth) e found deep is h =
     let same : suc depth - 1 ≡ depth = omega arith in
-    rw is (subst (λ d. IsTrue (fits_expr (fits d code arity) code arity (Some found))) same h)
+    rw is (subst (λ d. IsTrue (fits_expr (fits d program) program scope (Some found))) same h)
 
--- a term in scope fits where it was laid out
-mutual
-  fits-layout : (code : Code) (arity depth n : ℕ) (t : Term) → IsScoped (arity_of code) arity t
-      → Stands code.expressions n (layout n t) → size t ≤ depth → IsTrue (fits depth code arity (place n t))
-  fits-layout code arity depth n (Variable x) scope stands deep =
-      fits-deep code arity depth (place n (Variable x)) (expr.Var x) deep
-      (Stands-first code.expressions n (n + (1 - 1)) (expr.Var x) [] stands (omega arith)) (lt-ltb x arity scope)
-  fits-layout code arity depth n (Literal l) scope stands deep =
-      fits-deep code arity depth (place n (Literal l)) (expr.Lit l) deep
-      (Stands-first code.expressions n (n + (1 - 1)) (expr.Lit l) [] stands (omega arith)) refl
-  fits-layout code arity depth n (Whole h ts) scope stands deep =
-      let e = expr.Whole h (places n ts) in
-      let last : Stands code.expressions (n + sizes ts) (e ∷ []) =
-      Stands-right code.expressions n (n + sizes ts) (layouts n ts) (e ∷ []) stands (omega (arith, length-layouts n ts)) in
-      fits-deep code arity depth (place n (Whole h ts)) e (omega arith)
-      (Stands-first code.expressions (n + sizes ts) (n + (sizes ts + 1 - 1)) e [] last (omega arith))
-      (both _ _ (whole (arity_of code h) (count ts) (length (places n ts)) scope.0 (length-places n ts))
-      (fits-layouts code arity (depth - 1) n ts scope.1 (Stands-left code.expressions n (layouts n ts) (e ∷ []) stands) (omega arith)))
-  fits-layout code arity depth n (Choice left right) scope stands deep =
-      let m = n + size left in
-      let or = expr.Or (place n left) (place m right) in
-      let parts = layout n left ++ layout m right in
-      let within : Stands code.expressions n parts = Stands-left code.expressions n parts (or ∷ []) stands in
-      let last : Stands code.expressions (m + size right) (or ∷ []) =
-      Stands-right code.expressions n (m + size right) parts (or ∷ []) stands
-      (omega (arith, length-append (layout n left) (layout m right), length-layout n left, length-layout m right)) in
-      fits-deep code arity depth (place n (Choice left right)) or (omega arith)
-      (Stands-first code.expressions (m + size right) (n + (size left + size right + 1 - 1)) or [] last (omega arith))
-      (both _ _
-      (fits-layout code arity (depth - 1) n left scope.0 (Stands-left code.expressions n (layout n left) (layout m right) within) (omega arith))
-      (fits-layout code arity (depth - 1) m right scope.1
-      (Stands-right code.expressions n m (layout n left) (layout m right) within (omega (arith, length-layout n left))) (omega arith)))
+-- code that has the heads that are known, with their arities, and the constructors False and True
+pub record Knows (program : Code) (known : Head → Option ℕ) : Type 0 where
+  pub heads : (h : Head) (n : ℕ) → known h ≡ Some n → IsTrue (is_allowed program h && takes (arity_of program h) n)
+  pub no_sets : (h : Head) (n : ℕ) → known h ≡ Some n → IsTrue (not (is_set_head h))
+  pub falsity_known : IsTrue (takes (arity_of program (Con falsity)) 0)
+  pub truth_known : IsTrue (takes (arity_of program (Con truth)) 0)
 
-  fits-layouts : (code : Code) (arity depth n : ℕ) (ts : Terms) → AreScoped (arity_of code) arity ts
-      → Stands code.expressions n (layouts n ts) → sizes ts ≤ depth → IsTrue (list_all (fits depth code arity) (places n ts))
-  fits-layouts code arity depth n End scope stands deep = refl
-  fits-layouts code arity depth n (More t ts) scope stands deep =
-      let m = n + size t in
-      both _ _
-      (fits-layout code arity depth n t scope.0 (Stands-left code.expressions n (layout n t) (layouts m ts) stands) (omega arith))
-      (fits-layouts code arity depth m ts scope.1
-      (Stands-right code.expressions n m (layout n t) (layouts m ts) stands (omega (arith, length-layout n t))) (omega arith))
+module _ (program : Code) (known : Head → Option ℕ) (knows : Knows program known) where
+  -- a whole application of a head that is known
+  whole-fits : (h : Head) (m n : ℕ) (rest : Bool) → known h ≡ Some n → m ≡ n → IsTrue rest
+      → IsTrue (is_allowed program h && takes (arity_of program h) m && rest)
+  whole-fits h m n rest is same holds_rest = both (is_allowed program h && takes (arity_of program h) m) rest (rw same (knows.heads h n is)) holds_rest
 
--- the arities of a program's operations
-abbrev pub known : List Operation → Head → Option ℕ
-known program (Fun f) = option_map (λ o. o.arity) (slice_get program f.0)
-known program (Con c) = None
-known program (Set f) = option_map (λ o. o.arity) (slice_get program f.0)
+  -- a case distinction in the scope that it names, whose parts fit
+  decision-fits : (part : List ℕ → ExprId → Bool) (scope : List ℕ) (value if_false if_true : ExprId)
+      → IsTrue (part scope value) → IsTrue (part scope if_false) → IsTrue (part scope if_true)
+      → IsTrue (fits_expr part program scope (Some (code.Case Flex scope value (branches if_false if_true))))
+  decision-fits part scope value if_false if_true v n y =
+      let bare : scope ++ [] ≡ scope = append-nil scope in
+      both _ _ (both _ _ (both _ _ (pointwise-same scope) v) refl)
+      (both _ _ (both _ _ (both _ _ knows.falsity_known refl) (rw bare n))
+      (both _ _ (both _ _ (both _ _ knows.truth_known refl) (rw bare y)) refl))
 
--- all bodies of operations are in scope
+  -- a term in scope fits where it was laid out
+  mutual
+    fits-layout : (scope : List ℕ) (depth n : ℕ) (t : Term) → IsScoped known scope t
+        → Stands program.expressions n (layout n t) → size t ≤ depth → IsTrue (fits depth program scope (place n t))
+    fits-layout scope depth n (Variable x) scoped stands deep =
+        fits-deep program scope depth (place n (Variable x)) (code.Variable x) deep
+        (Stands-first program.expressions n (n + (1 - 1)) (code.Variable x) [] stands (omega arith)) scoped
+    fits-layout scope depth n (Literal l) scoped stands deep =
+        fits-deep program scope depth (place n (Literal l)) (code.Literal l) deep
+        (Stands-first program.expressions n (n + (1 - 1)) (code.Literal l) [] stands (omega arith)) scoped
+    fits-layout scope depth n (Whole h ts) scoped stands deep =
+        let e = code.Whole h (places n ts) in
+        let last : Stands program.expressions (n + sizes ts) (e ∷ []) =
+        Stands-right program.expressions n (n + sizes ts) (layouts n ts) (e ∷ []) stands (omega (arith, length-layouts n ts)) in
+        fits-deep program scope depth (place n (Whole h ts)) e (omega arith)
+        (Stands-first program.expressions (n + sizes ts) (n + (sizes ts + 1 - 1)) e [] last (omega arith))
+        (whole-fits h (length (places n ts)) (count ts) (list_all (fits (depth - 1) program scope) (places n ts)) scoped.0 (length-places n ts)
+        (fits-layouts scope (depth - 1) n ts scoped.1 (Stands-left program.expressions n (layouts n ts) (e ∷ []) stands) (omega arith)))
+    fits-layout scope depth n (Choice left right) scoped stands deep =
+        let m = n + size left in
+        let or = code.Or (place n left) (place m right) in
+        let parts = layout n left ++ layout m right in
+        let within : Stands program.expressions n parts = Stands-left program.expressions n parts (or ∷ []) stands in
+        let last : Stands program.expressions (m + size right) (or ∷ []) =
+        Stands-right program.expressions n (m + size right) parts (or ∷ []) stands
+        (omega (arith, length-append (layout n left) (layout m right), length-layout n left, length-layout m right)) in
+        fits-deep program scope depth (place n (Choice left right)) or (omega arith)
+        (Stands-first program.expressions (m + size right) (n + (size left + size right + 1 - 1)) or [] last (omega arith))
+        (both _ _
+        (fits-layout scope (depth - 1) n left scoped.0 (Stands-left program.expressions n (layout n left) (layout m right) within) (omega arith))
+        (fits-layout scope (depth - 1) m right scoped.1
+        (Stands-right program.expressions n m (layout n left) (layout m right) within (omega (arith, length-layout n left))) (omega arith)))
+    fits-layout scope depth n (Decision variables value if_false if_true) scoped stands deep =
+        let m = n + size value in
+        let k = n + size value + size if_false in
+        let case = code.Case Flex variables (place n value) (branches (place m if_false) (place k if_true)) in
+        let front = layout n value ++ layout m if_false in
+        let parts = front ++ layout k if_true in
+        let within : Stands program.expressions n parts = Stands-left program.expressions n parts (case ∷ []) stands in
+        let first_two : Stands program.expressions n front = Stands-left program.expressions n front (layout k if_true) within in
+        let lengths : length parts ≡ size value + size if_false + size if_true =
+        omega (
+          arith,
+          length-append (layout n value) (layout m if_false),
+          length-append front (layout k if_true),
+          length-layout n value,
+          length-layout m if_false,
+          length-layout k if_true,
+        ) in
+        let last : Stands program.expressions (k + size if_true) (case ∷ []) =
+        Stands-right program.expressions n (k + size if_true) parts (case ∷ []) stands (omega (arith, lengths)) in
+        fits-deep program scope depth (place n (Decision variables value if_false if_true)) case (omega arith)
+        (Stands-first program.expressions (k + size if_true) (n + (size value + size if_false + size if_true + 1 - 1)) case [] last (omega arith))
+        (subst (λ (xs : List ℕ). IsTrue (fits_expr (fits (depth - 1) program) program scope
+        (Some (code.Case Flex xs (place n value) (branches (place m if_false) (place k if_true)))))) (sym scoped.0)
+        (decision-fits (fits (depth - 1) program) scope (place n value) (place m if_false) (place k if_true)
+        (fits-layout scope (depth - 1) n value scoped.1 (Stands-left program.expressions n (layout n value) (layout m if_false) first_two) (omega arith))
+        (fits-layout scope (depth - 1) m if_false scoped.2
+        (Stands-right program.expressions n m (layout n value) (layout m if_false) first_two (omega (arith, length-layout n value))) (omega arith))
+        (fits-layout scope (depth - 1) k if_true scoped.3
+        (Stands-right program.expressions n k front (layout k if_true) within
+        (omega (arith, length-append (layout n value) (layout m if_false), length-layout n value, length-layout m if_false))) (omega arith))))
+
+    fits-layouts : (scope : List ℕ) (depth n : ℕ) (ts : Terms) → AreScoped known scope ts
+        → Stands program.expressions n (layouts n ts) → sizes ts ≤ depth → IsTrue (list_all (fits depth program scope) (places n ts))
+    fits-layouts scope depth n End scoped stands deep = refl
+    fits-layouts scope depth n (More t ts) scoped stands deep =
+        let m = n + size t in
+        both _ _
+        (fits-layout scope depth n t scoped.0 (Stands-left program.expressions n (layout n t) (layouts m ts) stands) (omega arith))
+        (fits-layouts scope depth m ts scoped.1
+        (Stands-right program.expressions n m (layout n t) (layouts m ts) stands (omega (arith, length-layout n t))) (omega arith))
+
+  -- a test that expressions of terms in a scope pass, where the parts of case distinctions fit
+  pub record Passes (test : Expr → Bool) (scope : List ℕ) : Type 0 where
+    pub variable : (x : ℕ) → IsTrue (test (code.Variable x))
+    pub literal : (l : Lit) → IsTrue (test (code.Literal l))
+    pub whole : (h : Head) (n : ℕ) (es : List ExprId) → known h ≡ Some n → IsTrue (test (code.Whole h es))
+    pub or : (left right : ExprId) → IsTrue (test (code.Or left right))
+    pub case : (value if_false if_true : ExprId) → IsTrue (fits (length program.expressions) program scope value)
+        → IsTrue (fits (length program.expressions) program scope if_false) → IsTrue (fits (length program.expressions) program scope if_true)
+        → IsTrue (test (code.Case Flex scope value (branches if_false if_true)))
+
+  -- each expression of a term that was laid out passes it
+  mutual
+    all-pass : (test : Expr → Bool) (scope : List ℕ) (n : ℕ) (t : Term) → Passes test scope → IsScoped known scope t
+        → Stands program.expressions n (layout n t) → size t ≤ length program.expressions → IsTrue (list_all test (layout n t))
+    all-pass test scope n (Variable x) passes scoped stands deep = both (test (code.Variable x)) true (passes.variable x) refl
+    all-pass test scope n (Literal l) passes scoped stands deep = both (test (code.Literal l)) true (passes.literal l) refl
+    all-pass test scope n (Whole h ts) passes scoped stands deep =
+        let e = code.Whole h (places n ts) in
+        all_append test (layouts n ts) (e ∷ [])
+        (every-pass test scope n ts passes scoped.1 (Stands-left program.expressions n (layouts n ts) (e ∷ []) stands) (omega arith))
+        (both (test e) true (passes.whole h (count ts) (places n ts) scoped.0) refl)
+    all-pass test scope n (Choice left right) passes scoped stands deep =
+        let m = n + size left in
+        let or = code.Or (place n left) (place m right) in
+        let parts = layout n left ++ layout m right in
+        let within : Stands program.expressions n parts = Stands-left program.expressions n parts (or ∷ []) stands in
+        all_append test parts (or ∷ [])
+        (all_append test (layout n left) (layout m right)
+        (all-pass test scope n left passes scoped.0 (Stands-left program.expressions n (layout n left) (layout m right) within) (omega arith))
+        (all-pass test scope m right passes scoped.1
+        (Stands-right program.expressions n m (layout n left) (layout m right) within (omega (arith, length-layout n left))) (omega arith)))
+        (both (test or) true (passes.or (place n left) (place m right)) refl)
+    all-pass test scope n (Decision variables value if_false if_true) passes scoped stands deep =
+        let m = n + size value in
+        let k = n + size value + size if_false in
+        let case = code.Case Flex variables (place n value) (branches (place m if_false) (place k if_true)) in
+        let front = layout n value ++ layout m if_false in
+        let parts = front ++ layout k if_true in
+        let within : Stands program.expressions n parts = Stands-left program.expressions n parts (case ∷ []) stands in
+        let first_two : Stands program.expressions n front = Stands-left program.expressions n front (layout k if_true) within in
+        let a : Stands program.expressions n (layout n value) = Stands-left program.expressions n (layout n value) (layout m if_false) first_two in
+        let b : Stands program.expressions m (layout m if_false) =
+        Stands-right program.expressions n m (layout n value) (layout m if_false) first_two (omega (arith, length-layout n value)) in
+        let c : Stands program.expressions k (layout k if_true) =
+        Stands-right program.expressions n k front (layout k if_true) within
+        (omega (arith, length-append (layout n value) (layout m if_false), length-layout n value, length-layout m if_false)) in
+        let depth = length program.expressions in
+        all_append test parts (case ∷ [])
+        (all_append test front (layout k if_true)
+        (all_append test (layout n value) (layout m if_false)
+        (all-pass test scope n value passes scoped.1 a (omega arith))
+        (all-pass test scope m if_false passes scoped.2 b (omega arith)))
+        (all-pass test scope k if_true passes scoped.3 c (omega arith)))
+        (both (test case) true
+        (subst (λ (xs : List ℕ). IsTrue (test (code.Case Flex xs (place n value) (branches (place m if_false) (place k if_true))))) (sym scoped.0)
+        (passes.case (place n value) (place m if_false) (place k if_true)
+        (fits-layout scope depth n value scoped.1 a (omega arith))
+        (fits-layout scope depth m if_false scoped.2 b (omega arith))
+        (fits-layout scope depth k if_true scoped.3 c (omega arith))))
+        refl)
+
+    every-pass : (test : Expr → Bool) (scope : List ℕ) (n : ℕ) (ts : Terms) → Passes test scope → AreScoped known scope ts
+        → Stands program.expressions n (layouts n ts) → sizes ts ≤ length program.expressions → IsTrue (list_all test (layouts n ts))
+    every-pass test scope n End passes scoped stands deep = refl
+    every-pass test scope n (More t ts) passes scoped stands deep =
+        let m = n + size t in
+        all_append test (layout n t) (layouts m ts)
+        (all-pass test scope n t passes scoped.0 (Stands-left program.expressions n (layout n t) (layouts m ts) stands) (omega arith))
+        (every-pass test scope m ts passes scoped.1
+        (Stands-right program.expressions n m (layout n t) (layouts m ts) stands (omega (arith, length-layout n t))) (omega arith))
+
+  -- case distinctions fit in the scopes that they name, and no head is a set function
+  cases-pass : (scope : List ℕ) → Passes (fits_case program) scope
+  cases-pass scope = record {
+    variable = λ x. refl;
+    literal = λ l. refl;
+    whole = λ h n es is. refl;
+    or = λ left right. refl;
+    case = decision-fits (fits (length program.expressions) program) scope;
+  }
+
+  sets-pass : (scope : List ℕ) → Passes (λ expr. not (has_set_head expr)) scope
+  sets-pass scope = record {
+    variable = λ x. refl;
+    literal = λ l. refl;
+    whole = λ h n es is. knows.no_sets h n is;
+    or = λ left right. refl;
+    case = λ value if_false if_true v n y. refl;
+  }
+
+-- an operation whose parameters are different and whose body is in their scope
+pub record IsScopedOperation (known : Head → Option ℕ) (o : Operation) : Type 0 where
+  pub arity : IsTrue (is_arity (length o.params))
+  pub linear : IsTrue (is_linear o.params)
+  pub body : IsScoped known o.params o.body
+
 abbrev pub AllScoped : (Head → Option ℕ) → List Operation → Type 0
-AllScoped heads [] = Unit {0}
-AllScoped heads (o ∷ os) = IsScoped heads o.arity o.body × AllScoped heads os
+AllScoped known [] = Unit {0}
+AllScoped known (o ∷ os) = IsScopedOperation known o × AllScoped known os
+
+module _ (program : Code) (known : Head → Option ℕ) (knows : Knows program known) where
+  -- operations in scope fit where they were laid out
+  functions-fit : (n : ℕ) (os : List Operation) → AllScoped known os → Stands program.expressions n (operations_from n os).expressions
+      → length (operations_from n os).expressions ≤ length program.expressions → IsTrue (list_all (fits_function program) (operations_from n os).functions)
+  functions-fit n [] scoped stands within = refl
+  functions-fit n (o ∷ os) scoped stands within =
+      let m = n + size o.body in
+      let others = (operations_from m os).expressions in
+      let lengths : length (layout n o.body ++ others) ≡ length (layout n o.body) + length others = length-append (layout n o.body) others in
+      both _ _
+      (both _ _ scoped.0.arity
+      (both _ _ (both _ _ (eq-eqb (length o.params) (length o.params) refl) scoped.0.linear)
+      (fits-layout program known knows o.params (length program.expressions) n o.body scoped.0.body
+      (Stands-left program.expressions n (layout n o.body) others stands) (omega (arith, length-layout n o.body)))))
+      (functions-fit m os scoped.1
+      (Stands-right program.expressions n m (layout n o.body) others stands (omega (arith, length-layout n o.body))) (omega arith))
+
+  -- and each of their expressions passes what expressions of terms in scope pass
+  operations-pass : (test : Expr → Bool) → ((scope : List ℕ) → Passes program known knows test scope) → (n : ℕ) (os : List Operation) → AllScoped known os
+      → Stands program.expressions n (operations_from n os).expressions → length (operations_from n os).expressions ≤ length program.expressions
+      → IsTrue (list_all test (operations_from n os).expressions)
+  operations-pass test passes n [] scoped stands within = refl
+  operations-pass test passes n (o ∷ os) scoped stands within =
+      let m = n + size o.body in
+      let others = (operations_from m os).expressions in
+      let lengths : length (layout n o.body ++ others) ≡ length (layout n o.body) + length others = length-append (layout n o.body) others in
+      all_append test (layout n o.body) others
+      (all-pass program known knows test o.params n o.body (passes o.params) scoped.0.body
+      (Stands-left program.expressions n (layout n o.body) others stands) (omega (arith, length-layout n o.body)))
+      (operations-pass test passes m os scoped.1
+      (Stands-right program.expressions n m (layout n o.body) others stands (omega (arith, length-layout n o.body))) (omega arith))
+
+-- the arities of a program's operations and of the constructors; set functions aren't known
+abbrev pub known : List Operation → Head → Option ℕ
+known program (Fun f) = option_map (λ o. length o.params) (slice_get program f.0)
+known program (Con c) = option_map (λ constructor. constructor.arity) (slice_get constructors c.0)
+known program (Set f) = None
 
 -- code has the arities of its operations
 arity-get : (n k : ℕ) (os : List Operation)
-    → option_map (λ function. function.arity) (slice_get (code_from n os).functions k) ≡ option_map (λ o. o.arity) (slice_get os k)
+    → elim (slice_get (operations_from n os).functions k) [ Some function ↦ Some function.arity | None ↦ None ] ≡ option_map (λ o. length o.params) (slice_get os k)
 arity-get n k [] = refl
 arity-get n zero (o ∷ os) = refl
 arity-get n (suc k) (o ∷ os) = arity-get (n + size o.body) k os
 
--- scoping depends on the arities alone
-mutual
-  scope-same : (f g : Head → Option ℕ) → ((h : Head) → f h ≡ g h) → (arity : ℕ) (t : Term) → IsScoped f arity t → IsScoped g arity t
-  scope-same f g same arity (Variable x) s = s
-  scope-same f g same arity (Literal l) s = s
-  scope-same f g same arity (Whole h ts) s = (sym (same h) ∙ s.0, scopes-same f g same arity ts s.1)
-  scope-same f g same arity (Choice left right) s = (scope-same f g same arity left s.0, scope-same f g same arity right s.1)
+takes-all : (arity : Option ℕ) (n : ℕ) → arity ≡ Some n → IsTrue (takes arity n)
+takes-all arity n is = rw is (eq-eqb n n refl)
 
-  scopes-same : (f g : Head → Option ℕ) → ((h : Head) → f h ≡ g h) → (arity : ℕ) (ts : Terms) → AreScoped f arity ts → AreScoped g arity ts
-  scopes-same f g same arity End s = s
-  scopes-same f g same arity (More t ts) s = (scope-same f g same arity t s.0, scopes-same f g same arity ts s.1)
+arity-con : (found : Option Constructor) → elim found [ Some constructor ↦ Some constructor.arity | None ↦ None ] ≡ option_map (λ constructor. constructor.arity) found
+arity-con None = refl
+arity-con (Some constructor) = refl
 
--- the bodies of operations in scope fit where they were laid out
-bodies-fit : (code : Code) (n : ℕ) (os : List Operation) → AllScoped (arity_of code) os
-    → Stands code.expressions n (code_from n os).expressions → length (code_from n os).expressions ≤ length code.expressions
-    → IsTrue (list_all (function_fits code) (code_from n os).functions)
-bodies-fit code n [] scope stands within = refl
-bodies-fit code n (o ∷ os) scope stands within =
-    let m = n + size o.body in
-    let others = (code_from m os).expressions in
-    let lengths : length (layout n o.body ++ others) ≡ length (layout n o.body) + length others = length-append (layout n o.body) others in
-    both _ _
-    (fits-layout code o.arity (length code.expressions) n o.body scope.0 (Stands-left code.expressions n (layout n o.body) others stands)
-    (omega (arith, length-layout n o.body)))
-    (bodies-fit code m os scope.1
-    (Stands-right code.expressions n m (layout n o.body) others stands (omega (arith, length-layout n o.body))) (omega arith))
+program-knows : (program : List Operation) → Knows (code_of program) (known program)
+program-knows program = record {
+  heads = heads;
+  no_sets = no_sets;
+  falsity_known = refl;
+  truth_known = refl;
+}
+  where
+    heads : (h : Head) (n : ℕ) → known program h ≡ Some n → IsTrue (is_allowed (code_of program) h && takes (arity_of (code_of program) h) n)
+    heads (Fun f) n is = both true (takes (arity_of (code_of program) (Fun f)) n) refl
+        (takes-all (arity_of (code_of program) (Fun f)) n (arity-get 0 f.0 program ∙ is))
+    heads (Con c) n is = both true (takes (arity_of (code_of program) (Con c)) n) refl
+        (takes-all (arity_of (code_of program) (Con c)) n (arity-con (slice_get constructors c.0) ∙ is))
+    heads (Set f) n is =
+        let no : ⊥ = cc in absurd no
 
--- the same for all bodies
-known-all : (f g : Head → Option ℕ) → ((h : Head) → f h ≡ g h) → (os : List Operation) → AllScoped f os → AllScoped g os
-known-all f g same [] s = s
-known-all f g same (o ∷ os) s = (scope-same f g same o.arity o.body s.0, known-all f g same os s.1)
+    no_sets : (h : Head) (n : ℕ) → known program h ≡ Some n → IsTrue (not (is_set_head h))
+    no_sets (Fun f) n is = refl
+    no_sets (Con c) n is = refl
+    no_sets (Set f) n is =
+        let no : ⊥ = cc in absurd no
 
--- the arities of a program are those of its code
-arity-known : (program : List Operation) (h : Head) → known program h ≡ arity_of (code_of program) h
-arity-known program (Fun f) = sym (arity-get 0 f.0 program)
-arity-known program (Con c) = refl
-arity-known program (Set f) = sym (arity-get 0 f.0 program)
-
--- the code of a program in scope is well-formed
-pub code-well_formed : (program : List Operation) → AllScoped (known program) program → IsTrue (is_well_formed (code_of program))
-code-well_formed program scope =
+-- the code of a program in scope that begins with the conjunction is well-formed, and has no set functions
+code-well_formed : (others : List Operation) → AllScoped (known (conjunction_operation ∷ others)) (conjunction_operation ∷ others)
+    → IsTrue (is_well_formed (code_of (conjunction_operation ∷ others)))
+code-well_formed others scoped =
+    let program = conjunction_operation ∷ others in
     let code = code_of program in
-    bodies-fit code 0 program (known-all (known program) (arity_of code) (arity-known program) program scope)
+    let knows = program-knows program in
+    both _ _
+    (both _ _ (both _ _ refl
+    (functions-fit code (known program) knows 0 program scoped (Stands-all code.expressions) (omega arith)))
+    (operations-pass code (known program) knows (fits_case code) (cases-pass code (known program) knows) 0 program scoped (Stands-all code.expressions) (omega arith)))
+    refl
+
+code-without_sets : (program : List Operation) → AllScoped (known program) program → IsTrue (code_is_without_sets (code_of program))
+code-without_sets program scoped =
+    let code = code_of program in
+    let knows = program-knows program in
+    operations-pass code (known program) knows (λ expr. not (has_set_head expr)) (sets-pass code (known program) knows) 0 program scoped
     (Stands-all code.expressions) (omega arith)
 
 -- the terms of a module's program are in scope
 module _ (heads : Head → Option ℕ) (n : ℕ) (two : heads (Fun choice_operator) ≡ Some 2)
     (none : (k : ℕ) → k < n → heads (Fun (operation_of k)) ≡ Some 0) where
-  item_scoped : (item : Item) → IsItemInScope n item → IsScoped heads 0 (item_term item)
-  item_scoped (Number m) scope = tt
-  item_scoped (Earlier k) scope = (none k scope, tt)
+  item_scoped : (item : Item) → IsSoundItem n item → IsScoped heads [] (item_term item)
+  item_scoped (Number m) sound = sound
+  item_scoped (Earlier k) sound = (none k sound, tt)
 
-  choice_scoped : (item : Item) (items : List Item) → IsItemInScope n item → All (IsItemInScope n) items
-      → IsScoped heads 0 (choice_term item items)
+  choice_scoped : (item : Item) (items : List Item) → IsSoundItem n item → All (IsSoundItem n) items
+      → IsScoped heads [] (choice_term item items)
   choice_scoped item [] first others = item_scoped item first
   choice_scoped item (next ∷ items) first others =
       (two, (item_scoped item first, (choice_scoped next items (others 0 next (omega arith)) (λ k d h. others (suc k) d (omega arith)), tt)))
 
-  definitions_scoped : (definitions : List Definition) (goal : ℕ) → goal < n → All (IsInScope n) definitions
+  constant_scoped : (body : Term) → IsScoped heads [] body → IsScopedOperation heads (constant body)
+  constant_scoped body scoped = record { arity = refl; linear = refl; body = scoped }
+
+  definitions_scoped : (definitions : List Definition) (goal : ℕ) → goal < n → All (IsSound n) definitions
       → AllScoped heads (map (λ definition. constant (choice_term definition.first definition.others)) definitions ++ constant (call_of goal) ∷ [])
-  definitions_scoped [] goal within scope = ((none goal within, tt), tt)
-  definitions_scoped (d ∷ ds) goal within scope =
-      let here : IsInScope n d = scope 0 d (omega arith) in
-      (choice_scoped d.first d.others here.0 here.1, definitions_scoped ds goal within (λ k e h. scope (suc k) e (omega arith)))
+  definitions_scoped [] goal within sound = (constant_scoped (call_of goal) (none goal within, tt), tt)
+  definitions_scoped (d ∷ ds) goal within sound =
+      let here : IsSound n d = sound 0 d (omega arith) in (
+        constant_scoped (choice_term d.first d.others) (choice_scoped d.first d.others here.0 here.1),
+        definitions_scoped ds goal within (λ k e h. sound (suc k) e (omega arith)),
+      )
 
 -- a definition has no parameters
 known_none : (definitions : List Definition) (goal k : ℕ) → k < length definitions
@@ -224,69 +429,116 @@ known_none definitions goal k within =
     let d : Definition = record { name = []; first = Earlier 0; others = [] } in
     let here : slice_get (map of definitions) k ≡ Some (of (get_or definitions k d)) =
     slice_get-map of definitions k ∙ ap (option_map of) (slice_get-get_or definitions k d within) in
-    let next : k + 1 ≡ suc k = omega arith in
+    let next : k + 2 ≡ suc (suc k) = omega arith in
     rw next
-    (ap (option_map (λ o. o.arity)) (get-left (map of definitions) (constant (call_of goal) ∷ []) k (of (get_or definitions k d)) here))
+    (ap (option_map (λ o. length o.params)) (get-left (map of definitions) (constant (call_of goal) ∷ []) k (of (get_or definitions k d)) here))
 
-pub program-scoped : (definitions : List Definition) (goal : ℕ) → goal < length definitions → AreInScope definitions
+program-scoped : (definitions : List Definition) (goal : ℕ) → goal < length definitions → AreSound definitions
     → AllScoped (known (program_of definitions goal)) (program_of definitions goal)
-program-scoped definitions goal within scope = (
-  (omega arith, omega arith),
-  definitions_scoped (known (program_of definitions goal)) (length definitions) refl (known_none definitions goal) definitions goal within scope,
+program-scoped definitions goal within sound = (
+  record { arity = refl; linear = refl; body = (refl, refl, (refl, tt), refl) },
+  (
+    record { arity = refl; linear = refl; body = (refl, refl) },
+    definitions_scoped (known (program_of definitions goal)) (length definitions) refl (known_none definitions goal) definitions goal within sound,
+  ),
 )
 
--- an item that was read names a definition
-item_named : (definitions : List Definition) (word : List ℕ) (item : Item) → IsItem definitions word item → IsItemInScope (length definitions) item
-item_named definitions word (Number n) h = tt
+-- so its code is well-formed, and has no set functions
+pub program-well_formed : (definitions : List Definition) (goal : ℕ) → goal < length definitions → AreSound definitions
+    → IsTrue (is_well_formed (code_of (program_of definitions goal)))
+program-well_formed definitions goal within sound =
+    code-well_formed
+    (choice_operation ∷ map (λ definition. constant (choice_term definition.first definition.others)) definitions ++ constant (call_of goal) ∷ [])
+    (program-scoped definitions goal within sound)
+
+pub program-without_sets : (definitions : List Definition) (goal : ℕ) → goal < length definitions → AreSound definitions
+    → IsTrue (code_is_without_sets (code_of (program_of definitions goal)))
+program-without_sets definitions goal within sound = code-without_sets (program_of definitions goal) (program-scoped definitions goal within sound)
+
+-- each operation has a rule
+rule-get : (n k : ℕ) (os : List Operation) → k < length os
+    → IsTrue (is_rule (elim (slice_get (operations_from n os).functions k) [ Some function ↦ Some function.body | None ↦ None ]))
+rule-get n k [] within = absurd (omega arith)
+rule-get n zero (o ∷ os) within = refl
+rule-get n (suc k) (o ∷ os) within = rule-get (n + size o.body) k os (omega arith)
+
+pub goal-has_rule : (definitions : List Definition) (k : ℕ) → IsTrue (is_rule (body_of (code_of (program_of definitions k)) (goal_of definitions)))
+goal-has_rule definitions k = rule-get 0 (length definitions + 2) (program_of definitions k) (simp (length-append, length-map) (omega arith))
+
+-- digits stand for a number below a power of ten
+digit-below : (b : ℕ) → IsTrue (is_digit b) → b - 48 < 10
+digit-below b digit =
+    let high : nat_le b 57 ≡ true = right_true (nat_le 48 b) (nat_le b 57) digit in
+    omega (arith, leb-true b 57 high)
+
+digits-below : (n k : ℕ) (digits : List ℕ) → n < 10 ^ k → IsTrue (list_all is_digit digits) → value_from n digits < 10 ^ (k + length digits)
+digits-below n k [] small all = rw add-zero small
+digits-below n k (b ∷ bs) small all =
+    let digit : b - 48 < 10 = digit-below b (left_true (is_digit b) (list_all is_digit bs) all) in
+    let more : 10 * n + (b - 48) < 10 ^ suc k = omega (arith, digit, small) in
+    let same : suc k + length bs ≡ k + length (b ∷ bs) = omega arith in
+    subst (λ (m : ℕ). value_from (10 * n + (b - 48)) bs < 10 ^ m) same
+    (digits-below (10 * n + (b - 48)) (suc k) bs more (right_true (is_digit b) (list_all is_digit bs) all))
+
+-- a numeral is an Int
+numeral-is_literal : (word : List ℕ) → IsNumeral word → IsTrue (is_literal (Int (pos (value_from 0 word))))
+numeral-is_literal word numeral =
+    let below : value_from 0 word < 10 ^ (0 + length word) = digits-below 0 0 word (omega arith) numeral.digits in
+    let small : value_from 0 word < 10 ^ 18 = below_digits (value_from 0 word) (0 + length word) 18 below (omega (arith, numeral.few)) in
+    le-leb (value_from 0 word) (2 ^ 63 - 1) (omega (arith, small))
+
+-- an item that was read is one of the language
+item_named : (definitions : List Definition) (word : List ℕ) (item : Item) → IsItem definitions word item → IsSoundItem (length definitions) item
+item_named definitions word (Number n) h = rw h.1 (numeral-is_literal word h.0)
 item_named definitions word (Earlier k) h =
     omega (arith, slice_get_within (names_of definitions) k word h, length-map definitions (λ d. d.name))
 
 -- lists of one
-one_item : (n : ℕ) (item : Item) → IsItemInScope n item → All (IsItemInScope n) (item ∷ [])
+one_item : (n : ℕ) (item : Item) → IsSoundItem n item → All (IsSoundItem n) (item ∷ [])
 one_item n item h zero d within = h
 one_item n item h (suc k) d within = absurd (omega arith)
 
-one_definition : (n : ℕ) (definition : Definition) → IsInScope n definition → All (IsInScope n) (definition ∷ [])
+one_definition : (n : ℕ) (definition : Definition) → IsSound n definition → All (IsSound n) (definition ∷ [])
 one_definition n definition h zero d within = h
 one_definition n definition h (suc k) d within = absurd (omega arith)
 
 -- so do all items of a choice
 choice_named : (definitions : List Definition) (words : List (List ℕ)) (item : Item) (items : List Item) → IsChoice definitions words item items
-    → IsItemInScope (length definitions) item × All (IsItemInScope (length definitions)) items
+    → IsSoundItem (length definitions) item × All (IsSoundItem (length definitions)) items
 choice_named definitions [] item items h = absurd h
-choice_named definitions (word ∷ []) item [] h = (item_named definitions word item h, All-nil (IsItemInScope (length definitions)))
+choice_named definitions (word ∷ []) item [] h = (item_named definitions word item h, All-nil (IsSoundItem (length definitions)))
 choice_named definitions (word ∷ []) item (next ∷ items) h = absurd h
 choice_named definitions (word ∷ mark ∷ words) item [] h = absurd h
 choice_named definitions (word ∷ mark ∷ words) item (next ∷ items) h =
     let others = choice_named definitions words next items h.2 in (
       item_named definitions word item h.0,
-      All-append (IsItemInScope (length definitions)) (next ∷ []) items (one_item (length definitions) next others.0) others.1,
+      All-append (IsSoundItem (length definitions)) (next ∷ []) items (one_item (length definitions) next others.0) others.1,
     )
 
 -- what is in scope stays so where there are more definitions
-more_items : (m n : ℕ) → m ≤ n → (item : Item) → IsItemInScope m item → IsItemInScope n item
-more_items m n le (Number k) h = tt
+more_items : (m n : ℕ) → m ≤ n → (item : Item) → IsSoundItem m item → IsSoundItem n item
+more_items m n le (Number k) h = h
 more_items m n le (Earlier k) h = omega arith
 
-more_definitions : (m n : ℕ) → m ≤ n → (definition : Definition) → IsInScope m definition → IsInScope n definition
+more_definitions : (m n : ℕ) → m ≤ n → (definition : Definition) → IsSound m definition → IsSound n definition
 more_definitions m n le definition h = (
   more_items m n le definition.first h.0,
-  All-weaker (IsItemInScope m) (IsItemInScope n) (more_items m n le) definition.others h.1,
+  All-weaker (IsSoundItem m) (IsSoundItem n) (more_items m n le) definition.others h.1,
 )
 
 -- a module's definitions name no others
-module_scope : (lines : List (List ℕ)) (definitions : List Definition) → IsModule lines definitions → AreInScope definitions
-module_scope _ _ nothing = All-nil (IsInScope 0)
-module_scope _ _ (blank lines more definitions m is_more) = module_scope lines definitions m
-module_scope _ _ (line lines more text definitions together definition m d is_more is_together) =
+module_sound : (lines : List (List ℕ)) (definitions : List Definition) → IsModule lines definitions → AreSound definitions
+module_sound _ _ nothing = All-nil (IsSound 0)
+module_sound _ _ (blank lines more definitions m is_more) = module_sound lines definitions m
+module_sound _ _ (line lines more text definitions together definition m d is_more is_together) =
     let le : length definitions ≤ length together = omega (arith, ap length is_together, length-append definitions (definition ∷ [])) in
     let n = length together in
-    subst (λ ds. All (IsInScope n) ds) (sym is_together)
-    (All-append (IsInScope n) definitions (definition ∷ [])
-    (All-weaker (IsInScope (length definitions)) (IsInScope n) (more_definitions (length definitions) n le) definitions
-    (module_scope lines definitions m))
+    subst (λ ds. All (IsSound n) ds) (sym is_together)
+    (All-append (IsSound n) definitions (definition ∷ [])
+    (All-weaker (IsSound (length definitions)) (IsSound n) (more_definitions (length definitions) n le) definitions
+    (module_sound lines definitions m))
     (one_definition n definition
     (more_definitions (length definitions) n le definition (choice_named definitions d.words definition.first definition.others d.choice))))
 
-pub accepted-scope : (lines : List (List ℕ)) (definitions : List Definition) → Accepts lines definitions → AreInScope definitions
-accepted-scope lines definitions accepted = module_scope lines definitions accepted.parsed
+pub accepted-sound : (lines : List (List ℕ)) (definitions : List Definition) → Accepts lines definitions → AreSound definitions
+accepted-sound lines definitions accepted = module_sound lines definitions accepted.parsed

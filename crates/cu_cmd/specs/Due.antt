@@ -1,9 +1,10 @@
 -- What a run has to write.
-use Rattle.std.specs.Prelude.{◌≡◌, ℕ, ◌<◌, List, [], ◌∷◌, Option, Result, Ok, Err, length, string_bytes}
+use Rattle.std.specs.Prelude.{◌≡◌, ℕ, List, [], ◌∷◌, Option, Result, Ok, Err, IsTrue, string_bytes}
 use Rattle.std.specs.List.{concat}
 use Rattle.cu_io.specs.Rose.{Rose}
-use Rattle.cu_machine.specs.Line.{pieces}
+use Rattle.cu_calculus.specs.Code.{body_of, is_rule}
 use Rattle.cu_machine.specs.Listing.{listing}
+use Rattle.cu_machine.specs.Sets.{code_is_without_sets}
 use Rattle.cu_machine.specs.State.{start_of}
 use Rattle.cu_cmd.specs.declared.due.Due.{Due}
 use Rattle.cu_cmd.specs.declared.due.Due.TheVariants.{Listing, Refusal}
@@ -13,6 +14,7 @@ use Rattle.cu_cmd.specs.declared.rounds.SearchFault.{SearchFault}
 use Rattle.cu_cmd.specs.declared.rounds.SearchFault.TheVariants as search
 use Rattle.cu_cmd.specs.declared.status.Status.{Status}
 use Rattle.cu_cmd.specs.declared.status.Status.TheVariants as status
+use Rattle.cu_cmd.specs.Line.{pieces}
 use Rattle.cu_cmd.specs.Report.{Adds, Held, IsFront, Report, default_limits, status_of}
 use Rattle.cu_cmd.specs.Words.{ReadsAs, Solve}
 
@@ -20,17 +22,17 @@ use Rattle.cu_cmd.specs.Words.{ReadsAs, Solve}
 abbrev pub Owes : Due → List (List ℕ) → Held → Type 0
 Owes (Refusal line) words held = Report words held (string_bytes line ∷ []) status.Refused
 Owes (Listing program goal) words held =
-    let goal_listing = listing program default_limits (start_of goal)
+    let goal_listing = listing program default_limits (start_of program goal)
     in Report words held (pieces goal_listing) (status_of goal_listing.end)
 
 -- the same for all words that ask so
 abbrev pub OwesTo : Solve → Due → Held → Type 0
 OwesTo solve due held = (words : List (List ℕ)) → ReadsAs words solve → Owes due words held
 
--- the goal of a listing is an operation of its program
+-- the goal of a listing is an operation with a rule, and its program has no set functions
 abbrev pub IsRunnable : Due → Type 0
 IsRunnable (Refusal line) = Unit {0}
-IsRunnable (Listing program goal) = goal.0 < length program.functions
+IsRunnable (Listing program goal) = IsTrue (is_rule (body_of program goal)) × IsTrue (code_is_without_sets program)
 
 -- The library's count of faults rose where it failed, and stands otherwise.
 abbrev pub HasReadCause : {A : Type 0} → Result A ReadFault → ℕ → ℕ → Type 0

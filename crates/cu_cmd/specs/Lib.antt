@@ -1,11 +1,14 @@
 pub mod Asked
+pub mod Builtin
 pub mod Causes
 pub mod Choices
 pub mod Definition
 pub mod Due
 pub mod Faults
 pub mod Layout
+pub mod Line
 pub mod Program
+pub mod Ready
 pub mod Report
 pub mod SearchFaults
 pub mod Term

@@ -6,13 +6,13 @@ use Rattle.cu_io.specs.Fetches.{most_bytes}
 use Rattle.cu_machine.specs.declared.End.{End}
 use Rattle.cu_machine.specs.declared.End.TheVariants as ends
 use Rattle.cu_machine.specs.declared.SearchLimits.{SearchLimits}
-use Rattle.cu_machine.specs.Line.{pieces}
 use Rattle.cu_machine.specs.Listing.{Listing, listing}
 use Rattle.cu_machine.specs.State.{start_of}
 use Rattle.cu_cmd.specs.declared.status.Status.{Status}
 use Rattle.cu_cmd.specs.declared.status.Status.TheVariants as status
 use Rattle.cu_cmd.specs.Choices.{Accepts, IsAbsent, Refuses, lines_of, names_of}
 use Rattle.cu_cmd.specs.Definition.{Definition}
+use Rattle.cu_cmd.specs.Line.{pieces}
 use Rattle.cu_cmd.specs.Program.{goal_of, program_of}
 use Rattle.cu_cmd.specs.Words.{IsCommand, ReadsAs, Solve}
 
@@ -45,7 +45,9 @@ syntax_line name line = codes "refused 6 Syntax " ++ (name ++ (codes ":" ++ (dec
 
 -- what a goal is listed as in a module of these definitions, where it names the k-th of them
 abbrev pub answers_of : List Definition → ℕ → Listing
-answers_of definitions k = listing (code_of (program_of definitions k)) default_limits (start_of (goal_of definitions))
+answers_of definitions k =
+    let code = code_of (program_of definitions k)
+    in listing code default_limits (start_of code (goal_of definitions))
 
 -- The run writes these pieces and ends with this status.
 pub data Report (words : List (List ℕ)) (held : Held) : List (List ℕ) → Status → Type 0 where

@@ -1,17 +1,19 @@
 -- The terms of programs of choices, and the programs.
-use Rattle.std.specs.Prelude.{ℕ}
+use Rattle.std.specs.Prelude.{ℕ, List}
 use Rattle.cu_calculus.specs.declared.Head.{Head}
 use Rattle.cu_calculus.specs.declared.Lit.{Lit}
 
 mutual
   pub data Term : Type 0 where
-    -- a parameter of the operation, counted from 0
+    -- a parameter of the operation
     Variable : ℕ → Term
     Literal : Lit → Term
     -- a head with all its arguments
     Whole : Head → Terms → Term
     -- either of two terms
     Choice : Term → Term → Term
+    -- The second term where the first is worth False, and the third where it is worth True. The variables are those in scope.
+    Decision : List ℕ → Term → Term → Term → Term
 
   pub data Terms : Type 0 where
     End : Terms
@@ -19,5 +21,5 @@ mutual
 
 -- A defined operation of a flat program: one rule whose parameters are different variables.
 pub record Operation : Type 0 where
-  pub arity : ℕ
+  pub params : List ℕ
   pub body : Term

@@ -1,21 +1,33 @@
 //! The lines of a listing.
-ghost use Rattle.std.specs.Prelude.{◌≡◌, ◌++◌, IfOk, codes, string_bytes};
+ghost use Rattle.std.specs.Prelude.{◌≡◌, ◌∷◌, ◌++◌, IfOk, OnOk, codes, string_bytes};
 ghost use Rattle.cu_machine.specs.declared.End.TheVariants.{NoMore};
-ghost use Rattle.cu_machine.specs.Line.{end_text, line_text, show_literal, shown_character, stop_text};
 ghost use Rattle.cu_machine.specs.Listing.{Answered, Waiting};
 ghost use Rattle.cu_step.specs.Outcome.{reading_of};
+ghost use Rattle.cu_cmd.specs.Line.{end_text, line_text, show, show_literal, shown_character, stop_text, waited_text, waits_text};
 
 use cu_flat::Lit;
-use cu_machine::{End, Stop};
+use cu_machine::{End, Stop, Waited};
 use cu_step::Reading;
+use cu_values::{Cell, Value};
 use std::alloc::{AllocError, Global};
 
 /// The line of an answer in a round, with its line feed.
-pub fn answer_line(alloc: Global, round: u64, reading: Reading) -> Result<String, AllocError>
-    ensures { IfOk result (λ text. string_bytes text ≡ line_text (Answered round (reading_of reading))) }
+pub fn answer_line(alloc: Global, round: u64, reading: &Reading) -> Result<String, AllocError>
+    ensures { IfOk result (λ text. string_bytes text ≡ line_text (Answered round (reading_of reading.now))) }
 {
-    let value = literal_text(alloc, reading.value)?;
+    let value = value_text(alloc, &reading.value)?;
     format!(in alloc; "[{round}] {value}\n")
+}
+
+/// A value as it is shown: a literal, since the answers of a program of
+/// choices are numbers.
+fn value_text(alloc: Global, value: &Value) -> Result<String, AllocError>
+    ensures { IfOk result (λ text. string_bytes text ≡ show value.now) }
+{
+    match value.head() {
+        Cell::Lit(literal) => literal_text(alloc, literal),
+        _ => Ok(String::new(alloc)),
+    }
 }
 
 /// A literal as it is shown.
@@ -53,11 +65,50 @@ fn character_text(alloc: Global, character: char) -> Result<String, AllocError>
     }
 }
 
-/// The line of a branch that waits in a round, with its line feed.
-pub fn wait_line(alloc: Global, round: u64) -> Result<String, AllocError>
-    ensures { IfOk result (λ text. string_bytes text ≡ line_text (Waiting round)) }
+/// The line of a branch that waits in a round for these variables, with its
+/// line feed.
+pub fn wait_line(alloc: Global, round: u64, names: &[Waited]) -> Result<String, AllocError>
+    ensures { IfOk result (λ text. string_bytes text ≡ line_text (Waiting round names.now)) }
 {
-    format!(in alloc; "[{round}] waits inside a set function\n")
+    let waits = waits_text(alloc, names)?;
+    format!(in alloc; "[{round}] {waits}\n")
+}
+
+/// What a branch waits for.
+fn waits_text(alloc: Global, names: &[Waited]) -> Result<String, AllocError>
+    ensures { IfOk result (λ text. string_bytes text ≡ waits_text names.now) }
+{
+    match names {
+        [] => String::from_str(alloc, "waits inside a set function"),
+        [first, others @ ..] => waits_on(alloc, *first, others),
+    }
+}
+
+/// The variables that a branch waits for, of which there is at least one.
+fn waits_on(alloc: Global, first: Waited, others: &[Waited]) -> Result<String, AllocError>
+    ensures { IfOk result (λ text. string_bytes text ≡ waits_text (first ∷ others.now)) }
+{
+    let mut text = String::from_str(alloc, "waits on ")?;
+    push_waited(alloc, &mut text, first)?;
+    for other in others {
+        text.push_str(", ")?;
+        push_waited(alloc, &mut text, *other)?;
+    }
+    Ok(text)
+}
+
+/// Writes a variable that is waited for. The goals of programs of choices
+/// have no variables, so that all are numbered.
+fn push_waited(alloc: Global, text: &mut String, name: Waited) -> Result<(), AllocError>
+    ensures { OnOk result (string_bytes text.new ≡ string_bytes text.old ++ waited_text name) }
+{
+    match name {
+        Waited::Named(_) => Ok(()),
+        Waited::Other(number) => {
+            let name = format!(in alloc; "_{number}")?;
+            text.push_str(name.as_str())
+        }
+    }
 }
 
 /// The last line of a listing, with its line feed.
@@ -92,6 +143,7 @@ fn stop_words(stop: Stop) -> &'static str
     ensures { result.now ≡ stop_text stop }
 {
     match stop {
+        Stop::Overflow(_, _, _) => "overflow",
         Stop::TooLarge(_) => "too large",
         Stop::TooWide(_) => "too wide",
     }
@@ -100,45 +152,73 @@ fn stop_words(stop: Stop) -> &'static str
 #[cfg(test)]
 mod tests {
     use super::*;
+    use cu_flat::{Int, Prim};
     use std::test::Fail;
 
-    #[test]
-    fn texts_of_lines(rt: HostRuntime) -> Result<(), Fail> {
-        let alloc = rt.alloc();
-        let zero = Reading { value: Lit::Int(0) };
-        let negative = Reading {
-            value: Lit::Int(-7),
+    /// Whether this text was made.
+    fn is(text: Result<String, AllocError>, want: &str) -> Result<bool, AllocError> {
+        Ok(text?.as_str() == want)
+    }
+
+    fn number_line(alloc: Global, round: u64, number: Int) -> Result<String, AllocError> {
+        let reading = Reading {
+            bindings: Vec::new(alloc),
+            value: Value::literal(alloc, Lit::Int(number))?,
         };
-        let table = [
-            (answer_line(alloc, 4, zero)?, "[4] 0\n"),
-            (answer_line(alloc, 12, negative)?, "[12] -7\n"),
-            (wait_line(alloc, 5)?, "[5] waits inside a set function\n"),
-            (end_line(alloc, End::NoMore(0))?, "no more\n"),
-            (end_line(alloc, End::NoMore(3))?, "no more; 3 floundered\n"),
-            (
-                end_line(alloc, End::Rounds(100, 1))?,
-                "stopped at round 100; 1 open\n",
-            ),
-            (end_line(alloc, End::Answers(1))?, "stopped at answer 1\n"),
-            (
-                end_line(alloc, End::Stopped(Stop::TooLarge(11), 1))?,
-                "too large at round 1\n",
-            ),
-            (
-                end_line(alloc, End::Stopped(Stop::TooWide(9), 52))?,
-                "too wide at round 52\n",
-            ),
+        answer_line(alloc, round, &reading)
+    }
+
+    #[test]
+    fn texts_of_answers(rt: HostRuntime) -> Result<(), Fail> {
+        let alloc = rt.alloc();
+        assert!(rt; is(number_line(alloc, 4, 0), "[4] 0\n")?);
+        assert!(rt; is(number_line(alloc, 12, -7), "[12] -7\n")?);
+        Ok(())
+    }
+
+    #[test]
+    fn texts_of_waits(rt: HostRuntime) -> Result<(), Fail> {
+        let alloc = rt.alloc();
+        let inside = "[5] waits inside a set function\n";
+        assert!(rt; is(wait_line(alloc, 5, &[]), inside)?);
+        let one = [Waited::Other(1)];
+        assert!(rt; is(wait_line(alloc, 0, &one), "[0] waits on _1\n")?);
+        let two = [Waited::Other(1), Waited::Other(2)];
+        assert!(rt; is(wait_line(alloc, 3, &two), "[3] waits on _1, _2\n")?);
+        Ok(())
+    }
+
+    #[test]
+    fn texts_of_ends(rt: HostRuntime) -> Result<(), Fail> {
+        let rows = [
+            (End::NoMore(0), "no more\n"),
+            (End::NoMore(3), "no more; 3 floundered\n"),
+            (End::Rounds(100, 1), "stopped at round 100; 1 open\n"),
+            (End::Answers(1), "stopped at answer 1\n"),
         ];
-        for (line, want) in table {
-            assert_eq!(rt; line.as_str(), want);
+        for (end, want) in rows {
+            assert!(rt; is(end_line(rt.alloc(), end), want)?, "{want}");
+        }
+        Ok(())
+    }
+
+    #[test]
+    fn texts_of_stops(rt: HostRuntime) -> Result<(), Fail> {
+        let rows = [
+            (Stop::TooLarge(11), 1, "too large at round 1\n"),
+            (Stop::TooWide(9), 52, "too wide at round 52\n"),
+            (Stop::Overflow(Prim::Add, 1, 2), 7, "overflow at round 7\n"),
+        ];
+        for (stop, round, want) in rows {
+            let end = End::Stopped(stop, round);
+            assert!(rt; is(end_line(rt.alloc(), end), want)?, "{want}");
         }
         Ok(())
     }
 
     #[test]
     fn texts_of_characters(rt: HostRuntime) -> Result<(), Fail> {
-        let alloc = rt.alloc();
-        let table = [
+        let rows = [
             ('a', "'a'"),
             ('\'', r"'\''"),
             ('\\', r"'\\'"),
@@ -151,9 +231,9 @@ mod tests {
             ('\u{7f}', r"'\127'"),
             ('\u{e9}', "'\u{e9}'"),
         ];
-        for (character, want) in table {
-            let text = literal_text(alloc, Lit::Char(character))?;
-            assert_eq!(rt; text.as_str(), want);
+        for (character, want) in rows {
+            let text = literal_text(rt.alloc(), Lit::Char(character));
+            assert!(rt; is(text, want)?, "{want}");
         }
         Ok(())
     }

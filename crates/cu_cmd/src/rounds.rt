@@ -1,11 +1,13 @@
 //! The rounds of a search, and the lines that they write.
-ghost use Rattle.std.specs.Prelude.{◌≡◌, ◌+◌, ◌<◌, ◌^◌, ◌≤◌, IfErr, IfNone, IfOk, None, OnErr, OnOk, Some, if◌then◌else◌, length, nat_eq, nat_lt};
+ghost use Rattle.std.specs.Prelude.{◌≡◌, ◌+◌, ◌<◌, ◌^◌, ◌≤◌, IfErr, IfNone, IfOk, IsTrue, None, OnErr, OnOk, Some, if◌then◌else◌, nat_eq, nat_lt};
 ghost use Rattle.std.specs.List.{concat};
+ghost use Rattle.cu_calculus.specs.Code.{body_of, is_rule};
 ghost use Rattle.cu_machine.specs.declared.End.TheVariants.{NoMore, Rounds, Stopped};
 ghost use Rattle.cu_machine.specs.declared.Stop.TheVariants.{TooWide};
-ghost use Rattle.cu_machine.specs.Line.{end_text, pieces};
 ghost use Rattle.cu_machine.specs.Listing.{listing};
+ghost use Rattle.cu_machine.specs.Sets.{code_is_without_sets};
 ghost use Rattle.cu_machine.specs.State.{start_of};
+ghost use Rattle.cu_cmd.specs.Line.{end_text, pieces};
 ghost use Rattle.cu_cmd.specs.Report.{Adds, AddsFront};
 ghost use Rattle.cu_cmd.specs.SearchFaults.{HasSearchCause};
 
@@ -49,12 +51,13 @@ pub fn list_goal<S: Store, K: Sink>(
     limits: &SearchLimits,
     sink: &mut K,
 ) -> Result<End, SearchFault>
-    requires { goal.0 < length program.now.functions }
-    ensures end { IfOk result (λ end. end ≡ (listing program.now limits.now (start_of goal)).end) }
+    requires rule { IsTrue (is_rule (body_of program.now goal)) }
+    requires code { IsTrue (code_is_without_sets program.now) }
+    ensures end { IfOk result (λ end. end ≡ (listing program.now limits.now (start_of program.now goal)).end) }
     ensures whole { IfOk result (λ _. Adds (K.written sink.old) (K.written sink.new)
-        (concat (pieces (listing program.now limits.now (start_of goal))))) }
+        (concat (pieces (listing program.now limits.now (start_of program.now goal))))) }
     ensures front { IfErr result (λ _. AddsFront (K.written sink.old) (K.written sink.new)
-        (concat (pieces (listing program.now limits.now (start_of goal))))) }
+        (concat (pieces (listing program.now limits.now (start_of program.now goal))))) }
     ensures cause { HasSearchCause result (K.fault_count sink.old) (K.fault_count sink.new) }
 {
     let mut level = first_level::<S>(alloc, program, goal)?;

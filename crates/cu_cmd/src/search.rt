@@ -1,14 +1,17 @@
 //! One round of a search: all branches of a level are stepped, their outcomes
 //! are listed, and the next level is made.
-ghost use Rattle.std.specs.Prelude.{◌≡◌, ◌+◌, ◌<◌, ◌++◌, List, [], ◌∷◌, Option, Some, None, IfOk, OnErr, OnOk, if◌then◌else◌, flat_map, length, map};
-ghost use Rattle.std.specs.List.{concat};
+ghost use Rattle.std.specs.Prelude.{◌≡◌, ◌+◌, ◌++◌, List, [], ◌∷◌, Option, Some, None, IfOk, IsTrue, OnErr, OnOk, if◌then◌else◌, flat_map, map};
+ghost use Rattle.std.specs.List.{All, concat};
+ghost use Rattle.cu_calculus.specs.Code.{body_of, is_rule};
 ghost use Rattle.cu_machine.specs.declared.End.TheVariants.{Answers};
 ghost use Rattle.cu_machine.specs.Level.{go_list};
-ghost use Rattle.cu_machine.specs.Line.{line_text, line_texts};
 ghost use Rattle.cu_machine.specs.Listing.{Answered, Waiting, is_last, one_answer, one_wait, round_of};
 ghost use Rattle.cu_machine.specs.Next.{next};
+ghost use Rattle.cu_machine.specs.Sets.{code_is_without_sets};
 ghost use Rattle.cu_machine.specs.State.{start_of};
-ghost use Rattle.cu_step.specs.Outcome.{next_of, reading_of, state_of};
+ghost use Rattle.cu_step.specs.Outcome.{branches_of, next_of, reading_of, state_of};
+ghost use Rattle.cu_cmd.specs.Line.{line_text, line_texts};
+ghost use Rattle.cu_cmd.specs.Ready.{IsReady};
 ghost use Rattle.cu_cmd.specs.Report.{Adds, AddsFront};
 ghost use Rattle.cu_cmd.specs.SearchFaults.{HasSearchCause};
 
@@ -18,7 +21,7 @@ use crate::rounds::SearchFault;
 use cu_flat::{FlatProgram, FunId};
 use cu_graph::Store;
 use cu_io::Sink;
-use cu_machine::{End, Limits, SearchLimits};
+use cu_machine::{End, Limits, SearchLimits, Waited};
 use cu_step::{Branch, Outcome, Reading, start, step};
 use std::alloc::{AllocError, Global};
 use std::marker::Model;
@@ -84,8 +87,9 @@ pub fn first_level<S: Store>(
     program: &FlatProgram,
     goal: FunId,
 ) -> Result<Vec<Branch<S>>, AllocError>
-    requires { goal.0 < length program.now.functions }
-    ensures { IfOk result (λ level. map (state_of S.content) level.items ≡ start_of goal ∷ []) }
+    requires { IsTrue (is_rule (body_of program.now goal)) }
+    ensures level { IfOk result (λ level. map (state_of S.content) level.items ≡ start_of program.now goal ∷ []) }
+    ensures ready { IfOk result (λ level. All (λ branch. IsReady program.now (state_of S.content branch)) level.items) }
 {
     let mut level = Vec::new(alloc);
     level.push(start(alloc, program, goal)?)?;
@@ -103,12 +107,15 @@ pub fn list_round<S: Store, K: Sink>(
     tally: &mut Tally,
     sink: &mut K,
 ) -> Result<Option<End>, SearchFault>
+    requires code { IsTrue (code_is_without_sets program.now) }
+    requires ready { All (λ branch. IsReady program.now (state_of S.content branch)) level.old.items }
     ensures end { IfOk result (λ end. end ≡ (round_of round limits.now.answers tally.old
         (map (next program.now limits.now.step) (map (state_of S.content) level.old.items))).end) }
     ensures tally { OnOk result (tally.new ≡ (round_of round limits.now.answers tally.old
         (map (next program.now limits.now.step) (map (state_of S.content) level.old.items))).tally) }
     ensures level { OnOk result (map (state_of S.content) level.new.items
         ≡ flat_map go_list (map (next program.now limits.now.step) (map (state_of S.content) level.old.items))) }
+    ensures ready { OnOk result (All (λ branch. IsReady program.now (state_of S.content branch)) level.new.items) }
     ensures whole { OnOk result (Adds (K.written sink.old) (K.written sink.new)
         (concat (line_texts (round_of round limits.now.answers tally.old
         (map (next program.now limits.now.step) (map (state_of S.content) level.old.items))).lines))) }
@@ -131,8 +138,12 @@ fn step_level<S: Store>(
     limits: &Limits,
     level: Vec<Branch<S>>,
 ) -> Result<Vec<Outcome<S>>, AllocError>
-    ensures { IfOk result (λ outcomes. map (next_of S.content) outcomes.items
+    requires code { IsTrue (code_is_without_sets program.now) }
+    requires ready { All (λ branch. IsReady program.now (state_of S.content branch)) level.items }
+    ensures next { IfOk result (λ outcomes. map (next_of S.content) outcomes.items
         ≡ map (next program.now limits.now) (map (state_of S.content) level.items)) }
+    ensures ready { IfOk result (λ outcomes. All (λ outcome. All (λ branch. IsReady program.now (state_of S.content branch))
+        (branches_of outcome)) outcomes.items) }
 {
     let mut outcomes = Vec::with_capacity(alloc, level.len())?;
     for branch in level {
@@ -146,8 +157,7 @@ fn next_level<S: Store>(
     alloc: Global,
     outcomes: Vec<Outcome<S>>,
 ) -> Result<Vec<Branch<S>>, AllocError>
-    ensures { IfOk result (λ level. map (state_of S.content) level.items
-        ≡ flat_map go_list (map (next_of S.content) outcomes.items)) }
+    ensures { IfOk result (λ level. level.items ≡ flat_map branches_of outcomes.items) }
 {
     let mut level = Vec::new(alloc);
     for outcome in outcomes {
@@ -161,13 +171,13 @@ fn add_following<S: Store>(
     level: &mut Vec<Branch<S>>,
     outcome: Outcome<S>,
 ) -> Result<(), AllocError>
-    ensures { OnOk result (map (state_of S.content) level.new.items
-        ≡ map (state_of S.content) level.old.items ++ go_list (next_of S.content outcome)) }
+    ensures { OnOk result (level.new.items ≡ level.old.items ++ branches_of outcome) }
 {
     match outcome {
         Outcome::Go(mut branches) => level.append(&mut branches),
         Outcome::Answer(_) => Ok(()),
-        Outcome::Wait => Ok(()),
+        Outcome::Fail => Ok(()),
+        Outcome::Wait(_) => Ok(()),
         Outcome::Stop(_) => Ok(()),
     }
 }
@@ -223,8 +233,9 @@ fn list_outcome<S: Store, K: Sink>(
 {
     match outcome {
         Outcome::Go(_) => Ok(None),
-        Outcome::Answer(reading) => list_answer(alloc, round, limit, *reading, tally, sink),
-        Outcome::Wait => list_wait(alloc, round, tally, sink),
+        Outcome::Answer(reading) => list_answer(alloc, round, limit, reading, tally, sink),
+        Outcome::Fail => Ok(None),
+        Outcome::Wait(names) => list_wait(alloc, round, names.as_slice(), tally, sink),
         Outcome::Stop(stop) => Ok(Some(End::Stopped(*stop, round))),
     }
 }
@@ -235,7 +246,7 @@ fn list_answer<K: Sink>(
     alloc: Global,
     round: u64,
     limit: Option<u64>,
-    reading: Reading,
+    reading: &Reading,
     tally: &mut Tally,
     sink: &mut K,
 ) -> Result<Option<End>, SearchFault>
@@ -243,9 +254,9 @@ fn list_answer<K: Sink>(
         then Some (Answers (tally.old.answers + 1)) else None)) }
     ensures tally { OnOk result (tally.new ≡ one_answer tally.old) }
     ensures whole { OnOk result (Adds (K.written sink.old) (K.written sink.new)
-        (line_text (Answered round (reading_of reading)))) }
+        (line_text (Answered round (reading_of reading.now)))) }
     ensures front { OnErr result (AddsFront (K.written sink.old) (K.written sink.new)
-        (line_text (Answered round (reading_of reading)))) }
+        (line_text (Answered round (reading_of reading.now)))) }
     ensures cause { HasSearchCause result (K.fault_count sink.old) (K.fault_count sink.new) }
 {
     tally.add_answer()?;
@@ -264,21 +275,23 @@ fn last_answer(limit: Option<u64>, answers: u64) -> Option<End>
     }
 }
 
-/// Lists a waiting branch. The listing doesn't end there.
+/// Lists a branch that waits for these variables. The listing doesn't end
+/// there.
 fn list_wait<K: Sink>(
     alloc: Global,
     round: u64,
+    names: &[Waited],
     tally: &mut Tally,
     sink: &mut K,
 ) -> Result<Option<End>, SearchFault>
     ensures end { IfOk result (λ end. end ≡ None) }
     ensures tally { OnOk result (tally.new ≡ one_wait tally.old) }
-    ensures whole { OnOk result (Adds (K.written sink.old) (K.written sink.new) (line_text (Waiting round))) }
-    ensures front { OnErr result (AddsFront (K.written sink.old) (K.written sink.new) (line_text (Waiting round))) }
+    ensures whole { OnOk result (Adds (K.written sink.old) (K.written sink.new) (line_text (Waiting round names.now))) }
+    ensures front { OnErr result (AddsFront (K.written sink.old) (K.written sink.new) (line_text (Waiting round names.now))) }
     ensures cause { HasSearchCause result (K.fault_count sink.old) (K.fault_count sink.new) }
 {
     tally.add_wait()?;
-    let line = wait_line(alloc, round)?;
+    let line = wait_line(alloc, round, names)?;
     write_piece(sink, line.as_str())?;
     Ok(None)
 }

@@ -4,7 +4,7 @@ ghost use Rattle.cu_io.specs.Fetches.{most_bytes};
 ghost use Rattle.cu_cmd.specs.Asked.{asked};
 ghost use Rattle.cu_cmd.specs.Choices.{Accepts, lines_of};
 ghost use Rattle.cu_cmd.specs.Due.{HasReadCause, IsRunnable, OwesTo};
-ghost use Rattle.cu_cmd.specs.Program.{AreInScope};
+ghost use Rattle.cu_cmd.specs.Program.{AreSound};
 ghost use Rattle.cu_cmd.specs.Report.{Held};
 
 use crate::choices::{ModuleFault, find_name, read_module};
@@ -18,7 +18,7 @@ use std::alloc::{AllocError, Global};
 
 /// What is due for a goal in a module of these definitions.
 fn due_of_goal(alloc: Global, solve: &Solve, definitions: &[Definition]) -> Result<Due, AllocError>
-    requires { AreInScope definitions.now }
+    requires { AreSound definitions.now }
     ensures owes { IfOk result (λ due. (held : Held) (text : List ℕ)
         → held solve.now.folder.now solve.now.«module».now ≡ Some text
         → Accepts (lines_of (take most_bytes text)) definitions.now

@@ -13,7 +13,8 @@ pub enum Status {
     Usage = 3,
     /// The module or the goal is refused.
     Refused = 4,
-    /// The listing ends since a branch or a level is too large.
+    /// The listing ends since an operation overflows, or a branch, an answer
+    /// or a level is too large.
     Stopped = 5,
     /// The library or the input failed.
     ReadFault = 6,

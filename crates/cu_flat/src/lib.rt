@@ -1,48 +1,69 @@
-//! Flat programs: the code that the machine runs. An operation has one body,
-//! and all expressions stand in one list, where each names its parts by their
+//! Flat programs: the code that the machine runs. A function has one rule, and
+//! all expressions stand in one list, where each names its parts by their
 //! places.
 #![tactic(auto)]
 
-ghost use Rattle.std.specs.Prelude.{◌≡◌, ◌<◌, option_map, length, IsSome, IsTrue};
-ghost use Rattle.cu_calculus.specs.Code.{arity_of, body_of, expr_of};
+ghost use Rattle.std.specs.Prelude.{◌≡◌, ◌<◌, option_map, length, IsSome, IsTrue, Some};
+ghost use Rattle.cu_calculus.specs.Code.{arity_of, body_of, expr_of, scope_of};
 ghost use Rattle.cu_calculus.specs.WellFormed.{is_well_formed};
+ghost use Rattle.cu_flat.specs.Meaning.{body_meaning, code_of, expr_meaning};
 
-pub use cu_calculus::{Expr, ExprId, ExprIds, FlatFunction, FunId, Head, Int, Lit};
+mod expr;
+
+pub use cu_calculus::{ConId, FunId, Head, Int, Lit, Mode, Prim, Special};
+pub use expr::{Expr, ExprId, FlatBody, FlatConstructor, FlatFunction, Pattern};
 use std::marker::Model;
 
-/// A flat program. Contracts see its code: the list of its operations and
-/// the list of its expressions. It is well-formed.
+/// An expression with the variables that are in scope at it, in the order of
+/// their binding. Only those of a case distinction are kept.
+#[derive(Drop)]
+pub struct Entry {
+    pub expr: Expr,
+    pub scope: Vec<u32>,
+}
+
+/// A flat program. Contracts see its code. It is well-formed.
 #[derive(Drop)]
 pub struct FlatProgram {
     functions: Vec<FlatFunction>,
-    expressions: Vec<Expr>,
+    constructors: Vec<FlatConstructor>,
+    special: Special,
+    entries: Vec<Entry>,
 }
 
 impl Model for FlatProgram {
     ghost use Rattle.std.specs.Prelude.{IsTrue};
     ghost use Rattle.cu_calculus.specs.Code.{Code};
     ghost use Rattle.cu_calculus.specs.WellFormed.{is_well_formed};
+    ghost use Rattle.cu_flat.specs.Meaning.{code_of};
 
     ghost Value = { Code };
 
-    ghost view = { λ p. record { functions = p.functions.items; expressions = p.expressions.items } };
+    ghost view = { λ p. code_of p.functions.items p.constructors.items p.special p.entries.items };
 
-    ghost invariant = { λ p. IsTrue (is_well_formed (record { functions = p.functions.items; expressions = p.expressions.items })) };
+    ghost invariant = { λ p. IsTrue (is_well_formed (code_of p.functions.items p.constructors.items p.special p.entries.items)) };
 }
 
 impl FlatProgram {
-    /// The program of these operations over these expressions.
-    pub fn new(functions: Vec<FlatFunction>, expressions: Vec<Expr>) -> FlatProgram
-        requires { IsTrue (is_well_formed (record { functions = functions.items; expressions = expressions.items })) }
-        ensures { result ≡ record { functions = functions.items; expressions = expressions.items } }
+    /// The program of these functions and constructors over these expressions.
+    pub fn new(
+        functions: Vec<FlatFunction>,
+        constructors: Vec<FlatConstructor>,
+        special: Special,
+        entries: Vec<Entry>,
+    ) -> FlatProgram
+        requires { IsTrue (is_well_formed (code_of functions.items constructors.items special entries.items)) }
+        ensures { result ≡ code_of functions.items constructors.items special entries.items }
     {
         FlatProgram {
             functions,
-            expressions,
+            constructors,
+            special,
+            entries,
         }
     }
 
-    /// How many operations the program has.
+    /// How many functions the program has.
     pub fn function_count(&self) -> usize
         ensures { result ≡ length self.now.functions }
     {
@@ -53,48 +74,78 @@ impl FlatProgram {
     pub fn expr_count(&self) -> usize
         ensures { result ≡ length self.now.expressions }
     {
-        self.expressions.len()
+        self.entries.len()
     }
 
-    /// The body of an operation, where there is such an operation.
-    pub fn body(&self, f: FunId) -> Option<ExprId>
-        ensures { result ≡ body_of self.now f }
+    /// What a function does, where there is such a function.
+    pub fn body(&self, f: FunId) -> Option<&FlatBody>
+        ensures { option_map (λ body. body_meaning body.now) result ≡ body_of self.now f }
     {
         let function = self.functions.get(f.0)?;
-        Some(function.body)
-    }
-
-    /// The body of an operation of the program.
-    pub fn code(&self, f: FunId) -> ExprId
-        requires { f.0 < length self.now.functions }
-        ensures { Some result ≡ body_of self.now f }
-    {
-        self.functions[f.0].body
+        Some(&function.body)
     }
 
     /// The number of arguments that a head of the program takes.
     pub fn arity(&self, head: Head) -> u32
         requires { IsSome (arity_of self.now head) }
-        ensures { Some result ≡ arity_of self.now head }
+        ensures arity { Some result ≡ arity_of self.now head }
+        ensures well_formed { IsTrue (is_well_formed self.now) }
     {
         match head {
-            Head::Fun(f) | Head::Set(f) => self.functions[f.0].arity,
-            Head::Con(_) => unreachable!(),
+            Head::Fun(f) => self.functions[f.0].arity,
+            Head::Con(c) => self.constructors[c.0].arity,
+            Head::Set(f) => self.functions[f.0].arity,
         }
+    }
+
+    /// The number of arguments that a head takes, where it is one of the
+    /// program's.
+    pub fn arity_if_known(&self, head: Head) -> Option<u32>
+        ensures { result ≡ arity_of self.now head }
+    {
+        match head {
+            Head::Fun(f) => Some(self.functions.get(f.0)?.arity),
+            Head::Con(c) => Some(self.constructors.get(c.0)?.arity),
+            Head::Set(f) => Some(self.functions.get(f.0)?.arity),
+        }
+    }
+
+    /// The built-in entities.
+    pub fn special(&self) -> &Special
+        ensures special { result.now ≡ self.now.special }
+        ensures well_formed { IsTrue (is_well_formed self.now) }
+    {
+        &self.special
     }
 
     /// The expression of a number, where there is such an expression.
     pub fn find(&self, e: ExprId) -> Option<&Expr>
-        ensures { option_map (λ expr. expr.now) result ≡ expr_of self.now e }
+        ensures { option_map (λ expr. expr_meaning (scope_of self.now e) expr.now) result ≡ expr_of self.now e }
     {
-        self.expressions.get(e.0)
+        let entry = self.entries.get(e.0)?;
+        Some(&entry.expr)
     }
 
     /// An expression of the program.
     pub fn expr(&self, e: ExprId) -> &Expr
         requires { e.0 < length self.now.expressions }
-        ensures { Some result.now ≡ expr_of self.now e }
+        ensures { Some (expr_meaning (scope_of self.now e) result.now) ≡ expr_of self.now e }
     {
-        &self.expressions[e.0]
+        &self.entries[e.0].expr
+    }
+
+    /// The variables in scope at a case distinction, in the order of their
+    /// binding; none where there is no such expression or it is of another
+    /// form.
+    pub fn scope(&self, e: ExprId) -> &[u32]
+        ensures { result.now ≡ scope_of self.now e }
+    {
+        match self.entries.get(e.0) {
+            Some(entry) => match &entry.expr {
+                Expr::Case(_, _, _) => entry.scope.as_slice(),
+                _ => &[],
+            },
+            None => &[],
+        }
     }
 }

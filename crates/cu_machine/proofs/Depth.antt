@@ -10,7 +10,7 @@ use Rattle.cu_machine.specs.declared.SearchLimits.{SearchLimits}
 use Rattle.cu_machine.specs.Among.{Among}
 use Rattle.cu_machine.specs.Level.{go_list, level}
 use Rattle.cu_machine.specs.Listing.{Answered, Line, Listing, Round, Tally, is_last, list_level, nothing, one_answer, one_wait, only_end, round_of, rounds, unless_ended, unless_exhausted}
-use Rattle.cu_machine.specs.Next.{Answer, Go, Next, Reading, Stops, Waits, next}
+use Rattle.cu_machine.specs.Next.{Answer, Fails, Go, Next, Reading, Stops, Waits, next}
 use Rattle.cu_machine.specs.State.{State}
 
 -- an element of two lists in a row is one of the first or of the second
@@ -54,7 +54,8 @@ round_lists d limit tally (Answer reading ∷ outcomes) e r m = elim m [
       let found = round_lists d limit (one_answer tally) outcomes e r others in
       (found.0, inr found.1)
 ]
-round_lists d limit tally (Waits ∷ outcomes) e r m = elim m [
+round_lists d limit tally (Fails ∷ outcomes) e r m = let rest = round_lists d limit tally outcomes e r m in (rest.0, inr rest.1)
+round_lists d limit tally (Waits names ∷ outcomes) e r m = elim m [
   | inl same ↦ let no_answer : ⊥ = cc in absurd no_answer
   | inr rest ↦ let others = round_lists d limit (one_wait tally) outcomes e r rest in (others.0, inr others.1)
 ]

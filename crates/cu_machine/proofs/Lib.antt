@@ -1,1 +1,16 @@
 pub mod Depth
+pub mod DoneLaws
+pub mod FirstLaws
+pub mod Fuel
+pub mod Visits
+pub mod Tables
+pub mod Frames
+pub mod Building
+pub mod Rows
+pub mod Moves
+pub mod Equations
+pub mod Starts
+pub mod NeedPlaces
+pub mod Successors
+pub mod RowMoves
+pub mod MoveRows

@@ -1,9 +1,16 @@
 pub mod Among
 pub mod Build
+pub mod Found
 pub mod Graph
 pub mod Level
-pub mod Line
 pub mod Listing
 pub mod Need
 pub mod Next
+pub mod Places
+pub mod Rewrite
+pub mod Sets
+pub mod Sort
+pub mod Spell
 pub mod State
+pub mod Steps
+pub mod Validity

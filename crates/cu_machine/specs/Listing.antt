@@ -1,19 +1,20 @@
 -- The listing of a goal: level by level, in rounds.
-use Rattle.std.specs.Prelude.{ℕ, zero, suc, ◌+◌, List, [], ◌∷◌, ◌++◌, Option, None, Some, Bool, if◌then◌else◌, nat_lt, nat_eq, length, map, flat_map}
+use Rattle.std.specs.Prelude.{ℕ, zero, suc, ◌+◌, List, [], ◌∷◌, ◌++◌, Option, None, Some, Bool, false, if◌then◌else◌, nat_lt, nat_eq, length, map, flat_map}
 use Rattle.cu_calculus.specs.Code.{Code}
 use Rattle.cu_machine.specs.declared.End.{End}
 use Rattle.cu_machine.specs.declared.End.TheVariants.{Answers, NoMore, Rounds, Stopped}
 use Rattle.cu_machine.specs.declared.SearchLimits.{SearchLimits}
 use Rattle.cu_machine.specs.declared.Stop.TheVariants.{TooWide}
+use Rattle.cu_machine.specs.declared.Waited.{Waited}
 use Rattle.cu_machine.specs.Level.{go_list}
-use Rattle.cu_machine.specs.Next.{Next, Answer, Go, Reading, Stops, Waits, next}
+use Rattle.cu_machine.specs.Next.{Next, Answer, Fails, Go, Reading, Stops, Waits, next}
 use Rattle.cu_machine.specs.State.{State}
 
 pub data Line : Type 0 where
   -- an answer of a round
   Answered : ℕ → Reading → Line
-  -- a branch that waits in a round
-  Waiting : ℕ → Line
+  -- a branch that waits in a round, for these variables
+  Waiting : ℕ → List Waited → Line
 
 pub record Listing : Type 0 where
   pub lines : List Line
@@ -46,7 +47,7 @@ nothing tally end = record { lines = []; tally = tally; end = end }
 
 -- whether so many answers are as many as are wanted
 abbrev pub is_last : Option ℕ → ℕ → Bool
-is_last None answers = nat_lt answers 0
+is_last None answers = false
 is_last (Some limit) answers = nat_eq answers limit
 
 -- One round over the outcomes of its level, in order. Answers and waiting branches give a line each. The last answer that
@@ -58,7 +59,8 @@ round_of d limit tally (Answer reading ∷ outcomes) =
     with_line (Answered d reading)
     (if is_last limit (tally.answers + 1) then nothing (one_answer tally) (Some (Answers (tally.answers + 1)))
     else round_of d limit (one_answer tally) outcomes)
-round_of d limit tally (Waits ∷ outcomes) = with_line (Waiting d) (round_of d limit (one_wait tally) outcomes)
+round_of d limit tally (Fails ∷ outcomes) = round_of d limit tally outcomes
+round_of d limit tally (Waits names ∷ outcomes) = with_line (Waiting d names) (round_of d limit (one_wait tally) outcomes)
 round_of d limit tally (Stops stop ∷ outcomes) = nothing tally (Some (Stopped stop d))
 
 -- lines before a listing
@@ -80,23 +82,23 @@ unless_exhausted others tally (state ∷ states) = others tally (state ∷ state
 
 -- one level, and what `others` lists of the level after it
 abbrev pub list_level : (Tally → List State → Listing) → Code → SearchLimits → ℕ → Tally → List State → Listing
-list_level others code limits d tally states =
-    let outcomes = map (next code limits.step) states in
+list_level others program limits d tally states =
+    let outcomes = map (next program limits.step) states in
     let round = round_of d limits.answers tally outcomes
     in after_lines round.lines (unless_ended round.end (unless_exhausted others round.tally (flat_map go_list outcomes)))
 
 -- The rounds from round d on, whose level is given, where `left` more may follow it. After the last of them the round limit
 -- ends the listing; after an earlier one a level that is too wide does.
 unfoldable pub rounds : ℕ → Code → SearchLimits → ℕ → Tally → List State → Listing
-rounds zero code limits d tally states =
-    list_level (λ after following. only_end (Rounds d (length following))) code limits d tally states
-rounds (suc left) code limits d tally states =
+rounds zero program limits d tally states =
+    list_level (λ after following. only_end (Rounds d (length following))) program limits d tally states
+rounds (suc left) program limits d tally states =
     list_level
     (λ after following.
     if nat_lt limits.step.width (length following) then only_end (Stopped (TooWide (length following)) (d + 1))
-    else rounds left code limits (d + 1) after following)
-    code limits d tally states
+    else rounds left program limits (d + 1) after following)
+    program limits d tally states
 
 -- the listing of a search from its start
 abbrev pub listing : Code → SearchLimits → State → Listing
-listing code limits start = rounds limits.rounds code limits 0 (record { answers = 0; waits = 0 }) (start ∷ [])
+listing program limits start = rounds limits.rounds program limits 0 (record { answers = 0; waits = 0 }) (start ∷ [])

@@ -1,28 +1,150 @@
--- What the value of a node needs: the node that is to be rewritten next, found from the node on.
-use Rattle.std.specs.Prelude.{ℕ, zero, suc, List, [], ◌∷◌}
+-- What the value of a node needs: the node that is to be rewritten next, found from the node on. It is the strategy of
+-- needed narrowing (Antoy, Echahed and Hanus, A needed narrowing strategy, 2000) with residuation for what is rigid.
+use Rattle.std.specs.Prelude.{ℕ, zero, suc, List, [], ◌∷◌, Bool, true, false, map, length, if◌then◌else◌}
+use Rattle.cu_calculus.specs.declared.Mode.{Mode}
+use Rattle.cu_calculus.specs.declared.Mode.TheVariants.{Flex, Rigid}
+use Rattle.cu_calculus.specs.declared.builtin.Primitive.{Primitive}
+use Rattle.cu_calculus.specs.declared.builtin.Primitive.TheVariants as prim
+use Rattle.cu_calculus.specs.declared.ConId.{ConId}
+use Rattle.cu_calculus.specs.Match.{same_constructor}
 use Rattle.cu_machine.specs.declared.Kind.{Kind}
 use Rattle.cu_machine.specs.declared.Kind.TheVariants as kind
-use Rattle.cu_machine.specs.Graph.{Node, node_at}
+use Rattle.cu_machine.specs.Graph.{Graph, head_at, head_of}
+use Rattle.cu_machine.specs.Places.{joined}
 
 pub data Need : Type 0 where
-  -- the value's head is there, at this place
-  Done : ℕ → Need
-  -- it waits
-  Wait : Need
+  -- nothing: it is there
+  Done : Need
+  -- what never comes: it has no value
+  Dead : Need
+  -- it waits for the free variables at these places
+  Wait : List ℕ → Need
   -- the node at this place is to be rewritten
   At : ℕ → Need
 
--- what a node needs, where `target` says what an Ind's target needs
-abbrev pub need_of : (ℕ → Need) → ℕ → Kind → List ℕ → Need
-need_of target id (kind.Lit l) args = Done id
-need_of target id (kind.Call f) args = At id
-need_of target id kind.Or args = At id
-need_of target id kind.Ind (other ∷ args) = target other
-need_of target id kind.Ind [] = Wait
-need_of target id kind.Stuck args = Wait
+-- How much of a value is needed: its head, or all of it.
+pub data Extent : Type 0 where
+  Outermost : Extent
+  Throughout : Extent
 
--- What the node at a place needs. The first number bounds how many nodes are visited; as many as the graph has suffice
--- wherever it has no cycle, and past them nothing is said but that it waits.
-unfoldable pub need : ℕ → List Node → ℕ → Need
-need zero graph id = Wait
-need (suc visits) graph id = need_of (need visits graph) id (node_at graph id).kind (node_at graph id).args
+-- one need before another: the first that asks for a step or has no value decides, and waits are joined
+abbrev pub before : Need → Need → Need
+before (At id) other = At id
+before Dead other = Dead
+before Done other = other
+before (Wait ids) Done = Wait ids
+before (Wait ids) Dead = Dead
+before (Wait ids) (Wait others) = Wait (joined ids others)
+before (Wait ids) (At id) = At id
+
+-- First
+abbrev pub first : List Need → Need
+first [] = Done
+first (need ∷ needs) = before need (first needs)
+
+-- a need, and what comes where it is none
+abbrev pub unless_done : Need → Need → Need
+unless_done Done other = other
+unless_done Dead other = Dead
+unless_done (Wait ids) other = Wait ids
+unless_done (At id) other = At id
+
+-- a head that is a free variable is waited for, and any other is there
+abbrev pub unless_free : ℕ → Kind → Need
+unless_free id kind.Free = Wait (id ∷ [])
+unless_free id _ = Done
+
+-- a rigid case distinction waits for a free variable, and a flexible one doesn't
+abbrev pub unless_rigid : Mode → ℕ → Kind → Need
+unless_rigid Rigid id k = unless_free id k
+unless_rigid Flex id k = Done
+
+-- a side of `&`: True is there, a free variable is waited for, and anything else makes the node at `id` fail
+abbrev pub unless_true : ConId → ℕ → ℕ → Kind → Need
+unless_true truth id side (kind.Cons c) = if same_constructor c truth then Done else At id
+unless_true truth id side kind.Free = Wait (side ∷ [])
+unless_true truth id side _ = At id
+
+-- The parts of the table that look at an argument's head, `part` being what an argument needs.
+abbrev pub strict : Graph → (Extent → ℕ → Need) → ℕ → Need
+strict graph part id = unless_done (part Outermost id) (unless_free (head_of graph id) (head_at graph id).kind)
+
+abbrev pub side : ConId → Graph → (Extent → ℕ → Need) → ℕ → ℕ → Need
+side truth graph part id argument = unless_done (part Outermost argument) (unless_true truth id (head_of graph argument) (head_at graph argument).kind)
+
+-- a built-in operation: `=:=` wants its sides, `&` wants them True, and the others want them bound
+abbrev pub operands : ConId → Graph → (Extent → ℕ → Need) → ℕ → Primitive → List ℕ → Need
+operands truth graph part id prim.Unify args = first (map (part Outermost) args)
+operands truth graph part id prim.And args = first (map (side truth graph part id) args)
+operands truth graph part id _ args = first (map (strict graph part) args)
+
+-- waits for free variables where there are some
+abbrev pub waiting : List ℕ → Need
+waiting [] = Done
+waiting (id ∷ ids) = Wait (id ∷ ids)
+
+-- the free variables in values, in the order in which they are met; `part` gives those of one value
+abbrev pub all_free : (ℕ → List ℕ) → List ℕ → List ℕ
+all_free part [] = []
+all_free part (id ∷ ids) = joined (part id) (all_free part ids)
+
+abbrev pub free_at : (ℕ → List ℕ) → ℕ → Kind → List ℕ → List ℕ
+free_at part id kind.Free args = id ∷ []
+free_at part id (kind.Cons c) args = all_free part args
+free_at part id (kind.Part h) args = all_free part args
+free_at part id _ _ = []
+
+-- The free variables in the value of a node. The first number bounds how deep it is looked at.
+unfoldable pub free_within : ℕ → Graph → ℕ → List ℕ
+free_within zero graph id = []
+free_within (suc depth) graph id = free_at (free_within depth graph) (head_of graph id) (head_at graph id).kind (head_at graph id).args
+
+abbrev pub free_of : Graph → List ℕ → List ℕ
+free_of graph ids = all_free (free_within (length graph) graph) ids
+
+-- the heads of values, and a free variable, which may stay one
+abbrev pub is_head : Kind → Bool
+is_head (kind.Cons c) = true
+is_head (kind.Lit l) = true
+is_head (kind.Part h) = true
+is_head kind.Free = true
+is_head _ = false
+
+-- The table: what the node at the place `id`, which is no Ind, needs so that the head of its value is there.
+abbrev pub need_at : ConId → Graph → (Extent → ℕ → Need) → ℕ → Kind → List ℕ → Need
+need_at truth graph part id (kind.Cons c) args = Done
+need_at truth graph part id (kind.Lit l) args = Done
+need_at truth graph part id (kind.Part h) args = Done
+need_at truth graph part id kind.Free args = Done
+need_at truth graph part id (kind.Call f) args = At id
+need_at truth graph part id kind.Or args = At id
+need_at truth graph part id (kind.Prim operation) args = unless_done (operands truth graph part id operation args) (At id)
+need_at truth graph part id kind.Apply (function ∷ args) = unless_done (strict graph part function) (At id)
+need_at truth graph part id (kind.Case mode e) (scrutinee ∷ values) =
+    unless_done (part Outermost scrutinee) (unless_done (unless_rigid mode (head_of graph scrutinee) (head_at graph scrutinee).kind) (At id))
+need_at truth graph part id (kind.SetCall f) args =
+    unless_done (first (map (part Throughout) args)) (unless_done (waiting (free_of graph args)) (At id))
+need_at truth graph part id kind.Fail args = Dead
+need_at truth graph part id kind.Stuck args = Wait []
+-- an Ind that leads nowhere, and a node without the arguments of its kind
+need_at truth graph part id _ _ = Wait []
+
+-- the same for all of its value: the arguments of a constructor and of a partial application are wanted too
+abbrev pub rest_at : (Extent → ℕ → Need) → Extent → Kind → List ℕ → Need
+rest_at part Throughout (kind.Cons c) args = first (map (part Throughout) args)
+rest_at part Throughout (kind.Part h) args = first (map (part Throughout) args)
+rest_at part _ _ _ = Done
+
+-- What a node needs. The first number bounds how deep the graph is looked at; past it nothing is said but that it waits.
+unfoldable pub need_within : ℕ → ConId → Graph → Extent → ℕ → Need
+need_within zero truth graph extent id = Wait []
+need_within (suc depth) truth graph extent id =
+    unless_done (need_at truth graph (need_within depth truth graph) (head_of graph id) (head_at graph id).kind (head_at graph id).args)
+    (rest_at (need_within depth truth graph) extent (head_at graph id).kind (head_at graph id).args)
+
+-- Need and NeedAll
+abbrev pub need : ConId → Graph → ℕ → Need
+need truth graph id = need_within (length graph) truth graph Outermost id
+
+abbrev pub need_all : ConId → Graph → ℕ → Need
+need_all truth graph id = need_within (length graph) truth graph Throughout id

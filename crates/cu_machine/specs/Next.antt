@@ -1,82 +1,171 @@
 -- One step of a state.
-use Rattle.std.specs.Prelude.{ℕ, ◌+◌, List, [], ◌∷◌, Bool, if◌then◌else◌, nat_lt, length, slice_set}
+use Rattle.std.specs.Prelude.{ℕ, zero, suc, ◌+◌, Bool, true, false, List, [], ◌∷◌, ◌++◌, Option, None, Some, if◌then◌else◌, nat_eq, nat_lt, length, map}
 use Rattle.std.specs.List.{list_any}
-use Rattle.cu_calculus.specs.Code.{Code, body_of}
-use Rattle.cu_calculus.specs.Value.{Value}
+use Rattle.cu_calculus.specs.declared.ConId.{ConId}
+use Rattle.cu_calculus.specs.Code.{Code}
+use Rattle.cu_calculus.specs.Gives.{listed}
+use Rattle.cu_calculus.specs.Shape.{is_ground}
 use Rattle.cu_calculus.specs.Value as value
-use Rattle.cu_machine.specs.declared.Kind.{Kind}
+use Rattle.cu_calculus.specs.Value.{Value, Values, values_of}
 use Rattle.cu_machine.specs.declared.Kind.TheVariants as kind
 use Rattle.cu_machine.specs.declared.Limits.{Limits}
 use Rattle.cu_machine.specs.declared.Stop.{Stop}
-use Rattle.cu_machine.specs.declared.Stop.TheVariants.{TooLarge}
-use Rattle.cu_machine.specs.Build.{build_body, written}
-use Rattle.cu_machine.specs.Graph.{Node, node_at, stuck}
-use Rattle.cu_machine.specs.Need.{Need, At, Done, Wait, need}
-use Rattle.cu_machine.specs.State.{State}
+use Rattle.cu_machine.specs.declared.Stop.TheVariants.{Overflow, TooLarge, TooWide}
+use Rattle.cu_machine.specs.declared.Waited.{Waited}
+use Rattle.cu_machine.specs.declared.Waited.TheVariants.{Named, Other}
+use Rattle.cu_machine.specs.Build.{Built, pushed, written}
+use Rattle.cu_machine.specs.Graph.{Graph, Node, alone, head_of, put, stuck}
+use Rattle.cu_machine.specs.Need.{Need, At, Dead, Done, Wait, need_all}
+use Rattle.cu_machine.specs.Places.{joined}
+use Rattle.cu_machine.specs.Rewrite.{Become, Collect, Move, Overflows, move}
+use Rattle.cu_machine.specs.Sort.{sorted}
+use Rattle.cu_machine.specs.Spell.{cells_of_all, ordinal, push_value, renumbered, spelled, variables_of_all}
+use Rattle.cu_machine.specs.State.{Branch, Idle, MoreStates, NoState, Running, Search, State, States, call_on, graph_of, states_of}
 
--- what is read off a state whose value is there
+-- what is read off a state whose value is there: what the goal variables are bound to, and the value
 pub record Reading : Type 0 where
+  pub bindings : List Value
   pub value : Value
 
 pub data Next : Type 0 where
   -- the states that follow, from left to right
   Go : List State → Next
   Answer : Reading → Next
-  Waits : Next
+  Fails : Next
+  Waits : List Waited → Next
   Stops : Stop → Next
 
--- the value of a head
-abbrev pub value_of : Kind → Value
-value_of (kind.Lit l) = value.Literal l
-value_of (kind.Call f) = value.Bottom
-value_of kind.Or = value.Bottom
-value_of kind.Ind = value.Bottom
-value_of kind.Stuck = value.Bottom
+-- ** Reading
 
-abbrev pub reading_of : List Node → ℕ → Reading
-reading_of graph head = record { value = value_of (node_at graph head).kind }
+-- what the goal variables and the root spell
+abbrev pub spelled_all : Graph → ℕ → List ℕ → List Value
+spelled_all graph root goals = map (spelled graph) (goals ++ root ∷ [])
 
--- the state with another graph
-abbrev pub over : State → List Node → State
-over state graph = record { graph = graph; root = state.root }
+-- Read: free variables are numbered from 1, in the order in which they are met in the bindings and then in the value
+abbrev pub read : Graph → ℕ → List ℕ → Reading
+read graph root goals =
+    let number = ordinal (variables_of_all (spelled_all graph root goals)) in
+    record {
+      bindings = map (λ goal. renumbered number (spelled graph goal)) goals;
+      value = renumbered number (spelled graph root);
+    }
 
--- the state in which the node at a place is another name of a node
-abbrev pub renamed : State → ℕ → ℕ → State
-renamed state id other = over state (slice_set state.graph id (record { kind = kind.Ind; args = other ∷ [] }))
+-- ** Waiting
 
--- the state in which the node at a place is stuck
-abbrev pub stuck_at : State → ℕ → State
-stuck_at state id = over state (slice_set state.graph id stuck)
+-- the first goal variable that stands for a free variable, counted from 0
+abbrev pub goal_for : Graph → List ℕ → ℕ → Option ℕ
+goal_for graph [] id = None
+goal_for graph (goal ∷ goals) id =
+    if nat_eq (head_of graph goal) id then Some 0 else elim (goal_for graph goals id) [ Some k ↦ Some (k + 1) | None ↦ None ]
 
--- The rows of the step table: what follows where the node at a place is rewritten. A call becomes the operation's body,
--- whose variables are the call's arguments, so that an argument is shared by all its uses (call-time choice); a choice
--- becomes its left argument and its right one.
-abbrev pub rewrite : Code → State → ℕ → Kind → List ℕ → List State
-rewrite code state id (kind.Call f) args = over state (written state.graph id (build_body code args (length state.graph) (body_of code f))) ∷ []
-rewrite code state id kind.Or (left ∷ right ∷ []) = renamed state id left ∷ renamed state id right ∷ []
-rewrite code state id k args = stuck_at state id ∷ []
+-- the names of places that are waited for; those that no goal variable stands for are numbered from `next` on
+abbrev pub named : Graph → List ℕ → ℕ → List ℕ → List Waited
+named graph goals next [] = []
+named graph goals next (id ∷ ids) = elim (goal_for graph goals id)
+    [ Some k ↦ Named k ∷ named graph goals next ids | None ↦ Other next ∷ named graph goals (next + 1) ids ]
 
-abbrev pub successors : Code → State → ℕ → List State
-successors code state id = rewrite code state id (node_at state.graph id).kind (node_at state.graph id).args
+-- ** Limits
 
--- whether a state has more nodes than the limit
-abbrev pub is_too_large : Limits → State → Bool
-is_too_large limits state = nat_lt limits.nodes (length state.graph)
-
--- a count of nodes ends at one more than the limit
+-- a count of nodes or cells ends at one more than the limit
 abbrev pub too_large : Limits → Next
 too_large limits = Stops (TooLarge (limits.nodes + 1))
 
-abbrev pub within : Limits → List State → Next
-within limits states = if list_any (is_too_large limits) states then too_large limits else Go states
+abbrev pub is_above : Limits → ℕ → Bool
+is_above limits n = nat_lt limits.nodes n
 
-abbrev pub next_by : Code → Limits → State → Need → Next
-next_by code limits state (Done head) = Answer (reading_of state.graph head)
-next_by code limits state Wait = Waits
-next_by code limits state (At id) = within limits (successors code state id)
+abbrev pub is_too_large : Limits → State → Bool
+is_too_large limits state = is_above limits (length (graph_of state))
 
--- the next event of a state
-unfoldable pub next : Code → Limits → State → Next
-next code limits state =
-    if is_too_large limits state then too_large limits
-    else next_by code limits state (need (length state.graph) state.graph state.root)
+abbrev pub unless_one_is_large : Limits → List State → Next
+unless_one_is_large limits states = if list_any (is_too_large limits) states then too_large limits else Go states
+
+-- ** A state without a running search
+
+-- an answer, unless it has too many cells
+abbrev pub answered : Limits → Graph → ℕ → List ℕ → Next
+answered limits graph root goals =
+    if is_above limits (cells_of_all (spelled_all graph root goals)) then too_large limits else Answer (read graph root goals)
+
+-- the search for all values of a function begins, at the node at a place
+abbrev pub begun : Limits → Graph → ℕ → List ℕ → ℕ → State → Next
+begun limits graph root goals id inner =
+    if is_too_large limits inner then too_large limits else Go (Branch graph root goals (Running id [] (MoreStates inner NoState)) ∷ [])
+
+abbrev pub moved : Code → Limits → ℕ → List ℕ → Graph → ℕ → Move → Next
+moved program limits root goals graph id (Become graphs) = unless_one_is_large limits (map (λ after. Branch after root goals Idle) graphs)
+moved program limits root goals graph id (Overflows operation m n) = Stops (Overflow operation m n)
+moved program limits root goals graph id (Collect f arguments) = begun limits graph root goals id (call_on program f arguments)
+
+abbrev pub next_by : Code → Limits → Graph → ℕ → List ℕ → Need → Next
+next_by program limits graph root goals Done = answered limits graph root goals
+next_by program limits graph root goals Dead = Fails
+next_by program limits graph root goals (Wait ids) = Waits (named graph goals 1 ids)
+next_by program limits graph root goals (At id) = moved program limits root goals graph id (move program graph id)
+
+-- ** A running search
+
+-- What became of an inner level: the values that were found, and the states that follow, or what ends the search.
+pub data LevelEvent : Type 0 where
+  On : List Value → List State → LevelEvent
+  -- an answer that isn't ground data, or a branch that waits
+  Blocked : LevelEvent
+  Halts : Stop → LevelEvent
+
+-- a value, and states, before what became of the states after
+abbrev pub with_found : Value → LevelEvent → LevelEvent
+with_found v (On values states) = On (v ∷ values) states
+with_found v Blocked = Blocked
+with_found v (Halts stop) = Halts stop
+
+abbrev pub with_states : List State → LevelEvent → LevelEvent
+with_states front (On values states) = On values (front ++ states)
+with_states front Blocked = Blocked
+with_states front (Halts stop) = Halts stop
+
+-- the outcome of one state before what became of those after it
+abbrev pub with_outcome : Next → LevelEvent → LevelEvent
+with_outcome (Stops stop) others = Halts stop
+with_outcome (Waits names) others = Blocked
+with_outcome (Answer reading) others = if is_ground reading.value then with_found reading.value others else Blocked
+with_outcome Fails others = others
+with_outcome (Go states) others = with_states states others
+
+-- the node becomes the list of the values that were found, sorted and without repeats, behind its constructor
+abbrev pub delivered : Code → Graph → ℕ → List Value → Graph
+delivered program graph id found = elim program.special.values [
+  | Some c ↦ written graph id (push_value (length graph)
+      (value.Constructed c (value.MoreValues (listed program.special.nil program.special.cons (sorted found)) value.NoValue)))
+  | None ↦ put graph id stuck
+]
+
+-- what follows one inner level
+abbrev pub after_level : Limits → Graph → ℕ → List ℕ → ℕ → List Value → LevelEvent → Next
+after_level limits graph root goals id found Blocked = Go (Branch (put graph id stuck) root goals Idle ∷ [])
+after_level limits graph root goals id found (Halts stop) = Stops stop
+after_level limits graph root goals id found (On values states) =
+    if nat_lt limits.width (length states) then Stops (TooWide (length states))
+    else Go (Branch graph root goals (Running id (found ++ values) (states_of states)) ∷ [])
+
+-- a search with this level, whose states' outcomes give `inner`
+abbrev pub searched : Code → Limits → Graph → ℕ → List ℕ → ℕ → List Value → States → LevelEvent → Next
+searched program limits graph root goals id found NoState inner = unless_one_is_large limits (Branch (delivered program graph id found) root goals Idle ∷ [])
+searched program limits graph root goals id found (MoreStates state states) inner = after_level limits graph root goals id found inner
+
+-- ** All states
+
+-- a state that isn't too large
+abbrev pub unless_too_large : Limits → Graph → Next → Next
+unless_too_large limits graph next = if is_above limits (length graph) then too_large limits else next
+
+-- Next
+unfoldable mutual
+  pub next : Code → Limits → State → Next
+  next program limits (Branch graph root goals Idle) =
+      unless_too_large limits graph (next_by program limits graph root goals (need_all program.special.truth graph root))
+  next program limits (Branch graph root goals (Running id found level)) =
+      unless_too_large limits graph (searched program limits graph root goals id found level (stepped program limits level))
+
+  -- what becomes of an inner level
+  pub stepped : Code → Limits → States → LevelEvent
+  stepped program limits NoState = On [] []
+  stepped program limits (MoreStates state states) = with_outcome (next program limits state) (stepped program limits states)

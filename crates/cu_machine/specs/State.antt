@@ -1,14 +1,57 @@
--- States of a branch of the search.
-use Rattle.std.specs.Prelude.{ℕ, List, [], ◌∷◌}
+-- States of a branch of the search. A state may hold an inner search, of all values of a set function, whose level is a
+-- list of states.
+use Rattle.std.specs.Prelude.{ℕ, zero, suc, ◌+◌, List, [], ◌∷◌, ◌++◌, None, Some, length}
 use Rattle.cu_calculus.specs.declared.FunId.{FunId}
-use Rattle.cu_machine.specs.declared.Kind.TheVariants.{Call}
-use Rattle.cu_machine.specs.Graph.{Node}
+use Rattle.cu_calculus.specs.Value.{Value, Values}
+use Rattle.cu_calculus.specs.Code.{Code, body_of, function_arity}
+use Rattle.cu_machine.specs.declared.Kind.TheVariants as kind
+use Rattle.cu_machine.specs.Build.{kind_of_call}
+use Rattle.cu_machine.specs.Graph.{Graph, Node, alone}
+use Rattle.cu_machine.specs.Spell.{push_values}
 
-pub record State : Type 0 where
-  pub graph : List Node
-  -- the place of the node whose value is sought
-  pub root : ℕ
+mutual
+  -- a graph, the place of the node whose value is sought, the places of the goal variables, and an inner search
+  pub data State : Type 0 where
+    Branch : Graph → ℕ → List ℕ → Search → State
 
--- the state in which a goal without parameters begins: its call is the root
-abbrev pub start_of : FunId → State
-start_of goal = record { graph = record { kind = Call goal; args = [] } ∷ []; root = 0 }
+  pub data Search : Type 0 where
+    Idle : Search
+    -- the place of the set function's call, the values found so far, and the level that is to be stepped next
+    Running : ℕ → List Value → States → Search
+
+  pub data States : Type 0 where
+    NoState : States
+    MoreStates : State → States → States
+
+abbrev pub states_of : List State → States
+states_of [] = NoState
+states_of (state ∷ states) = MoreStates state (states_of states)
+
+abbrev pub graph_of : State → Graph
+graph_of (Branch graph root goals search) = graph
+
+-- numbers one after another, so many
+abbrev pub numbers : ℕ → ℕ → List ℕ
+numbers from zero = []
+numbers from (suc n) = from ∷ numbers (from + 1) n
+
+-- so many nodes that are free variables
+abbrev pub free_nodes : ℕ → List Node
+free_nodes zero = []
+free_nodes (suc n) = alone kind.Free ∷ free_nodes n
+
+-- the state of a goal with so many variables: a free variable for each, and the call of the goal on them
+abbrev pub start_on : Code → FunId → ℕ → State
+start_on program goal variables =
+    Branch (free_nodes variables ++ record { kind = kind_of_call goal (body_of program goal); args = numbers 0 variables } ∷ [])
+    variables (numbers 0 variables) Idle
+
+-- the state in which a goal begins, which has a variable for each of its parameters
+abbrev pub start_of : Code → FunId → State
+start_of program goal = start_on program goal (elim (function_arity program goal) [ Some n ↦ n | None ↦ 0 ])
+
+-- the state in which an inner search begins: the arguments cell by cell, and the call on them
+abbrev pub call_on : Code → FunId → Values → State
+call_on program f arguments =
+    let pushed = push_values 0 arguments in
+    Branch (pushed.nodes ++ record { kind = kind_of_call f (body_of program f); args = pushed.ids } ∷ []) (length pushed.nodes) [] Idle

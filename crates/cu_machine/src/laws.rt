@@ -1,11 +1,22 @@
 //! Laws of the definitions.
-ghost use Rattle.std.specs.Prelude.{◌≡◌, ℕ};
-ghost use Rattle.cu_calculus.specs.Code.{Code};
+ghost use Rattle.std.specs.Prelude.{◌≡◌, ◌≤◌, ◌<◌, ℕ, Bool, IsTrue, List, length};
+ghost use Rattle.cu_calculus.specs.declared.ConId.{ConId};
+ghost use Rattle.cu_calculus.specs.declared.FunId.{FunId};
+ghost use Rattle.cu_calculus.specs.Code.{Code, body_of, is_rule};
+ghost use Rattle.cu_calculus.specs.WellFormed.{is_well_formed};
 ghost use Rattle.cu_machine.specs.Among.{Among};
+ghost use Rattle.cu_machine.specs.Graph.{Graph, followed, head_at, head_of, head_within, node_at};
 ghost use Rattle.cu_machine.specs.Level.{level};
 ghost use Rattle.cu_machine.specs.Listing.{Answered, listing};
-ghost use Rattle.cu_machine.specs.Next.{Answer, Reading, next};
-ghost use Rattle.cu_machine.specs.State.{State};
+ghost use Rattle.cu_machine.specs.Need.{At, Done, Extent, Need, before, free_at, free_within, is_head, need, need_all, need_at, need_within, rest_at, unless_done};
+ghost use Rattle.cu_machine.specs.Next.{Answer, Go, Reading, next};
+ghost use Rattle.cu_machine.specs.Rewrite.{Become, move, occurs_at, occurs_within};
+ghost use Rattle.cu_machine.specs.Spell.{spelled, spelled_at, spelled_within};
+ghost use Rattle.cu_machine.specs.Sets.{IsWithoutSets, code_is_without_sets};
+ghost use Rattle.cu_machine.specs.State.{Branch, Idle, State, start_of};
+ghost use Rattle.cu_machine.specs.Steps.{Steps};
+ghost use Rattle.cu_machine.specs.Validity.{ArgumentsThere, Founded, IsValid};
+ghost use Rattle.cu_machine.specs.declared.Limits.{Limits};
 ghost use Rattle.cu_machine.specs.declared.SearchLimits.{SearchLimits};
 
 /// An answer that is listed at a depth is that of a branch at this depth of
@@ -14,4 +25,84 @@ pub fn answers_stand_at_their_depth()
     ensures { (code : Code) (limits : SearchLimits) (start : State) (depth : ℕ) (reading : Reading)
         → Among (Answered depth reading) (listing code limits start).lines
         → (state : State) × Among state (level code limits.step start depth) × (next code limits.step state ≡ Answer reading) }
+{}
+
+/// What needs nothing has a head that is there: a constructor, a literal, a
+/// partial application or a free variable.
+pub fn done_has_a_head()
+    ensures { (truth : ConId) (graph : Graph) (id : ℕ) → need truth graph id ≡ Done → IsTrue (is_head (head_at graph id).kind) }
+{}
+
+/// One need before another is an associative operation, in which a need that
+/// was met before changes nothing.
+pub fn needs_are_joined()
+    ensures associative { (a b c : Need) → before (before a b) c ≡ before a (before b c) }
+    ensures idempotent { (a : Need) → before a a ≡ a }
+    ensures again { (a b : Need) → before a (before b a) ≡ before a b }
+{}
+
+/// On a graph whose arguments are nodes of it, and at a node from which no
+/// path is endless, as many visits as the graph has nodes suffice: more of
+/// them give the same.
+pub fn visits_suffice()
+    ensures head { (graph : Graph) (id visits : ℕ) → ArgumentsThere graph → Founded graph id → id < length graph → length graph ≤ visits
+        → head_within visits graph id ≡ head_of graph id }
+    ensures need { (truth : ConId) (graph : Graph) (extent : Extent) (id visits : ℕ) → ArgumentsThere graph → Founded graph id → id < length graph → length graph ≤ visits
+        → need_within visits truth graph extent id ≡ need_within (length graph) truth graph extent id }
+    ensures free { (graph : Graph) (id visits : ℕ) → ArgumentsThere graph → Founded graph id → id < length graph → length graph ≤ visits
+        → free_within visits graph id ≡ free_within (length graph) graph id }
+    ensures spelled { (graph : Graph) (id visits : ℕ) → ArgumentsThere graph → Founded graph id → id < length graph → length graph ≤ visits
+        → spelled_within visits graph id ≡ spelled graph id }
+    ensures occurs { (graph : Graph) (variable id visits : ℕ) → ArgumentsThere graph → Founded graph id → id < length graph → length graph ≤ visits
+        → occurs_within visits graph variable id ≡ occurs_within (length graph) graph variable id }
+{}
+
+/// There the tables hold of the whole: what a node needs is told by what its
+/// arguments need, with no bound on the visits, and likewise its head, its
+/// value and the free variables in it.
+pub fn tables_hold()
+    ensures head { (graph : Graph) (id : ℕ) → ArgumentsThere graph → Founded graph id → id < length graph
+        → head_of graph id ≡ followed (head_of graph) id (node_at graph id).kind (node_at graph id).args }
+    ensures need { (truth : ConId) (graph : Graph) (extent : Extent) (id : ℕ) → ArgumentsThere graph → Founded graph id → id < length graph
+        → need_within (length graph) truth graph extent id
+        ≡ unless_done (need_at truth graph (need_within (length graph) truth graph) (head_of graph id) (head_at graph id).kind (head_at graph id).args)
+        (rest_at (need_within (length graph) truth graph) extent (head_at graph id).kind (head_at graph id).args) }
+    ensures free { (graph : Graph) (id : ℕ) → ArgumentsThere graph → Founded graph id → id < length graph
+        → free_within (length graph) graph id
+        ≡ free_at (free_within (length graph) graph) (head_of graph id) (head_at graph id).kind (head_at graph id).args }
+    ensures spelled { (graph : Graph) (id : ℕ) → ArgumentsThere graph → Founded graph id → id < length graph
+        → spelled graph id ≡ spelled_at (spelled graph) (head_of graph id) (head_at graph id).kind (head_at graph id).args }
+    ensures occurs { (graph : Graph) (variable id : ℕ) → ArgumentsThere graph → Founded graph id → id < length graph
+        → occurs_within (length graph) graph variable id
+        ≡ occurs_at (occurs_within (length graph) graph variable) variable (head_of graph id) (head_at graph id).kind (head_at graph id).args }
+{}
+
+/// Valid states stay valid: in well-formed code, each state that follows a
+/// valid one without a running search is valid, and so is the state in which
+/// the search for a goal begins.
+pub fn states_stay_valid()
+    ensures start { (program : Code) (goal : FunId) → IsTrue (is_well_formed program) → IsTrue (is_rule (body_of program goal))
+        → IsValid program (start_of program goal) }
+    ensures next { (program : Code) (limits : Limits) (graph : Graph) (root : ℕ) (goals : List ℕ) (states : List State) (state : State)
+        → IsTrue (is_well_formed program) → IsValid program (Branch graph root goals Idle)
+        → next program limits (Branch graph root goals Idle) ≡ Go states → Among state states → IsValid program state }
+{}
+
+/// Where the code has no set functions, none comes up in a state.
+pub fn states_stay_without_sets()
+    ensures start { (program : Code) (goal : FunId) → IsTrue (is_rule (body_of program goal)) → IsWithoutSets (start_of program goal) }
+    ensures next { (program : Code) (limits : Limits) (before state : State) (states : List State)
+        → IsTrue (is_well_formed program) → IsTrue (code_is_without_sets program) → IsValid program before → IsWithoutSets before
+        → next program limits before ≡ Go states → Among state states → IsWithoutSets state }
+{}
+
+/// The rows of the step table as a relation are the moves of the function:
+/// each row's graph is one that the move gives, and where a valid state needs
+/// the node each graph that the move gives comes by a row.
+pub fn rows_are_moves()
+    ensures rows { (program : Code) (graph after : Graph) (id : ℕ) → Steps program graph id after
+        → (graphs : List Graph) × (move program graph id ≡ Become graphs) × Among after graphs }
+    ensures moves { (program : Code) (graph after : Graph) (root id : ℕ) (goals : List ℕ) (graphs : List Graph)
+        → IsValid program (Branch graph root goals Idle) → need_all program.special.truth graph root ≡ At id
+        → move program graph id ≡ Become graphs → Among after graphs → Steps program graph id after }
 {}

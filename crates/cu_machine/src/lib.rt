@@ -5,22 +5,52 @@
 
 mod laws;
 
-use cu_calculus::{FunId, Lit};
-pub use laws::answers_stand_at_their_depth;
+use cu_calculus::{ConId, FunId, Head, Int, Lit, Mode, Prim};
+pub use laws::{
+    answers_stand_at_their_depth, done_has_a_head, needs_are_joined, rows_are_moves,
+    states_stay_valid, states_stay_without_sets, tables_hold, visits_suffice,
+};
 
 /// What a node of a graph is.
 #[derive(Clone, Copy, Debug, PartialEq, Eq)]
 pub enum Kind {
+    /// A constructor with all its arguments.
+    Cons(ConId),
     /// A literal. It has no arguments.
     Lit(Lit),
-    /// A call of an operation on its arguments.
+    /// A head with fewer arguments than it takes.
+    Part(Head),
+    /// A free variable that isn't bound. It has no arguments.
+    Free,
+    /// A call of a function that has rules, on its arguments.
     Call(FunId),
+    /// A built-in operation other than `failed`, on its arguments.
+    Prim(Prim),
+    /// A function that its first argument gives, on its second one.
+    Apply,
+    /// A case distinction, which holds the number of its expression. Its
+    /// arguments are the scrutinee and then the values of the variables in
+    /// scope.
+    Case(Mode, usize),
     /// A choice between its two arguments.
     Or,
     /// Another name of its only argument.
     Ind,
-    /// Nothing that can go on: it waits for ever, and for no variable.
+    /// The set function of a function, on its arguments.
+    SetCall(FunId),
+    /// What has no value.
+    Fail,
+    /// What can't go on: it waits for ever, and for no variable.
     Stuck,
+}
+
+/// What a branch waits for, by the names that a listing gives.
+#[derive(Clone, Copy, Debug, PartialEq, Eq)]
+pub enum Waited {
+    /// A goal variable, by its place among them, counted from 0.
+    Named(u32),
+    /// Another variable, numbered from 1 in the order in which they are met.
+    Other(u32),
 }
 
 /// The bounds on one step.
@@ -28,7 +58,8 @@ pub enum Kind {
 pub struct Limits {
     /// The most nodes of one branch, 1 to 16,777,216.
     pub nodes: u32,
-    /// The most open branches of one level, 1 to 1,048,576.
+    /// The most open branches of one level, 1 to 1,048,576, also of a level of
+    /// an inner search.
     pub width: u32,
 }
 
@@ -44,12 +75,16 @@ pub struct SearchLimits {
 }
 
 /// Why a search stops before its tree is exhausted or a limit on rounds or
-/// answers is reached. Each holds the number that was counted.
+/// answers is reached. The limits hold the number that was counted.
 #[derive(Clone, Copy, Debug, PartialEq, Eq)]
 pub enum Stop {
-    /// A branch has more nodes than the limit; the count stops at one more.
+    /// An operation on these numbers has a result that is no `Int`.
+    Overflow(Prim, Int, Int),
+    /// A branch has more nodes than the limit, or an answer more cells; the
+    /// count stops at one more.
     TooLarge(u64),
-    /// A level has more open branches than the limit.
+    /// A level, also one of an inner search, has more open branches than the
+    /// limit; the count is the whole one.
     TooWide(u64),
 }
 
@@ -58,10 +93,11 @@ pub enum Stop {
 pub enum End {
     /// The tree is exhausted, and so many of its branches wait for ever.
     NoMore(u64),
-    /// The round limit was reached, with so many branches open.
+    /// The round limit was reached: the round, and how many branches are open.
     Rounds(u64, u64),
-    /// The answer limit was reached.
+    /// The answer limit was reached: how many answers were listed.
     Answers(u64),
-    /// The search stopped in this round.
+    /// The search stopped in this round. A level that is too wide stops the
+    /// round that it would be.
     Stopped(Stop, u64),
 }

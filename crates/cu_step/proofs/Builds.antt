@@ -1,90 +1,112 @@
--- What is built of an expression, by its kind.
-use Rattle.std.proofs.Common.{◌≡◌, ℕ, ◌-◌, ◌<◌, suc, List, [], ◌∷◌, Option, Some, None, ◌++◌, refl, sym, ap, ◌∙◌, arith, append-nil}
-use Rattle.std.specs.List.{slice_get}
-use Rattle.cu_calculus.specs.Code.{Code, expr_of}
+-- What is built of an expression, by its form.
+use Rattle.std.proofs.Common.{Result, Ok, Err, OnOk, IfOk, Bor, option_map, ◌≡◌, ℕ, ◌+◌, ◌-◌, ◌<◌, suc, List, [], ◌∷◌, Option, Some, None, ◌++◌, length, map, refl, sym, ap, ◌∙◌, arith, append-nil, append_assoc, length-append}
 use Rattle.cu_calculus.specs.declared.ConId.{ConId}
-use Rattle.cu_calculus.specs.declared.Expr.{Expr}
-use Rattle.cu_calculus.specs.declared.Expr.TheVariants as expr
 use Rattle.cu_calculus.specs.declared.ExprId.{ExprId}
-use Rattle.cu_calculus.specs.declared.FunId.{FunId}
-use Rattle.cu_calculus.specs.declared.Head.TheVariants.{Con, Fun, Set}
+use Rattle.cu_calculus.specs.declared.Head.{Head}
 use Rattle.cu_calculus.specs.declared.Lit.{Lit}
+use Rattle.cu_calculus.specs.declared.Mode.{Mode}
+use Rattle.cu_calculus.specs.Code as code
+use Rattle.cu_flat.specs.Meaning.{expr_meaning}
+use Rattle.cu_flat.specs.declared.expr.Expr as flat
+use Rattle.cu_calculus.specs.Code.{Branch, Code, Expr, expr_of}
+use Rattle.cu_machine.specs.declared.Kind.{Kind}
 use Rattle.cu_machine.specs.declared.Kind.TheVariants as kind
-use Rattle.cu_machine.specs.Graph.{Node, stuck}
-use Rattle.cu_machine.specs.Build.{Fresh, build, build_expr, build_node, build_parts, build_variable}
+use Rattle.cu_machine.specs.Graph.{Graph, Node, alone, stuck}
+use Rattle.cu_machine.specs.Build.{Built, Fresh, Scope, Shared, Top, build_alone, build_case, build_expr, build_free, build_let, build_node, build_parts, build_variable, build_within, kind_of_whole, place_in, place_of, pushed}
 
-pub build-flat : (code : Code) (values : List ℕ) (depth next : ℕ) (e : ExprId) → depth ≡ 0
-    → build depth code values next e ≡ record { parts = []; top = Fresh stuck }
-unfolding build
-build-flat code values depth next e flat = rw flat refl
+-- the first of two places that is there
+abbrev pub later : Option ℕ → Option ℕ → Option ℕ
+later (Some id) place = Some id
+later None place = place
 
-build-suc : (code : Code) (values : List ℕ) (depth next : ℕ) (e : ExprId) (found : Option Expr) → expr_of code e ≡ found
-    → build (suc depth) code values next e ≡ build_expr (build depth code values) values next found
-unfolding build
-build-suc code values depth next e found is = rw is refl
+pub build_flat : (program : Code) (scope : Scope) (depth next : ℕ) (e : ExprId) → depth ≡ 0
+    → build_within depth program scope next e ≡ build_alone stuck
+unfolding build_within
+build_flat program scope depth next e flat = rw flat refl
 
-build-deep : (code : Code) (values : List ℕ) (depth next : ℕ) (e : ExprId) (found : Option Expr) → 0 < depth → expr_of code e ≡ found
-    → build depth code values next e ≡ build_expr (build (depth - 1) code values) values next found
-build-deep code values depth next e found deep is =
+build_suc : (program : Code) (scope : Scope) (depth next : ℕ) (e : ExprId) (found : Option Expr) → expr_of program e ≡ found
+    → build_within (suc depth) program scope next e ≡ build_expr (build_within depth program) program scope next e found
+unfolding build_within
+build_suc program scope depth next e found is = rw is refl
+
+pub build_deep : (program : Code) (scope : Scope) (depth next : ℕ) (e : ExprId) (found : Option Expr) → 0 < depth → expr_of program e ≡ found
+    → build_within depth program scope next e ≡ build_expr (build_within (depth - 1) program) program scope next e found
+build_deep program scope depth next e found deep is =
     let same : depth ≡ suc (depth - 1) = omega arith in
-    ap (λ d. build d code values next e) same ∙ build-suc code values (depth - 1) next e found is
+    ap (λ d. build_within d program scope next e) same ∙ build_suc program scope (depth - 1) next e found is
 
-pub build-None : (code : Code) (values : List ℕ) (depth next : ℕ) (e : ExprId) → 0 < depth → expr_of code e ≡ None
-    → build depth code values next e ≡ record { parts = []; top = Fresh stuck }
-build-None code values depth next e = build-deep code values depth next e None
+-- what was built is the same where the definition says the same
+pub parts_by : (b d : Built) (graph after : Graph) → b ≡ d → after ≡ graph ++ d.parts → after ≡ graph ++ b.parts
+parts_by b d graph after is h = rw is h
 
-pub build-Var : (code : Code) (values : List ℕ) (depth next : ℕ) (e : ExprId) (x : ℕ) → 0 < depth → expr_of code e ≡ Some (expr.Var x)
-    → build depth code values next e ≡ build_variable (slice_get values x)
-build-Var code values depth next e x = build-deep code values depth next e (Some (expr.Var x))
+pub top_by : (b d : Built) (top : Top) → b ≡ d → top ≡ d.top → top ≡ b.top
+top_by b d top is h = rw is h
 
-pub build-Lit : (code : Code) (values : List ℕ) (depth next : ℕ) (e : ExprId) (l : Lit) → 0 < depth → expr_of code e ≡ Some (expr.Lit l)
-    → build depth code values next e ≡ record { parts = []; top = Fresh (record { kind = kind.Lit l; args = [] }) }
-build-Lit code values depth next e l = build-deep code values depth next e (Some (expr.Lit l))
+-- nothing is pushed for what has no parts
+pub parts_none : (b : Built) (node : Node) (graph : Graph) → b ≡ build_alone node → graph ≡ graph ++ b.parts
+parts_none b node graph is = rw is (sym (append-nil graph))
 
-pub build-Whole : (code : Code) (values : List ℕ) (depth next : ℕ) (e : ExprId) (f : FunId) (arguments : List ExprId) → 0 < depth
-    → expr_of code e ≡ Some (expr.Whole (Fun f) arguments)
-    → build depth code values next e ≡ build_node (kind.Call f) (build_parts (build (depth - 1) code values) next arguments)
-build-Whole code values depth next e f arguments = build-deep code values depth next e (Some (expr.Whole (Fun f) arguments))
+pub parts_variable : (b : Built) (place : Option ℕ) (graph : Graph) → b ≡ build_variable place → graph ≡ graph ++ b.parts
+parts_variable b None graph is = rw is (sym (append-nil graph))
+parts_variable b (Some id) graph is = rw is (sym (append-nil graph))
 
-pub build-Con : (code : Code) (values : List ℕ) (depth next : ℕ) (e : ExprId) (c : ConId) (arguments : List ExprId) → 0 < depth
-    → expr_of code e ≡ Some (expr.Whole (Con c) arguments)
-    → build depth code values next e ≡ record { parts = []; top = Fresh stuck }
-build-Con code values depth next e c arguments = build-deep code values depth next e (Some (expr.Whole (Con c) arguments))
+pub variable_there : (place : Option ℕ) (id : ℕ) → place ≡ Some id → Shared id ≡ (build_variable place).top
+variable_there place id is = rw is refl
 
-pub build-Set : (code : Code) (values : List ℕ) (depth next : ℕ) (e : ExprId) (f : FunId) (arguments : List ExprId) → 0 < depth
-    → expr_of code e ≡ Some (expr.Whole (Set f) arguments)
-    → build depth code values next e ≡ record { parts = []; top = Fresh stuck }
-build-Set code values depth next e f arguments = build-deep code values depth next e (Some (expr.Whole (Set f) arguments))
+pub variable_missing : (place : Option ℕ) (top : Top) → place ≡ None → top ≡ Fresh stuck → top ≡ (build_variable place).top
+variable_missing place top is h = rw is h
 
-pub build-Or : (code : Code) (values : List ℕ) (depth next : ℕ) (e left right : ExprId) → 0 < depth
-    → expr_of code e ≡ Some (expr.Or left right)
-    → build depth code values next e ≡ build_node kind.Or (build_parts (build (depth - 1) code values) next (left ∷ right ∷ []))
-build-Or code values depth next e left right = build-deep code values depth next e (Some (expr.Or left right))
+-- parts that are read off a vector
+pub nodes_read : (part : ℕ → ExprId → Built) (graph after : Graph) (es fs : List ExprId) → es ≡ fs
+    → after ≡ graph ++ (build_parts part (length graph) es).nodes → after ≡ graph ++ (build_parts part (length graph) fs).nodes
+nodes_read part graph after es fs same h = rw (← same) h
 
--- nothing is pushed where there are no parts
-module _ (graph : List Node) (code : Code) (values : List ℕ) (depth next : ℕ) (e : ExprId) where
-  pub parts-flat : depth ≡ 0 → graph ≡ graph ++ (build depth code values next e).parts
-  parts-flat flat = rw (build-flat code values depth next e flat) (sym (append-nil graph))
+pub ids_read : (part : ℕ → ExprId → Built) (next : ℕ) (es fs : List ExprId) (ids : List ℕ) (k l : Kind) → es ≡ fs → k ≡ l
+    → ids ≡ (build_parts part next es).ids
+    → Fresh (record { kind = k; args = ids }) ≡ Fresh (record { kind = l; args = (build_parts part next fs).ids })
+ids_read part next es fs ids k l same kinds h = rw (h, same, kinds) refl
 
-  pub parts-None : 0 < depth → expr_of code e ≡ None → graph ≡ graph ++ (build depth code values next e).parts
-  parts-None deep is = rw (build-None code values depth next e deep is) (sym (append-nil graph))
+module _ (part : Scope → ℕ → ExprId → Built) (scope inner : Scope) (graph middle : Graph) (x id : ℕ) (bound body : ExprId) where
+  pub let_parts : (after : Graph) → middle ≡ graph ++ pushed (part scope (length graph) bound) → id ≡ place_of (length graph) (part scope (length graph) bound)
+      → inner ≡ scope ++ (x, id) ∷ [] → after ≡ middle ++ (part inner (length middle) body).parts
+      → after ≡ graph ++ (build_let part scope (length graph) x bound body).parts
+  let_parts after pushes places inside h =
+      rw (h, inside, places, pushes, length-append graph (pushed (part scope (length graph) bound)), append_assoc) refl
 
-  pub parts-Var : (x : ℕ) → 0 < depth → expr_of code e ≡ Some (expr.Var x) → graph ≡ graph ++ (build depth code values next e).parts
-  parts-Var x deep is = rw (build-Var code values depth next e x deep is) (go (slice_get values x)) where
-    go : (value : Option ℕ) → graph ≡ graph ++ (build_variable value).parts
-    go None = sym (append-nil graph)
-    go (Some id) = sym (append-nil graph)
+  pub let_top : (top : Top) → middle ≡ graph ++ pushed (part scope (length graph) bound) → id ≡ place_of (length graph) (part scope (length graph) bound)
+      → inner ≡ scope ++ (x, id) ∷ [] → top ≡ (part inner (length middle) body).top
+      → top ≡ (build_let part scope (length graph) x bound body).top
+  let_top top pushes places inside h =
+      rw (h, inside, places, pushes, length-append graph (pushed (part scope (length graph) bound))) refl
 
-  pub parts-Lit : (l : Lit) → 0 < depth → expr_of code e ≡ Some (expr.Lit l) → graph ≡ graph ++ (build depth code values next e).parts
-  parts-Lit l deep is = rw (build-Lit code values depth next e l deep is) (sym (append-nil graph))
+  pub free_parts : (after : Graph) → middle ≡ graph ++ alone kind.Free ∷ [] → id ≡ length graph → inner ≡ scope ++ (x, id) ∷ []
+      → after ≡ middle ++ (part inner (length middle) body).parts → after ≡ graph ++ (build_free part scope (length graph) x body).parts
+  free_parts after pushes places inside h =
+      rw (h, inside, places, pushes, length-append graph (alone kind.Free ∷ []), append_assoc) refl
 
-  pub parts-Con : (c : ConId) (arguments : List ExprId) → 0 < depth → expr_of code e ≡ Some (expr.Whole (Con c) arguments)
-      → graph ≡ graph ++ (build depth code values next e).parts
-  parts-Con c arguments deep is = rw (build-Con code values depth next e c arguments deep is) (sym (append-nil graph))
+  pub free_top : (top : Top) → middle ≡ graph ++ alone kind.Free ∷ [] → id ≡ length graph → inner ≡ scope ++ (x, id) ∷ []
+      → top ≡ (part inner (length middle) body).top → top ≡ (build_free part scope (length graph) x body).top
+  free_top top pushes places inside h = rw (h, inside, places, pushes, length-append graph (alone kind.Free ∷ [])) refl
 
-  pub parts-Set : (f : FunId) (arguments : List ExprId) → 0 < depth → expr_of code e ≡ Some (expr.Whole (Set f) arguments)
-      → graph ≡ graph ++ (build depth code values next e).parts
-  parts-Set f arguments deep is = rw (build-Set code values depth next e f arguments deep is) (sym (append-nil graph))
+pub case_top : (k : Kind) (args values : List ℕ) (id place : ℕ) → args ≡ id ∷ values → id ≡ place
+    → Fresh (record { kind = k; args = args }) ≡ Fresh (record { kind = k; args = place ∷ values })
+case_top k args values id place is there = rw (is, there) refl
 
-pub ruleset builds =
-    (build-flat, build-None, build-Var, build-Lit, build-Whole, build-Con, build-Set, build-Or, parts-flat, parts-None, parts-Var, parts-Lit, parts-Con, parts-Set)
+-- what was read of the program
+pub found : (scope : List ℕ) (r : Option (Bor flat.Expr)) (field : Bor flat.Expr) (e : flat.Expr) (w : Option Expr)
+    → option_map (λ (x : Bor flat.Expr). expr_meaning scope x.now) r ≡ w → r ≡ Some field → field.now ≡ e → w ≡ Some (expr_meaning scope e)
+found scope r field e w h there is =
+    sym h ∙ (ap (option_map (λ (x : Bor flat.Expr). expr_meaning scope x.now)) there ∙ ap (λ (x : flat.Expr). Some (expr_meaning scope x)) is)
+
+pub missing : (scope : List ℕ) (r : Option (Bor flat.Expr)) (w : Option Expr)
+    → option_map (λ (x : Bor flat.Expr). expr_meaning scope x.now) r ≡ w → r ≡ None → w ≡ None
+missing scope r w h there = sym h ∙ ap (option_map (λ (x : Bor flat.Expr). expr_meaning scope x.now)) there
+
+-- what a call keeps where it gives something
+pub on_ok : {T E : Type 0} (r : Result T E) (P Q : Type 0) → (P → Q) → OnOk r P → OnOk r Q
+on_ok (Ok x) P Q f h = f h
+on_ok (Err e) P Q f h = h
+
+pub if_ok : {T E : Type 0} (r : Result T E) (P Q : T → Type 0) → ((x : T) → P x → Q x) → IfOk r P → IfOk r Q
+if_ok (Ok x) P Q f h = f x h
+if_ok (Err e) P Q f h = h

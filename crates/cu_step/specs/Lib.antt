@@ -1,3 +1,13 @@
+pub mod Head
+pub mod Matching
+pub mod Moved
 pub mod Needed
+pub mod Numbers
+pub mod Occurring
 pub mod Outcome
+pub mod Pairs
+pub mod Reading
+pub mod Samples
 pub mod Top
+pub mod Walk
+pub mod Written

@@ -1,138 +1,125 @@
-//! The branches that follow where a node is rewritten.
-ghost use Rattle.std.specs.Prelude.{◌≡◌, ◌<◌, [], ◌∷◌, IfOk, OnOk, length, map, slice_set};
-ghost use Rattle.cu_calculus.specs.Code.{body_of};
-ghost use Rattle.cu_machine.specs.Build.{build_body, instead, written};
+//! The rows of the step table.
+ghost use Rattle.std.specs.Prelude.{◌≡◌, ◌<◌, IfOk, IsTrue, length, not};
+ghost use Rattle.cu_calculus.specs.declared.builtin.Primitive.TheVariants as prim;
 ghost use Rattle.cu_machine.specs.Graph.{node_at};
-ghost use Rattle.cu_machine.specs.Next.{over, renamed, stuck_at, successors};
-ghost use Rattle.cu_step.specs.Outcome.{state_of};
-ghost use Rattle.cu_step.specs.Top.{top_of};
+ghost use Rattle.cu_machine.specs.Rewrite.{move, operated, rewritten};
+ghost use Rattle.cu_machine.specs.Sets.{is_set_kind};
+ghost use Rattle.cu_machine.specs.Validity.{ArgumentsThere, IsAcyclic};
+ghost use Rattle.cu_step.specs.Moved.{move_of};
 
-use crate::build::{self, Top};
-use crate::{Branch, node};
-use cu_flat::{FlatProgram, FunId};
+use crate::moved::{self, Moved};
+use crate::{apply, call, case, equal, head, node, number, operand, unify};
+use cu_flat::{FlatProgram, Prim, Special};
 use cu_graph::{Kind, Store};
 use std::alloc::{AllocError, Global};
 
-/// Puts the outermost node of what was built in the place of another.
-fn put<S: Store>(store: &mut S, id: u32, top: Top) -> Result<(), AllocError>
-    requires { id < length (S.content store.old) }
-    ensures { OnOk result (S.content store.new
-        ≡ slice_set (S.content store.old) id (instead (top_of top))) }
+/// `==` on its arguments.
+fn compared<S: Store>(
+    alloc: Global,
+    special: &Special,
+    store: S,
+    id: u32,
+    args: &[u32],
+) -> Result<Moved<S>, AllocError>
+    requires { id < length (S.content store) }
+    ensures { IfOk result (λ moved. move_of S.content moved
+        ≡ operated special.now (S.content store) id prim.Equal args.now) }
 {
-    match top {
-        Top::Shared(other) => store.put(id, Kind::Ind, &[other]),
-        Top::Fresh(kind, args) => store.put(id, kind, args.as_slice()),
+    let [a, b] = args else {
+        return moved::sticks(alloc, store, id);
+    };
+    let left = operand::at(alloc, &store, *a)?;
+    let right = operand::at(alloc, &store, *b)?;
+    equal::compared(alloc, special, store, id, &left, &right)
+}
+
+/// `=:=` on its arguments.
+#[tactic(auto, using(crate::proofs::Operands::operands))]
+fn equated<S: Store>(
+    alloc: Global,
+    special: &Special,
+    store: S,
+    id: u32,
+    args: &[u32],
+) -> Result<Moved<S>, AllocError>
+    requires id { id < length (S.content store) }
+    requires arguments { ArgumentsThere (S.content store) }
+    requires acyclic { IsAcyclic (S.content store) }
+    ensures { IfOk result (λ moved. move_of S.content moved
+        ≡ operated special.now (S.content store) id prim.Unify args.now) }
+{
+    let [a, b] = args else {
+        return moved::sticks(alloc, store, id);
+    };
+    let left = operand::at(alloc, &store, *a)?;
+    let right = operand::at(alloc, &store, *b)?;
+    unify::equated(alloc, special, store, id, &left, &right)
+}
+
+/// `&` on its arguments.
+fn conjoined<S: Store>(
+    alloc: Global,
+    special: &Special,
+    store: S,
+    id: u32,
+    args: &[u32],
+) -> Result<Moved<S>, AllocError>
+    requires { id < length (S.content store) }
+    ensures { IfOk result (λ moved. move_of S.content moved
+        ≡ operated special.now (S.content store) id prim.And args.now) }
+{
+    let [a, b] = args else {
+        return moved::sticks(alloc, store, id);
+    };
+    let left = node::kind_at(&store, head::find(&store, *a));
+    let right = node::kind_at(&store, head::find(&store, *b));
+    equal::conjoined(alloc, special, store, id, left, right)
+}
+
+/// A built-in operation on its arguments.
+#[tactic(auto, using(crate::proofs::Operands::operands))]
+fn operated<S: Store>(
+    alloc: Global,
+    special: &Special,
+    store: S,
+    id: u32,
+    operation: Prim,
+) -> Result<Moved<S>, AllocError>
+    requires id { id < length (S.content store) }
+    requires arguments { ArgumentsThere (S.content store) }
+    requires acyclic { IsAcyclic (S.content store) }
+    ensures { IfOk result (λ moved. move_of S.content moved
+        ≡ operated special.now (S.content store) id operation (node_at (S.content store) id).args) }
+{
+    let args = node::args(alloc, &store, id)?;
+    match operation {
+        Prim::Equal => compared(alloc, special, store, id, args.as_slice()),
+        Prim::Unify => equated(alloc, special, store, id, args.as_slice()),
+        Prim::And => conjoined(alloc, special, store, id, args.as_slice()),
+        _ => number::computed(alloc, special, store, id, operation, args.as_slice()),
     }
 }
 
-/// The branch in which a call has become the operation's body.
-fn called<S: Store>(
+/// What becomes of a graph where the node at a place is rewritten.
+pub(crate) fn rewritten<S: Store>(
     alloc: Global,
     program: &FlatProgram,
-    branch: Branch<S>,
+    store: S,
     id: u32,
-    f: FunId,
-) -> Result<Branch<S>, AllocError>
-    requires { id < length (S.content branch.store) }
-    ensures { let state = state_of S.content branch in
-        IfOk result (λ next. state_of S.content next
-        ≡ over state (written state.graph id (build_body program.now
-        (node_at state.graph id).args (length state.graph) (body_of program.now f)))) }
+) -> Result<Moved<S>, AllocError>
+    requires id { id < length (S.content store) }
+    requires sets { IsTrue (not (is_set_kind (node_at (S.content store) id).kind)) }
+    requires arguments { ArgumentsThere (S.content store) }
+    requires acyclic { IsAcyclic (S.content store) }
+    ensures { IfOk result (λ moved. move_of S.content moved ≡ move program.now (S.content store) id) }
 {
-    let Branch { mut store, root } = branch;
-    let args = node::args(alloc, &store, id)?;
-    let top = build::build_body(alloc, program, &mut store, args.as_slice(), f)?;
-    put(&mut store, id, top)?;
-    Ok(Branch { store, root })
-}
-
-/// The branch in which a node is another name of a node.
-fn rename<S: Store>(mut store: S, root: u32, id: u32, other: u32) -> Result<Branch<S>, AllocError>
-    requires { id < length (S.content store) }
-    ensures { IfOk result (λ next. state_of S.content next
-        ≡ renamed (record { graph = S.content store; root = root }) id other) }
-{
-    store.put(id, Kind::Ind, &[other])?;
-    Ok(Branch { store, root })
-}
-
-/// The branch in which a node is stuck.
-fn stick<S: Store>(branch: Branch<S>, id: u32) -> Result<Branch<S>, AllocError>
-    requires { id < length (S.content branch.store) }
-    ensures { IfOk result (λ next. state_of S.content next
-        ≡ stuck_at (state_of S.content branch) id) }
-{
-    let Branch { mut store, root } = branch;
-    store.put(id, Kind::Stuck, &[])?;
-    Ok(Branch { store, root })
-}
-
-/// Two graphs with the same nodes.
-fn fork_in_two<S: Store>(store: S) -> Result<(S, S), AllocError>
-    ensures { IfOk result (λ stores. (S.content stores.0 ≡ S.content store)
-        × (S.content stores.1 ≡ S.content store)) }
-{
-    let mut stores = store.fork(2)?;
-    let second = stores.pop().unwrap();
-    let first = stores.pop().unwrap();
-    Ok((first, second))
-}
-
-/// Only this branch.
-fn alone<S: Store>(alloc: Global, branch: Branch<S>) -> Result<Vec<Branch<S>>, AllocError>
-    ensures { IfOk result (λ branches. branches.items ≡ branch ∷ []) }
-{
-    let mut branches = Vec::with_capacity(alloc, 1)?;
-    branches.push(branch)?;
-    Ok(branches)
-}
-
-/// The branches of a choice, the left one first.
-fn chosen<S: Store>(
-    alloc: Global,
-    branch: Branch<S>,
-    id: u32,
-    left: u32,
-    right: u32,
-) -> Result<Vec<Branch<S>>, AllocError>
-    requires { id < length (S.content branch.store) }
-    ensures { let state = state_of S.content branch in
-        IfOk result (λ branches. map (state_of S.content) branches.items
-        ≡ renamed state id left ∷ renamed state id right ∷ []) }
-{
-    let Branch { store, root } = branch;
-    let (first, second) = fork_in_two(store)?;
-    let first = rename(first, root, id, left)?;
-    let second = rename(second, root, id, right)?;
-    let mut branches = Vec::with_capacity(alloc, 2)?;
-    branches.push(first)?;
-    branches.push(second)?;
-    Ok(branches)
-}
-
-/// The branches that follow where a node is rewritten, from left to right.
-pub(crate) fn successors<S: Store>(
-    alloc: Global,
-    program: &FlatProgram,
-    branch: Branch<S>,
-    id: u32,
-) -> Result<Vec<Branch<S>>, AllocError>
-    requires { id < length (S.content branch.store) }
-    ensures { IfOk result (λ branches. map (state_of S.content) branches.items
-        ≡ successors program.now (state_of S.content branch) id) }
-{
-    match branch.store.kind(id) {
-        Kind::Call(f) => {
-            let next = called(alloc, program, branch, id, f)?;
-            alone(alloc, next)
-        }
-        Kind::Or => {
-            let args = node::args(alloc, &branch.store, id)?;
-            match args.as_slice() {
-                [left, right] => chosen(alloc, branch, id, *left, *right),
-                _ => alone(alloc, stick(branch, id)?),
-            }
-        }
-        Kind::Lit(_) | Kind::Ind | Kind::Stuck => alone(alloc, stick(branch, id)?),
+    match store.kind(id) {
+        Kind::Call(f) => call::unfolded(alloc, program, store, id, f),
+        Kind::Or => call::chosen(alloc, store, id),
+        Kind::Case(mode, e) => case::distinguished(alloc, program, store, id, mode, e),
+        Kind::Apply => apply::applied(alloc, program, store, id),
+        Kind::Prim(operation) => operated(alloc, program.special(), store, id, operation),
+        Kind::SetCall(_) => unreachable!(),
+        _ => moved::sticks(alloc, store, id),
     }
 }

@@ -1,19 +1,66 @@
--- The outcome is the next event of the state, by what its root needs.
-use Rattle.std.proofs.Common.{map, sym, ◌∙◌}
-use Rattle.cu_step.specs.Outcome.{state_of}
-use Rattle.cu_step.proofs.Steps.{next-At, next-Done}
+-- A branch that is too large stops; any other is valid, and goes on by what its value needs.
+use Rattle.std.proofs.Common.{◌≡◌, IfOk, List, ℕ, ap, length, subst, sym, ◌∙◌}
+use Rattle.cu_machine.specs.Graph.{Graph}
+use Rattle.cu_machine.specs.Need.{need_all}
+use Rattle.cu_machine.specs.Next.{next, next_by}
+use Rattle.cu_machine.specs.State.{Branch, Idle}
+use Rattle.cu_machine.specs.Validity.{are_places}
+use Rattle.cu_step.specs.Outcome.{next_of, state_of}
+use Rattle.cu_step.proofs.Builds.{if_ok}
+use Rattle.cu_step.proofs.StepLemmas.{follow_valid, follow_without, next_large, next_small, valid_acyclic, valid_arguments, valid_goals, valid_root}
 use Rattle.cu_step.proofs.step.Goals as goal
 
-pub returns-in-Done : goal.returns-in-Done
-returns-in-Done g c =
-    sym (next-Done c.args.program.now c.args.limits.now (state_of g.S.Store.content c.args.branch)
-    (sym c.is_too_large.ensures ∙ c.if-is_too_large.false)
-    c.in-Done.field-0 c.in-Done.value (sym c.in-Done.ensures.need) c.in-Done.ensures.there)
+pub returns-then-is_too_large-clause-next : goal.returns-then-is_too_large-clause-next
+returns-then-is_too_large-clause-next g c =
+    let branch = c.args.branch in
+    c.too_large.ensures ∙ sym (next_large c.args.program.now c.args.limits.now (g.S.Store.content branch.store) branch.root branch.goals.items
+    (sym c.is_too_large.ensures ∙ c.if-is_too_large.true))
 
-pub returns-in_ok-branches-in-At : goal.returns-in_ok-branches-in-At
-returns-in_ok-branches-in-At g c =
-    c.within.ensures
-    ∙ next-At c.args.program.now c.args.limits.now (state_of g.S.Store.content c.args.branch)
-    (sym c.is_too_large.ensures ∙ c.if-is_too_large.false) c.in-At.id
-    (map (state_of g.S.Store.content) c.in_ok-branches-in-At.branches.items)
-    (sym c.in-At.ensures.need) c.in_ok-branches-in-At.ensures
+pub by_need-requires-clause-root : goal.by_need-requires-clause-root
+by_need-requires-clause-root g c κs within =
+    let branch = c.args.branch in
+    valid_root c.args.program.now (g.S.Store.content branch.store) branch.root branch.goals.items c.requires.valid
+
+pub by_need-requires-clause-goals : goal.by_need-requires-clause-goals
+by_need-requires-clause-goals g c κs within =
+    let branch = c.args.branch in
+    ap (are_places (length (g.S.Store.content branch.store))) c.as_slice.ensures.value
+    ∙ valid_goals c.args.program.now (g.S.Store.content branch.store) branch.root branch.goals.items c.requires.valid
+
+pub by_need-requires-clause-arguments : goal.by_need-requires-clause-arguments
+by_need-requires-clause-arguments g c κs within =
+    let branch = c.args.branch in
+    valid_arguments c.args.program.now (g.S.Store.content branch.store) branch.root branch.goals.items c.requires.valid
+
+pub by_need-requires-clause-acyclic : goal.by_need-requires-clause-acyclic
+by_need-requires-clause-acyclic g c κs within =
+    let branch = c.args.branch in
+    valid_acyclic c.args.program.now (g.S.Store.content branch.store) branch.root branch.goals.items c.requires.valid
+
+pub returns-clause-next : goal.returns-clause-next
+returns-clause-next g c =
+    let branch = c.args.branch in
+    let graph = g.S.Store.content branch.store in
+    let program = c.args.program.now in
+    let limits = c.args.limits.now in
+    let need = need_all program.special.truth graph branch.root in
+    if_ok c.by_need.result _ _
+    (λ o is. is ∙ ap (λ (goals : List ℕ). next_by program limits graph branch.root goals need) c.as_slice.ensures.value
+    ∙ sym (next_small program limits graph branch.root branch.goals.items (sym c.is_too_large.ensures ∙ c.if-is_too_large.false)))
+    c.by_need.ensures.next
+
+pub returns-clause-valid : goal.returns-clause-valid
+returns-clause-valid g c =
+    let branch = c.args.branch in
+    if_ok c.by_need.result _ _
+    (follow_valid g.S.Store.content c.args.program.now c.args.limits.now (g.S.Store.content branch.store) branch.root branch.goals.items
+    c.by_need.ensures.well_formed c.requires.valid)
+    (returns-clause-next g c)
+
+pub returns-clause-sets : goal.returns-clause-sets
+returns-clause-sets g c =
+    let branch = c.args.branch in
+    if_ok c.by_need.result _ _
+    (follow_without g.S.Store.content c.args.program.now c.args.limits.now (g.S.Store.content branch.store) branch.root branch.goals.items
+    c.by_need.ensures.well_formed c.requires.valid c.requires.code c.requires.sets)
+    (returns-clause-next g c)

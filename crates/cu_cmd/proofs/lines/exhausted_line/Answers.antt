@@ -1,6 +1,6 @@
 use Rattle.std.proofs.Common.{◌≡◌, ℕ, zero, suc, ◌++◌, codes, refl, append_assoc}
 use Rattle.std.specs.Fmt.{decimal}
-use Rattle.cu_machine.specs.Line.{floundered_text}
+use Rattle.cu_cmd.specs.Line.{floundered_text}
 use Rattle.cu_cmd.proofs.lines.exhausted_line.Goals as goal
 
 floundered_text-some : (k : ℕ) → (k ≡ 0 → ⊥) → floundered_text k ≡ codes "; " ++ decimal k ++ codes " floundered"

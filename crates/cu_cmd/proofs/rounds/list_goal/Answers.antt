@@ -13,7 +13,8 @@ use Rattle.cu_cmd.proofs.rounds.list_goal.Goals.{After-or}
 pub loop-level-init : goal.loop-level-init
 loop-level-init g c =
     record {
-      left = listing_starts (g.K.Sink.written c.args.sink.now) c.args.program.now c.args.limits.now (start_of c.args.goal) c.new-tally.result (map (state_of g.S.Store.content) c.in_ok-level.level.items) c.new-tally.ensures c.in_ok-level.ensures;
+      left = listing_starts (g.K.Sink.written c.args.sink.now) c.args.program.now c.args.limits.now (start_of c.args.program.now c.args.goal) c.new-tally.result (map (state_of g.S.Store.content) c.in_ok-level.level.items) c.new-tally.ensures c.in_ok-level.ensures.level;
+      ready = c.in_ok-level.ensures.ready;
       within = zero-le;
       count = refl;
     }
@@ -22,7 +23,7 @@ pub returns-in_err-listed-clause-front : goal.returns-in_err-listed-clause-front
 returns-in_err-listed-clause-front g c =
     let content = g.S.Store.content in
     let written = g.K.Sink.written in
-    let whole = listing c.args.program.now c.args.limits.now (start_of c.args.goal) in
+    let whole = listing c.args.program.now c.args.limits.now (start_of c.args.program.now c.args.goal) in
     OnErr-always c.from_residual-in_err-listed.result
     (round_written_front c.args.program.now c.args.limits.now c.loop-level.round {whole = whole} (written c.list_round.new.sink) (c.args.limits.now.rounds - c.loop-level.round) c.loop-level.tally
     (map (state_of content) c.loop-level.level.items) c.loop-level.invariant.left c.in_err-listed.ensures.front)
@@ -49,15 +50,15 @@ done g c =
 
 -- what is left where the listing ends
 ended : (g : Over) (c : After-or g) (end : End) → c.or.result ≡ Some end
-    → ListingLeft (g.K.Sink.written c.args.sink.now) (g.K.Sink.written c.list_round.new.sink) (listing c.args.program.now c.args.limits.now (start_of c.args.goal)) (only_end end)
+    → ListingLeft (g.K.Sink.written c.args.sink.now) (g.K.Sink.written c.list_round.new.sink) (listing c.args.program.now c.args.limits.now (start_of c.args.program.now c.args.goal)) (only_end end)
 ended g c end is =
-    let whole = listing c.args.program.now c.args.limits.now (start_of c.args.goal) in
+    let whole = listing c.args.program.now c.args.limits.now (start_of c.args.program.now c.args.goal) in
     last_round c.args.program.now c.args.limits.now c.loop-level.round {whole = whole} end c.loop-level.invariant.within c.loop-level.invariant.left (done g c) is
 
 pub returns-in-Some-clause-end : goal.returns-in-Some-clause-end
 returns-in-Some-clause-end g c =
     let left = ended g (goal.at.returns-in-Some-clause-end g c).After-or c.in-Some.end c.in-Some.is in
-    IfOk-weaker c.write_end.result (λ end. end ≡ c.in-Some.end) (λ end. end ≡ (listing c.args.program.now c.args.limits.now (start_of c.args.goal)).end)
+    IfOk-weaker c.write_end.result (λ end. end ≡ c.in-Some.end) (λ end. end ≡ (listing c.args.program.now c.args.limits.now (start_of c.args.program.now c.args.goal)).end)
     (λ end is. is ∙ sym left.end) c.write_end.ensures.end
 
 pub returns-in-Some-clause-whole : goal.returns-in-Some-clause-whole
@@ -72,7 +73,7 @@ returns-in-Some-clause-front g c =
 
 pub loop-level-preserved : goal.loop-level-preserved
 loop-level-preserved g c =
-    let whole = listing c.args.program.now c.args.limits.now (start_of c.args.goal) in
+    let whole = listing c.args.program.now c.args.limits.now (start_of c.args.program.now c.args.goal) in
     let on = next_round c.args.program.now c.args.limits.now c.loop-level.round {whole = whole} c.loop-level.invariant.within c.loop-level.invariant.left (done g (goal.at.loop-level-preserved g c).After-or) c.in_default.is in
     let below : c.loop-level.round < c.args.limits.now.rounds = on.0 in
-    record { left = on.1; within = omega arith; count = c.in_ok-listed.ensures.cause ∙ c.loop-level.invariant.count }
+    record { left = on.1; ready = c.in_ok-listed.ensures.ready; within = omega arith; count = c.in_ok-listed.ensures.cause ∙ c.loop-level.invariant.count }

@@ -2,7 +2,7 @@ use Rattle.std.proofs.Common.{append-nil}
 use Rattle.std.proofs.lemmas.Result.{on_err_weaker}
 use Rattle.cu_machine.specs.Listing.{Answered, Waiting}
 use Rattle.cu_step.specs.Outcome.{reading_of}
-use Rattle.cu_cmd.proofs.RoundsLemmas.{Adds-nothing, one_line_front, round_of-Answer, round_of-Go, round_of-Stops, round_of-Waits}
+use Rattle.cu_cmd.proofs.RoundsLemmas.{Adds-nothing, one_line_front, round_of-Answer, round_of-Fails, round_of-Go, round_of-Stops, round_of-Waits}
 use Rattle.cu_cmd.proofs.search.list_outcome.Goals as goal
 
 pub returns-in-Go-clause-whole : goal.returns-in-Go-clause-whole
@@ -19,15 +19,18 @@ returns-in-Answer-clause-front g c =
     (one_line_front (written c.args.sink.now) (written c.list_answer.new.sink) (Answered c.args.round (reading_of c.in-Answer.reading)))
     c.list_answer.ensures.front)
 
+pub returns-in-Fail-clause-whole : goal.returns-in-Fail-clause-whole
+returns-in-Fail-clause-whole g c = rw (c.in-Fail.is, round_of-Fails) (Adds-nothing (g.K.Sink.written c.args.sink.now))
+
 pub returns-in-Wait-clause-whole : goal.returns-in-Wait-clause-whole
-returns-in-Wait-clause-whole g c = rw (c.in-Wait.is, round_of-Waits, append-nil) c.list_wait.ensures.whole
+returns-in-Wait-clause-whole g c = rw (c.in-Wait.is, round_of-Waits, append-nil, ← c.as_slice.ensures.value) c.list_wait.ensures.whole
 
 pub returns-in-Wait-clause-front : goal.returns-in-Wait-clause-front
 returns-in-Wait-clause-front g c =
     let written = g.K.Sink.written in
-    rw (c.in-Wait.is, round_of-Waits)
+    rw (c.in-Wait.is, round_of-Waits, ← c.as_slice.ensures.value)
     (on_err_weaker c.list_wait.result
-    (one_line_front (written c.args.sink.now) (written c.list_wait.new.sink) (Waiting c.args.round))
+    (one_line_front (written c.args.sink.now) (written c.list_wait.new.sink) (Waiting c.args.round c.as_slice.result.now))
     c.list_wait.ensures.front)
 
 pub returns-in-Stop-clause-whole : goal.returns-in-Stop-clause-whole

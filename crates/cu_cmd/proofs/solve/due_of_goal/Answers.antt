@@ -2,7 +2,7 @@
 use Rattle.std.proofs.Common.{◌∙◌, Some, ap}
 use Rattle.cu_cmd.specs.Asked.{asked}
 use Rattle.cu_cmd.specs.Choices.{IsAbsent, names_of}
-use Rattle.cu_cmd.proofs.RunLemmas.{goal_is_there, owes_goal_refusal, owes_listing}
+use Rattle.cu_cmd.proofs.RunLemmas.{goal_runs, owes_goal_refusal, owes_listing}
 use Rattle.cu_cmd.proofs.solve.due_of_goal.Goals as goal
 
 pub returns-in_ok-program-in-Some-clause-owes : goal.returns-in_ok-program-in-Some-clause-owes
@@ -12,7 +12,7 @@ returns-in_ok-program-in-Some-clause-owes c = λ held text is_held accepted word
 
 pub returns-in_ok-program-in-Some-clause-runnable : goal.returns-in_ok-program-in-Some-clause-runnable
 returns-in_ok-program-in-Some-clause-runnable c =
-    goal_is_there c.args.definitions.now c.in-Some.k c.in_ok-program-in-Some.program c.goal_function.result
+    goal_runs c.args.definitions.now c.in-Some.k _ c.in_ok-program-in-Some.program c.goal_function.result c.in-Some.ensures c.requires
     c.in_ok-program-in-Some.ensures c.goal_function.ensures
 
 pub returns-in_ok-syntax_line-in-None-clause-owes : goal.returns-in_ok-syntax_line-in-None-clause-owes

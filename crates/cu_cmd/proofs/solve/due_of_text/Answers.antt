@@ -3,13 +3,13 @@ use Rattle.std.proofs.Common.{subst, sym, take}
 use Rattle.cu_io.specs.Fetches.{most_bytes}
 use Rattle.cu_cmd.specs.Asked.{asked}
 use Rattle.cu_cmd.specs.Choices.{Refuses, lines_of}
-use Rattle.cu_cmd.specs.Program.{AreInScope}
+use Rattle.cu_cmd.specs.Program.{AreSound}
 use Rattle.cu_cmd.proofs.RunLemmas.{if_ok, owes_line_refusal}
-use Rattle.cu_cmd.proofs.ScopeLemmas.{accepted-scope}
+use Rattle.cu_cmd.proofs.ScopeLemmas.{accepted-sound}
 use Rattle.cu_cmd.proofs.solve.due_of_text.Goals as goal
 
 pub due_of_goal-requires : goal.due_of_goal-requires
-due_of_goal-requires c = subst (λ definitions. AreInScope definitions) (sym c.deref.ensures.value) (accepted-scope _ _ c.in-Ok.ensures)
+due_of_goal-requires c = subst (λ definitions. AreSound definitions) (sym c.deref.ensures.value) (accepted-sound _ _ c.in-Ok.ensures)
 
 pub returns-in-Ok-clause-owes : goal.returns-in-Ok-clause-owes
 returns-in-Ok-clause-owes c =

@@ -1,9 +1,16 @@
--- What is still to be visited from here on gives what all visits give from the root on.
-use Rattle.std.proofs.Common.{◌≡◌, length, ◌-◌}
-use Rattle.cu_machine.specs.Need.{need}
+-- What was found is right, and what comes out of it is what the root needs. Each look takes a part of a cost that is linear in
+-- the nodes and their arguments.
+use Rattle.std.proofs.Common.{◌≡◌}
+use Rattle.cu_machine.specs.Need as need
+use Rattle.cu_machine.specs.Need.{need_all}
+use Rattle.cu_step.specs.Walk.{Fits, cost, found, outcome}
 use Rattle.cu_step.proofs.need.find.Given as goal
 
-abbrev pub invariant-loop : goal.invariant-loop
-invariant-loop g l =
-    let graph = g.S.Store.content l.store in
-    (l.end ≡ length graph) × (need (l.end - l.counter) graph l.id ≡ need (length graph) graph l.fn.root)
+abbrev pub invariant-loop-frame : goal.invariant-loop-frame
+invariant-loop-frame g l = record {
+  fits : Fits l.truth (g.S.Store.content l.store) (found l.walk) need.Done;
+  comes : outcome l.truth (g.S.Store.content l.store) (found l.walk) need.Done ≡ need_all l.truth (g.S.Store.content l.store) l.root;
+}
+
+abbrev pub decreases-loop-frame : goal.decreases-loop-frame
+decreases-loop-frame g l = cost (g.S.Store.content l.store) (found l.walk)

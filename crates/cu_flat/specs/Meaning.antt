@@ -1,0 +1,57 @@
+-- What the parts of a flat program stand for.
+use Rattle.std.specs.Prelude.{ℕ, List, Option, None, Some, map}
+use Rattle.cu_calculus.specs.declared.ExprId.{ExprId}
+use Rattle.cu_calculus.specs.declared.builtin.Special.{Special}
+use Rattle.cu_calculus.specs.Code as code
+use Rattle.cu_calculus.specs.Code.{Code}
+use Rattle.cu_calculus.specs.Program.{Constructor}
+use Rattle.cu_flat.specs.declared.expr.Expr.{Expr}
+use Rattle.cu_flat.specs.declared.expr.Expr.TheVariants as expr
+use Rattle.cu_flat.specs.declared.expr.FlatBody.{FlatBody}
+use Rattle.cu_flat.specs.declared.expr.FlatBody.TheVariants as body
+use Rattle.cu_flat.specs.declared.expr.FlatConstructor.{FlatConstructor}
+use Rattle.cu_flat.specs.declared.expr.FlatFunction.{FlatFunction}
+use Rattle.cu_flat.specs.declared.expr.Pattern.{Pattern}
+use Rattle.cu_flat.specs.declared.expr.Pattern.TheVariants as pattern
+use Rattle.cu_flat.specs.declared.Entry.{Entry}
+
+abbrev pub pattern_meaning : Pattern → code.Shallow
+pattern_meaning (pattern.Lit l) = code.Exactly l
+pattern_meaning (pattern.Con c xs) = code.Built c xs.items
+
+abbrev pub branch_meaning : Pattern × ExprId → code.Branch
+branch_meaning branch = record { pattern = pattern_meaning branch.0; body = branch.1 }
+
+-- an expression, where a case distinction has these variables in scope
+abbrev pub expr_meaning : List ℕ → Expr → code.Expr
+expr_meaning scope (expr.Var x) = code.Variable x
+expr_meaning scope (expr.Lit l) = code.Literal l
+expr_meaning scope (expr.Whole h es) = code.Whole h es.items
+expr_meaning scope (expr.Part h es) = code.Part h es.items
+expr_meaning scope (expr.Apply function argument) = code.Apply function argument
+expr_meaning scope (expr.Let x bound body) = code.Let x bound body
+expr_meaning scope (expr.Free x body) = code.Free x body
+expr_meaning scope (expr.Or left right) = code.Or left right
+expr_meaning scope (expr.Case mode e branches) = code.Case mode scope e (map branch_meaning branches.items)
+
+abbrev pub entry_meaning : Entry → code.Expr
+entry_meaning entry = expr_meaning entry.scope.items entry.expr
+
+abbrev pub body_meaning : FlatBody → code.Body
+body_meaning (body.Rule params e) = code.Rule params.items e
+body_meaning (body.External operation) = code.External operation
+
+abbrev pub function_meaning : FlatFunction → code.Function
+function_meaning function = record { arity = function.arity; body = body_meaning function.body }
+
+abbrev pub constructor_meaning : FlatConstructor → Constructor
+constructor_meaning constructor = record { of_type = constructor.of_type; arity = constructor.arity }
+
+-- the code of functions, constructors, built-in entities and expressions
+abbrev pub code_of : List FlatFunction → List FlatConstructor → Special → List Entry → Code
+code_of functions constructors special entries = record {
+  functions = map function_meaning functions;
+  constructors = map constructor_meaning constructors;
+  special = special;
+  expressions = map entry_meaning entries;
+}

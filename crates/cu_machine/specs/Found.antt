@@ -1,0 +1,43 @@
+-- What a search for all values of a function finds.
+use Rattle.std.specs.Prelude.{◌≡◌, ℕ, zero, suc, Bool, true, false, List, [], ◌++◌, ◌∷◌, Some, IsTrue, flat_map, map}
+use Rattle.std.specs.List.{list_all}
+use Rattle.cu_calculus.specs.declared.FunId.{FunId}
+use Rattle.cu_calculus.specs.Code.{Code, function_arity}
+use Rattle.cu_calculus.specs.Shape.{are_ground, is_ground}
+use Rattle.cu_calculus.specs.Value.{Value, Values, count}
+use Rattle.cu_machine.specs.declared.Limits.{Limits}
+use Rattle.cu_machine.specs.Level.{level}
+use Rattle.cu_machine.specs.Next.{Next, Answer, Fails, Go, Stops, Waits, next}
+use Rattle.cu_machine.specs.Sort.{sorted}
+use Rattle.cu_machine.specs.State.{call_on}
+
+-- the events of the states at a depth of the tree of a call on values
+abbrev pub inner_events : Code → Limits → FunId → Values → ℕ → List Next
+inner_events program limits f arguments depth = map (next program limits) (level program limits (call_on program f arguments) depth)
+
+-- an event that leaves the search going: no answer that isn't ground data, no wait and no stop
+abbrev pub is_quiet : Next → Bool
+is_quiet (Go states) = true
+is_quiet (Answer reading) = is_ground reading.value
+is_quiet Fails = true
+is_quiet (Waits names) = false
+is_quiet (Stops stop) = false
+
+abbrev pub answered_by : Next → List Value
+answered_by (Answer reading) = reading.value ∷ []
+answered_by _ = []
+
+-- what the events of so many levels answered, from the first level on
+abbrev pub answers_before : (ℕ → List Next) → ℕ → List Value
+answers_before events zero = []
+answers_before events (suc depth) = answers_before events depth ++ flat_map answered_by (events depth)
+
+-- The search of a function on ground data ends, at an empty level; all events before it are quiet, and these are the values
+-- that were answered, sorted and without repeats.
+pub record Found (program : Code) (limits : Limits) (f : FunId) (arguments : Values) (values : List Value) : Type 0 where
+  pub whole : function_arity program f ≡ Some (count arguments)
+  pub ground : IsTrue (are_ground arguments)
+  pub depth : ℕ
+  pub ended : level program limits (call_on program f arguments) depth ≡ []
+  pub quiet : (k : ℕ) → IsTrue (list_all is_quiet (inner_events program limits f arguments k))
+  pub collected : values ≡ sorted (answers_before (inner_events program limits f arguments) depth)

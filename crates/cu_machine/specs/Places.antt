@@ -1,0 +1,10 @@
+-- Lists of places in which each stands once, in the order in which they were first met.
+use Rattle.std.specs.Prelude.{ℕ, Bool, not, List, ◌++◌, filter, nat_eq}
+use Rattle.std.specs.List.{list_any}
+
+abbrev pub holds : List ℕ → ℕ → Bool
+holds places id = list_any (nat_eq id) places
+
+-- places, and then those of the others that aren't among them
+abbrev pub joined : List ℕ → List ℕ → List ℕ
+joined places others = places ++ filter (λ id. not (holds places id)) others

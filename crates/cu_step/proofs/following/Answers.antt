@@ -1,0 +1,26 @@
+-- The branches of the graphs, unless one of them is too large.
+use Rattle.std.proofs.Common.{◌≡◌, ℕ, Bool, true, false, List, ap, length, map, subst, sym, ◌∙◌}
+use Rattle.std.specs.List.{list_any}
+use Rattle.cu_machine.specs.Next.{Go, Next, Stops, is_above, moved, too_large}
+use Rattle.cu_machine.specs.Rewrite.{Move}
+use Rattle.cu_step.specs.Moved.{move_of}
+use Rattle.cu_step.specs.Outcome.{state_of}
+use Rattle.cu_step.proofs.StepLemmas.{none_is_large, one_is_large}
+use Rattle.cu_step.proofs.following.Goals as goal
+
+pub returns-then-any_too_large : goal.returns-then-any_too_large
+returns-then-any_too_large g c = λ program graph id.
+    let content = g.S.Store.content in
+    let limits = c.args.limits.now in
+    let any = sym (ap (list_any (λ store. is_above limits (length (content store)))) c.as_slice.ensures.value) ∙ sym c.any_too_large.ensures ∙ c.if-any_too_large.true in
+    c.too_large.ensures ∙ sym (one_is_large content limits c.args.root c.args.goals.now c.in-Become.stores.items any)
+    ∙ ap (λ (what : Move). moved program limits c.args.root c.args.goals.now graph id what) (sym (ap (move_of content) c.in-Become.is))
+
+pub returns-in_ok-branches-in-Become : goal.returns-in_ok-branches-in-Become
+returns-in_ok-branches-in-Become g c = λ program graph id.
+    let content = g.S.Store.content in
+    let limits = c.args.limits.now in
+    let any = sym (ap (list_any (λ store. is_above limits (length (content store)))) c.as_slice.ensures.value) ∙ sym c.any_too_large.ensures ∙ c.if-any_too_large.false in
+    none_is_large content limits c.args.root c.args.goals.now c.in-Become.stores.items (map (state_of content) c.in_ok-branches-in-Become.branches.items)
+    any c.in_ok-branches-in-Become.ensures
+    ∙ ap (λ (what : Move). moved program limits c.args.root c.args.goals.now graph id what) (sym (ap (move_of content) c.in-Become.is))

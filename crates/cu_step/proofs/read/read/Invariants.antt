@@ -1,0 +1,8 @@
+-- What was read of the goal variables so far.
+use Rattle.std.proofs.Common.{take}
+use Rattle.cu_step.specs.Written.{AllRead}
+use Rattle.cu_step.proofs.read.read.Given as goal
+
+abbrev pub invariant-loop-goal : goal.invariant-loop-goal
+invariant-loop-goal g l =
+    AllRead (g.S.Store.content l.store) l.limit (take l.goal-index l.goals) l.bindings.items l.reader.room l.reader.numbering

@@ -1,0 +1,8 @@
+-- The branch is valid, and no set function stands in it.
+use Rattle.cu_machine.specs.Sets.{IsWithoutSets}
+use Rattle.cu_machine.specs.Validity.{IsValid}
+use Rattle.cu_step.specs.Outcome.{state_of}
+use Rattle.cu_step.proofs.runs.outcome_at.Given as goal
+
+abbrev pub invariant-loop-choice : goal.invariant-loop-choice
+invariant-loop-choice l = IsValid l.program (state_of (λ store. store) l.branch) × IsWithoutSets (state_of (λ store. store) l.branch)

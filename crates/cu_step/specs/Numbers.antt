@@ -1,0 +1,52 @@
+-- Operations on numbers and characters, by what the operands are.
+use Rattle.std.specs.Prelude.{ℕ, List, [], ◌∷◌, Option, None, Some, if◌then◌else◌, ℤ, pos, negsuc}
+use Rattle.cu_calculus.specs.declared.Lit.TheVariants.{Char, Int}
+use Rattle.cu_calculus.specs.declared.builtin.Primitive.{Primitive}
+use Rattle.cu_calculus.specs.declared.builtin.Primitive.TheVariants as prim
+use Rattle.cu_calculus.specs.declared.builtin.Special.{Special}
+use Rattle.cu_calculus.specs.Literal.{is_integer, is_scalar}
+use Rattle.cu_machine.specs.declared.Kind.{Kind}
+use Rattle.cu_machine.specs.declared.Kind.TheVariants as kind
+use Rattle.cu_machine.specs.Graph.{Graph, alone}
+use Rattle.cu_machine.specs.Rewrite.{Move, Overflows, calculated, fails, puts, puts_character}
+
+-- a number, where it is an integer of the language
+abbrev pub checked : ℤ → Option ℤ
+checked n = if is_integer n then Some n else None
+
+-- the character of a number, where there is one
+abbrev pub character_of : ℤ → Option ℕ
+character_of (pos n) = if is_scalar n then Some n else None
+character_of (negsuc n) = None
+
+-- the integer and the character that a head is
+abbrev pub integer_in : Kind → Option ℤ
+integer_in (kind.Lit (Int n)) = Some n
+integer_in _ = None
+
+abbrev pub character_in : Kind → Option ℕ
+character_in (kind.Lit (Char c)) = Some c
+character_in _ = None
+
+-- an integer that was computed, or an overflow
+abbrev pub counted_by : Graph → ℕ → Primitive → ℤ → ℤ → Option ℤ → Move
+counted_by graph id operation m n (Some result) = puts graph id (alone (kind.Lit (Int result)))
+counted_by graph id operation m n None = Overflows operation m n
+
+-- an operation on one operand, and on two
+abbrev pub on_character : Graph → ℕ → Option ℕ → Move
+on_character graph id (Some c) = puts graph id (alone (kind.Lit (Int (pos c))))
+on_character graph id None = fails graph id
+
+abbrev pub on_integer : Graph → ℕ → Option ℤ → Move
+on_integer graph id (Some n) = puts_character graph id n
+on_integer graph id None = fails graph id
+
+abbrev pub on_one : Graph → ℕ → Primitive → Kind → Move
+on_one graph id prim.Ord k = on_character graph id (character_in k)
+on_one graph id prim.Chr k = on_integer graph id (integer_in k)
+on_one graph id _ k = fails graph id
+
+abbrev pub on_integers : Special → Graph → ℕ → Primitive → Option ℤ → Option ℤ → Move
+on_integers special graph id operation (Some m) (Some n) = calculated special graph id operation m n
+on_integers special graph id operation _ _ = fails graph id

@@ -1,0 +1,48 @@
+-- What the occurs check knows at each moment.
+use Rattle.std.specs.Prelude.{◌≡◌, ℕ, ◌+◌, Bool, true, false, not, ◌&&◌, List, ◌∷◌, length, nat_eq, nat_lt, slice_index_or}
+use Rattle.std.specs.List.{list_any}
+use Rattle.cu_machine.specs.declared.Kind.{Kind}
+use Rattle.cu_machine.specs.declared.Kind.TheVariants as kind
+use Rattle.cu_machine.specs.Graph.{Graph, node_at}
+use Rattle.cu_machine.specs.Rewrite.{occurs_at, occurs_within}
+use Rattle.cu_machine.specs.Validity.{are_places}
+use Rattle.cu_step.specs.Walk.{height}
+
+-- the variable itself
+abbrev pub is_variable : ℕ → ℕ → Kind → Bool
+is_variable v id kind.Free = nat_eq v id
+is_variable v id _ = false
+
+-- whether the arguments of a node are to be looked at
+abbrev pub leads_on : Kind → Bool → Bool
+leads_on (kind.Cons c) seen = not seen
+leads_on _ seen = false
+
+-- whether the variable is reached from a node
+abbrev pub reaches : Graph → ℕ → ℕ → Bool
+reaches graph v id = occurs_within (length graph) graph v id
+
+-- whether it is reached from a head
+abbrev pub head_reaches : Graph → ℕ → ℕ → Bool
+head_reaches graph v id = occurs_at (reaches graph v) v id (node_at graph id).kind (node_at graph id).args
+
+-- whether it is reached from one of these nodes that is lower than this
+abbrev pub lower_reaches : Graph → ℕ → ℕ → List ℕ → Bool
+lower_reaches graph v top ids = list_any (λ id. reaches graph v id && nat_lt (height graph id) top) ids
+
+abbrev pub seen_at : List Bool → ℕ → Bool
+seen_at seen id = slice_index_or seen id false
+
+-- A node that was seen reaches the variable by way of a lower one that is still to be looked at, if at all; and whether one of
+-- those reaches it is whether one of the first did.
+pub record Looks (graph : Graph) (v : ℕ) (ids : List ℕ) (seen : List Bool) (left : List ℕ) : Type 0 where
+  pub there : are_places (length graph) left ≡ true
+  pub count : length seen ≡ length graph
+  pub lower : (id : ℕ) → seen_at seen id ≡ true → head_reaches graph v id ≡ true → lower_reaches graph v (height graph id) left ≡ true
+  pub comes : list_any (reaches graph v) left ≡ list_any (reaches graph v) ids
+
+-- the arguments of the nodes that weren't seen, and these nodes
+unfoldable pub unseen_arguments : Graph → List Bool → ℕ
+unseen_arguments (node ∷ graph) (false ∷ seen) = length node.args + 1 + unseen_arguments graph seen
+unseen_arguments (node ∷ graph) (true ∷ seen) = unseen_arguments graph seen
+unseen_arguments _ _ = 0

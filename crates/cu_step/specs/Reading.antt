@@ -1,0 +1,40 @@
+-- What a node adds to a value that is read: a cell, a variable that is met, and the nodes of which more cells come.
+use Rattle.std.specs.Prelude.{◌≡◌, ℕ, List, [], ◌∷◌, slice_index_or}
+use Rattle.cu_machine.specs.declared.Kind.{Kind}
+use Rattle.cu_machine.specs.declared.Kind.TheVariants as kind
+use Rattle.cu_machine.specs.Places.{joined}
+use Rattle.cu_machine.specs.Spell.{ordinal}
+use Rattle.cu_values.specs.declared.cell.Cell.{Cell}
+use Rattle.cu_values.specs.declared.cell.Cell.TheVariants as cell
+
+-- so many nodes, and the variables among them that were met, in order
+pub record Met : Type 0 where
+  pub nodes : ℕ
+  pub variables : List ℕ
+
+-- the numbers in a table are those of the variables that were met
+abbrev pub IsNumbered : List ℕ → List ℕ → Type 0
+IsNumbered numbers variables = (id : ℕ) → slice_index_or numbers id 0 ≡ ordinal variables id
+
+-- a variable is met
+abbrev pub with_variable : Met → ℕ → Met
+with_variable met id = record met { variables = joined met.variables (id ∷ []) }
+
+-- a head is met
+abbrev pub with_head : Met → ℕ → Kind → Met
+with_head met id kind.Free = with_variable met id
+with_head met id _ = met
+
+-- the cell of a head with so many arguments
+abbrev pub cell_at : List ℕ → ℕ → Kind → ℕ → Cell
+cell_at variables id (kind.Cons c) n = cell.Con c n
+cell_at variables id (kind.Part h) n = cell.Part h n
+cell_at variables id (kind.Lit l) n = cell.Lit l
+cell_at variables id kind.Free n = cell.LVar (ordinal variables id)
+cell_at variables id _ n = cell.Bottom
+
+-- the nodes whose cells follow that of a head
+abbrev pub parts_at : Kind → List ℕ → List ℕ
+parts_at (kind.Cons c) args = args
+parts_at (kind.Part h) args = args
+parts_at _ args = []

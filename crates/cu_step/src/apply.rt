@@ -1,0 +1,62 @@
+//! Applications.
+ghost use Rattle.std.specs.Prelude.{◌≡◌, ◌<◌, [], ◌∷◌, ◌++◌, IfOk, length};
+ghost use Rattle.cu_calculus.specs.Code.{arity_of};
+ghost use Rattle.cu_machine.specs.declared.Kind.TheVariants as kind;
+ghost use Rattle.cu_machine.specs.Graph.{node_at};
+ghost use Rattle.cu_machine.specs.Rewrite.{extended, puts, rewritten};
+ghost use Rattle.cu_step.specs.Moved.{move_of};
+
+use crate::moved::{self, Moved};
+use crate::operand::{self, Operand};
+use crate::{build, node};
+use cu_flat::{FlatProgram, Head};
+use cu_graph::{Kind, Store};
+use std::alloc::{AllocError, Global};
+
+/// A head over more arguments: a partial application still, or a whole call.
+fn extended<S: Store>(
+    alloc: Global,
+    program: &FlatProgram,
+    mut store: S,
+    id: u32,
+    head: Head,
+    args: &[u32],
+) -> Result<Moved<S>, AllocError>
+    requires { id < length (S.content store) }
+    ensures { IfOk result (λ moved. move_of S.content moved
+        ≡ puts (S.content store) id (extended program.now head args.now (arity_of program.now head))) }
+{
+    let Some(arity) = program.arity_if_known(head) else {
+        return moved::sticks(alloc, store, id);
+    };
+    if args.len() < arity as usize {
+        store.put(id, Kind::Part(head), args)?;
+    } else {
+        store.put(id, build::kind_of_whole(program, head), args)?;
+    }
+    moved::alone(alloc, store)
+}
+
+/// A partial application takes one argument more. Nothing else can be applied.
+pub(crate) fn applied<S: Store>(
+    alloc: Global,
+    program: &FlatProgram,
+    store: S,
+    id: u32,
+) -> Result<Moved<S>, AllocError>
+    requires { id < length (S.content store) }
+    ensures { IfOk result (λ moved. move_of S.content moved
+        ≡ rewritten program.now (S.content store) id kind.Apply (node_at (S.content store) id).args) }
+{
+    let args = node::args(alloc, &store, id)?;
+    let [function, argument] = args.as_slice() else {
+        return moved::sticks(alloc, store, id);
+    };
+    let Operand { id: _, kind, args } = operand::at(alloc, &store, *function)?;
+    let Kind::Part(head) = kind else {
+        return moved::fails(alloc, store, id);
+    };
+    let mut longer = args;
+    longer.push(*argument)?;
+    extended(alloc, program, store, id, head, longer.as_slice())
+}

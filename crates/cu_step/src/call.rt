@@ -1,0 +1,67 @@
+//! Calls and choices.
+ghost use Rattle.std.specs.Prelude.{◌≡◌, ◌<◌, IfOk, length};
+ghost use Rattle.cu_calculus.specs.Code.{body_of};
+ghost use Rattle.cu_machine.specs.Graph.{node_at};
+ghost use Rattle.cu_machine.specs.Rewrite.{chosen, unfolded};
+ghost use Rattle.cu_step.specs.Moved.{move_of};
+
+use crate::moved::{self, Moved};
+use crate::{build, node};
+use cu_flat::{FlatBody, FlatProgram, FunId};
+use cu_graph::{Kind, Store};
+use std::alloc::{AllocError, Global};
+
+/// A call becomes its function's body, in which the parameters stand for the
+/// arguments.
+pub(crate) fn unfolded<S: Store>(
+    alloc: Global,
+    program: &FlatProgram,
+    mut store: S,
+    id: u32,
+    f: FunId,
+) -> Result<Moved<S>, AllocError>
+    requires { id < length (S.content store) }
+    ensures { IfOk result (λ moved. move_of S.content moved ≡ unfolded program.now (S.content store) id
+        (node_at (S.content store) id).args (body_of program.now f)) }
+{
+    match program.body(f) {
+        Some(FlatBody::Rule(params, body)) => {
+            let args = node::args(alloc, &store, id)?;
+            let scope = build::scope_of(alloc, params.as_slice(), args.as_slice())?;
+            build::write(alloc, program, &mut store, scope.as_slice(), id, *body)?;
+            moved::alone(alloc, store)
+        }
+        Some(FlatBody::External(_)) => moved::sticks(alloc, store, id),
+        None => moved::sticks(alloc, store, id),
+    }
+}
+
+/// Two graphs with the same nodes.
+fn fork_in_two<S: Store>(store: S) -> Result<(S, S), AllocError>
+    ensures { IfOk result (λ stores. (S.content stores.0 ≡ S.content store)
+        × (S.content stores.1 ≡ S.content store)) }
+{
+    let mut stores = store.fork(2)?;
+    let second = stores.pop().unwrap();
+    let first = stores.pop().unwrap();
+    Ok((first, second))
+}
+
+/// A choice becomes its left argument, and its right one.
+pub(crate) fn chosen<S: Store>(alloc: Global, store: S, id: u32) -> Result<Moved<S>, AllocError>
+    requires { id < length (S.content store) }
+    ensures { IfOk result (λ moved. move_of S.content moved
+        ≡ chosen (S.content store) id (node_at (S.content store) id).args) }
+{
+    let args = node::args(alloc, &store, id)?;
+    let [left, right] = args.as_slice() else {
+        return moved::sticks(alloc, store, id);
+    };
+    let (mut first, mut second) = fork_in_two(store)?;
+    first.put(id, Kind::Ind, &[*left])?;
+    second.put(id, Kind::Ind, &[*right])?;
+    let mut stores = Vec::with_capacity(alloc, 2)?;
+    stores.push(first)?;
+    stores.push(second)?;
+    Ok(Moved::Become(stores))
+}

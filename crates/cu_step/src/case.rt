@@ -1,0 +1,202 @@
+//! Case distinctions.
+ghost use Rattle.std.specs.Prelude.{◌≡◌, ◌<◌, IfOk, length, map, option_map};
+ghost use Rattle.cu_calculus.specs.Literal.{same_literal};
+ghost use Rattle.cu_flat.specs.Meaning.{branch_meaning, pattern_meaning};
+ghost use Rattle.cu_machine.specs.declared.Kind.TheVariants as kind;
+ghost use Rattle.cu_machine.specs.Graph.{node_at};
+ghost use Rattle.cu_machine.specs.Rewrite.{bound_to, branch_for, distinguished, narrows, rewritten, takes_branch};
+ghost use Rattle.cu_step.specs.Matching.{takes_pattern};
+ghost use Rattle.cu_step.specs.Moved.{move_of};
+
+use crate::moved::{self, Moved};
+use crate::operand::{self, Operand};
+use crate::{build, free, node};
+use cu_flat::{Expr, ExprId, FlatProgram, Lit, Mode, Pattern};
+use cu_graph::{Kind, Store};
+use std::alloc::{AllocError, Global};
+
+/// Whether two literals are the same.
+pub(crate) fn is_same_literal(l: Lit, m: Lit) -> bool
+    ensures { result ≡ same_literal l m }
+{
+    match l {
+        Lit::Int(a) => match m {
+            Lit::Int(b) => a == b,
+            Lit::Char(_) => false,
+        },
+        Lit::Char(a) => match m {
+            Lit::Int(_) => false,
+            Lit::Char(b) => a == b,
+        },
+    }
+}
+
+/// Whether a head has the constructor or is the literal of a pattern.
+fn takes_pattern(kind: Kind, pattern: &Pattern) -> bool
+    ensures { result ≡ takes_pattern kind (pattern_meaning pattern.now) }
+{
+    match pattern {
+        Pattern::Lit(m) => match kind {
+            Kind::Lit(l) => is_same_literal(l, *m),
+            _ => false,
+        },
+        Pattern::Con(d, _) => match kind {
+            Kind::Cons(c) => c.0 == d.0,
+            _ => false,
+        },
+    }
+}
+
+/// The branch for a head.
+fn branch_for(branches: &[(Pattern, ExprId)], kind: Kind) -> Option<&(Pattern, ExprId)>
+    ensures { option_map (λ branch. branch_meaning branch.now) result
+        ≡ branch_for (takes_pattern kind) (map branch_meaning branches.now) }
+{
+    for branch in branches {
+        if takes_pattern(kind, &branch.0) {
+            return Some(branch);
+        }
+    }
+    None
+}
+
+/// A branch is written over the case distinction. The variables of its pattern
+/// stand for the scrutinee's arguments.
+fn takes_branch<S: Store>(
+    alloc: Global,
+    program: &FlatProgram,
+    mut store: S,
+    id: u32,
+    scope: &[(u32, u32)],
+    args: &[u32],
+    branch: Option<&(Pattern, ExprId)>,
+) -> Result<Moved<S>, AllocError>
+    requires { id < length (S.content store) }
+    ensures { IfOk result (λ moved. move_of S.content moved
+        ≡ takes_branch program.now scope.now (S.content store) id args.now
+        (option_map (λ branch. branch_meaning branch.now) branch.entry)) }
+{
+    let Some((pattern, body)) = branch else {
+        return moved::fails(alloc, store, id);
+    };
+    let bound = match pattern {
+        Pattern::Lit(_) => Vec::new(alloc),
+        Pattern::Con(_, variables) => build::scope_of(alloc, variables.as_slice(), args)?,
+    };
+    let mut inner = Vec::from_slice(alloc, scope)?;
+    inner.extend_from_slice(bound.as_slice())?;
+    build::write(alloc, program, &mut store, inner.as_slice(), id, *body)?;
+    moved::alone(alloc, store)
+}
+
+/// The graph in which a free variable is what a pattern asks for.
+fn bound_to<S: Store>(
+    alloc: Global,
+    mut store: S,
+    variable: u32,
+    pattern: &Pattern,
+) -> Result<S, AllocError>
+    requires { variable < length (S.content store) }
+    ensures { IfOk result (λ after. S.content after
+        ≡ bound_to (S.content store) variable (pattern_meaning pattern.now)) }
+{
+    match pattern {
+        Pattern::Lit(l) => store.put(variable, Kind::Lit(*l), &[])?,
+        Pattern::Con(c, variables) => {
+            let _ = free::to_constructor(alloc, &mut store, variable, *c, variables.len())?;
+        }
+    }
+    Ok(store)
+}
+
+/// A free variable is bound once for each branch, in the branches' order.
+fn narrows<S: Store>(
+    alloc: Global,
+    store: S,
+    variable: u32,
+    branches: &[(Pattern, ExprId)],
+) -> Result<Moved<S>, AllocError>
+    requires { variable < length (S.content store) }
+    ensures { IfOk result (λ moved. move_of S.content moved
+        ≡ narrows (S.content store) variable (map branch_meaning branches.now)) }
+{
+    if branches.is_empty() {
+        return Ok(Moved::Become(Vec::new(alloc)));
+    }
+    let Ok(count) = u32::try_from(branches.len()) else {
+        return Err(AllocError);
+    };
+    let mut copies = store.fork(count)?;
+    let mut stores = Vec::with_capacity(alloc, branches.len())?;
+    for (pattern, _) in branches {
+        let copy = copies.pop().unwrap();
+        let after = bound_to(alloc, copy, variable, pattern)?;
+        stores.push(after)?;
+    }
+    Ok(Moved::Become(stores))
+}
+
+/// What becomes of a case distinction by the head of its scrutinee.
+fn by_head<S: Store>(
+    alloc: Global,
+    program: &FlatProgram,
+    store: S,
+    id: u32,
+    scope: &[(u32, u32)],
+    branches: &[(Pattern, ExprId)],
+    scrutinee: &Operand,
+) -> Result<Moved<S>, AllocError>
+    requires id { id < length (S.content store) }
+    requires free { scrutinee.now.kind ≡ kind.Free → scrutinee.now.id < length (S.content store) }
+    ensures { IfOk result (λ moved. move_of S.content moved
+        ≡ distinguished program.now scope.now (S.content store) id (map branch_meaning branches.now)
+        scrutinee.now.id scrutinee.now.kind scrutinee.now.args.items) }
+{
+    match scrutinee.kind {
+        Kind::Free => narrows(alloc, store, scrutinee.id, branches),
+        Kind::Lit(l) => {
+            let branch = branch_for(branches, Kind::Lit(l));
+            takes_branch(alloc, program, store, id, scope, &[], branch)
+        }
+        Kind::Cons(c) => {
+            let branch = branch_for(branches, Kind::Cons(c));
+            let args = scrutinee.args.as_slice();
+            takes_branch(alloc, program, store, id, scope, args, branch)
+        }
+        Kind::Part(_) => moved::fails(alloc, store, id),
+        _ => moved::sticks(alloc, store, id),
+    }
+}
+
+/// A case distinction.
+pub(crate) fn distinguished<S: Store>(
+    alloc: Global,
+    program: &FlatProgram,
+    store: S,
+    id: u32,
+    mode: Mode,
+    e: usize,
+) -> Result<Moved<S>, AllocError>
+    requires { id < length (S.content store) }
+    ensures { IfOk result (λ moved. move_of S.content moved
+        ≡ rewritten program.now (S.content store) id (kind.Case mode e) (node_at (S.content store) id).args) }
+{
+    let args = node::args(alloc, &store, id)?;
+    let [scrutinee, values @ ..] = args.as_slice() else {
+        return moved::sticks(alloc, store, id);
+    };
+    let Some(Expr::Case(_, _, branches)) = program.find(ExprId(e)) else {
+        return moved::sticks(alloc, store, id);
+    };
+    let scope = build::scope_of(alloc, program.scope(ExprId(e)), values)?;
+    let head = operand::at(alloc, &store, *scrutinee)?;
+    by_head(
+        alloc,
+        program,
+        store,
+        id,
+        scope.as_slice(),
+        branches.as_slice(),
+        &head,
+    )
+}

@@ -1,0 +1,77 @@
+//! Equality and conjunction.
+ghost use Rattle.std.specs.Prelude.{◌≡◌, ◌<◌, IfOk, length};
+ghost use Rattle.cu_machine.specs.Rewrite.{compared, conjoined, is_true};
+ghost use Rattle.cu_step.specs.Moved.{move_of};
+
+use crate::case::is_same_literal;
+use crate::moved::{self, Moved};
+use crate::operand::Operand;
+use crate::{build, pairs};
+use cu_flat::{Prim, Special};
+use cu_graph::{Kind, Store};
+use std::alloc::{AllocError, Global};
+
+/// `==` of two heads. On a partial application it has no value.
+pub(crate) fn compared<S: Store>(
+    alloc: Global,
+    special: &Special,
+    store: S,
+    id: u32,
+    left: &Operand,
+    right: &Operand,
+) -> Result<Moved<S>, AllocError>
+    requires { id < length (S.content store) }
+    ensures { IfOk result (λ moved. move_of S.content moved ≡ compared special.now (S.content store) id
+        left.now.kind left.now.args.items right.now.kind right.now.args.items) }
+{
+    match left.kind {
+        Kind::Cons(c) => match right.kind {
+            Kind::Cons(d) => {
+                if c.0 != d.0 {
+                    return moved::tells(alloc, special, store, id, false);
+                }
+                let pairs = build::scope_of(alloc, left.args.as_slice(), right.args.as_slice())?;
+                let each = Kind::Prim(Prim::Equal);
+                let joint = Kind::Call(special.both);
+                pairs::in_pairs(alloc, special, store, id, each, joint, pairs.as_slice())
+            }
+            Kind::Lit(_) => moved::tells(alloc, special, store, id, false),
+            _ => moved::fails(alloc, store, id),
+        },
+        Kind::Lit(l) => match right.kind {
+            Kind::Cons(_) => moved::tells(alloc, special, store, id, false),
+            Kind::Lit(m) => moved::tells(alloc, special, store, id, is_same_literal(l, m)),
+            _ => moved::fails(alloc, store, id),
+        },
+        _ => moved::fails(alloc, store, id),
+    }
+}
+
+/// Whether a head is True.
+fn is_true(special: &Special, kind: Kind) -> bool
+    ensures { result ≡ is_true special.now kind }
+{
+    match kind {
+        Kind::Cons(c) => c.0 == special.truth.0,
+        _ => false,
+    }
+}
+
+/// `&` of two heads.
+pub(crate) fn conjoined<S: Store>(
+    alloc: Global,
+    special: &Special,
+    store: S,
+    id: u32,
+    left: Kind,
+    right: Kind,
+) -> Result<Moved<S>, AllocError>
+    requires { id < length (S.content store) }
+    ensures { IfOk result (λ moved. move_of S.content moved ≡ conjoined special.now (S.content store) id left right) }
+{
+    if is_true(special, left) && is_true(special, right) {
+        moved::tells(alloc, special, store, id, true)
+    } else {
+        moved::fails(alloc, store, id)
+    }
+}

@@ -1,0 +1,32 @@
+//! The heads of nodes.
+ghost use Rattle.std.specs.Prelude.{◌≡◌};
+ghost use Rattle.cu_machine.specs.Graph.{head_of, node_at};
+ghost use Rattle.cu_step.specs.Head.{target_of};
+
+use crate::node;
+use cu_graph::{Kind, Store};
+
+/// The place of a node's head. As many nodes are visited as there are, which
+/// is enough wherever there is no cycle.
+pub(crate) fn find<S: Store>(store: &S, id: u32) -> u32
+    ensures { result ≡ head_of (S.content store.now) id }
+{
+    let mut head = id;
+    for _ in 0..store.len() {
+        match target(store, head) {
+            Some(target) => head = target,
+            None => return head,
+        }
+    }
+    head
+}
+
+/// Where an Ind leads.
+fn target<S: Store>(store: &S, id: u32) -> Option<u32>
+    ensures { result ≡ target_of (node_at (S.content store.now) id).kind (node_at (S.content store.now) id).args }
+{
+    match node::kind_at(store, id) {
+        Kind::Ind => node::first_arg(store, id),
+        _ => None,
+    }
+}

@@ -1,0 +1,78 @@
+//! What becomes of a graph where one of its nodes is rewritten.
+ghost use Rattle.std.specs.Prelude.{◌≡◌, ◌<◌, IfOk, length};
+ghost use Rattle.cu_machine.specs.Graph.{alone};
+ghost use Rattle.cu_machine.specs.Rewrite.{alone_follows, fails, puts, sticks, tells};
+ghost use Rattle.cu_step.specs.Moved.{move_of};
+
+use cu_flat::{Int, Prim, Special};
+use cu_graph::{Kind, Store};
+use std::alloc::{AllocError, Global};
+
+/// What becomes of a graph.
+#[derive(Drop)]
+pub(crate) enum Moved<S> {
+    /// It goes on as these, from left to right.
+    Become(Vec<S>),
+    /// An operation on these integers has a result that is no `Int`.
+    Overflow(Prim, Int, Int),
+}
+
+/// One graph alone follows.
+pub(crate) fn alone<S: Store>(alloc: Global, store: S) -> Result<Moved<S>, AllocError>
+    ensures { IfOk result (λ moved. move_of S.content moved ≡ alone_follows (S.content store)) }
+{
+    let mut stores = Vec::with_capacity(alloc, 1)?;
+    stores.push(store)?;
+    Ok(Moved::Become(stores))
+}
+
+/// A node without arguments is put at a place.
+pub(crate) fn puts<S: Store>(
+    alloc: Global,
+    mut store: S,
+    id: u32,
+    kind: Kind,
+) -> Result<Moved<S>, AllocError>
+    requires { id < length (S.content store) }
+    ensures { IfOk result (λ moved. move_of S.content moved
+        ≡ puts (S.content store) id (alone kind)) }
+{
+    store.put(id, kind, &[])?;
+    alone(alloc, store)
+}
+
+/// A node has no value.
+pub(crate) fn fails<S: Store>(alloc: Global, store: S, id: u32) -> Result<Moved<S>, AllocError>
+    requires { id < length (S.content store) }
+    ensures { IfOk result (λ moved. move_of S.content moved ≡ fails (S.content store) id) }
+{
+    puts(alloc, store, id, Kind::Fail)
+}
+
+/// A node is stuck.
+pub(crate) fn sticks<S: Store>(alloc: Global, store: S, id: u32) -> Result<Moved<S>, AllocError>
+    requires { id < length (S.content store) }
+    ensures { IfOk result (λ moved. move_of S.content moved ≡ sticks (S.content store) id) }
+{
+    puts(alloc, store, id, Kind::Stuck)
+}
+
+/// A node becomes True or False.
+pub(crate) fn tells<S: Store>(
+    alloc: Global,
+    special: &Special,
+    store: S,
+    id: u32,
+    answer: bool,
+) -> Result<Moved<S>, AllocError>
+    requires { id < length (S.content store) }
+    ensures { IfOk result (λ moved. move_of S.content moved
+        ≡ tells special.now (S.content store) id answer) }
+{
+    let truth = if answer {
+        special.truth
+    } else {
+        special.falsity
+    };
+    puts(alloc, store, id, Kind::Cons(truth))
+}

@@ -1,0 +1,234 @@
+//! Numbers and characters.
+ghost use Rattle.std.specs.Prelude.{◌≡◌, ◌≢◌, ◌<◌, IfOk, length, map, pos};
+ghost use Rattle.cu_calculus.specs.Builtin.{floor_quotient, floor_rest, is_uneven};
+ghost use Rattle.cu_machine.specs.Graph.{head_at};
+ghost use Rattle.cu_machine.specs.Rewrite.{calculated, computed};
+ghost use Rattle.cu_step.specs.Moved.{move_of};
+ghost use Rattle.cu_step.specs.Numbers.{character_in, character_of, checked, counted_by, integer_in, on_character, on_integer, on_integers, on_one};
+
+use crate::moved::{self, Moved};
+use crate::operand;
+use cu_flat::{Int, Lit, Prim, Special};
+use cu_graph::{Kind, Store};
+use std::alloc::{AllocError, Global};
+
+/// Whether a division towards zero leaves a rest of the other sign than the
+/// divisor's.
+fn is_uneven(m: Int, n: Int) -> bool
+    requires { n ≢ pos 0 }
+    ensures { result ≡ is_uneven m n }
+{
+    let rest = m.wrapping_rem(n);
+    let is_negative = n < 0;
+    (rest < 0 && !is_negative) || (0 < rest && is_negative)
+}
+
+/// The quotient rounded towards minus infinity, where it is an `Int`.
+fn floor_quotient(m: Int, n: Int) -> Option<Int>
+    requires { n ≢ pos 0 }
+    ensures { result ≡ checked (floor_quotient m n) }
+{
+    let quotient = m.checked_div(n)?;
+    if is_uneven(m, n) {
+        quotient.checked_sub(1)
+    } else {
+        Some(quotient)
+    }
+}
+
+/// The rest of that division. It has the divisor's sign.
+fn floor_rest(m: Int, n: Int) -> Int
+    requires { n ≢ pos 0 }
+    ensures { result ≡ floor_rest m n }
+{
+    let rest = m.wrapping_rem(n);
+    if is_uneven(m, n) { rest + n } else { rest }
+}
+
+/// The character of a number, where there is one.
+fn character_of(n: Int) -> Option<char>
+    ensures { result ≡ character_of n }
+{
+    let code = u32::try_from(n).ok()?;
+    char::from_u32(code)
+}
+
+/// The integer that a head is.
+fn integer_in(kind: Kind) -> Option<Int>
+    ensures { result ≡ integer_in kind }
+{
+    match kind {
+        Kind::Lit(Lit::Int(n)) => Some(n),
+        Kind::Lit(Lit::Char(_)) => None,
+        _ => None,
+    }
+}
+
+/// The character that a head is.
+fn character_in(kind: Kind) -> Option<char>
+    ensures { result ≡ character_in kind }
+{
+    match kind {
+        Kind::Lit(Lit::Char(c)) => Some(c),
+        Kind::Lit(Lit::Int(_)) => None,
+        _ => None,
+    }
+}
+
+/// The integer that an operation computed from two, or an overflow.
+fn counted<S: Store>(
+    alloc: Global,
+    store: S,
+    id: u32,
+    operation: Prim,
+    m: Int,
+    n: Int,
+    result_or_none: Option<Int>,
+) -> Result<Moved<S>, AllocError>
+    requires { id < length (S.content store) }
+    ensures { IfOk result (λ moved. move_of S.content moved
+        ≡ counted_by (S.content store) id operation m n result_or_none) }
+{
+    match result_or_none {
+        Some(number) => moved::puts(alloc, store, id, Kind::Lit(Lit::Int(number))),
+        None => Ok(Moved::Overflow(operation, m, n)),
+    }
+}
+
+/// An operation on two integers.
+fn calculated<S: Store>(
+    alloc: Global,
+    special: &Special,
+    store: S,
+    id: u32,
+    operation: Prim,
+    m: Int,
+    n: Int,
+) -> Result<Moved<S>, AllocError>
+    requires { id < length (S.content store) }
+    ensures { IfOk result (λ moved. move_of S.content moved
+        ≡ calculated special.now (S.content store) id operation m n) }
+{
+    match operation {
+        Prim::Add => counted(alloc, store, id, operation, m, n, m.checked_add(n)),
+        Prim::Sub => counted(alloc, store, id, operation, m, n, m.checked_sub(n)),
+        Prim::Mul => counted(alloc, store, id, operation, m, n, m.checked_mul(n)),
+        Prim::Div => {
+            if n == 0 {
+                return moved::fails(alloc, store, id);
+            }
+            counted(alloc, store, id, operation, m, n, floor_quotient(m, n))
+        }
+        Prim::Mod => {
+            if n == 0 {
+                return moved::fails(alloc, store, id);
+            }
+            counted(alloc, store, id, operation, m, n, Some(floor_rest(m, n)))
+        }
+        Prim::Less => moved::tells(alloc, special, store, id, m < n),
+        Prim::AtMost => moved::tells(alloc, special, store, id, m <= n),
+        Prim::Greater => moved::tells(alloc, special, store, id, m > n),
+        Prim::AtLeast => moved::tells(alloc, special, store, id, m >= n),
+        _ => moved::fails(alloc, store, id),
+    }
+}
+
+/// A character's number.
+fn on_character<S: Store>(
+    alloc: Global,
+    store: S,
+    id: u32,
+    character: Option<char>,
+) -> Result<Moved<S>, AllocError>
+    requires { id < length (S.content store) }
+    ensures { IfOk result (λ moved. move_of S.content moved ≡ on_character (S.content store) id character) }
+{
+    match character {
+        Some(c) => {
+            let number = Int::from(u32::from(c));
+            moved::puts(alloc, store, id, Kind::Lit(Lit::Int(number)))
+        }
+        None => moved::fails(alloc, store, id),
+    }
+}
+
+/// A number's character.
+fn on_integer<S: Store>(
+    alloc: Global,
+    store: S,
+    id: u32,
+    number: Option<Int>,
+) -> Result<Moved<S>, AllocError>
+    requires { id < length (S.content store) }
+    ensures { IfOk result (λ moved. move_of S.content moved ≡ on_integer (S.content store) id number) }
+{
+    let Some(n) = number else {
+        return moved::fails(alloc, store, id);
+    };
+    match character_of(n) {
+        Some(c) => moved::puts(alloc, store, id, Kind::Lit(Lit::Char(c))),
+        None => moved::fails(alloc, store, id),
+    }
+}
+
+/// An operation on one head.
+fn on_one<S: Store>(
+    alloc: Global,
+    store: S,
+    id: u32,
+    operation: Prim,
+    kind: Kind,
+) -> Result<Moved<S>, AllocError>
+    requires { id < length (S.content store) }
+    ensures { IfOk result (λ moved. move_of S.content moved ≡ on_one (S.content store) id operation kind) }
+{
+    match operation {
+        Prim::Ord => on_character(alloc, store, id, character_in(kind)),
+        Prim::Chr => on_integer(alloc, store, id, integer_in(kind)),
+        _ => moved::fails(alloc, store, id),
+    }
+}
+
+/// An operation on two heads.
+fn on_two<S: Store>(
+    alloc: Global,
+    special: &Special,
+    store: S,
+    id: u32,
+    operation: Prim,
+    left: Kind,
+    right: Kind,
+) -> Result<Moved<S>, AllocError>
+    requires { id < length (S.content store) }
+    ensures { IfOk result (λ moved. move_of S.content moved
+        ≡ on_integers special.now (S.content store) id operation (integer_in left) (integer_in right)) }
+{
+    let Some(m) = integer_in(left) else {
+        return moved::fails(alloc, store, id);
+    };
+    let Some(n) = integer_in(right) else {
+        return moved::fails(alloc, store, id);
+    };
+    calculated(alloc, special, store, id, operation, m, n)
+}
+
+/// An operation on numbers or characters. On anything else it has no value.
+pub(crate) fn computed<S: Store>(
+    alloc: Global,
+    special: &Special,
+    store: S,
+    id: u32,
+    operation: Prim,
+    args: &[u32],
+) -> Result<Moved<S>, AllocError>
+    requires { id < length (S.content store) }
+    ensures { IfOk result (λ moved. move_of S.content moved ≡ computed special.now (S.content store) id operation
+        (map (λ arg. (head_at (S.content store) arg).kind) args.now)) }
+{
+    let kinds = operand::kinds(alloc, &store, args)?;
+    match kinds.as_slice() {
+        [kind] => on_one(alloc, store, id, operation, *kind),
+        [left, right] => on_two(alloc, special, store, id, operation, *left, *right),
+        _ => moved::fails(alloc, store, id),
+    }
+}

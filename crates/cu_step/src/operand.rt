@@ -1,0 +1,54 @@
+//! What an operation's arguments are.
+ghost use Rattle.std.specs.Prelude.{◌≡◌, ◌<◌, IfOk, length, map};
+ghost use Rattle.cu_machine.specs.declared.Kind.TheVariants as kind;
+ghost use Rattle.cu_machine.specs.Graph.{head_at, head_of};
+
+use crate::{head, node};
+use cu_graph::{Kind, Store};
+use std::alloc::{AllocError, Global};
+
+/// The head of an argument.
+#[derive(Drop)]
+pub(crate) struct Operand {
+    /// Its place.
+    pub id: u32,
+    /// What it is.
+    pub kind: Kind,
+    /// The places of its arguments.
+    pub args: Vec<u32>,
+}
+
+/// The head of the argument at a place.
+pub(crate) fn at<S: Store>(alloc: Global, store: &S, id: u32) -> Result<Operand, AllocError>
+    ensures id { IfOk result (λ operand. operand.id ≡ head_of (S.content store.now) id) }
+    ensures kind { IfOk result (λ operand. operand.kind ≡ (head_at (S.content store.now) id).kind) }
+    ensures args { IfOk result (λ operand. operand.args.items ≡ (head_at (S.content store.now) id).args) }
+    ensures free { IfOk result (λ operand. operand.kind ≡ kind.Free → operand.id < length (S.content store.now)) }
+{
+    let id = head::find(store, id);
+    let args = if id < store.len() {
+        node::args(alloc, store, id)?
+    } else {
+        Vec::new(alloc)
+    };
+    Ok(Operand {
+        id,
+        kind: node::kind_at(store, id),
+        args,
+    })
+}
+
+/// What the heads of arguments are.
+pub(crate) fn kinds<S: Store>(
+    alloc: Global,
+    store: &S,
+    ids: &[u32],
+) -> Result<Vec<Kind>, AllocError>
+    ensures { IfOk result (λ kinds. kinds.items ≡ map (λ id. (head_at (S.content store.now) id).kind) ids.now) }
+{
+    let mut kinds = Vec::with_capacity(alloc, ids.len())?;
+    for id in ids {
+        kinds.push(node::kind_at(store, head::find(store, *id)))?;
+    }
+    Ok(kinds)
+}

@@ -1,0 +1,102 @@
+//! Comparisons and equations of arguments in pairs.
+ghost use Rattle.std.specs.Prelude.{◌≡◌, ◌<◌, ◌≤◌, ◌-◌, ◌++◌, IfOk, OnOk, length};
+ghost use Rattle.cu_machine.specs.Build.{place_of, pushed};
+ghost use Rattle.cu_machine.specs.Rewrite.{in_pairs, joined_from_right, pair_nodes};
+ghost use Rattle.cu_step.specs.Moved.{move_of};
+ghost use Rattle.cu_step.specs.Pairs.{over_pairs};
+
+use crate::moved::{self, Moved};
+use crate::node;
+use cu_flat::Special;
+use cu_graph::{Kind, Store};
+use std::alloc::{AllocError, Global};
+
+/// Pushes a node over each pair, from the left.
+fn push_each<S: Store>(store: &mut S, each: Kind, pairs: &[(u32, u32)]) -> Result<(), AllocError>
+    ensures { OnOk result (S.content store.new ≡ S.content store.old ++ pair_nodes each pairs.now) }
+{
+    for (a, b) in pairs {
+        let _ = node::push(store, each, &[*a, *b])?;
+    }
+    Ok(())
+}
+
+/// Joins the nodes from one place to another from the right, and answers the
+/// place of the outermost one.
+fn join<S: Store>(store: &mut S, joint: Kind, first: u32, last: u32) -> Result<u32, AllocError>
+    requires { first ≤ last }
+    ensures content { OnOk result (S.content store.new ≡ S.content store.old
+        ++ pushed (joined_from_right joint (length (S.content store.old)) first (last - first))) }
+    ensures place { IfOk result (λ place. place ≡ place_of (length (S.content store.old))
+        (joined_from_right joint (length (S.content store.old)) first (last - first))) }
+{
+    let mut left = last;
+    let mut place = last;
+    while first < left {
+        left -= 1;
+        place = node::push(store, joint, &[left, place])?;
+    }
+    Ok(place)
+}
+
+/// Pushes nodes over several pairs from the left, and writes in the place of
+/// another node what joins them from the right.
+fn write_several<S: Store>(
+    store: &mut S,
+    id: u32,
+    each: Kind,
+    joint: Kind,
+    pairs: &[(u32, u32)],
+) -> Result<(), AllocError>
+    requires id { id < length (S.content store.old) }
+    requires pairs { 1 < length pairs.now }
+    ensures { OnOk result (S.content store.new ≡ over_pairs each joint (S.content store.old) id pairs.now) }
+{
+    let first = store.len();
+    push_each(store, each, pairs)?;
+    let last = store.len() - 1;
+    let others = join(store, joint, first + 1, last)?;
+    store.put(id, joint, &[first, others])
+}
+
+/// Writes a node over a single pair in the place of another, and with more
+/// pairs what joins nodes over them.
+fn write<S: Store>(
+    store: &mut S,
+    id: u32,
+    each: Kind,
+    joint: Kind,
+    pairs: &[(u32, u32)],
+) -> Result<(), AllocError>
+    requires id { id < length (S.content store.old) }
+    requires pairs { 0 < length pairs.now }
+    ensures { OnOk result (S.content store.new ≡ over_pairs each joint (S.content store.old) id pairs.now) }
+{
+    if pairs.len() == 1 {
+        let (a, b) = pairs[0];
+        return store.put(id, each, &[a, b]);
+    }
+    write_several(store, id, each, joint, pairs)
+}
+
+/// A node becomes one over pairs of arguments. Where there are none it is
+/// True.
+pub(crate) fn in_pairs<S: Store>(
+    alloc: Global,
+    special: &Special,
+    mut store: S,
+    id: u32,
+    each: Kind,
+    joint: Kind,
+    pairs: &[(u32, u32)],
+) -> Result<Moved<S>, AllocError>
+    requires { id < length (S.content store) }
+    ensures { IfOk result (λ moved. move_of S.content moved
+        ≡ in_pairs special.now each joint (S.content store) id pairs.now) }
+{
+    if pairs.is_empty() {
+        return moved::tells(alloc, special, store, id, true);
+    }
+    write(&mut store, id, each, joint, pairs)?;
+    moved::alone(alloc, store)
+}

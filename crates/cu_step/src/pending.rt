@@ -1,0 +1,23 @@
+//! Work lists of nodes, of which the last is taken first.
+ghost use Rattle.std.specs.Prelude.{◌≡◌, ◌<◌, ◌++◌, OnOk, length, reverse};
+ghost use Rattle.cu_machine.specs.Graph.{node_at};
+
+use cu_graph::Store;
+use std::alloc::AllocError;
+
+/// Adds the arguments of a node, of which the first is taken first.
+pub(crate) fn push_args<S: Store>(
+    pending: &mut Vec<u32>,
+    store: &S,
+    id: u32,
+) -> Result<(), AllocError>
+    requires { id < length (S.content store.now) }
+    ensures { OnOk result (pending.new.items ≡ pending.old.items ++ reverse (node_at (S.content store.now) id).args) }
+{
+    let mut i = store.arity(id);
+    while i > 0 {
+        i -= 1;
+        pending.push(store.arg(id, i))?;
+    }
+    Ok(())
+}

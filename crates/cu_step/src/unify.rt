@@ -1,0 +1,138 @@
+//! Equations.
+ghost use Rattle.std.specs.Prelude.{◌≡◌, ◌<◌, IfOk, length, true};
+ghost use Rattle.cu_machine.specs.declared.Kind.TheVariants as kind;
+ghost use Rattle.cu_machine.specs.Rewrite.{equated, equated_in_pairs, imitates, renames};
+ghost use Rattle.cu_machine.specs.Validity.{ArgumentsThere, IsAcyclic, are_places};
+ghost use Rattle.std.specs.Prelude.{zip};
+ghost use Rattle.cu_step.specs.Moved.{move_of};
+
+use crate::case::is_same_literal;
+use crate::moved::{self, Moved};
+use crate::operand::Operand;
+use crate::{build, free, occurs, pairs};
+use cu_flat::{ConId, Prim, Special};
+use cu_graph::{Kind, Store};
+use std::alloc::{AllocError, Global};
+
+/// Equations of arguments in pairs.
+fn in_pairs<S: Store>(
+    alloc: Global,
+    special: &Special,
+    store: S,
+    id: u32,
+    left: &[u32],
+    right: &[u32],
+) -> Result<Moved<S>, AllocError>
+    requires { id < length (S.content store) }
+    ensures { IfOk result (λ moved. move_of S.content moved
+        ≡ equated_in_pairs special.now (S.content store) id (zip left.now right.now)) }
+{
+    let pairs = build::scope_of(alloc, left, right)?;
+    let each = Kind::Prim(Prim::Unify);
+    let joint = Kind::Prim(Prim::And);
+    pairs::in_pairs(alloc, special, store, id, each, joint, pairs.as_slice())
+}
+
+/// A free variable becomes another name of a node, and the equation holds.
+fn renames<S: Store>(
+    alloc: Global,
+    special: &Special,
+    mut store: S,
+    id: u32,
+    variable: u32,
+    other: u32,
+) -> Result<Moved<S>, AllocError>
+    requires id { id < length (S.content store) }
+    requires variable { variable < length (S.content store) }
+    ensures { IfOk result (λ moved. move_of S.content moved
+        ≡ renames special.now (S.content store) id variable other) }
+{
+    store.put(variable, Kind::Ind, &[other])?;
+    moved::tells(alloc, special, store, id, true)
+}
+
+/// A free variable is equated with a constructor over arguments.
+#[tactic(auto, using(crate::proofs::Imitations::imitations))]
+fn imitates<S: Store>(
+    alloc: Global,
+    special: &Special,
+    mut store: S,
+    id: u32,
+    variable: u32,
+    c: ConId,
+    other: &Operand,
+) -> Result<Moved<S>, AllocError>
+    requires id { id < length (S.content store) }
+    requires variable { variable < length (S.content store) }
+    requires args { are_places (length (S.content store)) other.now.args.items ≡ true }
+    requires arguments { ArgumentsThere (S.content store) }
+    requires acyclic { IsAcyclic (S.content store) }
+    ensures { IfOk result (λ moved. move_of S.content moved
+        ≡ imitates special.now (S.content store) id variable other.now.id c other.now.args.items) }
+{
+    let args = other.args.as_slice();
+    if args.is_empty() {
+        return renames(alloc, special, store, id, variable, other.id);
+    }
+    if occurs::occurs(alloc, &store, variable, args)? {
+        return moved::fails(alloc, store, id);
+    }
+    let fresh = free::to_constructor(alloc, &mut store, variable, c, args.len())?;
+    in_pairs(alloc, special, store, id, fresh.as_slice(), args)
+}
+
+/// `=:=` of two heads. A partial application equals nothing.
+pub(crate) fn equated<S: Store>(
+    alloc: Global,
+    special: &Special,
+    store: S,
+    id: u32,
+    left: &Operand,
+    right: &Operand,
+) -> Result<Moved<S>, AllocError>
+    requires id { id < length (S.content store) }
+    requires left { left.now.kind ≡ kind.Free → left.now.id < length (S.content store) }
+    requires right { right.now.kind ≡ kind.Free → right.now.id < length (S.content store) }
+    requires left_args { are_places (length (S.content store)) left.now.args.items ≡ true }
+    requires right_args { are_places (length (S.content store)) right.now.args.items ≡ true }
+    requires arguments { ArgumentsThere (S.content store) }
+    requires acyclic { IsAcyclic (S.content store) }
+    ensures { IfOk result (λ moved. move_of S.content moved ≡ equated special.now (S.content store) id
+        left.now.id left.now.kind left.now.args.items right.now.id right.now.kind right.now.args.items) }
+{
+    match left.kind {
+        Kind::Free => match right.kind {
+            Kind::Free => {
+                if left.id == right.id {
+                    return moved::tells(alloc, special, store, id, true);
+                }
+                renames(alloc, special, store, id, left.id, right.id)
+            }
+            Kind::Lit(_) => renames(alloc, special, store, id, left.id, right.id),
+            Kind::Cons(d) => imitates(alloc, special, store, id, left.id, d, right),
+            _ => moved::fails(alloc, store, id),
+        },
+        Kind::Lit(l) => match right.kind {
+            Kind::Free => renames(alloc, special, store, id, right.id, left.id),
+            Kind::Lit(m) => {
+                if !is_same_literal(l, m) {
+                    return moved::fails(alloc, store, id);
+                }
+                moved::tells(alloc, special, store, id, true)
+            }
+            _ => moved::fails(alloc, store, id),
+        },
+        Kind::Cons(c) => match right.kind {
+            Kind::Free => imitates(alloc, special, store, id, right.id, c, left),
+            Kind::Cons(d) => {
+                if c.0 != d.0 {
+                    return moved::fails(alloc, store, id);
+                }
+                let (us, vs) = (left.args.as_slice(), right.args.as_slice());
+                in_pairs(alloc, special, store, id, us, vs)
+            }
+            _ => moved::fails(alloc, store, id),
+        },
+        _ => moved::fails(alloc, store, id),
+    }
+}
