@@ -1,5 +1,5 @@
 //! The characters of string literals.
-ghost use Rattle.std.specs.Prelude.{◌≡◌, ◌++◌, ◌∷◌, [], length, IsTrue, OnErr, OnOk, ◌↔◌};
+ghost use Rattle.std.specs.Prelude.{◌≡◌, ◌++◌, ◌∷◌, [], length, IfOk, IsTrue, OnErr, OnOk, ◌↔◌};
 
 use std::alloc::{AllocError, Global};
 use std::marker::Model;
@@ -26,6 +26,15 @@ impl Characters {
         Characters {
             items: Vec::new(alloc),
         }
+    }
+
+    /// The same characters once more.
+    pub fn copy(&self, alloc: Global) -> Result<Characters, AllocError>
+        ensures { IfOk result (λ copy. copy ≡ self.now) }
+    {
+        Ok(Characters {
+            items: Vec::from_slice(alloc, self.items.as_slice())?,
+        })
     }
 
     /// Adds a character at the end.

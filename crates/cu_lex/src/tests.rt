@@ -1,18 +1,29 @@
 //! Tokens of texts, worked out by hand.
 use crate::{Keyword, LexFault, Mark, ReservedOperator, Token, TokenKind, lex};
-use cu_names::{Names, Place};
+use cu_names::{NameId, Names, Place};
 use std::alloc::{AllocError, Global};
-use std::test::Fail;
+use std::process::Abort;
+
+/// The tokens of a text, whose module has the number 0.
+fn tokens_of(alloc: Global, text: &[u8]) -> Result<Vec<Token>, LexFault> {
+    let mut names = Names::new(alloc);
+    let module = names.intern("M")?;
+    lex(alloc, &mut names, module, text)
+}
+
+fn shown(alloc: Global, token: &Token) -> Result<String, AllocError> {
+    let class = class_of(&token.kind);
+    let line = token.place.line;
+    let column = token.place.column;
+    format!(in alloc; "{class} {line}:{column};")
+}
 
 /// The class of each token and its place.
 fn classes(alloc: Global, tokens: &[Token]) -> Result<String, AllocError> {
     let mut text = String::new(alloc);
     for token in tokens {
-        let class = class_of(&token.kind);
-        let line = token.place.line;
-        let column = token.place.column;
-        let shown = format!(in alloc; "{class} {line}:{column};")?;
-        text.push_str(shown.as_str())?;
+        let one = shown(alloc, token)?;
+        text.push_str(one.as_str())?;
     }
     Ok(text)
 }
@@ -69,27 +80,53 @@ const CLASSES: [(&str, &str); 20] = [
     ("\"\u{e9}\" x", "String 1:1;VarId 1:5;"),
 ];
 
+fn shown_classes(alloc: Global, text: &str) -> Result<String, LexFault> {
+    let tokens = tokens_of(alloc, text.as_bytes())?;
+    Ok(classes(alloc, tokens.as_slice())?)
+}
+
+fn expect_classes<R: Abort>(rt: &R, alloc: Global, text: &str, want: &str) {
+    match shown_classes(alloc, text) {
+        Ok(found) => assert_eq!(rt; found.as_str(), want, "{text}"),
+        Err(fault) => panic!(rt; "{text}: {fault:?}"),
+    }
+}
+
 #[test]
-fn classes_of_tokens(rt: HostRuntime) -> Result<(), Fail> {
+fn classes_of_tokens(rt: HostRuntime) {
     let alloc = rt.alloc();
     for (text, want) in CLASSES {
-        let mut names = Names::new(alloc);
-        let module = names.intern("M")?;
-        let tokens = lex(alloc, &mut names, module, text.as_bytes())?;
-        let found = classes(alloc, tokens.as_slice())?;
-        assert_eq!(rt; found.as_str(), want, "{text}");
+        expect_classes(&rt, alloc, text, want);
     }
-    Ok(())
 }
 
 /// The kind of the only token of a text, if it has one token.
 fn only_kind(alloc: Global, text: &str) -> Result<Option<TokenKind>, LexFault> {
-    let mut names = Names::new(alloc);
-    let module = names.intern("M")?;
-    let mut tokens = lex(alloc, &mut names, module, text.as_bytes())?;
+    let mut tokens = tokens_of(alloc, text.as_bytes())?;
     match tokens.pop() {
         Some(token) if tokens.is_empty() => Ok(Some(token.kind)),
         _ => Ok(None),
+    }
+}
+
+fn only_keyword(alloc: Global, text: &str) -> Option<Keyword> {
+    match only_kind(alloc, text) {
+        Ok(Some(TokenKind::Keyword(word))) => Some(word),
+        _ => None,
+    }
+}
+
+fn only_operator(alloc: Global, text: &str) -> Option<ReservedOperator> {
+    match only_kind(alloc, text) {
+        Ok(Some(TokenKind::Reserved(word))) => Some(word),
+        _ => None,
+    }
+}
+
+fn only_mark(alloc: Global, text: &str) -> Option<Mark> {
+    match only_kind(alloc, text) {
+        Ok(Some(TokenKind::Mark(mark))) => Some(mark),
+        _ => None,
     }
 }
 
@@ -143,68 +180,82 @@ const MARKS: [(&str, Mark); 10] = [
 ];
 
 #[test]
-fn every_word_with_a_meaning(rt: HostRuntime) -> Result<(), Fail> {
+fn every_keyword(rt: HostRuntime) {
     let alloc = rt.alloc();
     for (text, want) in KEYWORDS {
-        let found = match only_kind(alloc, text)? {
-            Some(TokenKind::Keyword(word)) => Some(word),
-            _ => None,
-        };
-        assert_eq!(rt; found, Some(want), "{text}");
+        assert_eq!(rt; only_keyword(alloc, text), Some(want), "{text}");
     }
-    for (text, want) in RESERVED_OPERATORS {
-        let found = match only_kind(alloc, text)? {
-            Some(TokenKind::Reserved(word)) => Some(word),
-            _ => None,
-        };
-        assert_eq!(rt; found, Some(want), "{text}");
-    }
-    for (text, want) in MARKS {
-        let found = match only_kind(alloc, text)? {
-            Some(TokenKind::Mark(mark)) => Some(mark),
-            _ => None,
-        };
-        assert_eq!(rt; found, Some(want), "{text}");
-    }
-    Ok(())
 }
 
 #[test]
-fn first_faults(rt: HostRuntime) -> Result<(), Fail> {
+fn every_reserved_operator(rt: HostRuntime) {
     let alloc = rt.alloc();
-    let mut names = Names::new(alloc);
-    let module = names.intern("M")?;
-    let at = |line: u32, column: u32| Place {
-        module,
+    for (text, want) in RESERVED_OPERATORS {
+        assert_eq!(rt; only_operator(alloc, text), Some(want), "{text}");
+    }
+}
+
+#[test]
+fn every_mark(rt: HostRuntime) {
+    let alloc = rt.alloc();
+    for (text, want) in MARKS {
+        assert_eq!(rt; only_mark(alloc, text), Some(want), "{text}");
+    }
+}
+
+fn fault_of(alloc: Global, text: &[u8]) -> Option<LexFault> {
+    match tokens_of(alloc, text) {
+        Ok(_) => None,
+        Err(fault) => Some(fault),
+    }
+}
+
+fn expect_fault<R: Abort>(rt: &R, alloc: Global, text: &[u8], want: LexFault) {
+    assert_eq!(rt; fault_of(alloc, text), Some(want));
+}
+
+fn at(line: u32, column: u32) -> Place {
+    Place {
+        module: NameId(0),
         line,
         column,
-    };
-    let rows = [
-        ("\"ab", LexFault::BadToken(at(1, 1))),
-        ("1.5", LexFault::BadToken(at(1, 1))),
-        ("9223372036854775808", LexFault::LiteralRange(at(1, 1))),
-        ("x {- y", LexFault::BadToken(at(1, 3))),
-        ("'ab'", LexFault::BadToken(at(1, 1))),
-        ("\"a\\q\"", LexFault::BadToken(at(1, 1))),
-        ("\"a\\1114112\"", LexFault::LiteralRange(at(1, 3))),
-        ("x\n \u{e9}", LexFault::BadToken(at(2, 2))),
-    ];
-    for (text, want) in rows {
-        match lex(alloc, &mut names, module, text.as_bytes()) {
-            Ok(_) => assert!(rt; false, "{text}"),
-            Err(fault) => assert_eq!(rt; fault, want, "{text}"),
-        }
     }
-    for (bytes, offset) in [
-        ([255, 0].as_slice(), 0),
-        ([97, 0xC3].as_slice(), 2),
-        ([97, 0xE0, 0x80, 0x80].as_slice(), 2),
-        ([97, 0xED, 0xA0].as_slice(), 2),
-    ] {
-        match lex(alloc, &mut names, module, bytes) {
-            Ok(_) => assert!(rt; false, "{offset}"),
-            Err(fault) => assert_eq!(rt; fault, LexFault::NotUtf8(offset)),
-        }
+}
+
+/// Texts, and the line and the column where no token begins.
+const BAD_TOKENS: [(&str, u32, u32); 6] = [
+    ("\"ab", 1, 1),
+    ("1.5", 1, 1),
+    ("x {- y", 1, 3),
+    ("'ab'", 1, 1),
+    ("\"a\\q\"", 1, 1),
+    ("x\n \u{e9}", 2, 2),
+];
+
+/// Texts, and the line and the column of a literal that is out of range.
+const LARGE_LITERALS: [(&str, u32, u32); 2] = [
+    ("9223372036854775808", 1, 1),
+    ("\"a\\1114112\"", 1, 3),
+];
+
+#[test]
+fn first_faults(rt: HostRuntime) {
+    let alloc = rt.alloc();
+    for (text, line, column) in BAD_TOKENS {
+        let want = LexFault::BadToken(at(line, column));
+        expect_fault(&rt, alloc, text.as_bytes(), want);
     }
-    Ok(())
+    for (text, line, column) in LARGE_LITERALS {
+        let want = LexFault::LiteralRange(at(line, column));
+        expect_fault(&rt, alloc, text.as_bytes(), want);
+    }
+}
+
+#[test]
+fn bytes_that_are_no_text(rt: HostRuntime) {
+    let alloc = rt.alloc();
+    expect_fault(&rt, alloc, &[255, 0], LexFault::NotUtf8(0));
+    expect_fault(&rt, alloc, &[97, 0xC3], LexFault::NotUtf8(2));
+    expect_fault(&rt, alloc, &[97, 0xE0, 0x80, 0x80], LexFault::NotUtf8(2));
+    expect_fault(&rt, alloc, &[97, 0xED, 0xA0], LexFault::NotUtf8(2));
 }

@@ -1,12 +1,28 @@
 //! Tokens and their kinds.
+ghost use Rattle.std.specs.Prelude.{◌≡◌, IfOk};
+
 use crate::Characters;
 use cu_names::{NameId, Place};
+use std::alloc::{AllocError, Global};
 
 /// A token, at the place of its first character.
 #[derive(Debug, Drop)]
 pub struct Token {
     pub kind: TokenKind,
     pub place: Place,
+}
+
+impl Token {
+    /// The same token once more. Only the characters of a string take memory.
+    pub fn copy(&self, alloc: Global) -> Result<Token, AllocError>
+        ensures { IfOk result (λ copy. copy ≡ self.now) }
+    {
+        let kind = self.kind.copy(alloc)?;
+        Ok(Token {
+            kind,
+            place: self.place,
+        })
+    }
 }
 
 /// What a token is.
@@ -30,6 +46,26 @@ pub enum TokenKind {
     String(Characters),
     /// A brace or semicolon that the layout rules put in. The lexer gives none.
     Layout(LayoutMark),
+}
+
+impl TokenKind {
+    fn copy(&self, alloc: Global) -> Result<TokenKind, AllocError>
+        ensures { IfOk result (λ copy. copy ≡ self.now) }
+    {
+        Ok(match self {
+            TokenKind::VarId(name) => TokenKind::VarId(*name),
+            TokenKind::ConId(name) => TokenKind::ConId(*name),
+            TokenKind::VarOp(name) => TokenKind::VarOp(*name),
+            TokenKind::ConOp(name) => TokenKind::ConOp(*name),
+            TokenKind::Keyword(word) => TokenKind::Keyword(*word),
+            TokenKind::Reserved(word) => TokenKind::Reserved(*word),
+            TokenKind::Mark(mark) => TokenKind::Mark(*mark),
+            TokenKind::Int(number) => TokenKind::Int(*number),
+            TokenKind::Char(character) => TokenKind::Char(*character),
+            TokenKind::String(characters) => TokenKind::String(characters.copy(alloc)?),
+            TokenKind::Layout(mark) => TokenKind::Layout(*mark),
+        })
+    }
 }
 
 /// A name or an operator, as `Data.List.map`, with its parts.

@@ -1,0 +1,26 @@
+use Rattle.std.proofs.Common.{Err, sym}
+use Rattle.cu_syntax.specs.Answer.{Tells, items_meaning}
+use Rattle.cu_syntax.specs.Parsing.{ModuleRead}
+use Rattle.cu_syntax.proofs.ModuleLemmas.{no_block, right_module, wrong_header, wrong_item}
+use Rattle.cu_syntax.proofs.PartLemmas.{passed_on}
+use Rattle.cu_syntax.proofs.SplitLemmas.{lexemes}
+use Rattle.cu_syntax.proofs.parsing.parse_module.Goals as goal
+
+pub returns-in-None-clause-fault : goal.returns-in-None-clause-fault
+returns-in-None-clause-fault c = λ names. no_block names c.args.tokens.now (sym (c.in-None.ensures.number names))
+
+pub returns-in_err-header-clause-fault : goal.returns-in_err-header-clause-fault
+returns-in_err-header-clause-fault c = λ names.
+    passed_on (Tells (λ fault. ModuleRead (lexemes names c.args.tokens.now) (Err fault))) c.from_residual-in_err-header.result c.in_err-header.field-0.0 c.from_residual-in_err-header.ensures.1
+    (wrong_header names c.in-Some.opening c.args.tokens.now c.in_err-header.field-0.0 (sym (c.in-Some.ensures.number names)) (c.in_err-header.ensures.fault names))
+
+pub returns-in_err-items-clause-fault : goal.returns-in_err-items-clause-fault
+returns-in_err-items-clause-fault c = λ names.
+    passed_on (Tells (λ fault. ModuleRead (lexemes names c.args.tokens.now) (Err fault))) c.from_residual-in_err-items.result c.in_err-items.field-0.0 c.from_residual-in_err-items.ensures.1
+    (wrong_item names c.in-Some.opening c.line_behind-last.result c.args.tokens.now c.tokens_behind.result.now c.in_ok-header.header c.in_err-items.field-0.0
+    (sym (c.in-Some.ensures.number names)) (c.line_behind-last.ensures names) c.tokens_behind.ensures (c.in_ok-header.ensures.header names) (c.in_err-items.ensures.fault names))
+
+pub returns-clause-syntax : goal.returns-clause-syntax
+returns-clause-syntax c = λ names.
+    right_module names c.in-Some.opening c.line_behind-last.result c.args.tokens.now c.tokens_behind.result.now c.in_ok-header.header (items_meaning names c.in_ok-items.items.items)
+    (sym (c.in-Some.ensures.number names)) (c.line_behind-last.ensures names) c.tokens_behind.ensures (c.in_ok-header.ensures.header names) (c.in_ok-items.ensures.items names)

@@ -1,0 +1,70 @@
+-- What the parsers' answers stand for, under a table of names.
+use Rattle.std.specs.Prelude.{◌≡◌, ℕ, Bool, List, [], ◌∷◌, ◌++◌, Option, None, Some, Ok, map}
+use Rattle.std.specs.Option.{option_map, unwrap_or}
+use Rattle.cu_lex.specs.Reading.{lexeme_of}
+use Rattle.cu_lex.specs.Tokens.{Lexeme}
+use Rattle.cu_peg.specs.Parse.{NoTree, Parts, tree_over}
+use Rattle.cu_syntax.specs.declared.fault.ParseFault.{ParseFault}
+use Rattle.cu_syntax.specs.declared.fault.ParseFault.TheVariants as answer
+use Rattle.cu_syntax.specs.declared.symbol.Symbol.TheVariants as symbol
+use Rattle.cu_syntax.specs.declared.text.GoalText.{GoalText}
+use Rattle.cu_syntax.specs.declared.text.Item as text
+use Rattle.cu_syntax.specs.declared.text.Item.TheVariants as item
+use Rattle.cu_syntax.specs.declared.text.Module as texts
+use Rattle.cu_syntax.specs.declared.text.Parsed.{Parsed}
+use Rattle.cu_syntax.specs.Parsing.{Fault, HasNone, HeaderRead, ItemRead, Part, PartRead, Syntax, TooLong, imports_behind}
+use Rattle.cu_syntax.specs.Reading.{Tree, goal_of, header_of, import_of, item_of}
+use Rattle.cu_syntax.specs.Syntax.{Goal, ImportItem, Item, Module}
+
+-- The tree over tokens of the definition.
+abbrev pub tree_of : List (List ℕ) → Parsed → Tree
+tree_of names parsed = unwrap_or (tree_over (map (lexeme_of names) parsed.tokens.items) parsed.tree) (Parts NoTree)
+
+abbrev pub goal_meaning : List (List ℕ) → GoalText → Goal
+goal_meaning names goal = goal_of (tree_of names goal.parsed)
+
+abbrev pub item_meaning : List (List ℕ) → text.Item → Item
+item_meaning names (item.Import parsed) = ImportItem (import_of (tree_of names parsed))
+item_meaning names (item.Declaration parsed) = item_of (tree_of names parsed)
+
+abbrev pub items_meaning : List (List ℕ) → List text.Item → List Item
+items_meaning names items = map (item_meaning names) items
+
+abbrev pub module_meaning : List (List ℕ) → texts.Module → Module
+module_meaning names found = record {
+  header = option_map (λ parsed. header_of (tree_of names parsed)) found.header;
+  items = items_meaning names found.items.items;
+}
+
+-- The fault that an answer tells has this property. Want of memory says nothing.
+abbrev pub Tells : (Fault → Type 0) → ParseFault → Type 0
+Tells P (answer.Syntax line) = P (Syntax line)
+Tells P (answer.TooLong line) = P (TooLong line)
+Tells P answer.NoMemory = Unit {0}
+
+-- What is found on the way
+
+-- a header, or none, where it isn't wrong
+abbrev pub FoundHeader : List (List ℕ) → List Lexeme → Option Parsed → Type 0
+FoundHeader names tokens found = HeaderRead tokens (option_map (λ parsed. header_of (tree_of names parsed)) found)
+
+-- a wrong header
+abbrev pub NoHeader : List Lexeme → Fault → Type 0
+NoHeader tokens fault = (fault ≡ Syntax 1) × (¬ (tokens ≡ [])) × HasNone symbol.Header tokens
+
+abbrev pub part_with : Bool → ℕ → List Lexeme → Part
+part_with whole before tokens = record { before = before; tokens = tokens; whole = whole }
+
+-- an item of a part, or that the part is empty
+abbrev pub FoundPart : List (List ℕ) → Bool → Part → Option text.Item → Type 0
+FoundPart names imports part None = part.tokens ≡ []
+FoundPart names imports part (Some found) = PartRead imports part (Ok (item_meaning names found))
+
+-- no item of these tokens
+abbrev pub IsNoItem : Bool → List Lexeme → Type 0
+IsNoItem imports tokens = (item : Item) → ¬ (ItemRead imports tokens item)
+
+-- What was found is added to the items, and an import may stand behind it or not.
+abbrev pub Adds : List (List ℕ) → Bool → List text.Item → List text.Item → Option text.Item → Bool → Type 0
+Adds names imports before after None behind = (after ≡ before) × (behind ≡ imports)
+Adds names imports before after (Some found) behind = (after ≡ before ++ found ∷ []) × (behind ≡ imports_behind imports (item_meaning names found))

@@ -1,0 +1,54 @@
+-- Where the parts of a module end, by numbers of tokens.
+use Rattle.std.specs.Prelude.{ℕ, suc, ◌+◌, ◌-◌, ◌<◌, true, false, ◌&&◌, List, [], ◌∷◌, Option, None, Some, if◌then◌else◌, drop, nat_eq, nat_lt, take}
+use Rattle.std.specs.Option.{option_map}
+use Rattle.cu_lex.specs.Tokens.{Lexeme}
+use Rattle.cu_syntax.specs.declared.scanning.PartEnd.{PartEnd}
+use Rattle.cu_syntax.specs.declared.scanning.PartEnd.TheVariants as end
+use Rattle.cu_syntax.specs.Parsing.{Front, Split, after, behind, closes, depth_after, opens, parts, separates}
+
+-- the line of the last token of the text in some tokens, or the line before
+abbrev pub last_line : ℕ → List Lexeme → ℕ
+last_line before [] = before
+last_line before (token ∷ tokens) = last_line (after before token) tokens
+
+-- the number of the first brace that opens
+abbrev pub first_open : List Lexeme → Option ℕ
+first_open [] = None
+first_open (token ∷ tokens) = if opens token.what then Some 0 else option_map suc (first_open tokens)
+
+-- the front of a module whose first brace has this number
+abbrev pub front_to : ℕ → List Lexeme → Option ℕ → Front
+front_to last tokens (Some n) = record { header = take n tokens; last = last_line last (take (n + 1) tokens); block = Some (drop (n + 1) tokens) }
+front_to last tokens None = record { header = tokens; last = last_line last tokens; block = None }
+
+-- the end of a part, so many tokens further on
+abbrev pub later : ℕ → PartEnd → PartEnd
+later n (end.Separator length) = end.Separator (n + length)
+later n (end.Close length) = end.Close (n + length)
+later n end.Missing = end.Missing
+
+-- the end of a part, inside so many braces of it
+abbrev pub part_end : ℕ → List Lexeme → PartEnd
+part_end depth [] = end.Missing
+part_end depth (token ∷ tokens) =
+    if nat_eq depth 0 && closes token.what then end.Close 0
+    else if nat_eq depth 0 && separates token.what then end.Separator 0
+    else later 1 (part_end (depth_after depth token.what) tokens)
+
+-- what is left of a block whose first part has this end
+abbrev pub split_to : ℕ → List Lexeme → PartEnd → Split
+split_to last tokens (end.Separator n) =
+    record { first = take n tokens; whole = true; others = parts (last_line last (take (n + 1) tokens)) (drop (n + 1) tokens) }
+split_to last tokens (end.Close n) =
+    record { first = take n tokens; whole = true; others = behind (last_line last (take (n + 1) tokens)) (drop (n + 1) tokens) }
+split_to last tokens end.Missing = record { first = tokens; whole = false; others = [] }
+
+-- the tokens of an end are among so many
+abbrev pub is_within : PartEnd → ℕ → Type 0
+is_within (end.Separator n) count = n < count
+is_within (end.Close n) count = n < count
+is_within end.Missing count = Unit {0}
+
+-- the room that is left behind something of a length, if there is room for it
+abbrev pub room_behind : ℕ → ℕ → Option ℕ
+room_behind room length = if nat_lt room length then None else Some (room - length)

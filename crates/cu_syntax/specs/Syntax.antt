@@ -1,0 +1,194 @@
+-- The syntax of Curry modules and goals (Curry Report, "Lexical structure" and "Context-free syntax") as trees. Names are texts. A
+-- node has the place of its first token, unless it begins with the token of its name. Parentheses round one thing alone leave no
+-- node.
+use Rattle.std.specs.Prelude.{ℕ, ℤ, Bool, List, Option}
+use Rattle.cu_lex.specs.Located.{Position}
+
+-- A name or an operator where it stands: its text, the qualifier in it, if it has one, the text without that, and the place of its
+-- token, inside the parentheses or backquotes round it.
+pub record Name : Type 0 where
+  pub text : List ℕ
+  pub qualifier : Option (List ℕ)
+  pub base : List ℕ
+  pub at : Position
+
+-- the name of a module, with its dots
+pub record ModuleName : Type 0 where
+  pub text : List ℕ
+  pub at : Position
+
+pub data Literal : Type 0 where
+  Int : ℤ → Literal
+  Char : ℕ → Literal
+  String : List ℕ → Literal
+
+mutual
+  pub data TypeTerm : Type 0 where
+    TypeVariable : Name → TypeTerm
+    -- a type constructor on its arguments, or alone
+    TypeNamed : Name → TypeTerms → TypeTerm
+    Arrow : Position → TypeTerm → TypeTerm → TypeTerm
+    -- unit has no components
+    TypeTuple : Position → TypeTerms → TypeTerm
+    TypeList : Position → TypeTerm → TypeTerm
+
+  pub data TypeTerms : Type 0 where
+    NoType : TypeTerms
+    MoreTypes : TypeTerm → TypeTerms → TypeTerms
+
+mutual
+  pub data Pattern : Type 0 where
+    PatternVariable : Name → Pattern
+    As : Name → Pattern → Pattern
+    Wildcard : Position → Pattern
+    PatternLiteral : Position → Literal → Pattern
+    -- a constructor on its arguments, or alone
+    Constructed : Position → Name → Patterns → Pattern
+    -- unit has no components
+    PatternTuple : Position → Patterns → Pattern
+    PatternList : Position → Patterns → Pattern
+    -- patterns with constructor operators between them, not grouped
+    PatternOperators : Position → Pattern → PatternRest → Pattern
+
+  pub data Patterns : Type 0 where
+    NoPattern : Patterns
+    MorePatterns : Pattern → Patterns → Patterns
+
+  pub data PatternRest : Type 0 where
+    NoConstructor : PatternRest
+    ThenConstructor : Name → Pattern → PatternRest → PatternRest
+
+-- `case` asks, and `fcase` also guesses
+pub data CaseWord : Type 0 where
+  RigidCase : CaseWord
+  FlexibleCase : CaseWord
+
+mutual
+  pub data Expression : Type 0 where
+    Variable : Position → Name → Expression
+    Constructor : Position → Name → Expression
+    LiteralExpression : Position → Literal → Expression
+    -- an expression on one argument or more
+    Application : Position → Expression → Expressions → Expression
+    -- The place of a minus before the first operand, if there is one, the operand, and operators with the other operands, not
+    -- grouped. There is a minus or an operator.
+    Operators : Position → Option Position → Expression → OperatorRest → Expression
+    Lambda : Position → Patterns → Expression → Expression
+    Let : Position → Declarations → Expression → Expression
+    If : Position → Expression → Expression → Expression → Expression
+    Case : Position → CaseWord → Expression → Alternatives → Expression
+    -- unit has no components
+    Tuple : Position → Expressions → Expression
+    -- the constructor of tuples of so many components
+    TupleConstructor : Position → ℕ → Expression
+    LeftSection : Position → Expression → Name → Expression
+    RightSection : Position → Name → Expression → Expression
+    ListOf : Position → Expressions → Expression
+    -- from the first number, by the step to the second, if it is there, and up to the last, if it is there
+    Enumeration : Position → Expression → MaybeExpression → MaybeExpression → Expression
+    Comprehension : Position → Expression → Qualifiers → Expression
+
+  pub data Expressions : Type 0 where
+    NoExpression : Expressions
+    MoreExpressions : Expression → Expressions → Expressions
+
+  pub data MaybeExpression : Type 0 where
+    Absent : MaybeExpression
+    Present : Expression → MaybeExpression
+
+  -- operators, each with a minus before its right operand, or without, and that operand
+  pub data OperatorRest : Type 0 where
+    NoOperator : OperatorRest
+    ThenOperator : Name → Option Position → Expression → OperatorRest → OperatorRest
+
+  pub data Alternatives : Type 0 where
+    NoAlternative : Alternatives
+    -- a pattern, the right-hand side, and the alternatives behind it
+    MoreAlternatives : Position → Pattern → RightSide → Alternatives → Alternatives
+
+  -- what follows the equals sign or the arrow, and the local declarations
+  pub data RightSide : Type 0 where
+    Plain : Position → Expression → Declarations → RightSide
+    Guarded : Position → Guards → Declarations → RightSide
+
+  pub data Guards : Type 0 where
+    NoGuard : Guards
+    -- a condition, its expression, and the guards behind it
+    MoreGuards : Position → Expression → Expression → Guards → Guards
+
+  pub data Declarations : Type 0 where
+    NoDeclaration : Declarations
+    MoreDeclarations : Declaration → Declarations → Declarations
+
+  pub data Declaration : Type 0 where
+    FreeVariables : Position → List Name → Declaration
+    Signature : Position → List Name → TypeTerm → Declaration
+    -- A rule of a function. One without parameters is that of a variable, where it is local.
+    FunctionRule : Position → Name → Patterns → RightSide → Declaration
+    PatternBinding : Position → Pattern → RightSide → Declaration
+
+  pub data Qualifiers : Type 0 where
+    NoQualifier : Qualifiers
+    MoreQualifiers : Qualifier → Qualifiers → Qualifiers
+
+  pub data Qualifier : Type 0 where
+    Generator : Position → Pattern → Expression → Qualifier
+    LocalDeclarations : Position → Declarations → Qualifier
+    Condition : Position → Expression → Qualifier
+
+-- which constructors come with a type
+pub data ConstructorsNamed : Type 0 where
+  NoneOfThem : ConstructorsNamed
+  AllOfThem : ConstructorsNamed
+  Only : List Name → ConstructorsNamed
+
+pub data Entity : Type 0 where
+  VariableEntity : Name → Entity
+  TypeEntity : Name → ConstructorsNamed → Entity
+
+pub data Export : Type 0 where
+  ModuleExport : ModuleName → Export
+  EntityExport : Entity → Export
+
+pub record Header : Type 0 where
+  pub name : ModuleName
+  pub exports : Option (List Export)
+
+-- the entities that an import names, or those that it hides
+pub record ImportList : Type 0 where
+  pub hides : Bool
+  pub entities : List Entity
+
+pub record Import : Type 0 where
+  pub at : Position
+  pub qualified : Bool
+  pub name : ModuleName
+  pub alias : Option ModuleName
+  pub list : Option ImportList
+
+pub data Side : Type 0 where
+  Left : Side
+  Right : Side
+  Neither : Side
+
+pub record ConstructorDeclaration : Type 0 where
+  pub at : Position
+  pub name : Name
+  pub fields : TypeTerms
+
+pub data Item : Type 0 where
+  ImportItem : Import → Item
+  Fixity : Position → Side → ℕ → List Name → Item
+  Data : Position → Name → List Name → List ConstructorDeclaration → Item
+  Synonym : Position → Name → List Name → TypeTerm → Item
+  -- a signature or a rule
+  DeclarationItem : Declaration → Item
+
+pub record Module : Type 0 where
+  pub header : Option Header
+  pub items : List Item
+
+-- an expression, and the variables that the goal declares free
+pub record Goal : Type 0 where
+  pub expression : Expression
+  pub free : List Name
