@@ -1,4 +1,4 @@
-use Rattle.std.proofs.Common.{length, map, option_map, refl, sym, ap, ◌∙◌}
+use Rattle.std.proofs.Common.{length, option_map, refl, sym, ap, ◌∙◌}
 use Rattle.std.proofs.lemmas.Option.{slice_get-map, slice_get_past, slice_get_read}
 use Rattle.cu_kernel.specs.Heads.{heads_program, shape_meaning}
 use Rattle.cu_kernel.proofs.heads.Heads.constructor.Goals as goal
