@@ -2,15 +2,15 @@
 ghost use Rattle.std.specs.Prelude.{◌≡◌, IfOk, IsTrue};
 ghost use Rattle.cu_machine.specs.Sets.{code_is_without_sets};
 
-use crate::runs::{Event, LIMITS, event_at, outcome_of};
+use crate::runs::{Event, LIMITS, expect_event, outcome_of};
 use crate::samples::{self, CONS, FALSE, NIL, TRUE};
-use crate::{Limits, Outcome, Stop};
+use crate::{Outcome, Stop};
 use cu_flat::{ConId, ExprId, FlatProgram, FunId, Mode, Prim};
 use cu_graph::PlainStore;
 use cu_machine::Waited;
 use cu_values::{Cell, Value};
 use std::alloc::{AllocError, Global};
-use std::test::Fail;
+use std::process::Abort;
 
 /// Whether a value is a constructor without arguments.
 fn is_constant(value: &Value, c: ConId) -> bool {
@@ -28,29 +28,30 @@ fn is_answer(outcome: &Outcome<PlainStore>, binding: ConId, value: ConId) -> boo
     }
 }
 
-/// Whether the answer at the end of a path is one constructor under a binding
-/// to another.
-fn answers(
+/// Expects that the answer at the end of a path is one constructor under a
+/// binding to another.
+fn expect_answer<R: Abort>(
+    rt: &R,
     alloc: Global,
     program: &FlatProgram,
     goal: FunId,
     path: &[usize],
     binding: ConId,
     value: ConId,
-) -> Result<bool, AllocError>
+)
     requires { IsTrue (code_is_without_sets program.now) }
 {
-    let outcome = outcome_of(alloc, program, goal, path, &LIMITS)?;
-    Ok(is_answer(&outcome, binding, value))
+    match outcome_of(alloc, program, goal, path, &LIMITS) {
+        Ok(outcome) => assert!(rt; is_answer(&outcome, binding, value), "after {path:?}"),
+        Err(_) => panic!(rt; "no way {path:?}"),
+    }
 }
 
-#[test]
-fn negation_has_two_answers(rt: HostRuntime) -> Result<(), Fail> {
-    let alloc = rt.alloc();
-    let program = samples::negation(alloc)?;
-    assert!(rt; answers(alloc, &program, FunId(2), &[0, 0, 0, 0], FALSE, TRUE)?);
-    assert!(rt; answers(alloc, &program, FunId(2), &[0, 0, 1, 0], TRUE, FALSE)?);
-    Ok(())
+/// A negation has two answers.
+fn expect_negation<R: Abort>(rt: &R, alloc: Global) {
+    let program = samples::negation(alloc).expect(rt, "memory");
+    expect_answer(rt, alloc, &program, FunId(2), &[0, 0, 0, 0], FALSE, TRUE);
+    expect_answer(rt, alloc, &program, FunId(2), &[0, 0, 1, 0], TRUE, FALSE);
 }
 
 /// `goal = let x = [] in let y = [x, x] in [y, y]`, whose value has thirteen
@@ -70,16 +71,12 @@ fn shared(alloc: Global) -> Result<FlatProgram, AllocError>
     parts.program()
 }
 
-#[test]
-fn an_answer_may_have_more_cells_than_nodes(rt: HostRuntime) -> Result<(), Fail> {
-    let alloc = rt.alloc();
-    let program = shared(alloc)?;
+/// An answer may have more cells than nodes.
+fn expect_shared<R: Abort>(rt: &R, alloc: Global) {
+    let program = shared(alloc).expect(rt, "memory");
     let too_large = Event::Stop(Stop::TooLarge(13));
-    for (nodes, want) in [(12, too_large), (13, Event::Answer)] {
-        let limits = Limits { nodes, width: 1 };
-        assert_eq!(rt; event_at(alloc, &program, FunId(1), &[0], &limits)?, want);
-    }
-    Ok(())
+    expect_event(rt, alloc, &program, FunId(1), &[0], 12, too_large);
+    expect_event(rt, alloc, &program, FunId(1), &[0], 13, Event::Answer);
 }
 
 /// `goal x = case x of True -> False`, `hidden = let x free in goal x` and
@@ -107,26 +104,35 @@ fn is_wait(outcome: &Outcome<PlainStore>, want: Waited) -> bool {
     }
 }
 
-/// Whether the branch at the end of a path waits for one variable.
-fn waits(
+/// Expects that the branch at the end of a path waits for one variable.
+fn expect_wait<R: Abort>(
+    rt: &R,
     alloc: Global,
     program: &FlatProgram,
     goal: FunId,
     path: &[usize],
     want: Waited,
-) -> Result<bool, AllocError>
+)
     requires { IsTrue (code_is_without_sets program.now) }
 {
-    let outcome = outcome_of(alloc, program, goal, path, &LIMITS)?;
-    Ok(is_wait(&outcome, want))
+    match outcome_of(alloc, program, goal, path, &LIMITS) {
+        Ok(outcome) => assert!(rt; is_wait(&outcome, want), "{} after {path:?}", goal.0),
+        Err(_) => panic!(rt; "{} has no way {path:?}", goal.0),
+    }
+}
+
+/// A rigid case distinction or a sum waits for a variable.
+fn expect_rigid<R: Abort>(rt: &R, alloc: Global) {
+    let program = rigid(alloc).expect(rt, "memory");
+    expect_wait(rt, alloc, &program, FunId(1), &[0], Waited::Named(0));
+    expect_wait(rt, alloc, &program, FunId(4), &[0], Waited::Named(0));
+    expect_wait(rt, alloc, &program, FunId(2), &[0, 0], Waited::Other(1));
 }
 
 #[test]
-fn a_rigid_case_or_a_sum_waits_for_a_variable(rt: HostRuntime) -> Result<(), Fail> {
+fn branches_end(rt: HostRuntime) {
     let alloc = rt.alloc();
-    let program = rigid(alloc)?;
-    assert!(rt; waits(alloc, &program, FunId(1), &[0], Waited::Named(0))?);
-    assert!(rt; waits(alloc, &program, FunId(4), &[0], Waited::Named(0))?);
-    assert!(rt; waits(alloc, &program, FunId(2), &[0, 0], Waited::Other(1))?);
-    Ok(())
+    expect_negation(&rt, alloc);
+    expect_shared(&rt, alloc);
+    expect_rigid(&rt, alloc);
 }

@@ -4,12 +4,29 @@ ghost use Rattle.std.specs.Prelude.{◌≡◌, IfOk, IsTrue};
 ghost use Rattle.cu_machine.specs.Sets.{code_is_without_sets};
 
 use crate::Stop;
-use crate::runs::{Event, LIMITS, Row, event_at, int, is_next, leaf};
+use crate::runs::{Event, NODES, Row, constant, expect_event, expect_next, int};
 use crate::samples::{self, BOTH, CONS, FALSE, NIL, TRUE};
-use cu_flat::{ExprId, FlatProgram, FunId, Head, Int, Mode, Prim};
+use cu_flat::{ExprId, FlatProgram, FunId, Head, Int, Prim};
 use cu_graph::Kind;
 use std::alloc::{AllocError, Global};
-use std::test::Fail;
+use std::process::Abort;
+
+const FREE: Row = Row::Leaf(Kind::Free);
+
+const FAIL: Row = Row::Leaf(Kind::Fail);
+
+/// `&&` without arguments.
+const PARTIAL: Row = Row::Leaf(Kind::Part(Head::Fun(BOTH)));
+
+/// A list of one element.
+fn cons(element: u32, rest: u32) -> Row {
+    Row::Pair(Kind::Cons(CONS), element, rest)
+}
+
+/// An equation.
+fn unify(left: u32, right: u32) -> Row {
+    Row::Pair(Kind::Prim(Prim::Unify), left, right)
+}
 
 /// `2 + 3`, `9223372036854775807 + 1` and `True + 3`.
 fn sums(alloc: Global) -> Result<FlatProgram, AllocError>
@@ -31,44 +48,18 @@ fn sums(alloc: Global) -> Result<FlatProgram, AllocError>
     parts.program()
 }
 
-#[test]
-fn a_sum_is_computed(rt: HostRuntime) -> Result<(), Fail> {
-    let alloc = rt.alloc();
-    let program = sums(alloc)?;
-    let sum = (Kind::Prim(Prim::Add), [1, 2].as_slice());
-    assert!(rt;
-        is_next(
-            alloc,
-            &program,
-            FunId(2),
-            &[],
-            &[sum, leaf(int(2)), leaf(int(3))]
-        )?
-    );
-    assert!(rt;
-        is_next(
-            alloc,
-            &program,
-            FunId(2),
-            &[0],
-            &[leaf(int(5)), leaf(int(2)), leaf(int(3))]
-        )?
-    );
-    Ok(())
-}
-
-#[test]
-fn a_sum_overflows_or_fails(rt: HostRuntime) -> Result<(), Fail> {
-    let alloc = rt.alloc();
-    let program = sums(alloc)?;
-    let stop = Stop::Overflow(Prim::Add, Int::MAX, 1);
-    assert_eq!(rt;
-        event_at(alloc, &program, FunId(3), &[0], &LIMITS)?,
-        Event::Stop(stop)
-    );
-    let want = [leaf(Kind::Fail), leaf(Kind::Cons(TRUE)), leaf(int(3))];
-    assert!(rt; is_next(alloc, &program, FunId(4), &[0], &want)?);
-    Ok(())
+/// A sum is computed. It overflows, or fails where an operand is no integer.
+fn expect_sums<R: Abort>(rt: &R, alloc: Global) {
+    let program = sums(alloc).expect(rt, "memory");
+    let sum = Row::Pair(Kind::Prim(Prim::Add), 1, 2);
+    let want = [sum, int(2), int(3)];
+    expect_next(rt, alloc, &program, FunId(2), &[], &want);
+    let want = [int(5), int(2), int(3)];
+    expect_next(rt, alloc, &program, FunId(2), &[0], &want);
+    let stop = Event::Stop(Stop::Overflow(Prim::Add, Int::MAX, 1));
+    expect_event(rt, alloc, &program, FunId(3), &[0], NODES, stop);
+    let want = [FAIL, constant(TRUE), int(3)];
+    expect_next(rt, alloc, &program, FunId(4), &[0], &want);
 }
 
 /// `(1 : []) == (1 : [])`, `[] == (1 : [])` and `(&&) == (&&)`.
@@ -90,56 +81,32 @@ fn comparisons(alloc: Global) -> Result<FlatProgram, AllocError>
     parts.program()
 }
 
-#[test]
-fn like_constructors_are_compared_in_pairs(rt: HostRuntime) -> Result<(), Fail> {
-    let alloc = rt.alloc();
-    let program = comparisons(alloc)?;
-    let equal = Kind::Prim(Prim::Equal);
-    let want: [Row; 9] = [
-        (Kind::Call(BOTH), [7, 8].as_slice()),
-        leaf(int(1)),
-        leaf(Kind::Cons(NIL)),
-        (Kind::Cons(CONS), [1, 2].as_slice()),
-        leaf(int(1)),
-        leaf(Kind::Cons(NIL)),
-        (Kind::Cons(CONS), [4, 5].as_slice()),
-        (equal, [1, 4].as_slice()),
-        (equal, [2, 5].as_slice()),
+/// Like constructors are compared in pairs, unlike ones differ, and partial
+/// applications are not compared.
+fn expect_comparisons<R: Abort>(rt: &R, alloc: Global) {
+    let program = comparisons(alloc).expect(rt, "memory");
+    let want = [
+        Row::Pair(Kind::Call(BOTH), 7, 8),
+        int(1),
+        constant(NIL),
+        cons(1, 2),
+        int(1),
+        constant(NIL),
+        cons(4, 5),
+        Row::Pair(Kind::Prim(Prim::Equal), 1, 4),
+        Row::Pair(Kind::Prim(Prim::Equal), 2, 5),
     ];
-    assert!(rt; is_next(alloc, &program, FunId(2), &[0], &want)?);
-    Ok(())
-}
-
-#[test]
-fn unlike_constructors_differ(rt: HostRuntime) -> Result<(), Fail> {
-    let alloc = rt.alloc();
-    let program = comparisons(alloc)?;
-    let want: [Row; 5] = [
-        leaf(Kind::Cons(FALSE)),
-        leaf(Kind::Cons(NIL)),
-        leaf(int(1)),
-        leaf(Kind::Cons(NIL)),
-        (Kind::Cons(CONS), [2, 3].as_slice()),
+    expect_next(rt, alloc, &program, FunId(2), &[0], &want);
+    let want = [
+        constant(FALSE),
+        constant(NIL),
+        int(1),
+        constant(NIL),
+        cons(2, 3),
     ];
-    assert!(rt; is_next(alloc, &program, FunId(3), &[0], &want)?);
-    Ok(())
-}
-
-#[test]
-fn partial_applications_are_not_compared(rt: HostRuntime) -> Result<(), Fail> {
-    let alloc = rt.alloc();
-    let program = comparisons(alloc)?;
-    let partial = leaf(Kind::Part(Head::Fun(BOTH)));
-    assert!(rt;
-        is_next(
-            alloc,
-            &program,
-            FunId(4),
-            &[0],
-            &[leaf(Kind::Fail), partial, partial]
-        )?
-    );
-    Ok(())
+    expect_next(rt, alloc, &program, FunId(3), &[0], &want);
+    let want = [FAIL, PARTIAL, PARTIAL];
+    expect_next(rt, alloc, &program, FunId(4), &[0], &want);
 }
 
 /// `True & True`, `True & False`, and `let x = True in x & x`.
@@ -159,39 +126,14 @@ fn conjunctions(alloc: Global) -> Result<FlatProgram, AllocError>
     parts.program()
 }
 
-#[test]
-fn a_conjunction_is_true_or_fails(rt: HostRuntime) -> Result<(), Fail> {
-    let alloc = rt.alloc();
-    let program = conjunctions(alloc)?;
-    let (no, yes) = (leaf(Kind::Cons(FALSE)), leaf(Kind::Cons(TRUE)));
-    assert!(rt; is_next(alloc, &program, FunId(2), &[0], &[yes, yes, yes])?);
-    assert!(rt;
-        is_next(
-            alloc,
-            &program,
-            FunId(3),
-            &[0],
-            &[leaf(Kind::Fail), yes, no]
-        )?
-    );
-    Ok(())
-}
-
-#[test]
-fn a_local_variable_is_shared(rt: HostRuntime) -> Result<(), Fail> {
-    let alloc = rt.alloc();
-    let program = conjunctions(alloc)?;
-    let both = (Kind::Prim(Prim::And), [1, 1].as_slice());
-    assert!(rt;
-        is_next(
-            alloc,
-            &program,
-            FunId(4),
-            &[],
-            &[both, leaf(Kind::Cons(TRUE))]
-        )?
-    );
-    Ok(())
+/// A conjunction is True or fails, and a local variable is shared.
+fn expect_conjunctions<R: Abort>(rt: &R, alloc: Global) {
+    let program = conjunctions(alloc).expect(rt, "memory");
+    let (no, yes) = (constant(FALSE), constant(TRUE));
+    expect_next(rt, alloc, &program, FunId(2), &[0], &[yes, yes, yes]);
+    expect_next(rt, alloc, &program, FunId(3), &[0], &[FAIL, yes, no]);
+    let both = Row::Pair(Kind::Prim(Prim::And), 1, 1);
+    expect_next(rt, alloc, &program, FunId(4), &[], &[both, yes]);
 }
 
 /// `x =:= x`, `x =:= y`, `x =:= 7`, `7 =:= x` and `x =:= []`.
@@ -217,26 +159,17 @@ fn bindings(alloc: Global) -> Result<FlatProgram, AllocError>
     parts.program()
 }
 
-#[test]
-fn a_variable_equals_itself_and_is_bound_to_another(rt: HostRuntime) -> Result<(), Fail> {
-    let alloc = rt.alloc();
-    let program = bindings(alloc)?;
-    let (yes, free) = (leaf(Kind::Cons(TRUE)), leaf(Kind::Free));
-    assert!(rt; is_next(alloc, &program, FunId(2), &[0], &[yes, free])?);
-    let bound = (Kind::Ind, [2].as_slice());
-    assert!(rt; is_next(alloc, &program, FunId(3), &[0], &[yes, bound, free])?);
-    Ok(())
-}
-
-#[test]
-fn a_variable_is_bound_to_a_literal_on_either_side(rt: HostRuntime) -> Result<(), Fail> {
-    let alloc = rt.alloc();
-    let program = bindings(alloc)?;
-    let bound = (Kind::Ind, [2].as_slice());
-    let want = [leaf(Kind::Cons(TRUE)), bound, leaf(int(7))];
-    assert!(rt; is_next(alloc, &program, FunId(4), &[0], &want)?);
-    assert!(rt; is_next(alloc, &program, FunId(5), &[0], &want)?);
-    Ok(())
+/// A variable equals itself, is bound to another, and to a literal on either
+/// side.
+fn expect_bindings<R: Abort>(rt: &R, alloc: Global) {
+    let program = bindings(alloc).expect(rt, "memory");
+    let yes = constant(TRUE);
+    expect_next(rt, alloc, &program, FunId(2), &[0], &[yes, FREE]);
+    let bound = Row::Over(Kind::Ind, 2);
+    expect_next(rt, alloc, &program, FunId(3), &[0], &[yes, bound, FREE]);
+    let want = [yes, bound, int(7)];
+    expect_next(rt, alloc, &program, FunId(4), &[0], &want);
+    expect_next(rt, alloc, &program, FunId(5), &[0], &want);
 }
 
 /// `x =:= []`, `(1 : []) =:= (2 : [])` and `[] =:= (1 : [])`.
@@ -260,49 +193,26 @@ fn constructors(alloc: Global) -> Result<FlatProgram, AllocError>
     parts.program()
 }
 
-#[test]
-fn a_variable_is_bound_to_a_constant(rt: HostRuntime) -> Result<(), Fail> {
-    let alloc = rt.alloc();
-    let program = constructors(alloc)?;
-    let bound = (Kind::Ind, [2].as_slice());
-    let want = [leaf(Kind::Cons(TRUE)), bound, leaf(Kind::Cons(NIL))];
-    assert!(rt; is_next(alloc, &program, FunId(2), &[0], &want)?);
-    Ok(())
-}
-
-#[test]
-fn like_constructors_are_equated_in_pairs(rt: HostRuntime) -> Result<(), Fail> {
-    let alloc = rt.alloc();
-    let program = constructors(alloc)?;
-    let unify = Kind::Prim(Prim::Unify);
-    let want: [Row; 9] = [
-        (Kind::Prim(Prim::And), [7, 8].as_slice()),
-        leaf(int(1)),
-        leaf(Kind::Cons(NIL)),
-        (Kind::Cons(CONS), [1, 2].as_slice()),
-        leaf(int(2)),
-        leaf(Kind::Cons(NIL)),
-        (Kind::Cons(CONS), [4, 5].as_slice()),
-        (unify, [1, 4].as_slice()),
-        (unify, [2, 5].as_slice()),
+/// A variable is bound to a constant. Like constructors are equated in pairs,
+/// and unlike ones are not.
+fn expect_constructors<R: Abort>(rt: &R, alloc: Global) {
+    let program = constructors(alloc).expect(rt, "memory");
+    let want = [constant(TRUE), Row::Over(Kind::Ind, 2), constant(NIL)];
+    expect_next(rt, alloc, &program, FunId(2), &[0], &want);
+    let want = [
+        Row::Pair(Kind::Prim(Prim::And), 7, 8),
+        int(1),
+        constant(NIL),
+        cons(1, 2),
+        int(2),
+        constant(NIL),
+        cons(4, 5),
+        unify(1, 4),
+        unify(2, 5),
     ];
-    assert!(rt; is_next(alloc, &program, FunId(3), &[0], &want)?);
-    Ok(())
-}
-
-#[test]
-fn unlike_constructors_are_not_equated(rt: HostRuntime) -> Result<(), Fail> {
-    let alloc = rt.alloc();
-    let program = constructors(alloc)?;
-    let want: [Row; 5] = [
-        leaf(Kind::Fail),
-        leaf(Kind::Cons(NIL)),
-        leaf(int(1)),
-        leaf(Kind::Cons(NIL)),
-        (Kind::Cons(CONS), [2, 3].as_slice()),
-    ];
-    assert!(rt; is_next(alloc, &program, FunId(4), &[0], &want)?);
-    Ok(())
+    expect_next(rt, alloc, &program, FunId(3), &[0], &want);
+    let want = [FAIL, constant(NIL), int(1), constant(NIL), cons(2, 3)];
+    expect_next(rt, alloc, &program, FunId(4), &[0], &want);
 }
 
 /// `1 =:= 1`, `1 =:= 2`, `1 =:= []` and `(&&) =:= (&&)`.
@@ -326,49 +236,17 @@ fn mixtures(alloc: Global) -> Result<FlatProgram, AllocError>
     parts.program()
 }
 
-#[test]
-fn literals_are_equated(rt: HostRuntime) -> Result<(), Fail> {
-    let alloc = rt.alloc();
-    let program = mixtures(alloc)?;
-    let (one, two) = (leaf(int(1)), leaf(int(2)));
-    assert!(rt;
-        is_next(
-            alloc,
-            &program,
-            FunId(2),
-            &[0],
-            &[leaf(Kind::Cons(TRUE)), one, one]
-        )?
-    );
-    assert!(rt;
-        is_next(
-            alloc,
-            &program,
-            FunId(3),
-            &[0],
-            &[leaf(Kind::Fail), one, two]
-        )?
-    );
-    Ok(())
-}
-
-#[test]
-fn what_is_of_two_kinds_or_partial_is_not_equated(rt: HostRuntime) -> Result<(), Fail> {
-    let alloc = rt.alloc();
-    let program = mixtures(alloc)?;
-    let fail = leaf(Kind::Fail);
-    assert!(rt;
-        is_next(
-            alloc,
-            &program,
-            FunId(4),
-            &[0],
-            &[fail, leaf(int(1)), leaf(Kind::Cons(NIL))]
-        )?
-    );
-    let partial = leaf(Kind::Part(Head::Fun(BOTH)));
-    assert!(rt; is_next(alloc, &program, FunId(5), &[0], &[fail, partial, partial])?);
-    Ok(())
+/// Literals are equated. What is of two kinds or partial is not.
+fn expect_mixtures<R: Abort>(rt: &R, alloc: Global) {
+    let program = mixtures(alloc).expect(rt, "memory");
+    let want = [constant(TRUE), int(1), int(1)];
+    expect_next(rt, alloc, &program, FunId(2), &[0], &want);
+    let want = [FAIL, int(1), int(2)];
+    expect_next(rt, alloc, &program, FunId(3), &[0], &want);
+    let want = [FAIL, int(1), constant(NIL)];
+    expect_next(rt, alloc, &program, FunId(4), &[0], &want);
+    let want = [FAIL, PARTIAL, PARTIAL];
+    expect_next(rt, alloc, &program, FunId(5), &[0], &want);
 }
 
 /// `x =:= (y : [])`, `(y : []) =:= x` and `x =:= (x : [])`.
@@ -394,38 +272,35 @@ fn imitations(alloc: Global) -> Result<FlatProgram, AllocError>
     parts.program()
 }
 
-#[test]
-fn a_variable_becomes_a_constructor_over_new_ones(rt: HostRuntime) -> Result<(), Fail> {
-    let alloc = rt.alloc();
-    let program = imitations(alloc)?;
-    let unify = Kind::Prim(Prim::Unify);
-    let free = leaf(Kind::Free);
-    let want: [Row; 9] = [
-        (Kind::Prim(Prim::And), [7, 8].as_slice()),
-        (Kind::Cons(CONS), [5, 6].as_slice()),
-        free,
-        leaf(Kind::Cons(NIL)),
-        (Kind::Cons(CONS), [2, 3].as_slice()),
-        free,
-        free,
-        (unify, [5, 2].as_slice()),
-        (unify, [6, 3].as_slice()),
+/// A variable becomes a constructor over new ones on either side, and fails
+/// where it stands in its own value.
+fn expect_imitations<R: Abort>(rt: &R, alloc: Global) {
+    let program = imitations(alloc).expect(rt, "memory");
+    let want = [
+        Row::Pair(Kind::Prim(Prim::And), 7, 8),
+        cons(5, 6),
+        FREE,
+        constant(NIL),
+        cons(2, 3),
+        FREE,
+        FREE,
+        unify(5, 2),
+        unify(6, 3),
     ];
-    assert!(rt; is_next(alloc, &program, FunId(2), &[0], &want)?);
-    assert!(rt; is_next(alloc, &program, FunId(3), &[0], &want)?);
-    Ok(())
+    expect_next(rt, alloc, &program, FunId(2), &[0], &want);
+    expect_next(rt, alloc, &program, FunId(3), &[0], &want);
+    let want = [FAIL, FREE, constant(NIL), cons(1, 2)];
+    expect_next(rt, alloc, &program, FunId(4), &[0], &want);
 }
 
 #[test]
-fn a_variable_in_its_own_value_fails(rt: HostRuntime) -> Result<(), Fail> {
+fn operations_have_their_successors(rt: HostRuntime) {
     let alloc = rt.alloc();
-    let program = imitations(alloc)?;
-    let want: [Row; 4] = [
-        leaf(Kind::Fail),
-        leaf(Kind::Free),
-        leaf(Kind::Cons(NIL)),
-        (Kind::Cons(CONS), [1, 2].as_slice()),
-    ];
-    assert!(rt; is_next(alloc, &program, FunId(4), &[0], &want)?);
-    Ok(())
+    expect_sums(&rt, alloc);
+    expect_comparisons(&rt, alloc);
+    expect_conjunctions(&rt, alloc);
+    expect_bindings(&rt, alloc);
+    expect_constructors(&rt, alloc);
+    expect_mixtures(&rt, alloc);
+    expect_imitations(&rt, alloc);
 }

@@ -3,77 +3,59 @@
 ghost use Rattle.std.specs.Prelude.{◌≡◌, IfOk, IsTrue};
 ghost use Rattle.cu_machine.specs.Sets.{code_is_without_sets};
 
-use crate::runs::{Event, LIMITS, are_next, event_at, int, is_next, leaf};
+use crate::Stop;
+use crate::runs::{Event, NODES, Row, constant, expect_both, expect_event, expect_next, int};
 use crate::samples::{self, BOTH, CONS, FALSE, NIL, TRUE};
-use crate::{Limits, Stop};
 use cu_flat::{ExprId, FlatProgram, FunId, Head, Mode, Prim};
 use cu_graph::Kind;
 use std::alloc::{AllocError, Global};
-use std::test::Fail;
+use std::process::Abort;
 
 /// The goal of each program: `&&` and another function stand before it.
 const GOAL: FunId = FunId(2);
 
-#[test]
-fn a_flexible_case_narrows(rt: HostRuntime) -> Result<(), Fail> {
-    let alloc = rt.alloc();
-    let program = samples::negation(alloc)?;
+const FREE: Row = Row::Leaf(Kind::Free);
+
+const FAIL: Row = Row::Leaf(Kind::Fail);
+
+/// A flexible case distinction narrows. A graph may have as many nodes as the
+/// limit.
+fn expect_narrowing<R: Abort>(rt: &R, alloc: Global) {
+    let program = samples::negation(alloc).expect(rt, "memory");
     let rows = [
-        ([].as_slice(), Event::Go(1)),
-        ([0].as_slice(), Event::Go(1)),
-        ([0, 0].as_slice(), Event::Go(2)),
-        ([0, 0, 0].as_slice(), Event::Go(1)),
-        ([0, 0, 1].as_slice(), Event::Go(1)),
+        ([].as_slice(), NODES, Event::Go(1)),
+        ([0].as_slice(), NODES, Event::Go(1)),
+        ([0, 0].as_slice(), NODES, Event::Go(2)),
+        ([0, 0, 0].as_slice(), NODES, Event::Go(1)),
+        ([0, 0, 1].as_slice(), NODES, Event::Go(1)),
+        ([].as_slice(), 1, Event::Stop(Stop::TooLarge(2))),
+        ([].as_slice(), 2, Event::Go(1)),
     ];
-    for (path, want) in rows {
-        assert_eq!(rt; event_at(alloc, &program, GOAL, path, &LIMITS)?, want);
+    for (path, nodes, want) in rows {
+        expect_event(rt, alloc, &program, GOAL, path, nodes, want);
     }
-    Ok(())
 }
 
-#[test]
-fn a_flexible_case_binds_by_its_patterns(rt: HostRuntime) -> Result<(), Fail> {
-    let alloc = rt.alloc();
-    let program = samples::negation(alloc)?;
-    let case = (Kind::Case(Mode::Flex, 5), [0, 0].as_slice());
-    let no = [leaf(Kind::Cons(FALSE)), case];
-    let yes = [leaf(Kind::Cons(TRUE)), case];
-    assert!(rt; are_next(alloc, &program, GOAL, &[0, 0], &no, &yes)?);
-    Ok(())
-}
-
-#[test]
-fn a_call_becomes_its_body(rt: HostRuntime) -> Result<(), Fail> {
-    let alloc = rt.alloc();
-    let program = samples::negation(alloc)?;
-    let free = leaf(Kind::Free);
-    let call = (Kind::Call(FunId(1)), [0].as_slice());
-    assert!(rt; is_next(alloc, &program, GOAL, &[], &[free, call])?);
-    let case = (Kind::Case(Mode::Flex, 5), [0, 0].as_slice());
-    assert!(rt; is_next(alloc, &program, GOAL, &[0], &[free, case])?);
-    Ok(())
-}
-
-#[test]
-fn a_branch_is_taken_by_its_constructor(rt: HostRuntime) -> Result<(), Fail> {
-    let alloc = rt.alloc();
-    let program = samples::negation(alloc)?;
-    let no = leaf(Kind::Cons(FALSE));
-    let yes = leaf(Kind::Cons(TRUE));
-    assert!(rt; is_next(alloc, &program, GOAL, &[0, 0, 0], &[no, yes])?);
-    assert!(rt; is_next(alloc, &program, GOAL, &[0, 0, 1], &[yes, no])?);
-    Ok(())
-}
-
-#[test]
-fn a_graph_may_have_as_many_nodes_as_the_limit(rt: HostRuntime) -> Result<(), Fail> {
-    let alloc = rt.alloc();
-    let program = samples::negation(alloc)?;
-    for (nodes, want) in [(1, Event::Stop(Stop::TooLarge(2))), (2, Event::Go(1))] {
-        let limits = Limits { nodes, width: 1 };
-        assert_eq!(rt; event_at(alloc, &program, GOAL, &[], &limits)?, want);
-    }
-    Ok(())
+/// A call becomes its body, a flexible case distinction binds by its patterns,
+/// and a branch is taken by its constructor.
+fn expect_negation<R: Abort>(rt: &R, alloc: Global) {
+    let program = samples::negation(alloc).expect(rt, "memory");
+    let call = Row::Over(Kind::Call(FunId(1)), 0);
+    expect_next(rt, alloc, &program, GOAL, &[], &[FREE, call]);
+    let case = Row::Pair(Kind::Case(Mode::Flex, 5), 0, 0);
+    expect_next(rt, alloc, &program, GOAL, &[0], &[FREE, case]);
+    let (no, yes) = (constant(FALSE), constant(TRUE));
+    expect_both(
+        rt,
+        alloc,
+        &program,
+        GOAL,
+        &[0, 0],
+        &[no, case],
+        &[yes, case],
+    );
+    expect_next(rt, alloc, &program, GOAL, &[0, 0, 0], &[no, yes]);
+    expect_next(rt, alloc, &program, GOAL, &[0, 0, 1], &[yes, no]);
 }
 
 /// `coin = 1 ? 2` and `goal = coin`.
@@ -90,26 +72,17 @@ fn coin(alloc: Global) -> Result<FlatProgram, AllocError>
     parts.program()
 }
 
-#[test]
-fn the_first_step_of_a_goal_calls_its_function(rt: HostRuntime) -> Result<(), Fail> {
-    let alloc = rt.alloc();
-    let program = coin(alloc)?;
-    let call = (Kind::Call(FunId(1)), [].as_slice());
-    assert!(rt; is_next(alloc, &program, GOAL, &[], &[call])?);
-    Ok(())
-}
-
-#[test]
-fn a_choice_is_its_left_and_its_right_side(rt: HostRuntime) -> Result<(), Fail> {
-    let alloc = rt.alloc();
-    let program = coin(alloc)?;
-    let (one, two) = (leaf(int(1)), leaf(int(2)));
-    let choice = (Kind::Or, [1, 2].as_slice());
-    assert!(rt; is_next(alloc, &program, GOAL, &[0], &[choice, one, two])?);
-    let left = [(Kind::Ind, [1].as_slice()), one, two];
-    let right = [(Kind::Ind, [2].as_slice()), one, two];
-    assert!(rt; are_next(alloc, &program, GOAL, &[0, 0], &left, &right)?);
-    Ok(())
+/// The first step of a goal calls its function, and a choice is its left and
+/// its right side.
+fn expect_coin<R: Abort>(rt: &R, alloc: Global) {
+    let program = coin(alloc).expect(rt, "memory");
+    let call = Row::Leaf(Kind::Call(FunId(1)));
+    expect_next(rt, alloc, &program, GOAL, &[], &[call]);
+    let choice = Row::Pair(Kind::Or, 1, 2);
+    expect_next(rt, alloc, &program, GOAL, &[0], &[choice, int(1), int(2)]);
+    let left = [Row::Over(Kind::Ind, 1), int(1), int(2)];
+    let right = [Row::Over(Kind::Ind, 2), int(1), int(2)];
+    expect_both(rt, alloc, &program, GOAL, &[0, 0], &left, &right);
 }
 
 /// `failed`, and `goal = failed`.
@@ -123,16 +96,11 @@ fn failure(alloc: Global) -> Result<FlatProgram, AllocError>
     parts.program()
 }
 
-#[test]
-fn failed_has_no_value(rt: HostRuntime) -> Result<(), Fail> {
-    let alloc = rt.alloc();
-    let program = failure(alloc)?;
-    assert!(rt; is_next(alloc, &program, GOAL, &[], &[leaf(Kind::Fail)])?);
-    assert_eq!(rt;
-        event_at(alloc, &program, GOAL, &[0], &LIMITS)?,
-        Event::Fail
-    );
-    Ok(())
+/// `failed` has no value.
+fn expect_failure<R: Abort>(rt: &R, alloc: Global) {
+    let program = failure(alloc).expect(rt, "memory");
+    expect_next(rt, alloc, &program, GOAL, &[], &[FAIL]);
+    expect_event(rt, alloc, &program, GOAL, &[0], NODES, Event::Fail);
 }
 
 /// `number = case 7 of 1 -> 0; 7 -> 1` and `goal = case 1 of 7 -> 1`, where
@@ -155,14 +123,11 @@ fn numbers(alloc: Global) -> Result<FlatProgram, AllocError>
     parts.program()
 }
 
-#[test]
-fn a_branch_is_taken_by_its_literal(rt: HostRuntime) -> Result<(), Fail> {
-    let alloc = rt.alloc();
-    let program = numbers(alloc)?;
-    let (one, seven) = (leaf(int(1)), leaf(int(7)));
-    assert!(rt; is_next(alloc, &program, FunId(1), &[0], &[one, seven])?);
-    assert!(rt; is_next(alloc, &program, GOAL, &[0], &[leaf(Kind::Fail), one])?);
-    Ok(())
+/// A branch is taken by its literal.
+fn expect_numbers<R: Abort>(rt: &R, alloc: Global) {
+    let program = numbers(alloc).expect(rt, "memory");
+    expect_next(rt, alloc, &program, FunId(1), &[0], &[int(1), int(7)]);
+    expect_next(rt, alloc, &program, GOAL, &[0], &[FAIL, int(1)]);
 }
 
 /// `rest = case 5 : [] of [] -> []; x : xs -> xs`, and
@@ -190,30 +155,25 @@ fn lists(alloc: Global) -> Result<FlatProgram, AllocError>
     parts.program()
 }
 
-#[test]
-fn a_pattern_binds_the_arguments(rt: HostRuntime) -> Result<(), Fail> {
-    let alloc = rt.alloc();
-    let program = lists(alloc)?;
-    let want = [
-        (Kind::Ind, [2].as_slice()),
-        leaf(int(5)),
-        leaf(Kind::Cons(NIL)),
-        (Kind::Cons(CONS), [1, 2].as_slice()),
-    ];
-    assert!(rt; is_next(alloc, &program, FunId(1), &[0], &want)?);
-    Ok(())
-}
-
-#[test]
-fn a_pattern_with_variables_binds_to_new_ones(rt: HostRuntime) -> Result<(), Fail> {
-    let alloc = rt.alloc();
-    let program = lists(alloc)?;
-    let case = (Kind::Case(Mode::Flex, 8), [1, 1].as_slice());
-    let free = leaf(Kind::Free);
-    let empty = [case, leaf(Kind::Cons(NIL))];
-    let more = [case, (Kind::Cons(CONS), [2, 3].as_slice()), free, free];
-    assert!(rt; are_next(alloc, &program, GOAL, &[0], &empty, &more)?);
-    Ok(())
+/// A pattern binds the arguments, and a variable to a constructor over new
+/// variables.
+fn expect_lists<R: Abort>(rt: &R, alloc: Global) {
+    let program = lists(alloc).expect(rt, "memory");
+    let list = Row::Pair(Kind::Cons(CONS), 1, 2);
+    let want = [Row::Over(Kind::Ind, 2), int(5), constant(NIL), list];
+    expect_next(rt, alloc, &program, FunId(1), &[0], &want);
+    let case = Row::Pair(Kind::Case(Mode::Flex, 8), 1, 1);
+    let list = Row::Pair(Kind::Cons(CONS), 2, 3);
+    let empty = [case, constant(NIL)];
+    expect_both(
+        rt,
+        alloc,
+        &program,
+        GOAL,
+        &[0],
+        &empty,
+        &[case, list, FREE, FREE],
+    );
 }
 
 /// `both = (&&) True False` and `wrong = True True` by applications, and
@@ -235,49 +195,29 @@ fn partials(alloc: Global) -> Result<FlatProgram, AllocError>
     parts.program()
 }
 
-#[test]
-fn a_partial_application_takes_arguments(rt: HostRuntime) -> Result<(), Fail> {
-    let alloc = rt.alloc();
-    let program = partials(alloc)?;
-    let head = Head::Fun(BOTH);
-    let others = [
-        leaf(Kind::Part(head)),
-        leaf(Kind::Cons(TRUE)),
-        (Kind::Part(head), [2].as_slice()),
-        leaf(Kind::Cons(FALSE)),
-    ];
-    let outer = (Kind::Apply, [3, 4].as_slice());
-    let want = [outer, others[0], others[1], others[2], others[3]];
-    assert!(rt; is_next(alloc, &program, FunId(1), &[0], &want)?);
-    let call = (Kind::Call(BOTH), [2, 4].as_slice());
-    let want = [call, others[0], others[1], others[2], others[3]];
-    assert!(rt; is_next(alloc, &program, FunId(1), &[0, 0], &want)?);
-    Ok(())
+/// A partial application takes arguments, and nothing else does. A case
+/// distinction of one fails.
+fn expect_partials<R: Abort>(rt: &R, alloc: Global) {
+    let program = partials(alloc).expect(rt, "memory");
+    let (no, yes) = (constant(FALSE), constant(TRUE));
+    let partial = Row::Leaf(Kind::Part(Head::Fun(BOTH)));
+    let longer = Row::Over(Kind::Part(Head::Fun(BOTH)), 2);
+    let want = [Row::Pair(Kind::Apply, 3, 4), partial, yes, longer, no];
+    expect_next(rt, alloc, &program, FunId(1), &[0], &want);
+    let want = [Row::Pair(Kind::Call(BOTH), 2, 4), partial, yes, longer, no];
+    expect_next(rt, alloc, &program, FunId(1), &[0, 0], &want);
+    expect_next(rt, alloc, &program, GOAL, &[0], &[FAIL, partial]);
+    expect_next(rt, alloc, &program, FunId(3), &[0], &[FAIL, yes, yes]);
 }
 
 #[test]
-fn a_case_of_a_partial_application_fails(rt: HostRuntime) -> Result<(), Fail> {
+fn rewritten_nodes_have_their_successors(rt: HostRuntime) {
     let alloc = rt.alloc();
-    let program = partials(alloc)?;
-    let head = Head::Fun(BOTH);
-    let want = [leaf(Kind::Fail), leaf(Kind::Part(head))];
-    assert!(rt; is_next(alloc, &program, GOAL, &[0], &want)?);
-    Ok(())
-}
-
-#[test]
-fn only_a_partial_application_is_applied(rt: HostRuntime) -> Result<(), Fail> {
-    let alloc = rt.alloc();
-    let program = partials(alloc)?;
-    let yes = leaf(Kind::Cons(TRUE));
-    assert!(rt;
-        is_next(
-            alloc,
-            &program,
-            FunId(3),
-            &[0],
-            &[leaf(Kind::Fail), yes, yes]
-        )?
-    );
-    Ok(())
+    expect_narrowing(&rt, alloc);
+    expect_negation(&rt, alloc);
+    expect_coin(&rt, alloc);
+    expect_failure(&rt, alloc);
+    expect_numbers(&rt, alloc);
+    expect_lists(&rt, alloc);
+    expect_partials(&rt, alloc);
 }

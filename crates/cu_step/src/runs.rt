@@ -5,13 +5,17 @@ ghost use Rattle.cu_calculus.specs.Code.{body_of, is_rule};
 ghost use Rattle.cu_machine.specs.Sets.{code_is_without_sets};
 ghost use Rattle.cu_step.specs.Outcome.{branches_of};
 
-use crate::{Branch, Limits, Outcome, Stop, node, start, step};
-use cu_flat::{FlatBody, FlatProgram, FunId, Int, Lit};
+use crate::{Branch, Limits, Outcome, Stop, start, step};
+use cu_flat::{ConId, FlatBody, FlatProgram, FunId, Int, Lit};
 use cu_graph::{Kind, PlainStore, Store};
 use std::alloc::{AllocError, Global};
+use std::process::Abort;
+
+/// The most nodes, where the limit isn't what is tried.
+pub(crate) const NODES: u32 = 100;
 
 pub(crate) const LIMITS: Limits = Limits {
-    nodes: 100,
+    nodes: NODES,
     width: 100,
 };
 
@@ -25,16 +29,24 @@ pub(crate) enum Event {
     Stop(Stop),
 }
 
-/// A node and its arguments.
-pub(crate) type Row<'a> = (Kind, &'a [u32]);
-
-pub(crate) fn int(n: Int) -> Kind {
-    Kind::Lit(Lit::Int(n))
+/// A node that is expected.
+#[derive(Clone, Copy)]
+pub(crate) enum Row {
+    /// One without arguments.
+    Leaf(Kind),
+    /// One over an argument.
+    Over(Kind, u32),
+    /// One over two arguments.
+    Pair(Kind, u32, u32),
 }
 
-/// A node without arguments.
-pub(crate) fn leaf(kind: Kind) -> Row<'static> {
-    (kind, &[])
+pub(crate) fn int(n: Int) -> Row {
+    Row::Leaf(Kind::Lit(Lit::Int(n)))
+}
+
+/// A constructor without arguments.
+pub(crate) fn constant(c: ConId) -> Row {
+    Row::Leaf(Kind::Cons(c))
 }
 
 fn event_of(outcome: &Outcome<PlainStore>) -> Event {
@@ -104,95 +116,112 @@ pub(crate) fn outcome_of(
 }
 
 /// Whether a node is this one.
-fn is_node(alloc: Global, store: &PlainStore, id: u32, want: Row) -> Result<bool, AllocError>
+fn is_node(store: &PlainStore, id: u32, want: Row) -> bool
     requires { id < length store.now }
 {
-    let (kind, args) = want;
-    let found = node::args(alloc, store, id)?;
-    Ok(store.kind(id) == kind && found.as_slice() == args)
+    match want {
+        Row::Leaf(kind) => store.kind(id) == kind && store.arity(id) == 0,
+        Row::Over(kind, arg) => {
+            store.kind(id) == kind && store.arity(id) == 1 && store.arg(id, 0) == arg
+        }
+        Row::Pair(kind, left, right) => {
+            store.kind(id) == kind
+                && store.arity(id) == 2
+                && store.arg(id, 0) == left
+                && store.arg(id, 1) == right
+        }
+    }
 }
 
 /// Whether a graph has these nodes.
-fn is_graph(alloc: Global, store: &PlainStore, want: &[Row]) -> Result<bool, AllocError> {
+fn is_graph(store: &PlainStore, want: &[Row]) -> bool {
     if store.len() as usize != want.len() {
-        return Ok(false);
+        return false;
     }
     for id in 0..store.len() {
-        if !is_node(alloc, store, id, want[id as usize])? {
-            return Ok(false);
+        if !is_node(store, id, want[id as usize]) {
+            return false;
         }
     }
-    Ok(true)
+    true
 }
 
 /// Whether one branch goes on, with these nodes.
-fn goes_on(alloc: Global, outcome: &Outcome<PlainStore>, want: &[Row]) -> Result<bool, AllocError> {
+fn goes_on(outcome: &Outcome<PlainStore>, want: &[Row]) -> bool {
     match outcome {
         Outcome::Go(branches) => match branches.as_slice() {
-            [branch] => is_graph(alloc, &branch.store, want),
-            _ => Ok(false),
+            [branch] => is_graph(&branch.store, want),
+            _ => false,
         },
-        _ => Ok(false),
+        _ => false,
     }
 }
 
 /// Whether two branches go on, with these nodes.
-fn goes_on_twice(
-    alloc: Global,
-    outcome: &Outcome<PlainStore>,
-    left: &[Row],
-    right: &[Row],
-) -> Result<bool, AllocError> {
+fn goes_on_twice(outcome: &Outcome<PlainStore>, left: &[Row], right: &[Row]) -> bool {
     match outcome {
         Outcome::Go(branches) => match branches.as_slice() {
-            [first, second] => Ok(
-                is_graph(alloc, &first.store, left)? && is_graph(alloc, &second.store, right)?,
-            ),
-            _ => Ok(false),
+            [first, second] => is_graph(&first.store, left) && is_graph(&second.store, right),
+            _ => false,
         },
-        _ => Ok(false),
+        _ => false,
     }
 }
 
-/// What happens at the end of a path.
-pub(crate) fn event_at(
-    alloc: Global,
-    program: &FlatProgram,
-    goal: FunId,
-    path: &[usize],
-    limits: &Limits,
-) -> Result<Event, AllocError>
-    requires { IsTrue (code_is_without_sets program.now) }
-{
-    let outcome = outcome_of(alloc, program, goal, path, limits)?;
-    Ok(event_of(&outcome))
-}
-
-/// Whether one branch goes on at the end of a path, with these nodes.
-pub(crate) fn is_next(
+/// Expects that one branch goes on at the end of a path, with these nodes.
+pub(crate) fn expect_next<R: Abort>(
+    rt: &R,
     alloc: Global,
     program: &FlatProgram,
     goal: FunId,
     path: &[usize],
     want: &[Row],
-) -> Result<bool, AllocError>
+)
     requires { IsTrue (code_is_without_sets program.now) }
 {
-    let outcome = outcome_of(alloc, program, goal, path, &LIMITS)?;
-    goes_on(alloc, &outcome, want)
+    match outcome_of(alloc, program, goal, path, &LIMITS) {
+        Ok(outcome) => assert!(rt; goes_on(&outcome, want), "{} after {path:?}", goal.0),
+        Err(_) => panic!(rt; "{} has no way {path:?}", goal.0),
+    }
 }
 
-/// Whether two branches go on at the end of a path, with these nodes.
-pub(crate) fn are_next(
+/// Expects that two branches go on at the end of a path, with these nodes.
+pub(crate) fn expect_both<R: Abort>(
+    rt: &R,
     alloc: Global,
     program: &FlatProgram,
     goal: FunId,
     path: &[usize],
     left: &[Row],
     right: &[Row],
-) -> Result<bool, AllocError>
+)
     requires { IsTrue (code_is_without_sets program.now) }
 {
-    let outcome = outcome_of(alloc, program, goal, path, &LIMITS)?;
-    goes_on_twice(alloc, &outcome, left, right)
+    match outcome_of(alloc, program, goal, path, &LIMITS) {
+        Ok(outcome) => assert!(rt;
+            goes_on_twice(&outcome, left, right),
+            "{} after {path:?}",
+            goal.0
+        ),
+        Err(_) => panic!(rt; "{} has no way {path:?}", goal.0),
+    }
+}
+
+/// Expects what happens at the end of a path.
+pub(crate) fn expect_event<R: Abort>(
+    rt: &R,
+    alloc: Global,
+    program: &FlatProgram,
+    goal: FunId,
+    path: &[usize],
+    nodes: u32,
+    want: Event,
+)
+    requires { IsTrue (code_is_without_sets program.now) }
+{
+    let limits = Limits { nodes, width: 1 };
+    match outcome_of(alloc, program, goal, path, &limits) {
+        Ok(outcome) => assert_eq!(rt; event_of(&outcome), want, "{} after {path:?}", goal.0),
+        Err(_) => panic!(rt; "{} has no way {path:?}", goal.0),
+    }
 }
