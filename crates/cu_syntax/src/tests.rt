@@ -7,7 +7,10 @@ use cu_layout::block;
 use cu_lex::{Token, lex};
 use cu_names::Names;
 use modules::{GOALS, PERM, PRELUDE, QUEENS, SET_FUNCTIONS};
-use productions::{PRODUCTIONS, Production};
+use productions::{
+    ARGUMENTS, ATOMS, BLOCKS, CASES, DATA_TYPES, EXPRESSIONS, HEADERS, IMPORTS, ITEMS, LISTS,
+    PATTERNS, Production, RULES, SIGNATURES, WHOLE_GOALS,
+};
 use std::alloc::{AllocError, Global};
 use std::process::Abort;
 
@@ -62,18 +65,92 @@ fn expect_all<R: Abort>(
     }
 }
 
-fn expect_production<R: Abort>(rt: &R, alloc: Global, production: &Production) {
-    let start = production.start;
-    expect_all(rt, alloc, start, production.accepted, None);
-    expect_all(rt, alloc, start, production.refused, SYNTAX);
+/// Each production accepts its texts, and refuses the others at line 1.
+fn expect_productions<R: Abort>(rt: &R, alloc: Global, start: Start, productions: &[Production]) {
+    for production in productions {
+        expect_all(rt, alloc, start, production.accepted, None);
+        expect_all(rt, alloc, start, production.refused, SYNTAX);
+    }
+}
+
+fn headers<R: Abort>(rt: &R, alloc: Global) {
+    expect_productions(rt, alloc, Start::Module, &HEADERS);
+}
+
+fn imports<R: Abort>(rt: &R, alloc: Global) {
+    expect_productions(rt, alloc, Start::Module, &IMPORTS);
+}
+
+fn items<R: Abort>(rt: &R, alloc: Global) {
+    expect_productions(rt, alloc, Start::Module, &ITEMS);
+}
+
+fn data_types<R: Abort>(rt: &R, alloc: Global) {
+    expect_productions(rt, alloc, Start::Module, &DATA_TYPES);
+}
+
+fn signatures<R: Abort>(rt: &R, alloc: Global) {
+    expect_productions(rt, alloc, Start::Module, &SIGNATURES);
+}
+
+fn rules<R: Abort>(rt: &R, alloc: Global) {
+    expect_productions(rt, alloc, Start::Module, &RULES);
+}
+
+fn blocks<R: Abort>(rt: &R, alloc: Global) {
+    expect_productions(rt, alloc, Start::Module, &BLOCKS);
+}
+
+fn expressions<R: Abort>(rt: &R, alloc: Global) {
+    expect_productions(rt, alloc, Start::Goal, &EXPRESSIONS);
+}
+
+fn cases<R: Abort>(rt: &R, alloc: Global) {
+    expect_productions(rt, alloc, Start::Goal, &CASES);
+}
+
+fn atoms<R: Abort>(rt: &R, alloc: Global) {
+    expect_productions(rt, alloc, Start::Goal, &ATOMS);
+}
+
+fn lists<R: Abort>(rt: &R, alloc: Global) {
+    expect_productions(rt, alloc, Start::Goal, &LISTS);
+}
+
+fn patterns<R: Abort>(rt: &R, alloc: Global) {
+    expect_productions(rt, alloc, Start::Goal, &PATTERNS);
+}
+
+fn arguments<R: Abort>(rt: &R, alloc: Global) {
+    expect_productions(rt, alloc, Start::Goal, &ARGUMENTS);
+}
+
+fn whole_goals<R: Abort>(rt: &R, alloc: Global) {
+    expect_productions(rt, alloc, Start::Goal, &WHOLE_GOALS);
 }
 
 #[test]
-fn each_production(rt: HostRuntime) {
+fn productions_of_modules(rt: HostRuntime) {
     let alloc = rt.alloc();
-    for production in &PRODUCTIONS {
-        expect_production(&rt, alloc, production);
-    }
+    headers(&rt, alloc);
+    imports(&rt, alloc);
+    items(&rt, alloc);
+    data_types(&rt, alloc);
+    signatures(&rt, alloc);
+    rules(&rt, alloc);
+    blocks(&rt, alloc);
+}
+
+#[test]
+fn productions_of_goals(rt: HostRuntime) {
+    let alloc = rt.alloc();
+    expressions(&rt, alloc);
+    cases(&rt, alloc);
+    atoms(&rt, alloc);
+    lists(&rt, alloc);
+    patterns(&rt, alloc);
+    arguments(&rt, alloc);
+    whole_goals(&rt, alloc);
 }
 
 /// Modules with a fault, and its line.
@@ -135,76 +212,7 @@ fn no_tokens(rt: HostRuntime) {
     assert_eq!(rt; tokens_fault(alloc, Start::Module, &[]), SYNTAX);
 }
 
-/// Texts of which a piece is repeated: what stands before it, the piece and
-/// what stands behind it, how often, what that gives, and what one piece more
-/// gives.
-type Repeated = (
-    Start,
-    [&'static str; 3],
-    usize,
-    Option<ParseFault>,
-    Option<ParseFault>,
-);
-
-/// Tuples of 15 and 16 components.
-const TUPLES: [Repeated; 4] = [
-    (Start::Goal, ["(x", ",x", ")"], 14, None, SYNTAX),
-    (Start::Goal, ["(,", ",", ")"], 13, None, SYNTAX),
-    (Start::Goal, ["\\(x", ",_", ") -> x"], 14, None, SYNTAX),
-    (Start::Module, ["f :: (a", ",a", ")"], 14, None, SYNTAX),
-];
-
-/// Items of 4,096 and 4,097 tokens.
-const LENGTHS: [Repeated; 11] = [
-    (Start::Goal, ["x", " x", ""], 4095, None, LONG),
-    (Start::Module, ["f = x", " x", ""], 4093, None, LONG),
-    // the tokens of the layout count
-    (
-        Start::Module,
-        ["f = x where y = x", " x", ""],
-        4087,
-        None,
-        LONG,
-    ),
-    // the length is looked at first
-    (Start::Module, ["f = (", " x", ""], 4093, SYNTAX, LONG),
-    // each character of a string is one more
-    (Start::Goal, ["\"", "a", "\""], 4095, None, LONG),
-    (Start::Module, ["f = \"", "a", "\""], 4093, None, LONG),
-    (Start::Module, ["f = \"\\&", "a", "\\&\""], 4093, None, LONG),
-    // the line of the item
-    (
-        Start::Module,
-        ["g = 1\n\nf = \"", "a", "\"\nh = 1"],
-        4093,
-        None,
-        Some(ParseFault::TooLong(3)),
-    ),
-    // tokens behind the block
-    (
-        Start::Module,
-        ["module M where {\ng = 1 } f = \"", "a", "\""],
-        4093,
-        Some(ParseFault::Syntax(2)),
-        Some(ParseFault::TooLong(2)),
-    ),
-    // an earlier fault comes first
-    (
-        Start::Module,
-        ["x = )\nf = \"", "a", "\""],
-        4093,
-        SYNTAX,
-        SYNTAX,
-    ),
-    (
-        Start::Module,
-        ["module M\nwhere (\nf = \"", "a", "\""],
-        4093,
-        Some(ParseFault::Syntax(2)),
-        Some(ParseFault::Syntax(2)),
-    ),
-];
-
+/// A text in which a piece is repeated, between a front and an end.
 fn repeated(alloc: Global, parts: [&str; 3], count: usize) -> Result<String, AllocError> {
     let [front, piece, end] = parts;
     let mut text = String::from_str(alloc, front)?;
@@ -215,40 +223,83 @@ fn repeated(alloc: Global, parts: [&str; 3], count: usize) -> Result<String, All
     Ok(text)
 }
 
-fn repeated_fault(
+fn expect_repeated<R: Abort>(
+    rt: &R,
     alloc: Global,
     start: Start,
     parts: [&str; 3],
     count: usize,
-) -> Option<ParseFault> {
+    want: Option<ParseFault>,
+) {
     match repeated(alloc, parts, count) {
-        Ok(text) => text_fault(alloc, start, text.as_str()),
-        Err(_) => Some(ParseFault::NoMemory),
+        Ok(text) => expect(rt, alloc, start, text.as_str(), want),
+        Err(error) => panic!(rt; "{error}"),
     }
 }
 
-fn expect_repeated<R: Abort>(rt: &R, alloc: Global, case: Repeated) {
-    let (start, parts, count, fault, next_fault) = case;
-    let front = parts[0];
-    assert_eq!(rt;
-        repeated_fault(alloc, start, parts, count),
-        fault,
-        "{front}"
-    );
-    assert_eq!(rt;
-        repeated_fault(alloc, start, parts, count + 1),
-        next_fault,
-        "{front}"
-    );
+/// So many pieces are right, and with one more there is this fault.
+fn expect_most<R: Abort>(
+    rt: &R,
+    alloc: Global,
+    start: Start,
+    parts: [&str; 3],
+    count: usize,
+    fault: Option<ParseFault>,
+) {
+    expect_repeated(rt, alloc, start, parts, count, None);
+    expect_repeated(rt, alloc, start, parts, count.saturating_add(1), fault);
+}
+
+/// Tuples have 15 components at most.
+fn tuples<R: Abort>(rt: &R, alloc: Global) {
+    let types = ["f :: (a", ",a", ")"];
+    let patterns = ["\\(x", ",_", ") -> x"];
+    expect_most(rt, alloc, Start::Module, types, 14, SYNTAX);
+    expect_most(rt, alloc, Start::Goal, patterns, 14, SYNTAX);
+    expect_most(rt, alloc, Start::Goal, ["(x", ",x", ")"], 14, SYNTAX);
+    expect_most(rt, alloc, Start::Goal, ["(,", ",", ")"], 13, SYNTAX);
+}
+
+/// Items and goals have 4,096 tokens at most, those of the layout among them.
+fn lengths<R: Abort>(rt: &R, alloc: Global) {
+    let block = ["f = x where y = x", " x", ""];
+    expect_most(rt, alloc, Start::Module, ["f = x", " x", ""], 4093, LONG);
+    expect_most(rt, alloc, Start::Module, block, 4087, LONG);
+    expect_most(rt, alloc, Start::Goal, ["x", " x", ""], 4095, LONG);
+}
+
+/// Each character of a string is one more.
+fn strings<R: Abort>(rt: &R, alloc: Global) {
+    let later = Some(ParseFault::TooLong(3));
+    let between = ["g = 1\n\nf = \"", "a", "\"\nh = 1"];
+    let nothing = ["f = \"\\&", "a", "\\&\""];
+    expect_most(rt, alloc, Start::Module, ["f = \"", "a", "\""], 4093, LONG);
+    expect_most(rt, alloc, Start::Module, nothing, 4093, LONG);
+    expect_most(rt, alloc, Start::Module, between, 4093, later);
+    expect_most(rt, alloc, Start::Goal, ["\"", "a", "\""], 4095, LONG);
+}
+
+/// Length comes before grammar, and an earlier item before a later one.
+fn first_faults<R: Abort>(rt: &R, alloc: Global) {
+    let second = Some(ParseFault::Syntax(2));
+    let late = Some(ParseFault::TooLong(2));
+    let open = ["f = (", " x", ""];
+    let earlier = ["x = )\nf = \"", "a", "\""];
+    let first = ["module M\nwhere (\nf = \"", "a", "\""];
+    let behind = ["module M where {\ng = 1 } f = \"", "a", "\""];
+    expect_repeated(rt, alloc, Start::Module, open, 4093, SYNTAX);
+    expect_repeated(rt, alloc, Start::Module, open, 4094, LONG);
+    expect_repeated(rt, alloc, Start::Module, earlier, 4094, SYNTAX);
+    expect_repeated(rt, alloc, Start::Module, first, 4094, second);
+    expect_repeated(rt, alloc, Start::Module, behind, 4093, second);
+    expect_repeated(rt, alloc, Start::Module, behind, 4094, late);
 }
 
 #[test]
 fn repeated_pieces(rt: HostRuntime) {
     let alloc = rt.alloc();
-    for case in TUPLES {
-        expect_repeated(&rt, alloc, case);
-    }
-    for case in LENGTHS {
-        expect_repeated(&rt, alloc, case);
-    }
+    tuples(&rt, alloc);
+    lengths(&rt, alloc);
+    strings(&rt, alloc);
+    first_faults(&rt, alloc);
 }

@@ -1,18 +1,16 @@
 //! The productions of the grammar.
-use super::Start;
 
 /// A production of the grammar, with texts that it accepts, and texts that are
 /// refused at line 1.
 pub(super) struct Production {
-    pub(super) start: Start,
     pub(super) accepted: &'static [&'static str],
     pub(super) refused: &'static [&'static str],
 }
 
-pub(super) const PRODUCTIONS: [Production; 36] = [
+/// Headers, and what they export.
+pub(super) const HEADERS: [Production; 4] = [
     // headers
     Production {
-        start: Start::Module,
         accepted: &[
             "module M where",
             "module m where x = 1",
@@ -34,19 +32,16 @@ pub(super) const PRODUCTIONS: [Production; 36] = [
     },
     // names of modules
     Production {
-        start: Start::Module,
         accepted: &["module A.B where", "module as where"],
         refused: &["module M.m where", "module 1 where", "module M.+ where"],
     },
     // exports
     Production {
-        start: Start::Module,
         accepted: &["module M (module X, module A.B, module x) where"],
         refused: &["module M (module) where", "module M (1) where"],
     },
     // entities
     Production {
-        start: Start::Module,
         accepted: &[
             "module M (f, (+), (`g`), A.h, (A.+)) where",
             "module M (T, A.T, T(..), T(), T(A, (:+)), (:+)(A)) where",
@@ -61,32 +56,12 @@ pub(super) const PRODUCTIONS: [Production; 36] = [
             "module M (T(A,)) where",
         ],
     },
-    // items
-    Production {
-        start: Start::Module,
-        accepted: &[
-            "import A",
-            "infixl 6 +",
-            "data T",
-            "type S = T",
-            "f :: T",
-            "f = 1",
-        ],
-        refused: &[
-            "x",
-            "(x, y) = z",
-            "Just x = y",
-            "[x] = y",
-            "_ = 1",
-            "x@y = 1",
-            "1 = 2",
-            "x, y free",
-            "case x of { }",
-        ],
-    },
+];
+
+/// Imports.
+pub(super) const IMPORTS: [Production; 1] = [
     // imports
     Production {
-        start: Start::Module,
         accepted: &[
             "import qualified A.B",
             "import a as B.C",
@@ -110,9 +85,34 @@ pub(super) const PRODUCTIONS: [Production; 36] = [
             "import A; import (B)",
         ],
     },
+];
+
+/// Items, and fixities.
+pub(super) const ITEMS: [Production; 2] = [
+    // items
+    Production {
+        accepted: &[
+            "import A",
+            "infixl 6 +",
+            "data T",
+            "type S = T",
+            "f :: T",
+            "f = 1",
+        ],
+        refused: &[
+            "x",
+            "(x, y) = z",
+            "Just x = y",
+            "[x] = y",
+            "_ = 1",
+            "x@y = 1",
+            "1 = 2",
+            "x, y free",
+            "case x of { }",
+        ],
+    },
     // fixities
     Production {
-        start: Start::Module,
         accepted: &[
             "infixr 0 $",
             "infix `f`",
@@ -131,9 +131,12 @@ pub(super) const PRODUCTIONS: [Production; 36] = [
             "infix 4 =",
         ],
     },
+];
+
+/// Data types and synonyms.
+pub(super) const DATA_TYPES: [Production; 3] = [
     // data types
     Production {
-        start: Start::Module,
         accepted: &[
             "data T a b = A | B a (T a b) [a]",
             "newtype N = N Int | M",
@@ -150,7 +153,6 @@ pub(super) const PRODUCTIONS: [Production; 36] = [
     },
     // declarations of constructors
     Production {
-        start: Start::Module,
         accepted: &[
             "data L a = a :+ L a | a `C` a",
             "data T a = [a] :+ (a, a)",
@@ -168,7 +170,6 @@ pub(super) const PRODUCTIONS: [Production; 36] = [
     },
     // synonyms
     Production {
-        start: Start::Module,
         accepted: &[
             "type S = [Char]",
             "type F a b = (a, b) -> [a] -> ()",
@@ -182,9 +183,12 @@ pub(super) const PRODUCTIONS: [Production; 36] = [
             "type S A = Int",
         ],
     },
+];
+
+/// Signatures and types.
+pub(super) const SIGNATURES: [Production; 4] = [
     // signatures
     Production {
-        start: Start::Module,
         accepted: &[
             "f, g :: a -> b -> c",
             "(+), (`h`) :: M.T a (N.S b) -> (Int)",
@@ -200,19 +204,16 @@ pub(super) const PRODUCTIONS: [Production; 36] = [
     },
     // types
     Production {
-        start: Start::Module,
         accepted: &["f :: (a -> b) -> [a] -> [b]"],
         refused: &["f :: Int ->", "f :: -> Int", "f :: a = b"],
     },
     // type constructors on arguments
     Production {
-        start: Start::Module,
         accepted: &["f :: T (S a) [b] ()", "f :: M.T a"],
         refused: &["f :: a b", "f :: (T) a"],
     },
     // types that are arguments
     Production {
-        start: Start::Module,
         accepted: &["f :: ((a, b), ()) -> [[T a]]"],
         refused: &[
             "f :: (,)",
@@ -224,9 +225,12 @@ pub(super) const PRODUCTIONS: [Production; 36] = [
             "f :: (->)",
         ],
     },
+];
+
+/// Rules.
+pub(super) const RULES: [Production; 2] = [
     // left-hand sides
     Production {
-        start: Start::Module,
         accepted: &[
             "f x (y, _) = x",
             "(+) x y = x",
@@ -251,7 +255,6 @@ pub(super) const PRODUCTIONS: [Production; 36] = [
     },
     // right-hand sides
     Production {
-        start: Start::Module,
         accepted: &["f x | x = 1 | True = 2", "f x = y where y = x"],
         refused: &[
             "f x =",
@@ -263,9 +266,12 @@ pub(super) const PRODUCTIONS: [Production; 36] = [
             "f = x where { } where { }",
         ],
     },
+];
+
+/// Local declarations.
+pub(super) const BLOCKS: [Production; 3] = [
     // blocks
     Production {
-        start: Start::Module,
         accepted: &[
             "f x | x = x where { y = x ; ; }",
             "f x = y where { }",
@@ -279,7 +285,6 @@ pub(super) const PRODUCTIONS: [Production; 36] = [
     },
     // local declarations
     Production {
-        start: Start::Module,
         accepted: &[
             "f x = y where\n  y = x\n  z :: Int\n  z = 1\n  a, b free\n  (c, d) = e\n  g (C h) = h",
         ],
@@ -293,7 +298,6 @@ pub(super) const PRODUCTIONS: [Production; 36] = [
     },
     // free variables
     Production {
-        start: Start::Module,
         accepted: &["f = x where x, y free"],
         refused: &[
             "f = x where x y free",
@@ -303,9 +307,12 @@ pub(super) const PRODUCTIONS: [Production; 36] = [
             "f = x where free",
         ],
     },
+];
+
+/// Expressions and their operands.
+pub(super) const EXPRESSIONS: [Production; 3] = [
     // expressions
     Production {
-        start: Start::Goal,
         accepted: &[
             "1",
             "- x",
@@ -320,7 +327,6 @@ pub(super) const PRODUCTIONS: [Production; 36] = [
     },
     // operands
     Production {
-        start: Start::Goal,
         accepted: &[
             "\\x (C y) -> x",
             "x + \\y -> y",
@@ -338,7 +344,6 @@ pub(super) const PRODUCTIONS: [Production; 36] = [
     },
     // local declarations of an expression
     Production {
-        start: Start::Goal,
         accepted: &[
             "let x = 1 in x",
             "let { ; ; x = 1 ; } in x",
@@ -354,9 +359,12 @@ pub(super) const PRODUCTIONS: [Production; 36] = [
             "let { infixl 6 + } in 1",
         ],
     },
+];
+
+/// Case distinctions.
+pub(super) const CASES: [Production; 2] = [
     // case distinctions
     Production {
-        start: Start::Goal,
         accepted: &[
             "case x of { C y -> y; _ | a -> b | c -> d where { e = 1 } }",
             "fcase x of { }",
@@ -366,7 +374,6 @@ pub(super) const PRODUCTIONS: [Production; 36] = [
     },
     // alternatives
     Production {
-        start: Start::Goal,
         accepted: &["case x of { C -> y ; ; D | y -> z }"],
         refused: &[
             "case x of { C = 1 }",
@@ -377,9 +384,12 @@ pub(super) const PRODUCTIONS: [Production; 36] = [
             "case x of { -> 1 }",
         ],
     },
+];
+
+/// Names, literals and parentheses.
+pub(super) const ATOMS: [Production; 3] = [
     // names and literals
     Production {
-        start: Start::Goal,
         accepted: &[
             "'a'", "\"abc\"", "M.f M.C", "(+)", "(-)", "(M.+)", "(:)", "(`f`)", "(M.:+)",
         ],
@@ -387,13 +397,11 @@ pub(super) const PRODUCTIONS: [Production; 36] = [
     },
     // parentheses
     Production {
-        start: Start::Goal,
         accepted: &["()", "(,)", "(,,)", "(x)", "(x, y)"],
         refused: &["(", ")", "(,x)", "(x,)", "(x y"],
     },
     // sections
     Production {
-        start: Start::Goal,
         accepted: &[
             "(+ x)",
             "(+ x + y)",
@@ -407,9 +415,12 @@ pub(super) const PRODUCTIONS: [Production; 36] = [
         ],
         refused: &["(+ )x)", "(x + -)", "(f +", "(+ -)", "(x + +)", "(+ x +)"],
     },
+];
+
+/// Lists.
+pub(super) const LISTS: [Production; 3] = [
     // lists
     Production {
-        start: Start::Goal,
         accepted: &[
             "[]",
             "[x, y]",
@@ -431,13 +442,11 @@ pub(super) const PRODUCTIONS: [Production; 36] = [
     },
     // list comprehensions
     Production {
-        start: Start::Goal,
         accepted: &["[(x, y) | (x, C y) <- xs, let z = x, z]"],
         refused: &["[x |]", "[x | y <-]", "[x | , x]", "[x | x <- y,]"],
     },
     // qualifiers
     Production {
-        start: Start::Goal,
         accepted: &[
             "[x | let { y = 1 } in y]",
             "[x | let x = 1]",
@@ -449,9 +458,12 @@ pub(super) const PRODUCTIONS: [Production; 36] = [
             "[x | let { x = 1 } in]",
         ],
     },
+];
+
+/// Patterns.
+pub(super) const PATTERNS: [Production; 2] = [
     // patterns
     Production {
-        start: Start::Goal,
         accepted: &[
             "case x of { y : ys -> y }",
             "case x of { C a b :+ D -> a }",
@@ -467,7 +479,6 @@ pub(super) const PRODUCTIONS: [Production; 36] = [
     },
     // constructor patterns
     Production {
-        start: Start::Goal,
         accepted: &[
             "case x of { -1 -> 2; 1 -> 3 }",
             "case x of { (M.:+) a M.C -> a }",
@@ -480,9 +491,12 @@ pub(super) const PRODUCTIONS: [Production; 36] = [
             "\\ -1 -> x",
         ],
     },
+];
+
+/// Patterns that are arguments.
+pub(super) const ARGUMENTS: [Production; 2] = [
     // patterns that are arguments
     Production {
-        start: Start::Goal,
         accepted: &[
             "\\x _ -> x",
             "\\x@(y, z) -> x",
@@ -502,19 +516,20 @@ pub(super) const PRODUCTIONS: [Production; 36] = [
     },
     // tuples and lists of patterns
     Production {
-        start: Start::Goal,
         accepted: &["\\[] [x] [x, y] -> x", "\\() (x) (x, y) -> x"],
         refused: &["\\( -> x", "\\(x,) -> x", "\\[ -> x", "\\[x,] -> x"],
     },
+];
+
+/// Goals.
+pub(super) const WHOLE_GOALS: [Production; 2] = [
     // goals
     Production {
-        start: Start::Goal,
         accepted: &["x where x free", "f x y where x, y free"],
         refused: &["", "x where x", "x where y = 1", "where x free"],
     },
     // declarations of a goal
     Production {
-        start: Start::Goal,
         accepted: &["f x where { x free; y free }"],
         refused: &[
             "x where { }",
