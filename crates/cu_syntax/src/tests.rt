@@ -19,7 +19,7 @@ const SYNTAX: Option<ParseFault> = Some(ParseFault::Syntax(1));
 const LONG: Option<ParseFault> = Some(ParseFault::TooLong(1));
 
 /// What a text is read as.
-#[derive(Clone, Copy, Debug)]
+#[derive(Clone, Copy)]
 enum Start {
     Module,
     Goal,
@@ -49,8 +49,12 @@ fn text_fault(alloc: Global, start: Start, text: &str) -> Option<ParseFault> {
     }
 }
 
+fn expect_fault<R: Abort>(rt: &R, found: Option<ParseFault>, want: Option<ParseFault>, text: &str) {
+    assert_eq!(rt; found, want, "{text}");
+}
+
 fn expect<R: Abort>(rt: &R, alloc: Global, start: Start, text: &str, want: Option<ParseFault>) {
-    assert_eq!(rt; text_fault(alloc, start, text), want, "{text}");
+    expect_fault(rt, text_fault(alloc, start, text), want, text);
 }
 
 fn expect_all<R: Abort>(
@@ -175,13 +179,13 @@ const LINES: [(&str, u32); 15] = [
 #[test]
 fn lines_of_faults(rt: HostRuntime) {
     let alloc = rt.alloc();
-    for (text, line) in LINES {
+    for (text, line) in &LINES {
         expect(
             &rt,
             alloc,
             Start::Module,
             text,
-            Some(ParseFault::Syntax(line)),
+            Some(ParseFault::Syntax(*line)),
         );
     }
 }
@@ -208,8 +212,10 @@ fn whole_texts(rt: HostRuntime) {
 #[test]
 fn no_tokens(rt: HostRuntime) {
     let alloc = rt.alloc();
-    assert_eq!(rt; tokens_fault(alloc, Start::Goal, &[]), SYNTAX);
-    assert_eq!(rt; tokens_fault(alloc, Start::Module, &[]), SYNTAX);
+    let goal = tokens_fault(alloc, Start::Goal, &[]);
+    expect_fault(&rt, goal, SYNTAX, "a goal");
+    let module = tokens_fault(alloc, Start::Module, &[]);
+    expect_fault(&rt, module, SYNTAX, "a module");
 }
 
 /// A text in which a piece is repeated, between a front and an end.
