@@ -1,490 +1,160 @@
 //! Modules and goals, worked out by hand.
+mod modules;
+mod productions;
+
 use crate::{ParseFault, one_reading, parse_goal, parse_module};
 use cu_layout::block;
 use cu_lex::{Token, lex};
 use cu_names::Names;
+use modules::{GOALS, PERM, PRELUDE, QUEENS, SET_FUNCTIONS};
+use productions::{
+    ARGUMENTS, ATOMS, BLOCKS, CASES, DATA_TYPES, EXPRESSIONS, HEADERS, IMPORTS, ITEMS, LISTS,
+    PATTERNS, Production, RULES, SIGNATURES, WHOLE_GOALS,
+};
 use std::alloc::{AllocError, Global};
-use std::test::Fail;
+use std::process::Abort;
+
+const SYNTAX: Option<ParseFault> = Some(ParseFault::Syntax(1));
+
+const LONG: Option<ParseFault> = Some(ParseFault::TooLong(1));
+
+/// What a text is read as.
+#[derive(Clone, Copy)]
+enum Start {
+    Module,
+    Goal,
+}
 
 /// The tokens of a text with its layout, if it has some.
-fn laid(alloc: Global, text: &str, whole: bool) -> Option<Vec<Token>> {
+fn laid(alloc: Global, start: Start, text: &str) -> Option<Vec<Token>> {
     let mut names = Names::new(alloc);
     let module = names.intern("M").ok()?;
     let tokens = lex(alloc, &mut names, module, text.as_bytes()).ok()?;
-    block(alloc, tokens, whole).ok()
+    block(alloc, tokens, matches!(start, Start::Module)).ok()
 }
 
-/// Why a text is no goal, or nothing. A text without tokens or layout gives
-/// `NoMemory`.
-fn goal_fault(alloc: Global, text: &str) -> Option<ParseFault> {
-    match laid(alloc, text, false) {
-        Some(tokens) => parse_goal(alloc, tokens.as_slice()).err(),
+fn tokens_fault(alloc: Global, start: Start, tokens: &[Token]) -> Option<ParseFault> {
+    match start {
+        Start::Module => parse_module(alloc, tokens).err(),
+        Start::Goal => parse_goal(alloc, tokens).err(),
+    }
+}
+
+/// Why a text is no module or goal, or nothing. A text without tokens or
+/// layout gives `NoMemory`.
+fn text_fault(alloc: Global, start: Start, text: &str) -> Option<ParseFault> {
+    match laid(alloc, start, text) {
+        Some(tokens) => tokens_fault(alloc, start, tokens.as_slice()),
         None => Some(ParseFault::NoMemory),
     }
 }
 
-/// Why a text is no module, or nothing.
-fn module_fault(alloc: Global, text: &str) -> Option<ParseFault> {
-    match laid(alloc, text, true) {
-        Some(tokens) => parse_module(alloc, tokens.as_slice()).err(),
-        None => Some(ParseFault::NoMemory),
-    }
+fn expect_fault<R: Abort>(rt: &R, found: Option<ParseFault>, want: Option<ParseFault>, text: &str) {
+    assert_eq!(rt; found, want, "{text}");
 }
 
-/// A text with a piece of it repeated.
-fn repeated(
+fn expect<R: Abort>(rt: &R, alloc: Global, start: Start, text: &str, want: Option<ParseFault>) {
+    expect_fault(rt, text_fault(alloc, start, text), want, text);
+}
+
+fn expect_all<R: Abort>(
+    rt: &R,
     alloc: Global,
-    front: &str,
-    piece: &str,
-    count: usize,
-    end: &str,
-) -> Result<String, AllocError> {
-    let mut text = String::from_str(alloc, front)?;
-    for _ in 0..count {
-        text.push_str(piece)?;
-    }
-    text.push_str(end)?;
-    Ok(text)
-}
-
-fn repeated_goal(
-    alloc: Global,
-    front: &str,
-    piece: &str,
-    count: usize,
-    end: &str,
-) -> Option<ParseFault> {
-    match repeated(alloc, front, piece, count, end) {
-        Ok(text) => goal_fault(alloc, text.as_str()),
-        Err(_) => Some(ParseFault::NoMemory),
+    start: Start,
+    texts: &[&str],
+    want: Option<ParseFault>,
+) {
+    for text in texts {
+        expect(rt, alloc, start, text, want);
     }
 }
 
-fn repeated_module(
-    alloc: Global,
-    front: &str,
-    piece: &str,
-    count: usize,
-    end: &str,
-) -> Option<ParseFault> {
-    match repeated(alloc, front, piece, count, end) {
-        Ok(text) => module_fault(alloc, text.as_str()),
-        Err(_) => Some(ParseFault::NoMemory),
+/// Each production accepts its texts, and refuses the others at line 1.
+fn expect_productions<R: Abort>(rt: &R, alloc: Global, start: Start, productions: &[Production]) {
+    for production in productions {
+        expect_all(rt, alloc, start, production.accepted, None);
+        expect_all(rt, alloc, start, production.refused, SYNTAX);
     }
 }
 
-const HEADERS: [&str; 8] = [
-    "module M where",
-    "module m where x = 1",
-    "module A.B where",
-    "module M () where",
-    "module M (f, (+), (`g`), A.h, (A.+)) where",
-    "module M (T, A.T, T(..), T(), T(A, (:+))) where",
-    "module M (module X, module A.B, module x) where",
-    "",
-];
+fn headers<R: Abort>(rt: &R, alloc: Global) {
+    expect_productions(rt, alloc, Start::Module, &HEADERS);
+}
 
-const WRONG_HEADERS: [&str; 11] = [
-    "module where",
-    "module M",
-    "module M.m where",
-    "module M (f g) where",
-    "module M (f,) where",
-    "module M (,) where",
-    "module M (`f`) where",
-    "module M (T(.., A)) where",
-    "module M (T(A.B)) where",
-    "module M (\nwhere\nx = (",
-    "module M ;\n where { }",
-];
+fn imports<R: Abort>(rt: &R, alloc: Global) {
+    expect_productions(rt, alloc, Start::Module, &IMPORTS);
+}
+
+fn items<R: Abort>(rt: &R, alloc: Global) {
+    expect_productions(rt, alloc, Start::Module, &ITEMS);
+}
+
+fn data_types<R: Abort>(rt: &R, alloc: Global) {
+    expect_productions(rt, alloc, Start::Module, &DATA_TYPES);
+}
+
+fn signatures<R: Abort>(rt: &R, alloc: Global) {
+    expect_productions(rt, alloc, Start::Module, &SIGNATURES);
+}
+
+fn rules<R: Abort>(rt: &R, alloc: Global) {
+    expect_productions(rt, alloc, Start::Module, &RULES);
+}
+
+fn blocks<R: Abort>(rt: &R, alloc: Global) {
+    expect_productions(rt, alloc, Start::Module, &BLOCKS);
+}
+
+fn expressions<R: Abort>(rt: &R, alloc: Global) {
+    expect_productions(rt, alloc, Start::Goal, &EXPRESSIONS);
+}
+
+fn cases<R: Abort>(rt: &R, alloc: Global) {
+    expect_productions(rt, alloc, Start::Goal, &CASES);
+}
+
+fn atoms<R: Abort>(rt: &R, alloc: Global) {
+    expect_productions(rt, alloc, Start::Goal, &ATOMS);
+}
+
+fn lists<R: Abort>(rt: &R, alloc: Global) {
+    expect_productions(rt, alloc, Start::Goal, &LISTS);
+}
+
+fn patterns<R: Abort>(rt: &R, alloc: Global) {
+    expect_productions(rt, alloc, Start::Goal, &PATTERNS);
+}
+
+fn arguments<R: Abort>(rt: &R, alloc: Global) {
+    expect_productions(rt, alloc, Start::Goal, &ARGUMENTS);
+}
+
+fn whole_goals<R: Abort>(rt: &R, alloc: Global) {
+    expect_productions(rt, alloc, Start::Goal, &WHOLE_GOALS);
+}
 
 #[test]
-fn headers(rt: HostRuntime) -> Result<(), Fail> {
+fn productions_of_modules(rt: HostRuntime) {
     let alloc = rt.alloc();
-    for text in HEADERS {
-        assert!(rt; module_fault(alloc, text).is_none(), "{text}");
-    }
-    for text in WRONG_HEADERS {
-        assert_eq!(rt;
-            module_fault(alloc, text),
-            Some(ParseFault::Syntax(1)),
-            "{text}"
-        );
-    }
-    Ok(())
+    headers(&rt, alloc);
+    imports(&rt, alloc);
+    items(&rt, alloc);
+    data_types(&rt, alloc);
+    signatures(&rt, alloc);
+    rules(&rt, alloc);
+    blocks(&rt, alloc);
 }
 
-const IMPORTS: [&str; 8] = [
-    "import A",
-    "import qualified A.B",
-    "import a as B.C",
-    "import A hiding (f)",
-    "import A (f, T(..), (+))",
-    "import A ()",
-    "import qualified A as B hiding (T(C), (`g`))",
-    "import A\nimport B\nx = 1",
-];
-
-const WRONG_IMPORTS: [&str; 8] = [
-    "import",
-    "import qualified",
-    "import A.b",
-    "import A as",
-    "import A hiding",
-    "import A (f,)",
-    "import A (module B)",
-    "import A; import (B)",
-];
-
 #[test]
-fn imports(rt: HostRuntime) -> Result<(), Fail> {
+fn productions_of_goals(rt: HostRuntime) {
     let alloc = rt.alloc();
-    for text in IMPORTS {
-        assert!(rt; module_fault(alloc, text).is_none(), "{text}");
-    }
-    for text in WRONG_IMPORTS {
-        assert_eq!(rt;
-            module_fault(alloc, text),
-            Some(ParseFault::Syntax(1)),
-            "{text}"
-        );
-    }
-    Ok(())
-}
-
-const TYPES: [&str; 22] = [
-    "infixl 6 +",
-    "infix `f`",
-    "infixr 5 :+, `C`, -",
-    "data T",
-    "data T a b = A | B a (T a b) [a]",
-    "data L a = a :+ L a | a `C` a",
-    "data T = (:+) Int Int | (`C`) ()",
-    "newtype N = N Int | M",
-    "type S = [Char]",
-    "type F a b = (a, b) -> [a] -> ()",
-    "f :: Int",
-    "f, g :: a -> b -> c",
-    "(+), (`h`) :: M.T a (N.S b) -> (Int)",
-    "f :: (a -> b) -> [a] -> [b]",
-    "f :: ((a, b), ()) -> [[T a]]",
-    "f :: (a,a,a,a,a,a,a,a,a,a,a,a,a,a,a)",
-    "data T = A Int; type S = T",
-    "f :: T (S a) [b] ()",
-    "type S = M.T",
-    "infixr 0 $",
-    "infixl 9 `f`, `g`",
-    "data T = A (Int -> Int)",
-];
-
-#[test]
-fn declarations_of_types(rt: HostRuntime) -> Result<(), Fail> {
-    let alloc = rt.alloc();
-    for text in TYPES {
-        assert!(rt; module_fault(alloc, text).is_none(), "{text}");
-    }
-    Ok(())
-}
-
-const WRONG_TYPES: [&str; 28] = [
-    "infixl 10 +",
-    "infixl 6",
-    "infixl 6 M.+",
-    "infix 3 f",
-    "infixl -1 +",
-    "infixl 6 + -",
-    "data t",
-    "data M.T",
-    "data T A",
-    "data T =",
-    "data T = a",
-    "data T = A |",
-    "data T = A -> B",
-    "data T = a M.:+ b",
-    "type S",
-    "type s = Int",
-    "type S =",
-    "type M.S = Int",
-    "f ::",
-    "F :: Int",
-    "f, :: Int",
-    "f :: Int ->",
-    "f :: (,)",
-    "f :: (a,)",
-    "f :: a b",
-    "f :: []",
-    "f :: [a, b]",
-    "f :: (a,a,a,a,a,a,a,a,a,a,a,a,a,a,a,a)",
-];
-
-#[test]
-fn wrong_declarations_of_types(rt: HostRuntime) -> Result<(), Fail> {
-    let alloc = rt.alloc();
-    for text in WRONG_TYPES {
-        assert_eq!(rt;
-            module_fault(alloc, text),
-            Some(ParseFault::Syntax(1)),
-            "{text}"
-        );
-    }
-    Ok(())
-}
-
-const RULES: [&str; 13] = [
-    "f = 1",
-    "f x (y, _) = x",
-    "(+) x y = x",
-    "x + y = x",
-    "x `g` y = y",
-    "x : xs + ys = xs",
-    "(x + y) z = z",
-    "((x + y) z) w = z",
-    "f x | x = 1 | True = 2",
-    "f x = y where y = x",
-    "f x = y where\n  y = x\n  z :: Int\n  z = 1\n  a, b free\n  (c, d) = e\n  g (C h) = h",
-    "f x | x = y where { y = x ; ; }",
-    "f x = y where { }",
-];
-
-const WRONG_RULES: [&str; 16] = [
-    "(x, y) = z",
-    "Just x = y",
-    "[x] = y",
-    "_ = 1",
-    "x@y = 1",
-    "1 = 2",
-    "f x",
-    "f x =",
-    "f x | x",
-    "f x | = 1",
-    "f (x + y) = x",
-    "x M.+ y = x",
-    "f x -> x",
-    "(f x) y = x",
-    "x, y free",
-    "f x = y where { import A }",
-];
-
-#[test]
-fn rules(rt: HostRuntime) -> Result<(), Fail> {
-    let alloc = rt.alloc();
-    for text in RULES {
-        assert!(rt; module_fault(alloc, text).is_none(), "{text}");
-    }
-    for text in WRONG_RULES {
-        assert_eq!(rt;
-            module_fault(alloc, text),
-            Some(ParseFault::Syntax(1)),
-            "{text}"
-        );
-    }
-    Ok(())
-}
-
-const EXPRESSIONS: [&str; 24] = [
-    "1",
-    "'a'",
-    "\"abc\"",
-    "f x (y z)",
-    "M.f M.C",
-    "x + y * - z",
-    "- x",
-    "x - - y",
-    "x M.+ y `M.f` z `C` a",
-    "\\x (C y) -> x",
-    "x + \\y -> y",
-    "if a then b else c",
-    "case x of { C y -> y; _ | a -> b | c -> d where { e = 1 } }",
-    "fcase x of { }",
-    "case x of\n  C -> 1\n  D -> 2",
-    "let x = 1 in x",
-    "let { ; ; x = 1 ; } in x",
-    "let x, y free in x",
-    "let { } in 1",
-    "let (x, _) = y in x",
-    "let (x `f` y) z = x in f",
-    "x where x free",
-    "f x y where x, y free",
-    "f x where { x free; y free }",
-];
-
-const WRONG_EXPRESSIONS: [&str; 26] = [
-    "",
-    "x +",
-    "+ x",
-    "- - x",
-    "f \\x -> x",
-    "\\ -> x",
-    "\\x y",
-    "if a then b",
-    "case x",
-    "case x { }",
-    "case x of { C = 1 }",
-    "case x of { C }",
-    "case x of { C | a = 1 }",
-    "let x = 1",
-    "let x = 1 in",
-    "let { data T } in 1",
-    "let { infixl 6 + } in 1",
-    "x :: Int",
-    "_",
-    "x@y",
-    "do { x }",
-    "x where y = 1",
-    "x where { }",
-    "x where { x free; }",
-    "x = 1",
-    "x ; y",
-];
-
-#[test]
-fn expressions(rt: HostRuntime) -> Result<(), Fail> {
-    let alloc = rt.alloc();
-    for text in EXPRESSIONS {
-        assert!(rt; goal_fault(alloc, text).is_none(), "{text}");
-    }
-    for text in WRONG_EXPRESSIONS {
-        assert_eq!(rt;
-            goal_fault(alloc, text),
-            Some(ParseFault::Syntax(1)),
-            "{text}"
-        );
-    }
-    Ok(())
-}
-
-const ATOMS: [&str; 25] = [
-    "()",
-    "(,)",
-    "(,,)",
-    "(x)",
-    "(x, y)",
-    "(+)",
-    "(-)",
-    "(M.+)",
-    "(:)",
-    "(`f`)",
-    "(+ x)",
-    "(x +)",
-    "(x + y +)",
-    "(`f` x)",
-    "(x `M.f`)",
-    "(- x)",
-    "(x -)",
-    "[]",
-    "[x, y]",
-    "[1 ..]",
-    "[1 .. 9]",
-    "[1, 3 ..]",
-    "[1, 3 .. 9]",
-    "[(x, y) | (x, C y) <- xs, let z = x, z]",
-    "[x | let { y = 1 } in y]",
-];
-
-const WRONG_ATOMS: [&str; 15] = [
-    "(",
-    ")",
-    "(,x)",
-    "(x,)",
-    "(+ )x)",
-    "(x + -)",
-    "(f +",
-    "[x,]",
-    "[..]",
-    "[.. 9]",
-    "[1, 2, 3 ..]",
-    "[1 .. 2 ..]",
-    "[x |]",
-    "[x | y <-]",
-    "[x | f y <- z]",
-];
-
-#[test]
-fn atoms(rt: HostRuntime) -> Result<(), Fail> {
-    let alloc = rt.alloc();
-    for text in ATOMS {
-        assert!(rt; goal_fault(alloc, text).is_none(), "{text}");
-    }
-    for text in WRONG_ATOMS {
-        assert_eq!(rt;
-            goal_fault(alloc, text),
-            Some(ParseFault::Syntax(1)),
-            "{text}"
-        );
-    }
-    Ok(())
-}
-
-const PATTERNS: [&str; 12] = [
-    "\\x _ -> x",
-    "\\x@(y, z) -> x",
-    "\\x@y@z -> x",
-    "\\C (C x) -> x",
-    "\\[] [x] [x, y] -> x",
-    "\\() (x) -> x",
-    "\\1 'a' \"s\" -> x",
-    "case x of { -1 -> 2; 1 -> 3 }",
-    "case x of { y : ys -> y }",
-    "case x of { C a b :+ D -> a }",
-    "case x of { a `C` b -> a }",
-    "case x of { (M.:+) a M.C -> a }",
-];
-
-const WRONG_PATTERNS: [&str; 11] = [
-    "\\(- x) -> x",
-    "\\ -1 -> x",
-    "\\x@ -> x",
-    "\\(f x) -> x",
-    "\\M.x -> x",
-    "\\~x -> x",
-    "\\(x,) -> x",
-    "case x of { a M.:+ b -> a }",
-    "case x of { a + b -> a }",
-    "case x of { f a -> a }",
-    "case x of { a : -> a }",
-];
-
-#[test]
-fn patterns(rt: HostRuntime) -> Result<(), Fail> {
-    let alloc = rt.alloc();
-    for text in PATTERNS {
-        assert!(rt; goal_fault(alloc, text).is_none(), "{text}");
-    }
-    for text in WRONG_PATTERNS {
-        assert_eq!(rt;
-            goal_fault(alloc, text),
-            Some(ParseFault::Syntax(1)),
-            "{text}"
-        );
-    }
-    Ok(())
-}
-
-/// What opens a tuple, what stands in it once more for each component behind
-/// the first, or each comma, and what closes it.
-const TUPLES: [(&str, &str, &str); 3] = [
-    ("(x", ",x", ")"),
-    ("\\(x", ",_", ") -> x"),
-    ("(,", ",", ")"),
-];
-
-#[test]
-fn tuples_of_15_and_16_components(rt: HostRuntime) -> Result<(), Fail> {
-    let alloc = rt.alloc();
-    let wrong = Some(ParseFault::Syntax(1));
-    for (front, piece, end) in TUPLES {
-        let commas = if front == "(," { 13 } else { 14 };
-        assert!(rt;
-            repeated_goal(alloc, front, piece, commas, end).is_none(),
-            "{front}"
-        );
-        assert_eq!(rt;
-            repeated_goal(alloc, front, piece, commas + 1, end),
-            wrong,
-            "{front}"
-        );
-    }
-    Ok(())
+    expressions(&rt, alloc);
+    cases(&rt, alloc);
+    atoms(&rt, alloc);
+    lists(&rt, alloc);
+    patterns(&rt, alloc);
+    arguments(&rt, alloc);
+    whole_goals(&rt, alloc);
 }
 
 /// Modules with a fault, and its line.
@@ -507,16 +177,17 @@ const LINES: [(&str, u32); 15] = [
 ];
 
 #[test]
-fn lines_of_faults(rt: HostRuntime) -> Result<(), Fail> {
+fn lines_of_faults(rt: HostRuntime) {
     let alloc = rt.alloc();
-    for (text, line) in LINES {
-        assert_eq!(rt;
-            module_fault(alloc, text),
-            Some(ParseFault::Syntax(line)),
-            "{text}"
+    for (text, line) in &LINES {
+        expect(
+            &rt,
+            alloc,
+            Start::Module,
+            text,
+            Some(ParseFault::Syntax(*line)),
         );
     }
-    Ok(())
 }
 
 /// Modules with empty parts and braces inside their items.
@@ -529,69 +200,112 @@ const PARTS: [&str; 5] = [
 ];
 
 #[test]
-fn parts_of_modules(rt: HostRuntime) -> Result<(), Fail> {
-    let alloc = rt.alloc();
-    for text in PARTS {
-        assert!(rt; module_fault(alloc, text).is_none(), "{text}");
-    }
-    Ok(())
-}
-
-#[test]
-fn items_of_4096_and_4097_tokens(rt: HostRuntime) -> Result<(), Fail> {
-    let alloc = rt.alloc();
-    let long = Some(ParseFault::TooLong(1));
-    assert!(rt; repeated_module(alloc, "f = x", " x", 4093, "").is_none());
-    assert_eq!(rt; repeated_module(alloc, "f = x", " x", 4094, ""), long);
-    assert_eq!(rt; repeated_module(alloc, "f = (", " x", 4094, ""), long);
-    assert_eq!(rt; repeated_goal(alloc, "x", " x", 4096, ""), long);
-    Ok(())
-}
-
-/// What stands before the characters of a string, how many there may be, what
-/// stands behind them, and the line of the fault where there is one more.
-const STRINGS: [(&str, usize, &str, u32); 4] = [
-    ("f = \"", 4093, "\"", 1),
-    ("f = \"\\&", 4093, "\\&\"", 1),
-    ("g = 1\n\nf = \"", 4093, "\"\nh = 1", 3),
-    ("module M where {\ng = 1 } f = \"", 4093, "\"", 2),
-];
-
-#[test]
-fn strings_count_their_characters(rt: HostRuntime) -> Result<(), Fail> {
-    let alloc = rt.alloc();
-    for (front, count, end, line) in STRINGS {
-        let long = Some(ParseFault::TooLong(line));
-        assert!(rt;
-            repeated_module(alloc, front, "a", count, end) != long,
-            "{front}"
-        );
-        assert_eq!(rt;
-            repeated_module(alloc, front, "a", count + 1, end),
-            long,
-            "{front}"
-        );
-    }
-    assert!(rt; repeated_goal(alloc, "\"", "a", 4095, "\"").is_none());
-    assert_eq!(rt;
-        repeated_goal(alloc, "\"", "a", 4096, "\""),
-        Some(ParseFault::TooLong(1))
-    );
-    Ok(())
-}
-
-#[test]
-fn the_first_fault_decides(rt: HostRuntime) -> Result<(), Fail> {
+fn whole_texts(rt: HostRuntime) {
     let alloc = rt.alloc();
     one_reading();
-    let syntax = Some(ParseFault::Syntax(1));
-    assert_eq!(rt;
-        repeated_module(alloc, "x = )\nf = \"", "a", 4094, "\""),
-        syntax
-    );
-    assert_eq!(rt;
-        repeated_module(alloc, "module M\nwhere (\nf = \"", "a", 4094, "\""),
-        Some(ParseFault::Syntax(2))
-    );
-    Ok(())
+    expect_all(&rt, alloc, Start::Module, &PARTS, None);
+    expect_all(&rt, alloc, Start::Module, &[QUEENS, PERM], None);
+    expect_all(&rt, alloc, Start::Module, &[PRELUDE, SET_FUNCTIONS], None);
+    expect_all(&rt, alloc, Start::Goal, &GOALS, None);
+}
+
+#[test]
+fn no_tokens(rt: HostRuntime) {
+    let alloc = rt.alloc();
+    let goal = tokens_fault(alloc, Start::Goal, &[]);
+    expect_fault(&rt, goal, SYNTAX, "a goal");
+    let module = tokens_fault(alloc, Start::Module, &[]);
+    expect_fault(&rt, module, SYNTAX, "a module");
+}
+
+/// A text in which a piece is repeated, between a front and an end.
+fn repeated(alloc: Global, parts: [&str; 3], count: usize) -> Result<String, AllocError> {
+    let [front, piece, end] = parts;
+    let mut text = String::from_str(alloc, front)?;
+    for _ in 0..count {
+        text.push_str(piece)?;
+    }
+    text.push_str(end)?;
+    Ok(text)
+}
+
+fn expect_repeated<R: Abort>(
+    rt: &R,
+    alloc: Global,
+    start: Start,
+    parts: [&str; 3],
+    count: usize,
+    want: Option<ParseFault>,
+) {
+    match repeated(alloc, parts, count) {
+        Ok(text) => expect(rt, alloc, start, text.as_str(), want),
+        Err(error) => panic!(rt; "{error}"),
+    }
+}
+
+/// So many pieces are right, and with one more there is this fault.
+fn expect_most<R: Abort>(
+    rt: &R,
+    alloc: Global,
+    start: Start,
+    parts: [&str; 3],
+    count: usize,
+    fault: Option<ParseFault>,
+) {
+    expect_repeated(rt, alloc, start, parts, count, None);
+    expect_repeated(rt, alloc, start, parts, count.saturating_add(1), fault);
+}
+
+/// Tuples have 15 components at most.
+fn tuples<R: Abort>(rt: &R, alloc: Global) {
+    let types = ["f :: (a", ",a", ")"];
+    let patterns = ["\\(x", ",_", ") -> x"];
+    expect_most(rt, alloc, Start::Module, types, 14, SYNTAX);
+    expect_most(rt, alloc, Start::Goal, patterns, 14, SYNTAX);
+    expect_most(rt, alloc, Start::Goal, ["(x", ",x", ")"], 14, SYNTAX);
+    expect_most(rt, alloc, Start::Goal, ["(,", ",", ")"], 13, SYNTAX);
+}
+
+/// Items and goals have 4,096 tokens at most, those of the layout among them.
+fn lengths<R: Abort>(rt: &R, alloc: Global) {
+    let block = ["f = x where y = x", " x", ""];
+    expect_most(rt, alloc, Start::Module, ["f = x", " x", ""], 4093, LONG);
+    expect_most(rt, alloc, Start::Module, block, 4087, LONG);
+    expect_most(rt, alloc, Start::Goal, ["x", " x", ""], 4095, LONG);
+}
+
+/// Each character of a string is one more.
+fn strings<R: Abort>(rt: &R, alloc: Global) {
+    let later = Some(ParseFault::TooLong(3));
+    let between = ["g = 1\n\nf = \"", "a", "\"\nh = 1"];
+    let nothing = ["f = \"\\&", "a", "\\&\""];
+    expect_most(rt, alloc, Start::Module, ["f = \"", "a", "\""], 4093, LONG);
+    expect_most(rt, alloc, Start::Module, nothing, 4093, LONG);
+    expect_most(rt, alloc, Start::Module, between, 4093, later);
+    expect_most(rt, alloc, Start::Goal, ["\"", "a", "\""], 4095, LONG);
+}
+
+/// Length comes before grammar, and an earlier item before a later one.
+fn first_faults<R: Abort>(rt: &R, alloc: Global) {
+    let second = Some(ParseFault::Syntax(2));
+    let late = Some(ParseFault::TooLong(2));
+    let open = ["f = (", " x", ""];
+    let earlier = ["x = )\nf = \"", "a", "\""];
+    let first = ["module M\nwhere (\nf = \"", "a", "\""];
+    let behind = ["module M where {\ng = 1 } f = \"", "a", "\""];
+    expect_repeated(rt, alloc, Start::Module, open, 4093, SYNTAX);
+    expect_repeated(rt, alloc, Start::Module, open, 4094, LONG);
+    expect_repeated(rt, alloc, Start::Module, earlier, 4094, SYNTAX);
+    expect_repeated(rt, alloc, Start::Module, first, 4094, second);
+    expect_repeated(rt, alloc, Start::Module, behind, 4093, second);
+    expect_repeated(rt, alloc, Start::Module, behind, 4094, late);
+}
+
+#[test]
+fn repeated_pieces(rt: HostRuntime) {
+    let alloc = rt.alloc();
+    tuples(&rt, alloc);
+    lengths(&rt, alloc);
+    strings(&rt, alloc);
+    first_faults(&rt, alloc);
 }
