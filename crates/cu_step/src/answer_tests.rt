@@ -1,17 +1,19 @@
-//! Reading, the occurs check and the names of what is waited for, on graphs
-//! worked out by hand.
+//! Needs, reading, the occurs check and the names of what is waited for, on
+//! graphs worked out by hand.
 ghost use Rattle.std.specs.Prelude.{◌≡◌, ◌<◌, length, true};
 ghost use Rattle.cu_machine.specs.Graph.{node_at};
 ghost use Rattle.cu_machine.specs.Validity.{ArgumentsThere, IsAcyclic, are_places};
 
+use crate::need::{self, Needed};
 use crate::read::{self, Reading};
+use crate::runs::{Row, graph_of};
 use crate::{node, occurs, waited};
 use cu_flat::{ConId, FunId, Head};
 use cu_graph::{Kind, PlainStore, Store};
 use cu_machine::Waited;
 use cu_values::Cell;
 use std::alloc::{AllocError, Global};
-use std::test::Fail;
+use std::process::Abort;
 
 const NIL: Kind = Kind::Cons(ConId(2));
 
@@ -54,55 +56,130 @@ fn is_ordered(store: &PlainStore) -> bool
 }
 
 /// The occurs check, on a graph in order.
-fn occurs_in(
+fn occurs_in<R: Abort>(
+    rt: &R,
     alloc: Global,
     store: &PlainStore,
     variable: u32,
     ids: &[u32],
-) -> Result<Option<bool>, AllocError> {
-    if !is_ordered(store) {
-        return Ok(None);
-    }
-    if !are_there(store, ids) {
-        return Ok(None);
-    }
-    Ok(Some(occurs::occurs(alloc, store, variable, ids)?))
+) -> bool {
+    assert!(rt; is_ordered(store));
+    assert!(rt; are_there(store, ids));
+    occurs::occurs(alloc, store, variable, ids).expect(rt, "memory")
 }
 
 /// What is read off a graph in order.
-fn reading(
+fn reading<R: Abort>(
+    rt: &R,
     alloc: Global,
     store: &PlainStore,
     root: u32,
     goals: &[u32],
     limit: u32,
-) -> Result<Option<Reading>, AllocError> {
-    if !is_ordered(store) {
-        return Ok(None);
+) -> Option<Reading> {
+    assert!(rt; is_ordered(store));
+    assert!(rt; are_there(store, goals));
+    assert!(rt; root < store.len());
+    read::read(alloc, store, root, goals, limit).expect(rt, "memory")
+}
+
+/// What all of a node's value needs, in a graph in order.
+fn needed<R: Abort>(rt: &R, alloc: Global, store: &PlainStore, root: u32) -> Needed {
+    assert!(rt; is_ordered(store));
+    assert!(rt; root < store.len());
+    need::find(alloc, store, ConId(1), root).expect(rt, "memory")
+}
+
+/// The cells of the bindings, one after another, and then those of the value.
+fn cells(alloc: Global, reading: &Reading) -> Result<Vec<Cell>, AllocError> {
+    let mut cells = Vec::new(alloc);
+    for binding in &reading.bindings {
+        cells.extend_from_slice(binding.cells())?;
     }
-    if !are_there(store, goals) || root >= store.len() {
-        return Ok(None);
+    cells.extend_from_slice(reading.value.cells())?;
+    Ok(cells)
+}
+
+fn expect_occurs<R: Abort>(
+    rt: &R,
+    alloc: Global,
+    store: &PlainStore,
+    variable: u32,
+    ids: &[u32],
+    want: bool,
+) {
+    assert_eq!(rt;
+        occurs_in(rt, alloc, store, variable, ids),
+        want,
+        "{variable} in {ids:?}"
+    );
+}
+
+/// Expects the cells of the bindings, and then those of the value.
+fn expect_cells<R: Abort>(
+    rt: &R,
+    alloc: Global,
+    store: &PlainStore,
+    root: u32,
+    goals: &[u32],
+    limit: u32,
+    want: &[Cell],
+) {
+    match reading(rt, alloc, store, root, goals, limit) {
+        Some(reading) => {
+            let found = cells(alloc, &reading).expect(rt, "memory");
+            assert_eq!(rt; found.as_slice(), want, "{root} with {goals:?}");
+        }
+        None => panic!(rt; "{root} with {goals:?} is too large"),
     }
-    read::read(alloc, store, root, goals, limit)
+}
+
+/// Expects that bindings and a value have as many cells together, and no more.
+fn expect_count<R: Abort>(
+    rt: &R,
+    alloc: Global,
+    store: &PlainStore,
+    root: u32,
+    goals: &[u32],
+    count: u32,
+) {
+    assert!(rt; count > 0);
+    assert!(rt;
+        reading(rt, alloc, store, root, goals, count).is_some(),
+        "{root} is larger"
+    );
+    assert!(rt;
+        reading(rt, alloc, store, root, goals, count - 1).is_none(),
+        "{root} is smaller"
+    );
+}
+
+/// Expects that all of a node's value is there.
+fn expect_done<R: Abort>(rt: &R, alloc: Global, store: &PlainStore, root: u32) {
+    match needed(rt, alloc, store, root) {
+        Needed::Done => {}
+        _ => panic!(rt; "{root} is not done"),
+    }
 }
 
 /// Two variables, two pairs of them, a call, a pair with a call in it, a
 /// partial application and another name of the first pair.
 fn graph(alloc: Global) -> Result<PlainStore, AllocError> {
-    let mut store = PlainStore::empty(alloc)?;
-    node::push(&mut store, Kind::Free, &[])?;
-    node::push(&mut store, Kind::Free, &[])?;
-    node::push(&mut store, PAIR, &[1, 0])?;
-    node::push(&mut store, Kind::Call(FunId(1)), &[0])?;
-    node::push(&mut store, PAIR, &[3, 1])?;
-    node::push(&mut store, Kind::Part(Head::Fun(FunId(1))), &[0])?;
-    node::push(&mut store, Kind::Ind, &[2])?;
-    Ok(store)
+    let rows = [
+        Row::Leaf(Kind::Free),
+        Row::Leaf(Kind::Free),
+        Row::Pair(PAIR, 1, 0),
+        Row::Over(Kind::Call(FunId(1)), 0),
+        Row::Pair(PAIR, 3, 1),
+        Row::Over(Kind::Part(Head::Fun(FunId(1))), 0),
+        Row::Over(Kind::Ind, 2),
+    ];
+    graph_of(alloc, &rows)
 }
 
-#[test]
-fn variables_occur_under_constructors_alone(rt: HostRuntime) -> Result<(), Fail> {
-    let store = graph(rt.alloc())?;
+/// Variables occur under constructors alone, and one of several nodes is
+/// enough.
+fn expect_occurrences<R: Abort>(rt: &R, alloc: Global, store: &PlainStore) {
     let rows = [
         (0, 0, true),
         (0, 1, false),
@@ -114,18 +191,33 @@ fn variables_occur_under_constructors_alone(rt: HostRuntime) -> Result<(), Fail>
         (0, 5, false),
     ];
     for (variable, id, want) in rows {
-        let got = occurs_in(rt.alloc(), &store, variable, &[id])?;
-        assert_eq!(rt; got, Some(want), "{variable} in {id}");
+        expect_occurs(rt, alloc, store, variable, &[id], want);
     }
-    Ok(())
+    expect_occurs(rt, alloc, store, 0, &[], false);
+    expect_occurs(rt, alloc, store, 0, &[3, 1, 2], true);
+}
+
+/// Variables are numbered where they are met, and what is not there is bottom.
+/// Bindings and the value count together.
+fn expect_readings<R: Abort>(rt: &R, alloc: Global, store: &PlainStore) {
+    let pair = Cell::Con(ConId(7), 2);
+    let (first, second) = (Cell::LVar(1), Cell::LVar(2));
+    expect_cells(rt, alloc, store, 2, &[], 3, &[pair, first, second]);
+    let want = [first, pair, second, first];
+    expect_cells(rt, alloc, store, 6, &[0], 4, &want);
+    let partial = Cell::Part(Head::Fun(FunId(1)), 1);
+    let want = [partial, first, pair, Cell::Bottom, second];
+    expect_cells(rt, alloc, store, 4, &[5], 10, &want);
+    expect_count(rt, alloc, store, 6, &[0], 4);
+    expect_count(rt, alloc, store, 1, &[2], 4);
 }
 
 #[test]
-fn one_of_several_is_enough(rt: HostRuntime) -> Result<(), Fail> {
-    let store = graph(rt.alloc())?;
-    assert_eq!(rt; occurs_in(rt.alloc(), &store, 0, &[])?, Some(false));
-    assert_eq!(rt; occurs_in(rt.alloc(), &store, 0, &[3, 1, 2])?, Some(true));
-    Ok(())
+fn a_small_graph_is_read(rt: HostRuntime) {
+    let alloc = rt.alloc();
+    let store = graph(alloc).expect(&rt, "memory");
+    expect_occurrences(&rt, alloc, &store);
+    expect_readings(&rt, alloc, &store);
 }
 
 /// Pairs of which each has the one before it twice, over a leaf.
@@ -138,78 +230,18 @@ fn pairs_over(alloc: Global, leaf: Kind, height: u32) -> Result<PlainStore, Allo
     Ok(store)
 }
 
+/// Shared pairs are looked at once, and are too large at once.
 #[test]
-fn shared_pairs_are_looked_at_once(rt: HostRuntime) -> Result<(), Fail> {
-    let store = pairs_over(rt.alloc(), Kind::Free, 60)?;
-    assert_eq!(rt; occurs_in(rt.alloc(), &store, 0, &[60])?, Some(true));
-    assert_eq!(rt; occurs_in(rt.alloc(), &store, 61, &[60])?, Some(false));
-    Ok(())
-}
-
-/// Whether a node's value is read within a limit of cells.
-fn is_read(alloc: Global, store: &PlainStore, root: u32, limit: u32) -> Result<bool, AllocError> {
-    let reading = reading(alloc, store, root, &[], limit)?;
-    Ok(reading.is_some())
-}
-
-#[test]
-fn shared_pairs_are_too_large_at_once(rt: HostRuntime) -> Result<(), Fail> {
-    let store = pairs_over(rt.alloc(), NIL, 60)?;
-    assert!(rt; is_read(rt.alloc(), &store, 3, 15)?);
-    assert!(rt; !is_read(rt.alloc(), &store, 3, 14)?);
-    assert!(rt; !is_read(rt.alloc(), &store, 60, 1000)?);
-    Ok(())
-}
-
-/// The cells of the bindings, one after another, and then those of the value.
-fn cells(alloc: Global, reading: Option<Reading>) -> Result<Vec<Cell>, AllocError> {
-    let mut cells = Vec::new(alloc);
-    if let Some(reading) = reading {
-        for binding in &reading.bindings {
-            cells.extend_from_slice(binding.cells())?;
-        }
-        cells.extend_from_slice(reading.value.cells())?;
-    }
-    Ok(cells)
-}
-
-#[test]
-fn variables_are_numbered_where_they_are_met(rt: HostRuntime) -> Result<(), Fail> {
-    let store = graph(rt.alloc())?;
-    let pair = Cell::Con(ConId(7), 2);
-    let read = reading(rt.alloc(), &store, 2, &[], 3)?;
-    let got = cells(rt.alloc(), read)?;
-    assert_eq!(rt;
-        got.as_slice(),
-        [pair, Cell::LVar(1), Cell::LVar(2)].as_slice()
-    );
-    let read = reading(rt.alloc(), &store, 6, &[0], 4)?;
-    let got = cells(rt.alloc(), read)?;
-    let want = [Cell::LVar(1), pair, Cell::LVar(2), Cell::LVar(1)];
-    assert_eq!(rt; got.as_slice(), want.as_slice());
-    Ok(())
-}
-
-#[test]
-fn bindings_and_value_count_together(rt: HostRuntime) -> Result<(), Fail> {
-    let store = graph(rt.alloc())?;
-    let read = reading(rt.alloc(), &store, 6, &[0], 3)?;
-    assert!(rt; read.is_none());
-    let read = reading(rt.alloc(), &store, 1, &[2], 3)?;
-    assert!(rt; read.is_none());
-    Ok(())
-}
-
-#[test]
-fn what_is_not_there_is_bottom(rt: HostRuntime) -> Result<(), Fail> {
-    let store = graph(rt.alloc())?;
-    let pair = Cell::Con(ConId(7), 2);
-    let partial = Cell::Part(Head::Fun(FunId(1)), 1);
-    let read = reading(rt.alloc(), &store, 4, &[5], 10)?;
-    let got = cells(rt.alloc(), read)?;
-    let want = [partial, Cell::LVar(1), pair, Cell::Bottom, Cell::LVar(2)];
-    assert_eq!(rt; got.as_slice(), want.as_slice());
-    Ok(())
+fn shared_pairs_are_looked_at_once(rt: HostRuntime) {
+    let alloc = rt.alloc();
+    let store = pairs_over(alloc, Kind::Free, 60).expect(&rt, "memory");
+    expect_occurs(&rt, alloc, &store, 0, &[60], true);
+    expect_occurs(&rt, alloc, &store, 61, &[60], false);
+    expect_done(&rt, alloc, &store, 60);
+    let store = pairs_over(alloc, NIL, 60).expect(&rt, "memory");
+    expect_count(&rt, alloc, &store, 3, &[], 15);
+    let all = reading(&rt, alloc, &store, 60, &[], 1000);
+    assert!(rt; all.is_none());
 }
 
 /// A list of so many variables, which are one.
@@ -224,26 +256,26 @@ fn list(alloc: Global, count: u32) -> Result<PlainStore, AllocError> {
 }
 
 #[test]
-fn long_lists_are_walked(rt: HostRuntime) -> Result<(), Fail> {
-    let store = list(rt.alloc(), 100_000)?;
-    let found = occurs_in(rt.alloc(), &store, 200_000, &[100_001])?;
-    assert_eq!(rt; found, Some(false));
-    assert!(rt; is_read(rt.alloc(), &store, 100_001, 200_001)?);
-    assert!(rt; !is_read(rt.alloc(), &store, 100_001, 200_000)?);
-    Ok(())
+fn long_lists_are_walked(rt: HostRuntime) {
+    let alloc = rt.alloc();
+    let store = list(alloc, 100_000).expect(&rt, "memory");
+    expect_occurs(&rt, alloc, &store, 200_000, &[100_001], false);
+    expect_done(&rt, alloc, &store, 100_001);
+    expect_count(&rt, alloc, &store, 100_001, &[], 200_001);
 }
 
 #[test]
-fn goal_variables_are_named(rt: HostRuntime) -> Result<(), Fail> {
-    let mut store = graph(rt.alloc())?;
-    let other = node::push(&mut store, Kind::Ind, &[0])?;
-    let got = waited::names(rt.alloc(), &store, &[1, other, 0], &[9, 0, 1, 8])?;
+fn goal_variables_are_named(rt: HostRuntime) {
+    let alloc = rt.alloc();
+    let mut store = graph(alloc).expect(&rt, "memory");
+    let other = node::push(&mut store, Kind::Ind, &[0]).expect(&rt, "memory");
+    let names = waited::names(alloc, &store, &[1, other, 0], &[9, 0, 1, 8]);
     let want = [
         Waited::Other(1),
         Waited::Named(1),
         Waited::Named(0),
         Waited::Other(2),
     ];
+    let got = names.expect(&rt, "memory");
     assert_eq!(rt; got.as_slice(), want.as_slice());
-    Ok(())
 }

@@ -1,11 +1,11 @@
 //! Runs of programs for tests: paths from the start of a search, and what
 //! stands at their end.
-ghost use Rattle.std.specs.Prelude.{◌≡◌, ◌<◌, IfOk, IfSome, IsTrue, Some, length, slice_get};
+ghost use Rattle.std.specs.Prelude.{◌≡◌, ◌<◌, ◌+◌, IfOk, IfSome, IsTrue, OnOk, Some, length, slice_get};
 ghost use Rattle.cu_calculus.specs.Code.{body_of, is_rule};
 ghost use Rattle.cu_machine.specs.Sets.{code_is_without_sets};
 ghost use Rattle.cu_step.specs.Outcome.{branches_of};
 
-use crate::{Branch, Limits, Outcome, Stop, start, step};
+use crate::{Branch, Limits, Outcome, Stop, node, start, step};
 use cu_flat::{ConId, FlatBody, FlatProgram, FunId, Int, Lit};
 use cu_graph::{Kind, PlainStore, Store};
 use std::alloc::{AllocError, Global};
@@ -47,6 +47,29 @@ pub(crate) fn int(n: Int) -> Row {
 /// A constructor without arguments.
 pub(crate) fn constant(c: ConId) -> Row {
     Row::Leaf(Kind::Cons(c))
+}
+
+/// Adds a node.
+fn push_row(store: &mut PlainStore, row: Row) -> Result<(), AllocError>
+    ensures { OnOk result (length store.new ≡ length store.old + 1) }
+{
+    match row {
+        Row::Leaf(kind) => node::push(store, kind, &[])?,
+        Row::Over(kind, arg) => node::push(store, kind, &[arg])?,
+        Row::Pair(kind, left, right) => node::push(store, kind, &[left, right])?,
+    };
+    Ok(())
+}
+
+/// The graph of these nodes.
+pub(crate) fn graph_of(alloc: Global, rows: &[Row]) -> Result<PlainStore, AllocError>
+    ensures { IfOk result (λ store. length store ≡ length rows.now) }
+{
+    let mut store = PlainStore::empty(alloc)?;
+    for row in rows {
+        push_row(&mut store, *row)?;
+    }
+    Ok(store)
 }
 
 fn event_of(outcome: &Outcome<PlainStore>) -> Event {
@@ -134,7 +157,7 @@ fn is_node(store: &PlainStore, id: u32, want: Row) -> bool
 }
 
 /// Whether a graph has these nodes.
-fn is_graph(store: &PlainStore, want: &[Row]) -> bool {
+pub(crate) fn is_graph(store: &PlainStore, want: &[Row]) -> bool {
     if store.len() as usize != want.len() {
         return false;
     }

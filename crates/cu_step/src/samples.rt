@@ -1,5 +1,5 @@
 //! Programs for tests, which are put together expression by expression.
-ghost use Rattle.std.specs.Prelude.{◌≡◌, [], ◌∷◌, ◌++◌, IfOk, IsTrue, OnOk, map};
+ghost use Rattle.std.specs.Prelude.{◌≡◌, ◌<◌, ◌+◌, [], ◌∷◌, ◌++◌, IsTrue, map};
 ghost use Rattle.cu_calculus.specs.Code as code;
 ghost use Rattle.cu_calculus.specs.WellFormed.{is_well_formed};
 ghost use Rattle.cu_calculus.specs.declared.Head.TheVariants as head;
@@ -13,8 +13,9 @@ use cu_flat::{
     ConId, Entry, Expr, ExprId, FlatBody, FlatConstructor, FlatFunction, FlatProgram, FunId, Head,
     Int, Lit, Mode, Pattern, Prim, Special,
 };
-use std::alloc::{AllocError, Global};
+use std::alloc::Global;
 use std::marker::Model;
+use std::process::Abort;
 
 pub(crate) const FALSE: ConId = ConId(0);
 
@@ -56,16 +57,17 @@ impl Model for Parts {
 }
 
 /// A branch for a constructor.
-pub(crate) fn branch(
+pub(crate) fn branch<R: Abort>(
+    rt: &R,
     alloc: Global,
     c: ConId,
     variables: &[u32],
     body: ExprId,
-) -> Result<(Pattern, ExprId), AllocError>
-    ensures { IfOk result (λ branch. branch_meaning branch
-        ≡ record { pattern = code.Built c variables.now; body = body }) }
+) -> (Pattern, ExprId)
+    ensures { branch_meaning result ≡ record { pattern = code.Built c variables.now; body = body } }
 {
-    Ok((Pattern::Con(c, Vec::from_slice(alloc, variables)?), body))
+    let variables = Vec::from_slice(alloc, variables).expect(rt, "memory");
+    (Pattern::Con(c, variables), body)
 }
 
 /// A branch for an integer.
@@ -93,170 +95,188 @@ impl Parts {
         }
     }
 
-    fn push(&mut self, expr: Expr) -> Result<(), AllocError>
-        ensures { OnOk result (self.new ≡ (self.old.0, self.old.1 ++ expr_meaning [] expr ∷ [])) }
+    fn push<R: Abort>(&mut self, rt: &R, expr: Expr)
+        ensures { self.new ≡ (self.old.0, self.old.1 ++ expr_meaning [] expr ∷ []) }
     {
         let scope = Vec::new(self.alloc);
-        self.entries.push(Entry { expr, scope })?;
-        Ok(())
+        self.entries
+            .push(Entry { expr, scope })
+            .expect(rt, "memory");
     }
 
-    pub(crate) fn variable(&mut self, x: u32) -> Result<(), AllocError>
-        ensures { OnOk result (self.new ≡ (self.old.0, self.old.1 ++ code.Variable x ∷ [])) }
+    pub(crate) fn variable<R: Abort>(&mut self, rt: &R, x: u32)
+        ensures { self.new ≡ (self.old.0, self.old.1 ++ code.Variable x ∷ []) }
     {
-        self.push(Expr::Var(x))
+        self.push(rt, Expr::Var(x));
     }
 
-    pub(crate) fn integer(&mut self, n: Int) -> Result<(), AllocError>
-        ensures { OnOk result (self.new ≡ (self.old.0, self.old.1 ++ code.Literal (lit.Int n) ∷ [])) }
+    pub(crate) fn integer<R: Abort>(&mut self, rt: &R, n: Int)
+        ensures { self.new ≡ (self.old.0, self.old.1 ++ code.Literal (lit.Int n) ∷ []) }
     {
-        self.push(Expr::Lit(Lit::Int(n)))
+        self.push(rt, Expr::Lit(Lit::Int(n)));
     }
 
-    pub(crate) fn whole(&mut self, head: Head, parts: &[ExprId]) -> Result<(), AllocError>
-        ensures { OnOk result (self.new ≡ (self.old.0, self.old.1 ++ code.Whole head parts.now ∷ [])) }
+    pub(crate) fn whole<R: Abort>(&mut self, rt: &R, head: Head, parts: &[ExprId])
+        ensures { self.new ≡ (self.old.0, self.old.1 ++ code.Whole head parts.now ∷ []) }
     {
-        let parts = Vec::from_slice(self.alloc, parts)?;
-        self.push(Expr::Whole(head, parts))
+        let parts = Vec::from_slice(self.alloc, parts).expect(rt, "memory");
+        self.push(rt, Expr::Whole(head, parts));
     }
 
-    pub(crate) fn constructed(&mut self, c: ConId, parts: &[ExprId]) -> Result<(), AllocError>
-        ensures { OnOk result (self.new ≡ (self.old.0, self.old.1 ++ code.Whole (head.Con c) parts.now ∷ [])) }
+    pub(crate) fn constructed<R: Abort>(&mut self, rt: &R, c: ConId, parts: &[ExprId])
+        ensures { self.new ≡ (self.old.0, self.old.1 ++ code.Whole (head.Con c) parts.now ∷ []) }
     {
-        self.whole(Head::Con(c), parts)
+        self.whole(rt, Head::Con(c), parts);
     }
 
-    pub(crate) fn call(&mut self, f: FunId, parts: &[ExprId]) -> Result<(), AllocError>
-        ensures { OnOk result (self.new ≡ (self.old.0, self.old.1 ++ code.Whole (head.Fun f) parts.now ∷ [])) }
+    pub(crate) fn call<R: Abort>(&mut self, rt: &R, f: FunId, parts: &[ExprId])
+        ensures { self.new ≡ (self.old.0, self.old.1 ++ code.Whole (head.Fun f) parts.now ∷ []) }
     {
-        self.whole(Head::Fun(f), parts)
+        self.whole(rt, Head::Fun(f), parts);
     }
 
-    pub(crate) fn partial(&mut self, f: FunId, parts: &[ExprId]) -> Result<(), AllocError>
-        ensures { OnOk result (self.new ≡ (self.old.0, self.old.1 ++ code.Part (head.Fun f) parts.now ∷ [])) }
+    pub(crate) fn partial<R: Abort>(&mut self, rt: &R, f: FunId, parts: &[ExprId])
+        ensures { self.new ≡ (self.old.0, self.old.1 ++ code.Part (head.Fun f) parts.now ∷ []) }
     {
-        let parts = Vec::from_slice(self.alloc, parts)?;
-        self.push(Expr::Part(Head::Fun(f), parts))
+        let parts = Vec::from_slice(self.alloc, parts).expect(rt, "memory");
+        self.push(rt, Expr::Part(Head::Fun(f), parts));
     }
 
-    pub(crate) fn apply(&mut self, function: ExprId, argument: ExprId) -> Result<(), AllocError>
-        ensures { OnOk result (self.new ≡ (self.old.0, self.old.1 ++ code.Apply function argument ∷ [])) }
+    pub(crate) fn apply<R: Abort>(&mut self, rt: &R, function: ExprId, argument: ExprId)
+        ensures { self.new ≡ (self.old.0, self.old.1 ++ code.Apply function argument ∷ []) }
     {
-        self.push(Expr::Apply(function, argument))
+        self.push(rt, Expr::Apply(function, argument));
     }
 
-    pub(crate) fn bind(&mut self, x: u32, bound: ExprId, body: ExprId) -> Result<(), AllocError>
-        ensures { OnOk result (self.new ≡ (self.old.0, self.old.1 ++ code.Let x bound body ∷ [])) }
+    pub(crate) fn bind<R: Abort>(&mut self, rt: &R, x: u32, bound: ExprId, body: ExprId)
+        ensures { self.new ≡ (self.old.0, self.old.1 ++ code.Let x bound body ∷ []) }
     {
-        self.push(Expr::Let(x, bound, body))
+        self.push(rt, Expr::Let(x, bound, body));
     }
 
-    pub(crate) fn free(&mut self, x: u32, body: ExprId) -> Result<(), AllocError>
-        ensures { OnOk result (self.new ≡ (self.old.0, self.old.1 ++ code.Free x body ∷ [])) }
+    pub(crate) fn free<R: Abort>(&mut self, rt: &R, x: u32, body: ExprId)
+        ensures { self.new ≡ (self.old.0, self.old.1 ++ code.Free x body ∷ []) }
     {
-        self.push(Expr::Free(x, body))
+        self.push(rt, Expr::Free(x, body));
     }
 
-    pub(crate) fn choice(&mut self, left: ExprId, right: ExprId) -> Result<(), AllocError>
-        ensures { OnOk result (self.new ≡ (self.old.0, self.old.1 ++ code.Or left right ∷ [])) }
+    pub(crate) fn choice<R: Abort>(&mut self, rt: &R, left: ExprId, right: ExprId)
+        ensures { self.new ≡ (self.old.0, self.old.1 ++ code.Or left right ∷ []) }
     {
-        self.push(Expr::Or(left, right))
+        self.push(rt, Expr::Or(left, right));
     }
 
-    pub(crate) fn case(
+    pub(crate) fn case<R: Abort>(
         &mut self,
+        rt: &R,
         mode: Mode,
         scope: &[u32],
         scrutinee: ExprId,
         branches: Vec<(Pattern, ExprId)>,
-    ) -> Result<(), AllocError>
-        ensures { OnOk result (self.new ≡ (
+    )
+        ensures { self.new ≡ (
           self.old.0,
           self.old.1 ++ code.Case mode scope.now scrutinee (map branch_meaning branches.items) ∷ [],
-        )) }
+        ) }
     {
-        let scope = Vec::from_slice(self.alloc, scope)?;
+        let scope = Vec::from_slice(self.alloc, scope).expect(rt, "memory");
         let expr = Expr::Case(mode, scrutinee, branches);
-        self.entries.push(Entry { expr, scope })?;
-        Ok(())
+        self.entries
+            .push(Entry { expr, scope })
+            .expect(rt, "memory");
     }
 
-    pub(crate) fn function(
-        &mut self,
-        arity: u32,
-        params: &[u32],
-        body: ExprId,
-    ) -> Result<(), AllocError>
-        ensures { OnOk result (self.new
-            ≡ (self.old.0 ++ record { arity = arity; body = code.Rule params.now body } ∷ [], self.old.1)) }
+    pub(crate) fn function<R: Abort>(&mut self, rt: &R, arity: u32, params: &[u32], body: ExprId)
+        ensures { self.new
+            ≡ (self.old.0 ++ record { arity = arity; body = code.Rule params.now body } ∷ [], self.old.1) }
     {
-        let params = Vec::from_slice(self.alloc, params)?;
+        let params = Vec::from_slice(self.alloc, params).expect(rt, "memory");
         let body = FlatBody::Rule(params, body);
-        self.functions.push(FlatFunction { arity, body })?;
-        Ok(())
+        self.functions
+            .push(FlatFunction { arity, body })
+            .expect(rt, "memory");
     }
 
-    pub(crate) fn external(&mut self, arity: u32, operation: Prim) -> Result<(), AllocError>
-        ensures { OnOk result (self.new
-            ≡ (self.old.0 ++ record { arity = arity; body = code.External operation } ∷ [], self.old.1)) }
+    /// A function of one parameter that calls another twice. Its calls are the
+    /// expression at this place and the next one.
+    pub(crate) fn twice<R: Abort>(&mut self, rt: &R, f: FunId, place: usize)
+        requires { place < 1000 }
+        ensures { self.new ≡ (
+          self.old.0 ++ record { arity = 1; body = code.Rule (0 ∷ []) (record { 0 = place + 1 }) } ∷ [],
+          self.old.1 ++ code.Whole (head.Fun f) (record { 0 = 0 } ∷ [])
+              ∷ code.Whole (head.Fun f) (record { 0 = place } ∷ []) ∷ [],
+        ) }
+    {
+        self.call(rt, f, &[ExprId(0)]);
+        self.call(rt, f, &[ExprId(place)]);
+        self.function(rt, 1, &[0], ExprId(place + 1));
+    }
+
+    pub(crate) fn external<R: Abort>(&mut self, rt: &R, arity: u32, operation: Prim)
+        ensures { self.new
+            ≡ (self.old.0 ++ record { arity = arity; body = code.External operation } ∷ [], self.old.1) }
     {
         let body = FlatBody::External(operation);
-        self.functions.push(FlatFunction { arity, body })?;
-        Ok(())
+        self.functions
+            .push(FlatFunction { arity, body })
+            .expect(rt, "memory");
     }
 
     /// The program of all of them.
-    pub(crate) fn program(self) -> Result<FlatProgram, AllocError>
+    pub(crate) fn program<R: Abort>(self, rt: &R) -> FlatProgram
         requires { IsTrue (is_well_formed (sample self.0 self.1)) }
-        ensures { IfOk result (λ program. program ≡ sample self.0 self.1) }
+        ensures { result ≡ sample self.0 self.1 }
     {
         let constructors = vec![in self.alloc;
             constructor(0, 0),
             constructor(0, 0),
             constructor(1, 0),
             constructor(1, 2),
-        ]?;
-        Ok(FlatProgram::new(self.functions, constructors, SPECIAL, self.entries))
+        ]
+        .expect(rt, "memory");
+        FlatProgram::new(self.functions, constructors, SPECIAL, self.entries)
     }
 }
 
 /// `&&`, whose body has the first four expressions: two variables, False and
 /// a case distinction.
-pub(crate) fn both(alloc: Global) -> Result<Parts, AllocError>
-    ensures { IfOk result (λ parts. parts ≡ (
+pub(crate) fn both<R: Abort>(rt: &R, alloc: Global) -> Parts
+    ensures { result ≡ (
       record { arity = 2; body = code.Rule (0 ∷ 1 ∷ []) (record { 0 = 3 }) } ∷ [],
       code.Variable 0 ∷ code.Variable 1 ∷ code.Whole (head.Con (record { 0 = 0 })) []
           ∷ code.Case mode.Flex (0 ∷ 1 ∷ []) (record { 0 = 0 }) (
           record { pattern = code.Built (record { 0 = 0 }) []; body = record { 0 = 2 } }
           ∷ record { pattern = code.Built (record { 0 = 1 }) []; body = record { 0 = 1 } } ∷ []) ∷ [],
-    )) }
+    ) }
 {
     let mut parts = Parts::new(alloc);
-    parts.variable(0)?;
-    parts.variable(1)?;
-    parts.constructed(FALSE, &[])?;
+    parts.variable(rt, 0);
+    parts.variable(rt, 1);
+    parts.constructed(rt, FALSE, &[]);
     let branches = vec![in alloc;
-        branch(alloc, FALSE, &[], ExprId(2))?,
-        branch(alloc, TRUE, &[], ExprId(1))?,
-    ]?;
-    parts.case(Mode::Flex, &[0, 1], ExprId(0), branches)?;
-    parts.function(2, &[0, 1], ExprId(3))?;
-    Ok(parts)
+        branch(rt, alloc, FALSE, &[], ExprId(2)),
+        branch(rt, alloc, TRUE, &[], ExprId(1)),
+    ]
+    .expect(rt, "memory");
+    parts.case(rt, Mode::Flex, &[0, 1], ExprId(0), branches);
+    parts.function(rt, 2, &[0, 1], ExprId(3));
+    parts
 }
 
 /// `not True = False; not False = True`, and `goal x = not x`.
-pub(crate) fn negation(alloc: Global) -> Result<FlatProgram, AllocError>
-    ensures { IfOk result (λ program. IsTrue (code_is_without_sets program)) }
+pub(crate) fn negation<R: Abort>(rt: &R, alloc: Global) -> FlatProgram
+    ensures { IsTrue (code_is_without_sets result) }
 {
-    let mut parts = both(alloc)?;
-    parts.constructed(TRUE, &[])?;
+    let mut parts = both(rt, alloc);
+    parts.constructed(rt, TRUE, &[]);
     let branches = vec![in alloc;
-        branch(alloc, FALSE, &[], ExprId(4))?,
-        branch(alloc, TRUE, &[], ExprId(2))?,
-    ]?;
-    parts.case(Mode::Flex, &[0], ExprId(0), branches)?;
-    parts.call(FunId(1), &[ExprId(0)])?;
-    parts.function(1, &[0], ExprId(5))?;
-    parts.function(1, &[0], ExprId(6))?;
-    parts.program()
+        branch(rt, alloc, FALSE, &[], ExprId(4)),
+        branch(rt, alloc, TRUE, &[], ExprId(2)),
+    ]
+    .expect(rt, "memory");
+    parts.case(rt, Mode::Flex, &[0], ExprId(0), branches);
+    parts.call(rt, FunId(1), &[ExprId(0)]);
+    parts.function(rt, 1, &[0], ExprId(5));
+    parts.function(rt, 1, &[0], ExprId(6));
+    parts.program(rt)
 }

@@ -1,27 +1,20 @@
 //! Rows of the step table, with successors worked out by hand.
-ghost use Rattle.std.specs.Prelude.{◌≡◌, ◌<◌, ◌++◌, IfOk, OnOk, length};
+ghost use Rattle.std.specs.Prelude.{◌≡◌};
 ghost use Rattle.cu_machine.specs.declared.Kind.TheVariants as kind;
 ghost use Rattle.cu_calculus.specs.declared.Lit.TheVariants as lit;
 
 use crate::moved::Moved;
+use crate::runs::{self, Row, graph_of, is_graph};
+use crate::samples::{self, BOTH, SPECIAL};
 use crate::{call, equal, node, number, operand, pairs};
-use cu_flat::{ConId, FunId, Int, Lit, Prim, Special};
-use cu_graph::{Kind, PlainStore, Store};
+use cu_flat::{FunId, Head, Int, Lit, Prim};
+use cu_graph::{Kind, PlainStore};
 use std::alloc::{AllocError, Global};
-use std::test::Fail;
+use std::process::Abort;
 
-const SPECIAL: Special = Special {
-    falsity: ConId(0),
-    truth: ConId(1),
-    nil: ConId(2),
-    cons: ConId(3),
-    both: FunId(0),
-    values: None,
-};
+const FALSE: Kind = Kind::Cons(samples::FALSE);
 
-const FALSE: Kind = Kind::Cons(ConId(0));
-
-const TRUE: Kind = Kind::Cons(ConId(1));
+const TRUE: Kind = Kind::Cons(samples::TRUE);
 
 fn int(n: Int) -> Kind
     ensures { result ≡ kind.Lit (lit.Int n) }
@@ -29,29 +22,45 @@ fn int(n: Int) -> Kind
     Kind::Lit(Lit::Int(n))
 }
 
-/// What an operation on two heads puts in its place, or nothing where it
-/// overflows.
+/// What a node is in the graph that follows alone.
+fn kind_in(moved: &Moved<PlainStore>, id: u32) -> Option<Kind> {
+    match moved {
+        Moved::Become(stores) => match stores.as_slice() {
+            [store] => Some(node::kind_at(store, id)),
+            _ => None,
+        },
+        Moved::Overflow(_, _, _) => None,
+    }
+}
+
+/// An operation on two heads.
 fn computed(
     alloc: Global,
     operation: Prim,
     left: Kind,
     right: Kind,
-) -> Result<Option<Kind>, AllocError> {
-    let mut store = PlainStore::empty(alloc)?;
-    let a = node::push(&mut store, left, &[])?;
-    let b = node::push(&mut store, right, &[])?;
-    let id = node::push(&mut store, Kind::Prim(operation), &[a, b])?;
-    match number::computed(alloc, &SPECIAL, store, id, operation, &[a, b])? {
-        Moved::Become(stores) => match stores.first() {
-            Some(after) => Ok(Some(node::kind_at(after, id))),
-            None => Ok(None),
-        },
-        Moved::Overflow(_, _, _) => Ok(None),
-    }
+) -> Result<Moved<PlainStore>, AllocError> {
+    let top = Row::Pair(Kind::Prim(operation), 0, 1);
+    let store = graph_of(alloc, &[Row::Leaf(left), Row::Leaf(right), top])?;
+    number::computed(alloc, &SPECIAL, store, 2, operation, &[0, 1])
 }
 
-#[test]
-fn integers_are_computed_or_overflow(rt: HostRuntime) -> Result<(), Fail> {
+/// Expects what an operation on two integers puts in its place, or nothing
+/// where it overflows.
+fn expect_computed<R: Abort>(
+    rt: &R,
+    alloc: Global,
+    operation: Prim,
+    m: Int,
+    n: Int,
+    want: Option<Kind>,
+) {
+    let moved = computed(alloc, operation, int(m), int(n)).expect(rt, "memory");
+    assert_eq!(rt; kind_in(&moved, 2), want, "{m} and {n}");
+}
+
+/// Integers are computed or overflow, and nothing else is added.
+fn expect_integers<R: Abort>(rt: &R, alloc: Global) {
     let rows = [
         (Prim::Add, 2, 3, Some(int(5))),
         (Prim::Add, Int::MAX, 1, None),
@@ -72,31 +81,22 @@ fn integers_are_computed_or_overflow(rt: HostRuntime) -> Result<(), Fail> {
         (Prim::AtLeast, 1, 2, Some(FALSE)),
     ];
     for (operation, m, n, want) in rows {
-        let got = computed(rt.alloc(), operation, int(m), int(n))?;
-        assert_eq!(rt; got, want, "{m} and {n}");
+        expect_computed(rt, alloc, operation, m, n, want);
     }
     let character = Kind::Lit(Lit::Char('a'));
-    let got = computed(rt.alloc(), Prim::Add, int(1), character)?;
-    assert_eq!(rt; got, Some(Kind::Fail));
-    Ok(())
+    let moved = computed(alloc, Prim::Add, int(1), character).expect(rt, "memory");
+    assert_eq!(rt; kind_in(&moved, 2), Some(Kind::Fail));
 }
 
-/// What `ord` or `chr` puts in its place.
-fn of_one(alloc: Global, operation: Prim, operand: Kind) -> Result<Option<Kind>, AllocError> {
-    let mut store = PlainStore::empty(alloc)?;
-    let a = node::push(&mut store, operand, &[])?;
-    let id = node::push(&mut store, Kind::Prim(operation), &[a])?;
-    match number::computed(alloc, &SPECIAL, store, id, operation, &[a])? {
-        Moved::Become(stores) => match stores.first() {
-            Some(after) => Ok(Some(node::kind_at(after, id))),
-            None => Ok(None),
-        },
-        Moved::Overflow(_, _, _) => Ok(None),
-    }
+/// `ord` or `chr` of a head.
+fn of_one(alloc: Global, operation: Prim, operand: Kind) -> Result<Moved<PlainStore>, AllocError> {
+    let top = Row::Over(Kind::Prim(operation), 0);
+    let store = graph_of(alloc, &[Row::Leaf(operand), top])?;
+    number::computed(alloc, &SPECIAL, store, 1, operation, &[0])
 }
 
-#[test]
-fn characters_have_numbers(rt: HostRuntime) -> Result<(), Fail> {
+/// Characters have numbers.
+fn expect_characters<R: Abort>(rt: &R, alloc: Global) {
     let character = Kind::Lit(Lit::Char('a'));
     let rows = [
         (Prim::Ord, character, int(97)),
@@ -108,95 +108,23 @@ fn characters_have_numbers(rt: HostRuntime) -> Result<(), Fail> {
         (Prim::Chr, character, Kind::Fail),
     ];
     for (operation, operand, want) in rows {
-        let got = of_one(rt.alloc(), operation, operand)?;
-        assert_eq!(rt; got, Some(want));
-    }
-    Ok(())
-}
-
-/// The kind and the arguments of a node in the first graph that follows.
-fn first_node(
-    alloc: Global,
-    moved: &Moved<PlainStore>,
-    id: u32,
-) -> Result<Option<(Kind, Vec<u32>)>, AllocError> {
-    let Moved::Become(stores) = moved else {
-        return Ok(None);
-    };
-    match stores.first() {
-        Some(store) if id < store.len() => {
-            Ok(Some((store.kind(id), node::args(alloc, store, id)?)))
-        }
-        _ => Ok(None),
+        let moved = of_one(alloc, operation, operand).expect(rt, "memory");
+        assert_eq!(rt; kind_in(&moved, 1), Some(want));
     }
 }
 
-#[test]
-fn a_choice_has_two_successors(rt: HostRuntime) -> Result<(), Fail> {
-    let alloc = rt.alloc();
-    let mut store = PlainStore::empty(alloc)?;
-    let left = node::push(&mut store, int(1), &[])?;
-    let right = node::push(&mut store, int(2), &[])?;
-    let id = node::push(&mut store, Kind::Or, &[left, right])?;
-    match call::chosen(alloc, store, id)? {
-        Moved::Become(stores) => {
-            assert_eq!(rt; stores.len(), 2);
-            assert_eq!(rt; node::first_arg(&stores[0], 2), Some(0));
-            assert_eq!(rt; node::first_arg(&stores[1], 2), Some(1));
-            assert_eq!(rt; node::kind_at(&stores[0], 2), Kind::Ind);
-            assert_eq!(rt; stores[1].len(), 3);
-        }
-        Moved::Overflow(_, _, _) => assert!(rt; false),
-    }
-    Ok(())
+/// `==` of two heads without arguments.
+fn compared(alloc: Global, left: Kind, right: Kind) -> Result<Moved<PlainStore>, AllocError> {
+    let top = Row::Pair(Kind::Prim(Prim::Equal), 0, 1);
+    let store = graph_of(alloc, &[Row::Leaf(left), Row::Leaf(right), top])?;
+    let left = operand::at(alloc, &store, 0)?;
+    let right = operand::at(alloc, &store, 1)?;
+    equal::compared(alloc, &SPECIAL, store, 2, &left, &right)
 }
 
-#[test]
-fn pairs_are_joined_from_the_right(rt: HostRuntime) -> Result<(), Fail> {
-    let alloc = rt.alloc();
-    let mut store = PlainStore::empty(alloc)?;
-    let id = node::push(&mut store, Kind::Prim(Prim::Equal), &[])?;
-    let each = Kind::Prim(Prim::Equal);
-    let joint = Kind::Call(FunId(0));
-    let three = [(7, 10), (8, 11), (9, 12)];
-    let moved = pairs::in_pairs(alloc, &SPECIAL, store, id, each, joint, &three)?;
-    let rows = [
-        (0, joint, [1, 4]),
-        (1, each, [7, 10]),
-        (2, each, [8, 11]),
-        (3, each, [9, 12]),
-        (4, joint, [2, 3]),
-    ];
-    for (place, kind, args) in rows {
-        match first_node(alloc, &moved, place)? {
-            Some((got, got_args)) => {
-                assert_eq!(rt; got, kind);
-                assert_eq!(rt; got_args.as_slice(), args.as_slice());
-            }
-            None => assert!(rt; false),
-        }
-    }
-    Ok(())
-}
-
-/// What `==` of two heads without arguments puts in its place.
-fn compared(alloc: Global, left: Kind, right: Kind) -> Result<Option<Kind>, AllocError> {
-    let mut store = PlainStore::empty(alloc)?;
-    let a = node::push(&mut store, left, &[])?;
-    let b = node::push(&mut store, right, &[])?;
-    let id = node::push(&mut store, Kind::Prim(Prim::Equal), &[a, b])?;
-    let left = operand::at(alloc, &store, a)?;
-    let right = operand::at(alloc, &store, b)?;
-    let moved = equal::compared(alloc, &SPECIAL, store, id, &left, &right)?;
-    match first_node(alloc, &moved, id)? {
-        Some((kind, _)) => Ok(Some(kind)),
-        None => Ok(None),
-    }
-}
-
-#[test]
-fn equality_is_told_by_heads(rt: HostRuntime) -> Result<(), Fail> {
-    let partial = Kind::Part(cu_flat::Head::Fun(FunId(0)));
+/// Equality is told by heads.
+fn expect_equality<R: Abort>(rt: &R, alloc: Global) {
+    let partial = Kind::Part(Head::Fun(BOTH));
     let rows = [
         (int(1), int(1), TRUE),
         (int(1), int(2), FALSE),
@@ -208,7 +136,64 @@ fn equality_is_told_by_heads(rt: HostRuntime) -> Result<(), Fail> {
         (TRUE, partial, Kind::Fail),
     ];
     for (left, right, want) in rows {
-        assert_eq!(rt; compared(rt.alloc(), left, right)?, Some(want));
+        let moved = compared(alloc, left, right).expect(rt, "memory");
+        assert_eq!(rt; kind_in(&moved, 2), Some(want));
     }
-    Ok(())
+}
+
+#[test]
+fn heads_are_computed_with(rt: HostRuntime) {
+    let alloc = rt.alloc();
+    expect_integers(&rt, alloc);
+    expect_characters(&rt, alloc);
+    expect_equality(&rt, alloc);
+}
+
+/// A choice between 1 and 2.
+fn choice(alloc: Global) -> Result<Moved<PlainStore>, AllocError> {
+    let top = Row::Pair(Kind::Or, 0, 1);
+    let store = graph_of(alloc, &[runs::int(1), runs::int(2), top])?;
+    call::chosen(alloc, store, 2)
+}
+
+#[test]
+fn a_choice_has_two_successors(rt: HostRuntime) {
+    let (one, two) = (runs::int(1), runs::int(2));
+    match choice(rt.alloc()).expect(&rt, "memory") {
+        Moved::Become(stores) => match stores.as_slice() {
+            [left, right] => {
+                assert!(rt; is_graph(left, &[one, two, Row::Over(Kind::Ind, 0)]));
+                assert!(rt; is_graph(right, &[one, two, Row::Over(Kind::Ind, 1)]));
+            }
+            _ => panic!(rt; "not two"),
+        },
+        Moved::Overflow(_, _, _) => panic!(rt; "an overflow"),
+    }
+}
+
+/// Three pairs in the place of a node.
+fn three_pairs(alloc: Global, each: Kind, joint: Kind) -> Result<Moved<PlainStore>, AllocError> {
+    let store = graph_of(alloc, &[Row::Leaf(each)])?;
+    let three = [(7, 10), (8, 11), (9, 12)];
+    pairs::in_pairs(alloc, &SPECIAL, store, 0, each, joint, &three)
+}
+
+#[test]
+fn pairs_are_joined_from_the_right(rt: HostRuntime) {
+    let each = Kind::Prim(Prim::Equal);
+    let joint = Kind::Call(FunId(0));
+    let want = [
+        Row::Pair(joint, 1, 4),
+        Row::Pair(each, 7, 10),
+        Row::Pair(each, 8, 11),
+        Row::Pair(each, 9, 12),
+        Row::Pair(joint, 2, 3),
+    ];
+    match three_pairs(rt.alloc(), each, joint).expect(&rt, "memory") {
+        Moved::Become(stores) => match stores.as_slice() {
+            [store] => assert!(rt; is_graph(store, &want)),
+            _ => panic!(rt; "not one"),
+        },
+        Moved::Overflow(_, _, _) => panic!(rt; "an overflow"),
+    }
 }
