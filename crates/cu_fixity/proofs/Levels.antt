@@ -3,8 +3,8 @@ use Rattle.std.specs.Prelude.{◌≡◌, ◌<◌, ◌⊎◌, Bool, true, false, 
 use Rattle.std.proofs.Common.{ap, arith, sym, ◌∙◌, inl, inr, true≢false, eq-eqb, eqb-true}
 use Rattle.std.proofs.lemmas.Bool.{and_parts, le-ltb, lt-ltb, ltb-true}
 use Rattle.cu_fixity.specs.declared.fixity.Fixity.{Fixity}
-use Rattle.cu_fixity.specs.declared.fixity.Side.{Side}
-use Rattle.cu_fixity.specs.declared.fixity.Side.TheVariants.{Left, Neither, Right}
+use Rattle.cu_syntax.specs.declared.items.Side.{Side}
+use Rattle.cu_syntax.specs.declared.items.Side.TheVariants.{Left, Neither, Right}
 use Rattle.cu_fixity.specs.Grouping.{both, same_side}
 use Rattle.cu_fixity.specs.Ranges.{is_above}
 

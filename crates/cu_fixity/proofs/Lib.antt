@@ -1,6 +1,10 @@
 pub mod BuildLemmas
+pub mod FixityLemmas
 pub mod HeadLemmas
 pub mod Levels
 pub mod OneTree
+pub mod PartLemmas
 pub mod RangeLemmas
+pub mod Relabel
 pub mod Roots
+pub mod WrittenLemmas

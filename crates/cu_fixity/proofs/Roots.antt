@@ -3,7 +3,7 @@ use Rattle.std.specs.Prelude.{◌≡◌, ℕ, suc, ◌+◌, Bool, true, false, �
 use Rattle.std.proofs.Common.{ap, arith, ◌∙◌, inl}
 use Rattle.std.proofs.lemmas.Bool.{and_parts, ltb-true}
 use Rattle.cu_fixity.specs.declared.fixity.Fixity.{Fixity}
-use Rattle.cu_fixity.specs.declared.fixity.Side.TheVariants.{Left, Right}
+use Rattle.cu_syntax.specs.declared.items.Side.TheVariants.{Left, Right}
 use Rattle.cu_fixity.specs.Grouping.{Applied, Between, Infix, Item, Leaf, Operand, Prefix, Tree, fits_behind, fits_left, fits_right, flatten, is_grouped, top}
 use Rattle.cu_fixity.specs.Ranges.{Candidate, better, is_above, root}
 use Rattle.cu_fixity.proofs.Levels.{Near, Over, above, near_over, near_self, not_above, over_near, over_of}

@@ -2,8 +2,8 @@
 -- of the list and each operator's operands fit it (Curry Report, section on infix operators; Haskell Report, section 10.6).
 use Rattle.std.specs.Prelude.{◌≡◌, Bool, true, false, ◌&&◌, ◌||◌, List, [], ◌∷◌, ◌++◌, Option, None, Some, IsTrue, nat_eq, nat_lt}
 use Rattle.cu_fixity.specs.declared.fixity.Fixity.{Fixity}
-use Rattle.cu_fixity.specs.declared.fixity.Side.{Side}
-use Rattle.cu_fixity.specs.declared.fixity.Side.TheVariants.{Left, Neither, Right}
+use Rattle.cu_syntax.specs.declared.items.Side.{Side}
+use Rattle.cu_syntax.specs.declared.items.Side.TheVariants.{Left, Neither, Right}
 
 -- an operand, an operator that stands before its only operand, or one between two
 pub data Item (A : Type 0) (O : Type 0) : Type 0 where

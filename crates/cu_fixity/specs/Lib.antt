@@ -1,5 +1,9 @@
+pub mod Fixities
 pub mod Grouping
 pub mod Laws
+pub mod Operators
+pub mod Parts
 pub mod Pieces
 pub mod Ranges
+pub mod Resolving
 pub mod Spelling

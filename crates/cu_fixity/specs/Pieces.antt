@@ -1,7 +1,7 @@
 -- Pieces of an expression, and the items that they are under their numbers.
 use Rattle.std.specs.Prelude.{ℕ, suc, List, [], ◌∷◌, Option, Some, slice_get}
 use Rattle.cu_fixity.specs.declared.fixity.Fixity.{Fixity}
-use Rattle.cu_fixity.specs.declared.fixity.Side.TheVariants.{Left}
+use Rattle.cu_syntax.specs.declared.items.Side.TheVariants.{Left}
 use Rattle.cu_fixity.specs.declared.piece.Piece.{Piece}
 use Rattle.cu_fixity.specs.declared.piece.Piece.TheVariants as piece
 use Rattle.cu_fixity.specs.Grouping.{Infix, Item, Operand, Prefix}

@@ -2,7 +2,7 @@
 use Rattle.std.specs.Prelude.{◌≡◌, ℕ, ◌+◌, ◌-◌, ◌*◌, ◌<◌, ◌≤◌, ◌∷◌, ◌++◌, Bool, true, ◌&&◌, ◌||◌, List, [], Option, None, Some, drop, if◌then◌else◌, length, nat_eq, nat_lt, slice_get, take}
 use Rattle.std.specs.Option.{option_map}
 use Rattle.cu_fixity.specs.declared.fixity.Fixity.{Fixity}
-use Rattle.cu_fixity.specs.declared.fixity.Side.TheVariants.{Left}
+use Rattle.cu_syntax.specs.declared.items.Side.TheVariants.{Left}
 use Rattle.cu_fixity.specs.declared.grouping.Task.{Task}
 use Rattle.cu_fixity.specs.declared.grouping.Under.{Under}
 use Rattle.cu_fixity.specs.declared.grouping.Under.TheVariants as under

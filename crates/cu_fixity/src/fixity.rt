@@ -1,15 +1,6 @@
 //! Fixities.
 
-/// To which side operators of one level are grouped.
-#[derive(Clone, Copy, Debug, PartialEq, Eq)]
-pub enum Side {
-    /// To the left, as `infixl`.
-    Left,
-    /// To the right, as `infixr`.
-    Right,
-    /// To neither, as `infix`.
-    Neither,
-}
+use cu_syntax::Side;
 
 /// How an operator is grouped.
 #[derive(Clone, Copy, Debug, PartialEq, Eq)]

@@ -1,5 +1,12 @@
 //! Expressions, grouped by hand.
-use crate::{Cell, Fixity, Piece, Side, UNDECLARED, group, one_tree};
+use crate::{
+    Cell, Fixities, Fixity, FixityClash, Part, Piece, Side, UNDECLARED, group, one_tree, resolve,
+    resolve_pattern,
+};
+use cu_layout::block;
+use cu_lex::lex;
+use cu_names::Names;
+use cu_syntax::{Expression, ExpressionNode, Items, PatItems, Pattern, PatternNode, parse_goal};
 use std::alloc::{AllocError, Global};
 
 const LEFT_6: Piece = Piece::Operator(Fixity {
@@ -209,4 +216,127 @@ fn undeclared_operators(rt: HostRuntime) -> Result<(), AllocError> {
     assert!(rt; groups_as(rt.alloc(), &pieces, &cells)?);
     one_tree::<u32, u32>();
     Ok(())
+}
+
+/// What a goal's text is grouped to: the columns of its parts in Polish
+/// notation, or the clash.
+type Outcome = Result<Vec<u32>, FixityClash>;
+
+/// The fixities of `+`, `-`, `*` and `==`, and of a `-` of another module,
+/// which is grouped to the right.
+fn declared(alloc: Global, names: &mut Names) -> Option<Fixities> {
+    let mut table = Fixities::new(alloc, names.intern(":").ok()?);
+    for (operator, side, level) in [
+        ("+", Side::Left, 6),
+        ("-", Side::Left, 6),
+        ("*", Side::Left, 7),
+        ("==", Side::Neither, 4),
+        ("A.-", Side::Right, 6),
+        (":", Side::Left, 3),
+    ] {
+        let operator = names.intern(operator).ok()?;
+        table.declare(operator, Fixity { side, level }).ok()?;
+    }
+    Some(table)
+}
+
+/// The outcome of a text, if it is a goal of operators, or of a function whose
+/// first parameter has operators.
+fn outcome(alloc: Global, text: &str) -> Option<Outcome> {
+    let mut names = Names::new(alloc);
+    let module = names.intern("M").ok()?;
+    let tokens = lex(alloc, &mut names, module, text.as_bytes()).ok()?;
+    let tokens = block(alloc, tokens, false).ok()?;
+    let goal = parse_goal(alloc, tokens.as_slice()).ok()?;
+    let table = declared(alloc, &mut names)?;
+    expression_outcome(alloc, goal.expression(), &table)
+}
+
+fn expression_outcome(
+    alloc: Global,
+    expression: Expression<'_>,
+    table: &Fixities,
+) -> Option<Outcome> {
+    match expression.node(alloc).ok()? {
+        ExpressionNode::Operators(items) => Some(of_expression(alloc, &items, table)),
+        ExpressionNode::Lambda(_, patterns, _) => match patterns.first()?.node(alloc).ok()? {
+            PatternNode::Operators(items) => Some(of_pattern(alloc, &items, table)),
+            _ => None,
+        },
+        _ => None,
+    }
+}
+
+fn of_expression(alloc: Global, items: &Items<'_>, table: &Fixities) -> Outcome {
+    let found = resolve(alloc, items, table)?;
+    Ok(expression_columns(alloc, &found.parts)?)
+}
+
+fn expression_columns(
+    alloc: Global,
+    parts: &[Part<Expression<'_>>],
+) -> Result<Vec<u32>, AllocError> {
+    let mut columns = Vec::new(alloc);
+    for part in parts {
+        columns.push(match part {
+            Part::Operand(expression) => expression.place().column,
+            Part::Minus(place) => place.column,
+            Part::Operator(name) => name.place.column,
+        })?;
+    }
+    Ok(columns)
+}
+
+fn of_pattern(alloc: Global, items: &PatItems<'_>, table: &Fixities) -> Outcome {
+    let found = resolve_pattern(alloc, items, table)?;
+    Ok(pattern_columns(alloc, &found.parts)?)
+}
+
+fn pattern_columns(alloc: Global, parts: &[Part<Pattern<'_>>]) -> Result<Vec<u32>, AllocError> {
+    let mut columns = Vec::new(alloc);
+    for part in parts {
+        columns.push(match part {
+            Part::Operand(pattern) => pattern.place().column,
+            Part::Minus(place) => place.column,
+            Part::Operator(name) => name.place.column,
+        })?;
+    }
+    Ok(columns)
+}
+
+/// Whether a text is grouped to parts of these columns.
+fn is_grouped(alloc: Global, text: &str, columns: &[u32]) -> bool {
+    match outcome(alloc, text) {
+        Some(Ok(found)) => found.as_slice() == columns,
+        _ => false,
+    }
+}
+
+/// The column of the clash of a text, if it has one.
+fn clash_column(alloc: Global, text: &str) -> Option<u32> {
+    match outcome(alloc, text) {
+        Some(Err(FixityClash::At(place))) => Some(place.column),
+        _ => None,
+    }
+}
+
+#[test]
+fn goals(rt: HostRuntime) {
+    let alloc = rt.alloc();
+    assert!(rt; is_grouped(alloc, "1 - 2 - 3", &[7, 3, 1, 5, 9]));
+    assert!(rt; is_grouped(alloc, "1 A.- 2 A.- 3", &[3, 1, 9, 7, 13]));
+    assert!(rt; is_grouped(alloc, "a + b ! c", &[3, 1, 7, 5, 9]));
+    assert!(rt; is_grouped(alloc, "- 1 + 2", &[5, 1, 3, 7]));
+    assert!(rt; is_grouped(alloc, "- 1 * 2", &[1, 5, 3, 7]));
+    assert!(rt; is_grouped(alloc, "a == - b", &[3, 1, 6, 8]));
+    assert!(rt; is_grouped(alloc, "\\(x : y : zs) -> x", &[5, 3, 9, 7, 11]));
+}
+
+#[test]
+fn goals_that_clash(rt: HostRuntime) {
+    let alloc = rt.alloc();
+    assert_eq!(rt; clash_column(alloc, "1 == 2 == 3"), Some(1));
+    assert_eq!(rt; clash_column(alloc, "  a + - b"), Some(3));
+    assert_eq!(rt; clash_column(alloc, " - 1 - - 2"), Some(2));
+    assert_eq!(rt; clash_column(alloc, "1 - 2 A.- 3"), Some(1));
 }

@@ -14,6 +14,22 @@ pub enum Cell {
     Operator(usize),
 }
 
+impl Cell {
+    ghost use Rattle.std.specs.Prelude.{◌≡◌};
+    ghost use Rattle.cu_fixity.specs.Ranges.{number};
+
+    /// The number of its piece.
+    pub fn number(self) -> usize
+        ensures { result ≡ number self }
+    {
+        match self {
+            Cell::Operand(n) => n,
+            Cell::Minus(n) => n,
+            Cell::Operator(n) => n,
+        }
+    }
+}
+
 /// How an expression is grouped. Contracts see a tree over the numbers of its
 /// pieces.
 #[derive(Debug, Drop)]

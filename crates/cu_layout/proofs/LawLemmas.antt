@@ -11,10 +11,10 @@ use Rattle.cu_lex.specs.declared.token.ReservedOperator.TheVariants as reserved
 use Rattle.cu_lex.specs.declared.token.Token.{Token}
 use Rattle.cu_lex.specs.declared.token.TokenKind.{TokenKind}
 use Rattle.cu_lex.specs.declared.token.TokenKind.TheVariants as token
-use Rattle.cu_lex.specs.Reading.{is_written, lexeme_of, kind_of, position_of, HasKind}
+use Rattle.cu_lex.specs.Reading.{is_written, lexeme_of, kind_of, position_of, HasKind, HasNatural}
 use Rattle.cu_layout.specs.Blocks.{Marks, block, interleaving, last_of, layout_marks, with_marks}
 use Rattle.cu_layout.specs.Forms.{form_of, sight_of, token_form, token_sight}
-use Rattle.cu_layout.specs.Laws.{GivesTextBack, KeepsNames, KeepsTokens, ReadsAlike, without_layout}
+use Rattle.cu_layout.specs.Laws.{GivesTextBack, KeepsNames, KeepsNaturals, KeepsTokens, ReadsAlike, without_layout}
 use Rattle.cu_layout.specs.Reading.{emitted_lexeme, emitted_token, token_view}
 
 -- tokens laid out are those of the text with some marks
@@ -60,30 +60,36 @@ without-written (t ∷ more) all =
 pub text-back : GivesTextBack
 text-back whole text laid all is = tokens-kept whole text laid is ∙ without-written text all
 
--- ---- names are kept
+-- ---- what holds of the kinds of the text, and of marks, is kept
 
-named-emitted : (names : List (List ℕ)) (t : Option Token) (marks : List LayoutMark) → All (λ x. HasKind names x.kind) (map (emitted_token t) marks)
-named-emitted names t marks = All-map (λ x. HasKind names x.kind) (emitted_token t) marks (λ k d fits. tt)
+kept-emitted : (P : TokenKind → Type 0) → ((mark : LayoutMark) → P (token.Layout mark)) → (t : Option Token) (marks : List LayoutMark) → All (λ x. P x.kind) (map (emitted_token t) marks)
+kept-emitted P of_marks t marks = All-map (λ x. P x.kind) (emitted_token t) marks (λ k d fits. of_marks (slice_index_or marks k d))
 
-named-token : (names : List (List ℕ)) (t : Token) (more : List Token) → HasKind names t.kind → All (λ x. HasKind names x.kind) more → All (λ x. HasKind names x.kind) (t ∷ more)
-named-token names t more here all = λ k d fits. at k d fits
+kept-token : (P : TokenKind → Type 0) (t : Token) (more : List Token) → P t.kind → All (λ x. P x.kind) more → All (λ x. P x.kind) (t ∷ more)
+kept-token P t more here all = λ k d fits. at k d fits
   where
-    at : (k : ℕ) (d : Token) → k < length (t ∷ more) → HasKind names (slice_index_or (t ∷ more) k d).kind
+    at : (k : ℕ) (d : Token) → k < length (t ∷ more) → P (slice_index_or (t ∷ more) k d).kind
     at zero d fits = here
     at (suc k) d fits = all k d (omega arith)
 
-named-interleaving : (names : List (List ℕ)) (text : List Token) (marks : List (List LayoutMark)) → All (λ x. HasKind names x.kind) text → All (λ x. HasKind names x.kind) (interleaving emitted_token text marks)
-named-interleaving names [] marks all = all
-named-interleaving names (t ∷ more) [] all = all
-named-interleaving names (t ∷ more) (here ∷ marks) all =
-    All-append (λ x. HasKind names x.kind) (map (emitted_token (Some t)) here) (t ∷ interleaving emitted_token more marks) (named-emitted names (Some t) here)
-    (named-token names t (interleaving emitted_token more marks) (all 0 t (omega arith)) (named-interleaving names more marks (λ k d fits. all (suc k) d (omega arith))))
+kept-interleaving : (P : TokenKind → Type 0) → ((mark : LayoutMark) → P (token.Layout mark)) → (text : List Token) (marks : List (List LayoutMark)) → All (λ x. P x.kind) text → All (λ x. P x.kind) (interleaving emitted_token text marks)
+kept-interleaving P of_marks [] marks all = all
+kept-interleaving P of_marks (t ∷ more) [] all = all
+kept-interleaving P of_marks (t ∷ more) (here ∷ marks) all =
+    All-append (λ x. P x.kind) (map (emitted_token (Some t)) here) (t ∷ interleaving emitted_token more marks) (kept-emitted P of_marks (Some t) here)
+    (kept-token P t (interleaving emitted_token more marks) (all 0 t (omega arith)) (kept-interleaving P of_marks more marks (λ k d fits. all (suc k) d (omega arith))))
+
+kinds-kept : (P : TokenKind → Type 0) → ((mark : LayoutMark) → P (token.Layout mark)) → (whole : Bool) (text laid : List Token) → All (λ t. P t.kind) text → block token_view whole text ≡ Ok laid → All (λ t. P t.kind) laid
+kinds-kept P of_marks whole text laid all is =
+    let w = laid-with whole text laid is in
+    let kept = All-append (λ x. P x.kind) (interleaving emitted_token text w.0.before) (map (emitted_token (last_of None text)) w.0.after) (kept-interleaving P of_marks text w.0.before all) (kept-emitted P of_marks (last_of None text) w.0.after) in
+    subst (All (λ x. P x.kind)) (sym w.1) kept
 
 pub names-kept : KeepsNames
-names-kept names whole text laid all is =
-    let w = laid-with whole text laid is in
-    let named = All-append (λ x. HasKind names x.kind) (interleaving emitted_token text w.0.before) (map (emitted_token (last_of None text)) w.0.after) (named-interleaving names text w.0.before all) (named-emitted names (last_of None text) w.0.after) in
-    subst (All (λ x. HasKind names x.kind)) (sym w.1) named
+names-kept names whole text laid all is = kinds-kept (HasKind names) (λ mark. tt) whole text laid all is
+
+pub naturals-kept : KeepsNaturals
+naturals-kept whole text laid all is = kinds-kept HasNatural (λ mark. tt) whole text laid all is
 
 -- ---- layout sees of a token what it sees of its reading
 

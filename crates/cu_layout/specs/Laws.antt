@@ -2,7 +2,7 @@
 use Rattle.std.specs.Prelude.{◌≡◌, ℕ, Bool, true, List, map, filter, All, Ok}
 use Rattle.std.specs.Result.{result_map_both}
 use Rattle.cu_lex.specs.declared.token.Token.{Token}
-use Rattle.cu_lex.specs.Reading.{is_written, lexeme_of, HasKind}
+use Rattle.cu_lex.specs.Reading.{is_written, lexeme_of, HasKind, HasNatural}
 use Rattle.cu_layout.specs.Blocks.{block}
 use Rattle.cu_layout.specs.Reading.{lexeme_view, token_view}
 
@@ -26,3 +26,7 @@ ReadsAlike = (names : List (List ℕ)) (whole : Bool) (text : List Token)
 -- A table that has the names of the text has those of the tokens laid out.
 abbrev pub KeepsNames : Type 0
 KeepsNames = (names : List (List ℕ)) (whole : Bool) (text laid : List Token) → All (λ t. HasKind names t.kind) text → block token_view whole text ≡ Ok laid → All (λ t. HasKind names t.kind) laid
+
+-- Where no number of the text is negative, none of the tokens laid out is.
+abbrev pub KeepsNaturals : Type 0
+KeepsNaturals = (whole : Bool) (text laid : List Token) → All (λ t. HasNatural t.kind) text → block token_view whole text ≡ Ok laid → All (λ t. HasNatural t.kind) laid

@@ -1,6 +1,6 @@
 //! Laws of the layout rules. These functions do nothing: their contracts are
 //! the laws.
-ghost use Rattle.cu_layout.specs.Laws.{GivesTextBack, KeepsNames, KeepsTokens, ReadsAlike};
+ghost use Rattle.cu_layout.specs.Laws.{GivesTextBack, KeepsNames, KeepsNaturals, KeepsTokens, ReadsAlike};
 
 /// What the layout rules put in is all that tells the tokens laid out from the
 /// text.
@@ -8,6 +8,7 @@ pub fn text_is_kept()
     ensures kept { KeepsTokens }
     ensures back { GivesTextBack }
     ensures names { KeepsNames }
+    ensures naturals { KeepsNaturals }
 {}
 
 /// Layout doesn't depend on what names stand for.

@@ -26,7 +26,7 @@ use Rattle.cu_lex.specs.declared.token.TokenKind.TheVariants as token
 use Rattle.cu_lex.specs.Kind.Kind.{VarId, ConId, VarOp, ConOp}
 use Rattle.cu_lex.specs.Lexing.{piece_of, with_token, HasNames}
 use Rattle.cu_lex.specs.Pieces.Piece.{Blank, Token}
-use Rattle.cu_lex.specs.Reading.{kind_of, lexeme_of, HasKind, IsTokenOf}
+use Rattle.cu_lex.specs.Reading.{kind_of, lexeme_of, HasKind, HasNatural, IsTokenOf}
 use Rattle.cu_names.specs.declared.names.NameId.{NameId}
 use Rattle.cu_names.specs.Texts.{Extends, IsKnown}
 use Rattle.cu_lex.specs.declared.fault.LexFault.{LexFault}
@@ -122,7 +122,7 @@ tokens-grow owner old new grows (t ∷ ts) all =
     (λ j. record { what = here.0 j; at = position_of t.place } ∷ tokens-grow owner old new grows ts (λ k d fits. all (suc k) d (omega arith)) j)
 
 pub owned-grow : (owner : NameId) (old new : List (List ℕ)) → Extends old new → (ts : List LexerToken) → All (IsTokenOf owner old) ts → All (IsTokenOf owner new) ts
-owned-grow owner old new grows ts all = λ k d fits. record { owned = (all k d fits).owned; known = (kind-grows old new grows (slice_index_or ts k d).kind (all k d fits).known).1 }
+owned-grow owner old new grows ts all = λ k d fits. record { owned = (all k d fits).owned; known = (kind-grows old new grows (slice_index_or ts k d).kind (all k d fits).known).1; natural = (all k d fits).natural }
 
 one-more : (owner : NameId) (names : List (List ℕ)) (t : LexerToken) → IsTokenOf owner names t → All (IsTokenOf owner names) (t ∷ [])
 one-more owner names t is = λ k d fits. at k d fits
@@ -131,12 +131,12 @@ one-more owner names t is = λ k d fits. at k d fits
     at zero d fits = is
     at (suc k) d fits = absurd (omega arith)
 
-pub owned-more : (owner : NameId) (old new : List (List ℕ)) (ts : List LexerToken) (kind : Option TokenKind) (place : Place) → Extends old new → All (IsTokenOf owner old) ts → place.«module» ≡ owner → HasNames new kind
+pub owned-more : (owner : NameId) (old new : List (List ℕ)) (ts : List LexerToken) (kind : Option TokenKind) (place : Place) → Extends old new → All (IsTokenOf owner old) ts → place.«module» ≡ owner → HasNames new kind → IfSome kind HasNatural
     → All (IsTokenOf owner new) (with_token ts kind place)
-owned-more owner old new ts None place grows all own has = owned-grow owner old new grows ts all
-owned-more owner old new ts (Some kind) place grows all own has =
+owned-more owner old new ts None place grows all own has natural = owned-grow owner old new grows ts all
+owned-more owner old new ts (Some kind) place grows all own has natural =
     All-append (IsTokenOf owner new) ts (record { kind = kind; place = place } ∷ []) (owned-grow owner old new grows ts all)
-    (one-more owner new (record { kind = kind; place = place }) (record { owned = own; known = has }))
+    (one-more owner new (record { kind = kind; place = place }) (record { owned = own; known = has; natural = natural }))
 
 joined : (found : List Lexeme) (l : Lexeme) (more : Result (List Lexeme) Fault) → before found (result_map_both (λ ls. l ∷ ls) (λ fault. fault) more) ≡ before (found ++ l ∷ []) more
 joined found l (Ok more) = ap Ok (sym (append_assoc found (l ∷ []) more))

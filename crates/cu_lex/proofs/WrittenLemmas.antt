@@ -1,7 +1,8 @@
--- No piece of a text is a mark of layout.
+-- No piece of a text is a mark of layout, and none has a negative number.
 use Rattle.std.proofs.Common.{◌≡◌, ◌<◌, ℕ, zero, suc, refl, subst, arith, Bool, true, false, List, [], ◌∷◌, Option, None, Some, Result, Ok, Err, if◌then◌else◌, slice_index_or, nat_lt, ◌^◌, pos}
 use Rattle.std.proofs.lemmas.List.Elements.{All-append}
 use Rattle.std.specs.Option.{option_and_then, option_map, option_or, IfSome}
+use Rattle.std.specs.Int.{IsNonNegative}
 use Rattle.std.specs.Prelude.{All}
 use Rattle.std.specs.Str.{byte}
 use lib.Utf8.{scalar}
@@ -17,13 +18,14 @@ use Rattle.cu_lex.specs.Located.{Located, Position, characters}
 use Rattle.cu_lex.specs.Munch.{Placed, cut_at}
 use Rattle.cu_lex.specs.Pieces.{Piece, blank, character_at, codes_of, is_blank, name_kind, number, number_at, one_character, operator, piece, spelled, stands_before, start, string, string_of, word, word_before, word_kind}
 use Rattle.cu_lex.specs.Pieces.Piece.{Blank, Token, OutOfRange}
-use Rattle.cu_lex.specs.Reading.{is_written, kind_of}
+use Rattle.cu_lex.specs.Reading.{is_written, kind_of, HasNatural}
 use Rattle.cu_lex.specs.Words.{based_number, begins_with, decimal_number, is_colon, is_con_id, is_operator, is_var_id, keyword_of, mark_of, qualified_parts, reserved_of}
 use Rattle.cu_lex.proofs.MunchLemmas.{longest-is}
 
 -- a kind that stands in texts
 abbrev IsText : Kind → Type 0
 IsText (Layout mark) = ⊥
+IsText (Int n) = IsNonNegative n
 IsText kind = Unit {0}
 
 abbrev IsTextPiece : Piece → Type 0
@@ -147,3 +149,22 @@ written-more ts None place text end names all is = all
 written-more ts (Some kind) place text end names all is =
     All-append (λ t. is_written t.kind ≡ true) ts (record { kind = kind; place = place } ∷ []) all
     (one-written (record { kind = kind; place = place }) (written-kind names kind (found-text text end (Token (kind_of names kind)) is)))
+
+-- ---- numbers
+
+natural-kind : (names : List (List ℕ)) (kind : TokenKind) → IsText (kind_of names kind) → HasNatural kind
+natural-kind names (token.Int n) p = p
+natural-kind names (token.VarId name) p = tt
+natural-kind names (token.ConId name) p = tt
+natural-kind names (token.VarOp name) p = tt
+natural-kind names (token.ConOp name) p = tt
+natural-kind names (token.Keyword k) p = tt
+natural-kind names (token.Reserved k) p = tt
+natural-kind names (token.Mark mark) p = tt
+natural-kind names (token.Char code) p = tt
+natural-kind names (token.String value) p = tt
+natural-kind names (token.Layout mark) p = tt
+
+pub natural-found : (kind : Option TokenKind) (text end : List Located) (names : List (List ℕ)) → IsPiece text (piece_of names kind) end → IfSome kind HasNatural
+natural-found None text end names is = tt
+natural-found (Some kind) text end names is = natural-kind names kind (found-text text end (Token (kind_of names kind)) is)

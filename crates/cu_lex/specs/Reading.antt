@@ -1,4 +1,5 @@
 -- What the lexer's answers stand for.
+use Rattle.std.specs.Int.{IsNonNegative}
 use Rattle.std.specs.Prelude.{◌≡◌, ℕ, Bool, true, false, List, map, IfSome, Result, Ok, Err}
 use Rattle.std.specs.Option.{option_map}
 use Rattle.cu_names.specs.declared.place.Place.{Place}
@@ -71,10 +72,16 @@ HasKind names (token.VarOp name) = HasName names name
 HasKind names (token.ConOp name) = HasName names name
 HasKind names kind = Unit {0}
 
--- A token of a module, whose names a table has.
+-- The number of an Int token isn't negative.
+abbrev pub HasNatural : TokenKind → Type 0
+HasNatural (token.Int n) = IsNonNegative n
+HasNatural kind = Unit {0}
+
+-- A token of a module, whose names a table has. Its number, if it has one, isn't negative.
 pub record IsTokenOf (owner : NameId) (names : List (List ℕ)) (t : Token) : Type 0 where
   pub owned : t.place.«module» ≡ owner
   pub known : HasKind names t.kind
+  pub natural : HasNatural t.kind
 
 -- The token stands in a text, and layout didn't put it in.
 abbrev pub is_written : TokenKind → Bool

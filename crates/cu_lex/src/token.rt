@@ -40,7 +40,7 @@ pub enum TokenKind {
     Keyword(Keyword),
     Reserved(ReservedOperator),
     Mark(Mark),
-    /// A number without a sign, below 2 ^ 63.
+    /// A number without a sign, from 0 to 2 ^ 63 - 1. `lex` gives no other.
     Int(i64),
     Char(char),
     String(Characters),

@@ -6,10 +6,9 @@ use Rattle.cu_lex.specs.declared.token.Token.{Token}
 use Rattle.cu_lex.specs.Tokens.{Lexeme}
 use Rattle.cu_syntax.specs.declared.fault.ParseFault.{ParseFault}
 use Rattle.cu_syntax.specs.declared.symbol.Symbol.TheVariants as symbol
-use Rattle.cu_syntax.specs.declared.text.Parsed.{Parsed}
-use Rattle.cu_syntax.specs.Answer.{FoundHeader, NoHeader, Tells, tree_of}
+use Rattle.cu_syntax.specs.declared.text.Header as text
+use Rattle.cu_syntax.specs.Answer.{FoundHeader, NoHeader, Tells, header_meaning}
 use Rattle.cu_syntax.specs.Parsing.{Fault, Front, HasNone, HeaderRead, ModuleRead, PartsRead, Syntax, front, parts}
-use Rattle.cu_syntax.specs.Reading.{header_of}
 use Rattle.cu_syntax.specs.Scanning.{first_open}
 use Rattle.cu_syntax.specs.Syntax.{Header, Item}
 use Rattle.cu_syntax.proofs.PartLemmas.{tells_more}
@@ -39,8 +38,8 @@ whole tokens f block found items e b h r =
 
 -- over the front up to the first brace
 
-abbrev header_meaning : List (List ℕ) → Option Parsed → Option Header
-header_meaning names found = option_map (λ parsed. header_of (tree_of names parsed)) found
+abbrev header_found : List (List ℕ) → Option text.Header → Option Header
+header_found names found = option_map (header_meaning names) found
 
 pub wrong_header : (names : List (List ℕ)) (n : ℕ) (tokens : List Token) (answered : ParseFault) → first_open (lexemes names tokens) ≡ Some n
     → Tells (NoHeader (lexemes names (take n tokens))) answered → Tells (λ fault. ModuleRead (lexemes names tokens) (Err fault)) answered
@@ -55,17 +54,17 @@ block_at names n line tokens block outcome l b r =
     subst (λ (ts : List Token). PartsRead true (parts (behind_part names 1 n tokens) (lexemes names ts)) outcome) b
     (subst (λ (m : ℕ). PartsRead true (parts m (lexemes names block)) outcome) l r)
 
-pub wrong_item : (names : List (List ℕ)) (n line : ℕ) (tokens block : List Token) (found : Option Parsed) (answered : ParseFault) → first_open (lexemes names tokens) ≡ Some n
+pub wrong_item : (names : List (List ℕ)) (n line : ℕ) (tokens block : List Token) (found : Option text.Header) (answered : ParseFault) → first_open (lexemes names tokens) ≡ Some n
     → line ≡ behind_part names 1 n tokens → block ≡ drop (n + 1) tokens → FoundHeader names (lexemes names (take n tokens)) found
     → Tells (λ fault. PartsRead true (parts line (lexemes names block)) (Err fault)) answered → Tells (λ fault. ModuleRead (lexemes names tokens) (Err fault)) answered
 wrong_item names n line tokens block found answered e l b h r =
     tells_more (λ fault. PartsRead true (parts line (lexemes names block)) (Err fault)) (λ fault. ModuleRead (lexemes names tokens) (Err fault)) answered
-    (λ fault k. item_fault (lexemes names tokens) (front_with names 1 n tokens) (lexemes names (drop (n + 1) tokens)) (header_meaning names found) fault (front_open names 1 n tokens e) refl h
+    (λ fault k. item_fault (lexemes names tokens) (front_with names 1 n tokens) (lexemes names (drop (n + 1) tokens)) (header_found names found) fault (front_open names 1 n tokens e) refl h
     (block_at names n line tokens block (Err fault) l b k)) r
 
-pub right_module : (names : List (List ℕ)) (n line : ℕ) (tokens block : List Token) (found : Option Parsed) (items : List Item) → first_open (lexemes names tokens) ≡ Some n
+pub right_module : (names : List (List ℕ)) (n line : ℕ) (tokens block : List Token) (found : Option text.Header) (items : List Item) → first_open (lexemes names tokens) ≡ Some n
     → line ≡ behind_part names 1 n tokens → block ≡ drop (n + 1) tokens → FoundHeader names (lexemes names (take n tokens)) found
-    → PartsRead true (parts line (lexemes names block)) (Ok items) → ModuleRead (lexemes names tokens) (Ok (record { header = header_meaning names found; items = items }))
+    → PartsRead true (parts line (lexemes names block)) (Ok items) → ModuleRead (lexemes names tokens) (Ok (record { header = header_found names found; items = items }))
 right_module names n line tokens block found items e l b h r =
-    whole (lexemes names tokens) (front_with names 1 n tokens) (lexemes names (drop (n + 1) tokens)) (header_meaning names found) items (front_open names 1 n tokens e) refl h
+    whole (lexemes names tokens) (front_with names 1 n tokens) (lexemes names (drop (n + 1) tokens)) (header_found names found) items (front_open names 1 n tokens e) refl h
     (block_at names n line tokens block (Ok items) l b r)

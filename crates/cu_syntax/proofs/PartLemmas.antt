@@ -1,8 +1,8 @@
 -- Parts of a block and what they are read as.
-use Rattle.std.specs.Prelude.{◌≡◌, ℕ, ◌+◌, Bool, true, false, List, [], ◌∷◌, ◌++◌, Option, None, Some, Result, Ok, Err, IfErr, IfNone, IfOk, IfSome, drop, map, refl, take}
+use Rattle.std.specs.Prelude.{◌≡◌, ℕ, ◌+◌, Bool, true, false, ◌&&◌, List, [], ◌∷◌, ◌++◌, Option, None, Some, Result, Ok, Err, IfErr, IfNone, IfOk, IfSome, drop, map, refl, take}
 use Rattle.std.specs.declared.alloc.AllocError.{AllocError}
 use Rattle.std.specs.Result.{IsErrAnd}
-use Rattle.std.proofs.Common.{ap, subst, sym}
+use Rattle.std.proofs.Common.{ap, subst, sym, true≢false, ◌∙◌}
 use Rattle.std.proofs.lemmas.List.{append-nil}
 use Rattle.cu_lex.specs.declared.token.Token.{Token}
 use Rattle.cu_lex.specs.Reading.{lexeme_of}
@@ -10,7 +10,8 @@ use Rattle.cu_lex.specs.Tokens.{Lexeme}
 use Rattle.cu_peg.specs.declared.row.Row.{Row}
 use Rattle.cu_peg.specs.Classes.{has}
 use Rattle.cu_peg.specs.Matches.{HasTree}
-use Rattle.cu_peg.specs.Result.{HasNoTree}
+use Rattle.cu_peg.specs.Parse.{ParseTree, Leaf, Parts, Chosen, NoTree, MoreTrees}
+use Rattle.cu_peg.specs.Result.{HasNoTree, IsTreeOf}
 use Rattle.cu_syntax.specs.declared.fault.ParseFault.{ParseFault}
 use Rattle.cu_syntax.specs.declared.fault.ParseFault.TheVariants as answer
 use Rattle.cu_syntax.specs.declared.scanning.PartEnd.TheVariants as end
@@ -18,11 +19,16 @@ use Rattle.cu_syntax.specs.declared.symbol.Symbol.{Symbol}
 use Rattle.cu_syntax.specs.declared.symbol.Symbol.TheVariants as symbol
 use Rattle.cu_syntax.specs.declared.text.Item as text
 use Rattle.cu_syntax.specs.declared.text.Parsed.{Parsed}
-use Rattle.cu_syntax.specs.Answer.{Adds, FoundHeader, FoundPart, IsNoItem, Tells, item_meaning, items_meaning, part_with, tree_of}
+use Rattle.cu_syntax.specs.Answer.{Adds, FoundPart, IsNoItem, Tells, item_meaning, item_read, items_meaning, part_with, tree_of}
+use Rattle.cu_syntax.specs.Fits.{fits}
+use Rattle.cu_syntax.specs.ItemSymbols.{is_import, is_item}
 use Rattle.cu_syntax.specs.Parsing.{Fault, GoalRead, Has, HasNone, HeaderRead, ItemRead, Part, PartRead, PartsRead, Syntax, TooLong, behind, first_line, imports_behind, is_long, parts}
+use Rattle.cu_syntax.specs.Reading.{Tree, header_of, item_as, item_of}
 use Rattle.cu_syntax.specs.Scanning.{part_end}
+use Rattle.cu_syntax.specs.Subtrees.{over}
 use Rattle.cu_syntax.specs.Syntax.{Item}
-use Rattle.cu_syntax.specs.Table.{number, rows}
+use Rattle.cu_syntax.specs.Table.{alternative, number, rows}
+use Rattle.cu_syntax.proofs.FitsLaw.{fits_match, over_is}
 use Rattle.cu_syntax.proofs.SplitLemmas.{behind_part, lexemes, parts_close, parts_separator}
 
 pub no_tokens : (names : List (List ℕ)) (tokens : List Token) → tokens ≡ [] → map (lexeme_of names) tokens ≡ []
@@ -176,7 +182,7 @@ pub no_header : (tokens : List Lexeme) → tokens ≡ [] → HeaderRead tokens N
 no_header tokens e = subst (λ (ts : List Lexeme). HeaderRead ts None) (sym e) HeaderRead.no_header
 
 pub header_found : (names : List (List ℕ)) (tokens : List Lexeme) (found : Parsed) → ¬ (tokens ≡ []) → Has symbol.Header tokens (tree_of names found)
-    → FoundHeader names tokens (Some found)
+    → HeaderRead tokens (Some (header_of (tree_of names found)))
 header_found names tokens found s h = HeaderRead.header tokens (tree_of names found) s h
 
 pub import_allowed : (names : List (List ℕ)) (imports : Bool) (tokens : List Lexeme) (r : Result (Option Parsed) AllocError) → imports ≡ true
@@ -209,3 +215,52 @@ goal_too_long line tokens h e = subst (λ (n : ℕ). GoalRead tokens (Err (TooLo
 
 pub goal_no_tree : (line : ℕ) (tokens : List Lexeme) → is_long tokens ≡ false → HasNone symbol.Goal tokens → line ≡ first_line 1 tokens → GoalRead tokens (Err (Syntax line))
 goal_no_tree line tokens h none e = subst (λ (n : ℕ). GoalRead tokens (Err (Syntax n))) (sym e) (GoalRead.no_tree h none)
+
+-- Items by their symbols
+
+pub import_read : (names : List (List ℕ)) (imports : Bool) (tokens : List Lexeme) (found : Parsed) → found.symbol ≡ symbol.ImportDecl → imports ≡ true
+    → Has symbol.ImportDecl tokens (tree_of names found) → ItemRead imports tokens (item_read found.symbol (tree_of names found))
+import_read names imports tokens found s e h =
+    subst (λ (t : Symbol). ItemRead imports tokens (item_read t (tree_of names found))) (sym s) (ItemRead.import (tree_of names found) e h)
+
+pub declaration_read : (names : List (List ℕ)) (imports : Bool) (tokens : List Lexeme) (found : Parsed) → found.symbol ≡ symbol.Item
+    → Has symbol.Item tokens (tree_of names found) → ItemRead imports tokens (item_read found.symbol (tree_of names found))
+declaration_read names imports tokens found s h =
+    subst (λ (t : Symbol). ItemRead imports tokens (item_read t (tree_of names found))) (sym s) (ItemRead.declaration (tree_of names found) h)
+
+no_import_as : (imports : Bool) (s : Symbol) (tree : Tree) → imports_behind imports (item_as s tree) ≡ false
+no_import_as imports symbol.FixityDecl (Parts (MoreTrees word (MoreTrees level (MoreTrees names NoTree)))) = refl
+no_import_as imports symbol.DataDecl (Parts (MoreTrees word (MoreTrees name (MoreTrees parameters (MoreTrees constructors NoTree))))) = refl
+no_import_as imports symbol.SynonymDecl (Parts (MoreTrees word (MoreTrees name (MoreTrees parameters (MoreTrees equals (MoreTrees term NoTree)))))) = refl
+no_import_as imports s tree = refl
+
+no_import : (imports : Bool) (tree : Tree) → imports_behind imports (item_of tree) ≡ false
+no_import imports (Chosen n tree) = no_import_as imports (alternative symbol.Item n) tree
+no_import imports (Leaf x) = refl
+no_import imports (Parts trees) = refl
+
+and_true : (b : Bool) → (b && true) ≡ b
+and_true true = refl
+and_true false = refl
+
+and_false : (b : Bool) → (b && false) ≡ false
+and_false true = refl
+and_false false = refl
+
+-- whether an import may stand behind an item
+pub behind_item : (imports : Bool) (s : Symbol) (tree : Tree) → is_item s ≡ true → (imports && is_import s) ≡ imports_behind imports (item_read s tree)
+behind_item imports symbol.ImportDecl tree h = and_true imports
+behind_item imports symbol.Item tree h = and_false imports ∙ sym (no_import imports tree)
+behind_item imports s tree h = absurd (true≢false (sym h))
+
+-- the tree that matching gives
+
+pub tree_found : (table : List Row) (n : ℕ) (s : Symbol) (text : List Lexeme) (found : ParseTree ℕ) → table ≡ rows → n ≡ number s → IsTreeOf table n text found
+    → Has s text (over text found)
+tree_found table n s text found t k h =
+    subst (λ (r : List Row). HasTree r has (number s) text (over text found)) t
+    (subst (λ (m : ℕ). HasTree table has m text (over text found)) k
+    (subst (λ (tree : Tree). HasTree table has n text tree) (sym (over_is text found h.tree h.stands)) h.whole))
+
+pub tree_fits : (s : Symbol) (text : List Lexeme) (tree : Tree) → Has s text tree → fits s tree ≡ true
+tree_fits s text tree h = fits_match s (number s) text [] tree refl h

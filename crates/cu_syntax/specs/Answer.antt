@@ -1,38 +1,46 @@
 -- What the parsers' answers stand for, under a table of names.
 use Rattle.std.specs.Prelude.{◌≡◌, ℕ, Bool, List, [], ◌∷◌, ◌++◌, Option, None, Some, Ok, map}
-use Rattle.std.specs.Option.{option_map, unwrap_or}
+use Rattle.std.specs.Option.{option_map}
 use Rattle.cu_lex.specs.Reading.{lexeme_of}
 use Rattle.cu_lex.specs.Tokens.{Lexeme}
-use Rattle.cu_peg.specs.Parse.{NoTree, Parts, tree_over}
 use Rattle.cu_syntax.specs.declared.fault.ParseFault.{ParseFault}
 use Rattle.cu_syntax.specs.declared.fault.ParseFault.TheVariants as answer
+use Rattle.cu_syntax.specs.declared.symbol.Symbol.{Symbol}
 use Rattle.cu_syntax.specs.declared.symbol.Symbol.TheVariants as symbol
 use Rattle.cu_syntax.specs.declared.text.GoalText.{GoalText}
+use Rattle.cu_syntax.specs.declared.text.Header as headers
 use Rattle.cu_syntax.specs.declared.text.Item as text
-use Rattle.cu_syntax.specs.declared.text.Item.TheVariants as item
 use Rattle.cu_syntax.specs.declared.text.Module as texts
 use Rattle.cu_syntax.specs.declared.text.Parsed.{Parsed}
 use Rattle.cu_syntax.specs.Parsing.{Fault, HasNone, HeaderRead, ItemRead, Part, PartRead, Syntax, TooLong, imports_behind}
 use Rattle.cu_syntax.specs.Reading.{Tree, goal_of, header_of, import_of, item_of}
-use Rattle.cu_syntax.specs.Syntax.{Goal, ImportItem, Item, Module}
+use Rattle.cu_syntax.specs.Subtrees.{over}
+use Rattle.cu_syntax.specs.Syntax.{Goal, Header, ImportItem, Item, Module}
 
 -- The tree over tokens of the definition.
 abbrev pub tree_of : List (List ℕ) → Parsed → Tree
-tree_of names parsed = unwrap_or (tree_over (map (lexeme_of names) parsed.tokens.items) parsed.tree) (Parts NoTree)
+tree_of names parsed = over (map (lexeme_of names) parsed.tokens.items) parsed.tree
 
 abbrev pub goal_meaning : List (List ℕ) → GoalText → Goal
 goal_meaning names goal = goal_of (tree_of names goal.parsed)
 
+-- the item that a tree of a symbol is read as
+abbrev pub item_read : Symbol → Tree → Item
+item_read symbol.ImportDecl tree = ImportItem (import_of tree)
+item_read s tree = item_of tree
+
 abbrev pub item_meaning : List (List ℕ) → text.Item → Item
-item_meaning names (item.Import parsed) = ImportItem (import_of (tree_of names parsed))
-item_meaning names (item.Declaration parsed) = item_of (tree_of names parsed)
+item_meaning names item = item_read item.parsed.symbol (tree_of names item.parsed)
 
 abbrev pub items_meaning : List (List ℕ) → List text.Item → List Item
 items_meaning names items = map (item_meaning names) items
 
+abbrev pub header_meaning : List (List ℕ) → headers.Header → Header
+header_meaning names header = header_of (tree_of names header.parsed)
+
 abbrev pub module_meaning : List (List ℕ) → texts.Module → Module
 module_meaning names found = record {
-  header = option_map (λ parsed. header_of (tree_of names parsed)) found.header;
+  header = option_map (header_meaning names) found.header;
   items = items_meaning names found.items.items;
 }
 
@@ -45,8 +53,8 @@ Tells P answer.NoMemory = Unit {0}
 -- What is found on the way
 
 -- a header, or none, where it isn't wrong
-abbrev pub FoundHeader : List (List ℕ) → List Lexeme → Option Parsed → Type 0
-FoundHeader names tokens found = HeaderRead tokens (option_map (λ parsed. header_of (tree_of names parsed)) found)
+abbrev pub FoundHeader : List (List ℕ) → List Lexeme → Option headers.Header → Type 0
+FoundHeader names tokens found = HeaderRead tokens (option_map (header_meaning names) found)
 
 -- a wrong header
 abbrev pub NoHeader : List Lexeme → Fault → Type 0

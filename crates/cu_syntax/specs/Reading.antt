@@ -1,5 +1,5 @@
 -- What the trees of the grammar mean, as syntax. A tree of another shape than the grammar gives stands for something small.
-use Rattle.std.specs.Prelude.{ℕ, zero, ◌+◌, pos, Bool, true, false, List, [], ◌∷◌, ◌++◌, Option, None, Some}
+use Rattle.std.specs.Prelude.{ℕ, ◌+◌, pos, Bool, true, false, List, [], ◌∷◌, ◌++◌, Option, None, Some}
 use Rattle.std.specs.Option.{option_map, unwrap_or}
 use Rattle.std.proofs.Math.IntN.{neg_ℤ}
 use Rattle.cu_lex.specs.Kind as kind
@@ -9,8 +9,12 @@ use Rattle.cu_lex.specs.Tokens.{Lexeme}
 use Rattle.cu_peg.specs.Parse.{ParseTree, ParseTrees, Leaf, Parts, Chosen, NoTree, MoreTrees}
 use Rattle.cu_syntax.specs.declared.symbol.Symbol.{Symbol}
 use Rattle.cu_syntax.specs.declared.symbol.Symbol.TheVariants as symbol
+use Rattle.cu_syntax.specs.declared.expressions.CaseWord.{CaseWord}
+use Rattle.cu_syntax.specs.declared.expressions.CaseWord.TheVariants as case_words
+use Rattle.cu_syntax.specs.declared.items.Side.{Side}
+use Rattle.cu_syntax.specs.declared.items.Side.TheVariants as sides
 use Rattle.cu_syntax.specs.Syntax as syntax
-use Rattle.cu_syntax.specs.Syntax.{Alternatives, CaseWord, ConstructorDeclaration, ConstructorsNamed, Declaration, Declarations, Entity, Export, Expression, Expressions, Goal, Guards, Header, Import, ImportList, Item, Literal, MaybeExpression, ModuleName, Name, OperatorRest, Pattern, PatternRest, Patterns, Qualifier, Qualifiers, RightSide, Side, TypeTerm, TypeTerms}
+use Rattle.cu_syntax.specs.Syntax.{Alternatives, ConstructorDeclaration, ConstructorsNamed, Declaration, Declarations, Entity, Export, Expression, Expressions, Goal, Guards, Header, Import, ImportList, Item, Literal, MaybeExpression, ModuleName, Name, OperatorRest, Pattern, PatternRest, Patterns, Qualifier, Qualifiers, RightSide, TypeTerm, TypeTerms}
 use Rattle.cu_syntax.specs.Table.{alternative}
 
 abbrev pub Tree : Type 0
@@ -21,7 +25,7 @@ Trees = ParseTrees Lexeme
 
 -- Tokens
 
-abbrev or_else : Option Lexeme → Option Lexeme → Option Lexeme
+abbrev pub or_else : Option Lexeme → Option Lexeme → Option Lexeme
 or_else (Some x) other = Some x
 or_else None other = other
 
@@ -101,7 +105,7 @@ abbrev mutual
   type_of _ = no_type
 
   -- function types associate to the right
-  arrows : Trees → TypeTerm
+  pub arrows : Trees → TypeTerm
   arrows NoTree = no_type
   arrows (MoreTrees tree NoTree) = type_choice symbol.BType tree
   arrows (MoreTrees tree (MoreTrees next trees)) = syntax.Arrow (place tree) (type_choice symbol.BType tree) (arrows (MoreTrees next trees))
@@ -110,7 +114,7 @@ abbrev mutual
   type_choice s (Chosen n tree) = type_as (alternative s n) tree
   type_choice s _ = no_type
 
-  type_as : Symbol → Tree → TypeTerm
+  pub type_as : Symbol → Tree → TypeTerm
   type_as symbol.TypeApplication (Parts (MoreTrees name (MoreTrees (Parts arguments) NoTree))) = syntax.TypeNamed (name_of name) (argument_types arguments)
   type_as symbol.AType (Chosen n tree) = type_as (alternative symbol.AType n) tree
   type_as symbol.QConId tree = syntax.TypeNamed (name_of tree) syntax.NoType
@@ -151,7 +155,7 @@ abbrev mutual
   pattern_of (Parts (MoreTrees first (MoreTrees (Parts further) NoTree))) = with_operators (place first) (pattern_choice symbol.ConPat first) (pattern_rest further)
   pattern_of _ = no_pattern
 
-  pattern_rest : Trees → PatternRest
+  pub pattern_rest : Trees → PatternRest
   pattern_rest (MoreTrees (Parts (MoreTrees operator (MoreTrees operand NoTree))) trees) =
       syntax.ThenConstructor (name_of operator) (pattern_choice symbol.ConPat operand) (pattern_rest trees)
   pattern_rest _ = syntax.NoConstructor
@@ -160,7 +164,7 @@ abbrev mutual
   pattern_choice s (Chosen n tree) = pattern_as (alternative s n) tree
   pattern_choice s _ = no_pattern
 
-  pattern_as : Symbol → Tree → Pattern
+  pub pattern_as : Symbol → Tree → Pattern
   pattern_as symbol.NegativePat (Parts (MoreTrees minus (MoreTrees number NoTree))) = syntax.PatternLiteral (place minus) (negated (literal_of number))
   pattern_as symbol.ConApplication (Parts (MoreTrees name (MoreTrees (Parts arguments) NoTree))) = syntax.Constructed (place name) (name_of name) (argument_patterns arguments)
   pattern_as symbol.APat (Chosen n tree) = pattern_as (alternative symbol.APat n) tree
@@ -175,7 +179,7 @@ abbrev mutual
   pattern_as symbol.ListPat (Parts (MoreTrees opening (MoreTrees elements (MoreTrees closing NoTree)))) = syntax.PatternList (place opening) (optional_patterns elements)
   pattern_as _ _ = no_pattern
 
-  optional_patterns : Tree → Patterns
+  pub optional_patterns : Tree → Patterns
   optional_patterns (Parts (MoreTrees (Parts elements) NoTree)) = patterns_of elements
   optional_patterns _ = syntax.NoPattern
 
@@ -211,7 +215,7 @@ abbrev mutual
   left_choice s (Chosen n tree) = left_as (alternative s n) tree
   left_choice s _ = OfPattern no_pattern
 
-  left_as : Symbol → Tree → LeftSide
+  pub left_as : Symbol → Tree → LeftSide
   left_as symbol.InfixLhs (Parts (MoreTrees left (MoreTrees operator (MoreTrees right NoTree)))) =
       OfFunction (name_of operator) (syntax.MorePatterns (pattern_of left) (syntax.MorePatterns (pattern_of right) syntax.NoPattern))
   left_as symbol.ParenthesizedLhs (Parts (MoreTrees opening (MoreTrees inner (MoreTrees closing (MoreTrees arguments NoTree))))) =
@@ -256,20 +260,24 @@ count_in (Parts trees) = count trees
 count_in _ = 0
 
 abbrev pub case_word : Tree → CaseWord
-case_word (Chosen zero tree) = syntax.RigidCase
-case_word _ = syntax.FlexibleCase
+case_word (Chosen n tree) = case_word_as (alternative symbol.CaseWord n)
+  where
+    case_word_as : Symbol → CaseWord
+    case_word_as symbol.Case = case_words.Case
+    case_word_as s = case_words.Fcase
+case_word _ = case_words.Fcase
 
 abbrev mutual
   pub expression_of : Tree → Expression
   expression_of (Parts trees) = expression_parts trees
   expression_of _ = no_expression
 
-  expression_parts : Trees → Expression
+  pub expression_parts : Trees → Expression
   expression_parts (MoreTrees minus (MoreTrees first (MoreTrees (Parts further) NoTree))) =
       operators (unwrap_or (minus_of minus) (place first)) (minus_of minus) (expression_choice symbol.Operand first) (operator_rest further)
   expression_parts _ = no_expression
 
-  operator_rest : Trees → OperatorRest
+  pub operator_rest : Trees → OperatorRest
   operator_rest (MoreTrees (Parts (MoreTrees operator (MoreTrees minus (MoreTrees operand NoTree)))) trees) =
       syntax.ThenOperator (name_of operator) (minus_of minus) (expression_choice symbol.Operand operand) (operator_rest trees)
   operator_rest _ = syntax.NoOperator
@@ -278,7 +286,7 @@ abbrev mutual
   expression_choice s (Chosen n tree) = expression_as (alternative s n) tree
   expression_choice s _ = no_expression
 
-  expression_as : Symbol → Tree → Expression
+  pub expression_as : Symbol → Tree → Expression
   -- operands
   expression_as symbol.Lambda (Parts (MoreTrees backslash (MoreTrees parameters (MoreTrees arrow (MoreTrees body NoTree))))) =
       syntax.Lambda (place backslash) (arguments_in parameters) (expression_of body)
@@ -312,51 +320,51 @@ abbrev mutual
   expression_as symbol.ListExp (Parts (MoreTrees opening (MoreTrees (Parts elements) (MoreTrees closing NoTree)))) = syntax.ListOf (place opening) (expressions_of elements)
   expression_as _ _ = no_expression
 
-  maybe_expression : Tree → MaybeExpression
+  pub maybe_expression : Tree → MaybeExpression
   maybe_expression (Parts (MoreTrees tree NoTree)) = syntax.Present (expression_of tree)
   maybe_expression _ = syntax.Absent
 
-  atoms_of : Trees → Expressions
+  pub atoms_of : Trees → Expressions
   atoms_of NoTree = syntax.NoExpression
   atoms_of (MoreTrees tree trees) = syntax.MoreExpressions (expression_choice symbol.Atom tree) (atoms_of trees)
 
-  expressions_of : Trees → Expressions
+  pub expressions_of : Trees → Expressions
   expressions_of NoTree = syntax.NoExpression
   expressions_of (MoreTrees tree trees) = syntax.MoreExpressions (expression_of tree) (expressions_of trees)
 
   -- empty alternatives and declarations are left out
-  alternatives_of : Trees → Alternatives
+  pub alternatives_of : Trees → Alternatives
   alternatives_of (MoreTrees (Parts (MoreTrees (Parts (MoreTrees pattern (MoreTrees body (MoreTrees local NoTree)))) NoTree)) trees) =
       syntax.MoreAlternatives (place pattern) (pattern_of pattern) (right_side symbol.AltBody body (where_block local)) (alternatives_of trees)
   alternatives_of (MoreTrees tree trees) = alternatives_of trees
   alternatives_of NoTree = syntax.NoAlternative
 
   -- the body of a rule or an alternative, with what is local to it
-  right_side : Symbol → Tree → Declarations → RightSide
+  pub right_side : Symbol → Tree → Declarations → RightSide
   right_side s (Chosen n tree) local = right_as (alternative s n) tree local
   right_side s _ local = syntax.Plain first_position no_expression local
 
-  right_as : Symbol → Tree → Declarations → RightSide
+  pub right_as : Symbol → Tree → Declarations → RightSide
   right_as symbol.PlainRhs (Parts (MoreTrees equals (MoreTrees body NoTree))) local = syntax.Plain (place equals) (expression_of body) local
   right_as symbol.GuardedRhs (Parts guards) local = syntax.Guarded (place (Parts guards)) (guards_of guards) local
   right_as symbol.PlainAlt (Parts (MoreTrees arrow (MoreTrees body NoTree))) local = syntax.Plain (place arrow) (expression_of body) local
   right_as symbol.GuardedAlts (Parts guards) local = syntax.Guarded (place (Parts guards)) (guards_of guards) local
   right_as _ _ local = syntax.Plain first_position no_expression local
 
-  guards_of : Trees → Guards
+  pub guards_of : Trees → Guards
   guards_of (MoreTrees (Parts (MoreTrees bar (MoreTrees condition (MoreTrees sign (MoreTrees body NoTree))))) trees) =
       syntax.MoreGuards (place bar) (expression_of condition) (expression_of body) (guards_of trees)
   guards_of _ = syntax.NoGuard
 
-  where_block : Tree → Declarations
+  pub where_block : Tree → Declarations
   where_block (Parts (MoreTrees (Parts (MoreTrees word (MoreTrees block NoTree))) NoTree)) = block_of block
   where_block _ = syntax.NoDeclaration
 
-  block_of : Tree → Declarations
+  pub block_of : Tree → Declarations
   block_of (Parts (MoreTrees opening (MoreTrees (Parts declarations) (MoreTrees closing NoTree)))) = declarations_of declarations
   block_of _ = syntax.NoDeclaration
 
-  declarations_of : Trees → Declarations
+  pub declarations_of : Trees → Declarations
   declarations_of (MoreTrees (Parts (MoreTrees (Chosen n tree) NoTree)) trees) =
       syntax.MoreDeclarations (declaration_as (alternative symbol.Decl n) tree) (declarations_of trees)
   declarations_of (MoreTrees tree trees) = declarations_of trees
@@ -371,12 +379,12 @@ abbrev mutual
       rule_of (place left) (left_choice symbol.FunctionLhs left) (right_side symbol.RhsBody body (where_block local))
   declaration_as _ _ = syntax.FreeVariables first_position []
 
-  qualifiers_of : Trees → Qualifiers
+  pub qualifiers_of : Trees → Qualifiers
   qualifiers_of NoTree = syntax.NoQualifier
   qualifiers_of (MoreTrees (Chosen n tree) trees) = syntax.MoreQualifiers (qualifier_as (alternative symbol.Qual n) tree) (qualifiers_of trees)
   qualifiers_of (MoreTrees tree trees) = qualifiers_of trees
 
-  qualifier_as : Symbol → Tree → Qualifier
+  pub qualifier_as : Symbol → Tree → Qualifier
   qualifier_as symbol.Generator (Parts (MoreTrees pattern (MoreTrees arrow (MoreTrees list NoTree)))) = syntax.Generator (place pattern) (pattern_of pattern) (expression_of list)
   qualifier_as symbol.LetQual (Parts (MoreTrees word (MoreTrees block (MoreTrees no_in NoTree)))) = syntax.LocalDeclarations (place word) (block_of block)
   qualifier_as symbol.Exp (Parts trees) = syntax.Condition (place (Parts trees)) (expression_parts trees)
@@ -402,9 +410,9 @@ abbrev pub entity_of : Tree → Entity
 entity_of (Chosen n tree) = entity_as (alternative symbol.Entity n) tree
   where
     entity_as : Symbol → Tree → Entity
-    entity_as symbol.TypeEntity (Parts (MoreTrees name (MoreTrees constructors NoTree))) = syntax.TypeEntity (name_of name) (constructors_named constructors)
-    entity_as s other = syntax.VariableEntity (name_of other)
-entity_of tree = syntax.VariableEntity (name_of tree)
+    entity_as symbol.TypeEntity (Parts (MoreTrees name (MoreTrees constructors NoTree))) = syntax.TypeEntity (place name) (name_of name) (constructors_named constructors)
+    entity_as s other = syntax.VariableEntity (place other) (name_of other)
+entity_of tree = syntax.VariableEntity (place tree) (name_of tree)
 
 abbrev pub each : {A : Type 0} → (Tree → A) → Trees → List A
 each f NoTree = []
@@ -419,7 +427,7 @@ abbrev pub export_of : Tree → Export
 export_of (Chosen n tree) = export_as (alternative symbol.Export n) tree
   where
     export_as : Symbol → Tree → Export
-    export_as symbol.ModuleExport (Parts (MoreTrees word (MoreTrees name NoTree))) = syntax.ModuleExport (module_name name)
+    export_as symbol.ModuleExport (Parts (MoreTrees word (MoreTrees name NoTree))) = syntax.ModuleExport (place word) (module_name name)
     export_as s other = syntax.EntityExport (entity_of other)
 export_of tree = syntax.EntityExport (entity_of tree)
 
@@ -430,8 +438,8 @@ exports_of _ = []
 
 abbrev pub header_of : Tree → Header
 header_of (Parts (MoreTrees word (MoreTrees name (MoreTrees exports (MoreTrees where_word NoTree))))) =
-    record { name = module_name name; exports = optional exports_of exports }
-header_of tree = record { name = module_name tree; exports = None }
+    record { at = place word; name = module_name name; exports = optional exports_of exports }
+header_of tree = record { at = place tree; name = module_name tree; exports = None }
 
 abbrev pub import_list : Tree → ImportList
 import_list (Parts (MoreTrees hiding (MoreTrees opening (MoreTrees list (MoreTrees closing NoTree))))) =
@@ -451,22 +459,22 @@ abbrev pub side_of : Tree → Side
 side_of (Chosen n tree) = side_as (alternative symbol.FixityWord n)
   where
     side_as : Symbol → Side
-    side_as symbol.Infixl = syntax.Left
-    side_as symbol.Infixr = syntax.Right
-    side_as s = syntax.Neither
-side_of _ = syntax.Neither
+    side_as symbol.Infixl = sides.Left
+    side_as symbol.Infixr = sides.Right
+    side_as s = sides.Neither
+side_of _ = sides.Neither
 
 abbrev pub digit_of : Tree → ℕ
 digit_of tree = elim (literal_of tree) [ syntax.Int (pos n) ↦ n | _ ↦ 0 ]
 
+abbrev pub constructor_as : Symbol → Tree → ConstructorDeclaration
+constructor_as symbol.InfixConDecl (Parts (MoreTrees left (MoreTrees operator (MoreTrees right NoTree)))) =
+    record { at = place left; name = name_of operator; fields = syntax.MoreTypes (type_choice symbol.BType left) (syntax.MoreTypes (type_choice symbol.BType right) syntax.NoType) }
+constructor_as symbol.PrefixConDecl (Parts (MoreTrees name (MoreTrees (Parts fields) NoTree))) = record { at = place name; name = name_of name; fields = argument_types fields }
+constructor_as s other = record { at = place other; name = name_of other; fields = syntax.NoType }
+
 abbrev pub constructor_declaration : Tree → ConstructorDeclaration
 constructor_declaration (Chosen n tree) = constructor_as (alternative symbol.ConDecl n) tree
-  where
-    constructor_as : Symbol → Tree → ConstructorDeclaration
-    constructor_as symbol.InfixConDecl (Parts (MoreTrees left (MoreTrees operator (MoreTrees right NoTree)))) =
-        record { at = place left; name = name_of operator; fields = syntax.MoreTypes (type_choice symbol.BType left) (syntax.MoreTypes (type_choice symbol.BType right) syntax.NoType) }
-    constructor_as symbol.PrefixConDecl (Parts (MoreTrees name (MoreTrees (Parts fields) NoTree))) = record { at = place name; name = name_of name; fields = argument_types fields }
-    constructor_as s other = record { at = place other; name = name_of other; fields = syntax.NoType }
 constructor_declaration tree = record { at = place tree; name = name_of tree; fields = syntax.NoType }
 
 -- the declarations of constructors behind the equals sign

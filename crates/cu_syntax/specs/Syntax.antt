@@ -3,6 +3,8 @@
 -- node.
 use Rattle.std.specs.Prelude.{ℕ, ℤ, Bool, List, Option}
 use Rattle.cu_lex.specs.Located.{Position}
+use Rattle.cu_syntax.specs.declared.expressions.CaseWord.{CaseWord}
+use Rattle.cu_syntax.specs.declared.items.Side.{Side}
 
 -- A name or an operator where it stands: its text, the qualifier in it, if it has one, the text without that, and the place of its
 -- token, inside the parentheses or backquotes round it.
@@ -57,11 +59,6 @@ mutual
   pub data PatternRest : Type 0 where
     NoConstructor : PatternRest
     ThenConstructor : Name → Pattern → PatternRest → PatternRest
-
--- `case` asks, and `fcase` also guesses
-pub data CaseWord : Type 0 where
-  RigidCase : CaseWord
-  FlexibleCase : CaseWord
 
 mutual
   pub data Expression : Type 0 where
@@ -143,14 +140,15 @@ pub data ConstructorsNamed : Type 0 where
   Only : List Name → ConstructorsNamed
 
 pub data Entity : Type 0 where
-  VariableEntity : Name → Entity
-  TypeEntity : Name → ConstructorsNamed → Entity
+  VariableEntity : Position → Name → Entity
+  TypeEntity : Position → Name → ConstructorsNamed → Entity
 
 pub data Export : Type 0 where
-  ModuleExport : ModuleName → Export
+  ModuleExport : Position → ModuleName → Export
   EntityExport : Entity → Export
 
 pub record Header : Type 0 where
+  pub at : Position
   pub name : ModuleName
   pub exports : Option (List Export)
 
@@ -165,11 +163,6 @@ pub record Import : Type 0 where
   pub name : ModuleName
   pub alias : Option ModuleName
   pub list : Option ImportList
-
-pub data Side : Type 0 where
-  Left : Side
-  Right : Side
-  Neither : Side
 
 pub record ConstructorDeclaration : Type 0 where
   pub at : Position
@@ -192,3 +185,29 @@ pub record Module : Type 0 where
 pub record Goal : Type 0 where
   pub expression : Expression
   pub free : List Name
+
+-- the place of an expression's first token, inside the parentheses round it
+abbrev pub expression_position : Expression → Position
+expression_position (Variable at name) = at
+expression_position (Constructor at name) = at
+expression_position (LiteralExpression at found) = at
+expression_position (Application at function arguments) = at
+expression_position (Operators at minus first rest) = at
+expression_position (Lambda at parameters body) = at
+expression_position (Let at local body) = at
+expression_position (If at condition chosen other) = at
+expression_position (Case at word subject alternatives) = at
+expression_position (Tuple at components) = at
+expression_position (TupleConstructor at count) = at
+expression_position (LeftSection at operand operator) = at
+expression_position (RightSection at operator operand) = at
+expression_position (ListOf at elements) = at
+expression_position (Enumeration at first second last) = at
+expression_position (Comprehension at element qualifiers) = at
+
+-- the place of a declaration's first token
+abbrev pub declaration_position : Declaration → Position
+declaration_position (FreeVariables at names) = at
+declaration_position (Signature at names term) = at
+declaration_position (FunctionRule at name parameters right) = at
+declaration_position (PatternBinding at pattern right) = at

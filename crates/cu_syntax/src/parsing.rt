@@ -1,7 +1,10 @@
 //! Parsing of modules and goals.
 ghost use Rattle.std.specs.Prelude.{◌≡◌, ◌<◌, ℕ, Bool, [], false, true, IfErr, IfNone, IfOk, IfSome, List, length, map, Ok, Err, OnOk};
-ghost use Rattle.cu_lex.specs.Reading.{lexeme_of};
+ghost use Rattle.std.specs.List.{All};
+ghost use Rattle.cu_lex.specs.Reading.{IsTokenOf, lexeme_of};
+ghost use Rattle.cu_names.specs.declared.names.NameId.{NameId};
 ghost use Rattle.cu_syntax.specs.Answer.{Adds, FoundHeader, FoundPart, IsNoItem, NoHeader, Tells, goal_meaning, item_meaning, items_meaning, module_meaning, part_with, tree_of};
+ghost use Rattle.cu_syntax.specs.Owners.{GoalIsOf, HeaderIsOf, ItemIsOf, ModuleIsOf, ParsedIsOf};
 ghost use Rattle.cu_syntax.specs.Parsing.{GoalRead, Has, HasNone, ItemRead, ModuleRead, PartRead, PartsRead, behind, parts};
 ghost use Rattle.cu_syntax.specs.Table.{number, rows};
 ghost use Rattle.cu_syntax.specs.declared.symbol.Symbol.TheVariants as symbol;
@@ -12,7 +15,7 @@ use crate::scanning::{
     PartEnd, first_line, first_open, is_long, line_behind, part_end, tokens_behind,
 };
 use crate::symbol::Symbol;
-use crate::text::{GoalText, Item, Module, Parsed};
+use crate::text::{GoalText, Header, Item, Module, Parsed};
 use cu_lex::Token;
 use cu_peg::{Grammar, matches};
 use std::alloc::{AllocError, Global};
@@ -26,6 +29,7 @@ use std::alloc::{AllocError, Global};
 pub fn parse_goal(alloc: Global, tokens: &[Token]) -> Result<GoalText, ParseFault>
     ensures goal { (names : List (List ℕ)) → IfOk result (λ goal. GoalRead (map (lexeme_of names) tokens.now) (Ok (goal_meaning names goal))) }
     ensures fault { (names : List (List ℕ)) → IfErr result (Tells (λ fault. GoalRead (map (lexeme_of names) tokens.now) (Err fault))) }
+    ensures owned { (owner : NameId) (names : List (List ℕ)) → All (IsTokenOf owner names) tokens.now → IfOk result (GoalIsOf owner names) }
 {
     if is_long(tokens) {
         return Err(ParseFault::TooLong(first_line(1, tokens)));
@@ -48,6 +52,7 @@ pub fn parse_goal(alloc: Global, tokens: &[Token]) -> Result<GoalText, ParseFaul
 pub fn parse_module(alloc: Global, tokens: &[Token]) -> Result<Module, ParseFault>
     ensures syntax { (names : List (List ℕ)) → IfOk result (λ found. ModuleRead (map (lexeme_of names) tokens.now) (Ok (module_meaning names found))) }
     ensures fault { (names : List (List ℕ)) → IfErr result (Tells (λ fault. ModuleRead (map (lexeme_of names) tokens.now) (Err fault))) }
+    ensures owned { (owner : NameId) (names : List (List ℕ)) → All (IsTokenOf owner names) tokens.now → IfOk result (ModuleIsOf owner names) }
 {
     let opening = match first_open(tokens) {
         Some(opening) => opening,
@@ -65,16 +70,17 @@ fn read_header(
     alloc: Global,
     grammar: &Grammar,
     tokens: &[Token],
-) -> Result<Option<Parsed>, ParseFault>
+) -> Result<Option<Header>, ParseFault>
     requires { grammar.now ≡ rows }
     ensures header { (names : List (List ℕ)) → IfOk result (FoundHeader names (map (lexeme_of names) tokens.now)) }
     ensures fault { (names : List (List ℕ)) → IfErr result (Tells (NoHeader (map (lexeme_of names) tokens.now))) }
+    ensures owned { (owner : NameId) (names : List (List ℕ)) → All (IsTokenOf owner names) tokens.now → IfOk result (λ found. IfSome found (HeaderIsOf owner names)) }
 {
     if tokens.is_empty() {
         return Ok(None);
     }
     match parse(alloc, grammar, Symbol::Header, tokens)? {
-        Some(header) => Ok(Some(header)),
+        Some(parsed) => Ok(Some(Header { parsed })),
         None => Err(ParseFault::Syntax(1)),
     }
 }
@@ -90,6 +96,7 @@ fn read_parts(
     requires { grammar.now ≡ rows }
     ensures items { (names : List (List ℕ)) → IfOk result (λ items. PartsRead true (parts last (map (lexeme_of names) block.now)) (Ok (items_meaning names items.items))) }
     ensures fault { (names : List (List ℕ)) → IfErr result (Tells (λ fault. PartsRead true (parts last (map (lexeme_of names) block.now)) (Err fault))) }
+    ensures owned { (owner : NameId) (names : List (List ℕ)) → All (IsTokenOf owner names) block.now → IfOk result (λ found. All (ItemIsOf owner names) found.items) }
 {
     let mut items = Vec::new(alloc);
     let mut imports = true;
@@ -118,17 +125,15 @@ fn read_parts(
 /// Adds an item, if there is one. It gives whether an import may stand behind
 /// it.
 fn add_item(items: &mut Vec<Item>, imports: bool, found: Option<Item>) -> Result<bool, AllocError>
-    ensures { (names : List (List ℕ)) → IfOk result (Adds names imports items.old.items items.new.items found) }
+    ensures items { (names : List (List ℕ)) → IfOk result (Adds names imports items.old.items items.new.items found) }
+    ensures owned { (owner : NameId) (names : List (List ℕ)) → All (ItemIsOf owner names) items.old.items → IfSome found (ItemIsOf owner names) → OnOk result (All (ItemIsOf owner names) items.new.items) }
 {
     match found {
         None => Ok(imports),
-        Some(Item::Import(import)) => {
-            items.push(Item::Import(import))?;
+        Some(item) => {
+            let imports = imports && item.is_import();
+            items.push(item)?;
             Ok(imports)
-        }
-        Some(Item::Declaration(declaration)) => {
-            items.push(Item::Declaration(declaration))?;
-            Ok(false)
         }
     }
 }
@@ -166,6 +171,7 @@ fn read_part(
     requires { grammar.now ≡ rows }
     ensures item { (names : List (List ℕ)) → IfOk result (FoundPart names imports (part_with true last (map (lexeme_of names) tokens.now))) }
     ensures fault { (names : List (List ℕ)) → IfErr result (Tells (λ fault. PartRead imports (part_with true last (map (lexeme_of names) tokens.now)) (Err fault))) }
+    ensures owned { (owner : NameId) (names : List (List ℕ)) → All (IsTokenOf owner names) tokens.now → IfOk result (λ found. IfSome found (ItemIsOf owner names)) }
 {
     if tokens.is_empty() {
         return Ok(None);
@@ -189,12 +195,13 @@ fn read_item(
     requires { grammar.now ≡ rows }
     ensures item { (names : List (List ℕ)) → IfOk result (λ found. IfSome found (λ item. ItemRead imports (map (lexeme_of names) tokens.now) (item_meaning names item))) }
     ensures none { (names : List (List ℕ)) → IfOk result (λ found. IfNone found (IsNoItem imports (map (lexeme_of names) tokens.now))) }
+    ensures owned { (owner : NameId) (names : List (List ℕ)) → All (IsTokenOf owner names) tokens.now → IfOk result (λ found. IfSome found (ItemIsOf owner names)) }
 {
-    if let Some(import) = read_import(alloc, grammar, imports, tokens)? {
-        return Ok(Some(Item::Import(import)));
+    if let Some(parsed) = read_import(alloc, grammar, imports, tokens)? {
+        return Ok(Some(Item { parsed }));
     }
     match parse(alloc, grammar, Symbol::Item, tokens)? {
-        Some(declaration) => Ok(Some(Item::Declaration(declaration))),
+        Some(parsed) => Ok(Some(Item { parsed })),
         None => Ok(None),
     }
 }
@@ -208,7 +215,9 @@ fn read_import(
 ) -> Result<Option<Parsed>, AllocError>
     requires { grammar.now ≡ rows }
     ensures import { (names : List (List ℕ)) → IfOk result (λ found. IfSome found (λ import. (imports ≡ true) × Has symbol.ImportDecl (map (lexeme_of names) tokens.now) (tree_of names import))) }
+    ensures symbol { IfOk result (λ found. IfSome found (λ import. import.symbol ≡ symbol.ImportDecl)) }
     ensures none { (names : List (List ℕ)) → IfOk result (λ found. IfNone found (imports ≡ true → HasNone symbol.ImportDecl (map (lexeme_of names) tokens.now))) }
+    ensures owned { (owner : NameId) (names : List (List ℕ)) → All (IsTokenOf owner names) tokens.now → IfOk result (λ found. IfSome found (ParsedIsOf owner names)) }
 {
     if !imports {
         return Ok(None);
@@ -227,14 +236,20 @@ fn parse(
     requires rows { grammar.now ≡ rows }
     requires row { number symbol < length rows }
     ensures tree { (names : List (List ℕ)) → IfOk result (λ found. IfSome found (λ parsed. Has symbol (map (lexeme_of names) tokens.now) (tree_of names parsed))) }
+    ensures symbol { IfOk result (λ found. IfSome found (λ parsed. parsed.symbol ≡ symbol)) }
     ensures none { (names : List (List ℕ)) → IfOk result (λ found. IfNone found (HasNone symbol (map (lexeme_of names) tokens.now))) }
+    ensures owned { (owner : NameId) (names : List (List ℕ)) → All (IsTokenOf owner names) tokens.now → IfOk result (λ found. IfSome found (ParsedIsOf owner names)) }
 {
     let tree = match matches(alloc, grammar, number(symbol), tokens)? {
         Some(tree) => tree,
         None => return Ok(None),
     };
     let tokens = copy(alloc, tokens)?;
-    Ok(Some(Parsed { tokens, tree }))
+    Ok(Some(Parsed {
+        symbol,
+        tokens,
+        tree,
+    }))
 }
 
 fn copy(alloc: Global, tokens: &[Token]) -> Result<Vec<Token>, AllocError>

@@ -1,7 +1,7 @@
 //! The grammar of Curry, made of its rules.
 ghost use Rattle.std.specs.Prelude.{◌≡◌, ◌++◌, IfOk, OnOk, map};
 ghost use Rattle.cu_syntax.specs.Meaning.{rule_meaning};
-ghost use Rattle.cu_syntax.specs.Table.{number, row_of, rows};
+ghost use Rattle.cu_syntax.specs.Table.{number, row_of, rows, rule_of};
 
 use crate::rule::Rule;
 use crate::rules::{
@@ -81,4 +81,28 @@ pub(crate) fn number(symbol: Symbol) -> u32
     ensures { result ≡ number symbol }
 {
     symbol as u32
+}
+
+/// The rule of a symbol.
+pub(crate) fn rule(symbol: Symbol) -> Rule
+    ensures { rule_meaning result ≡ rule_of symbol }
+{
+    let mut number = number(symbol) as usize;
+    for rules in [
+        token_rules(),
+        name_rules(),
+        header_rules(),
+        declaration_rules(),
+        type_rules(),
+        block_rules(),
+        expression_rules(),
+        pattern_rules(),
+        goal_rules(),
+    ] {
+        if number < rules.len() {
+            return rules[number];
+        }
+        number -= rules.len();
+    }
+    unreachable!()
 }

@@ -1,6 +1,6 @@
 //! The symbols of the grammar.
 /// A symbol of the grammar of Curry modules and goals.
-#[derive(Clone, Copy)]
+#[derive(Clone, Copy, Debug)]
 pub(crate) enum Symbol {
     // Tokens.
     VarId,

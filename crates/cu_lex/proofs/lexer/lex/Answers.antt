@@ -5,7 +5,7 @@ use Rattle.cu_lex.specs.Reading.{is_written, lexeme_of, IsTokenOf, Tells}
 use Rattle.cu_lex.specs.Scanning.{left}
 use Rattle.cu_lex.specs.Tokens.{lexemes, tokens}
 use Rattle.cu_lex.proofs.TokenLemmas.{err-from, all-found, before, ended-lexemes, next-lexemes, next-shorter, not-text, owned-more, of-text, tells, too-big}
-use Rattle.cu_lex.proofs.WrittenLemmas.{written-more}
+use Rattle.cu_lex.proofs.WrittenLemmas.{natural-found, written-more}
 use Rattle.cu_lex.proofs.lexer.lex.Goals as goal
 
 pub returns-then-bytes-gt-MOST_BYTES-clause-fault : goal.returns-then-bytes-gt-MOST_BYTES-clause-fault
@@ -37,7 +37,8 @@ loop-first-preserved c =
           (sym c.peek.ensures ∙ c.in-Some.is) c.place.ensures.at c.in_ok-kind.ensures.lexes.piece
           ∙ ap (λ ts. before (map (lexeme_of c.piece.new.names) ts) (lexemes (left c.in_ok-kind.next))) (sym added);
       owned = subst (All (IsTokenOf c.args.module c.piece.new.names)) (sym added)
-          (owned-more c.args.module c.loop-first.names c.piece.new.names c.loop-first.tokens.items c.in_ok-kind.kind c.place.result c.in_ok-kind.ensures.names c.loop-first.invariant.owned c.place.ensures.owner c.in_ok-kind.ensures.lexes.known);
+          (owned-more c.args.module c.loop-first.names c.piece.new.names c.loop-first.tokens.items c.in_ok-kind.kind c.place.result c.in_ok-kind.ensures.names c.loop-first.invariant.owned c.place.ensures.owner c.in_ok-kind.ensures.lexes.known
+          (natural-found c.in_ok-kind.kind (left c.loop-first.rest) (left c.in_ok-kind.next) c.piece.new.names c.in_ok-kind.ensures.lexes.piece));
       written = subst (All (λ t. is_written t.kind ≡ true)) (sym added) (written-more c.loop-first.tokens.items c.in_ok-kind.kind c.place.result (left c.loop-first.rest) (left c.in_ok-kind.next) c.piece.new.names c.loop-first.invariant.written c.in_ok-kind.ensures.lexes.piece);
       names = extends-trans c.loop-first.invariant.names c.in_ok-kind.ensures.names;
       differ = λ h. c.in_ok-kind.ensures.differ (c.loop-first.invariant.differ h);

@@ -9,3 +9,6 @@ returns-clause-import c = λ names.
 
 pub returns-clause-none : goal.returns-clause-none
 returns-clause-none c = λ names. import_asked c.args.imports (map (lexeme_of names) c.args.tokens.now) c.parse.result (c.parse.ensures.none names)
+
+pub returns-clause-owned : goal.returns-clause-owned
+returns-clause-owned c = λ owner names whole. c.parse.ensures.owned owner names whole

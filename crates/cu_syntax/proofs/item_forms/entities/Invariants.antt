@@ -1,0 +1,24 @@
+-- The entities so far, and those left, are those of the whole.
+use Rattle.std.proofs.Common.{◌≡◌, [], ℕ, List, length}
+use Rattle.std.specs.List.{All}
+use Rattle.std.specs.Option.{unwrap_or}
+use Rattle.std.specs.Vec.Iter.{into_iter_items, into_iter_len}
+use Rattle.cu_names.specs.declared.names.NameId.{NameId}
+use Rattle.cu_syntax.specs.declared.symbol.Symbol.TheVariants as symbol
+use Rattle.cu_syntax.specs.Items.{entity_meaning}
+use Rattle.cu_syntax.specs.Reading.{each, each_in, entity_of, optional}
+use Rattle.cu_syntax.specs.SubtreeMeaning.{tree_of}
+use Rattle.cu_syntax.specs.Owners.{EntityIsOf, IsOf}
+use Rattle.cu_syntax.proofs.DeclarationLemmas.{before}
+use Rattle.cu_syntax.proofs.ViewLemmas.{Reads}
+use Rattle.cu_syntax.proofs.item_forms.entities.Given as goal
+
+abbrev pub invariant-loop-part : goal.invariant-loop-part
+invariant-loop-part l = record {
+  reads : (names : List (List ℕ)) → Reads (before (entity_meaning names)) (each entity_of) names (unwrap_or (optional (each_in entity_of) (tree_of names l.tree)) [])
+      l.entities.items (into_iter_items l.part-iterator);
+  left : (owner : NameId) (names : List (List ℕ)) → IsOf owner names l.tree → All (IsOf owner names) (into_iter_items l.part-iterator);
+  owned : (owner : NameId) (names : List (List ℕ)) → IsOf owner names l.tree → All (EntityIsOf owner names) l.entities.items;
+  symbols : All (λ part. part.symbol ≡ symbol.Entity) (into_iter_items l.part-iterator);
+  counted : into_iter_len l.part-iterator ≡ length (into_iter_items l.part-iterator);
+}

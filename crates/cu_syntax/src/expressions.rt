@@ -1,0 +1,156 @@
+//! Expressions as they are written.
+ghost use Rattle.std.specs.Prelude.{◌≡◌, true};
+ghost use Rattle.cu_syntax.specs.Forms.{is_expression};
+
+use crate::declarations::{Declaration, RightSide};
+use crate::patterns::Pattern;
+use crate::subtree::Subtree;
+use crate::symbol::Symbol;
+use crate::{Literal, Name, expression_forms as forms};
+use cu_names::Place;
+use std::alloc::{AllocError, Global};
+
+/// An expression.
+#[derive(Clone, Copy, Debug)]
+pub struct Expression<'t> {
+    pub(crate) tree: Subtree<'t>,
+    ghost is_expression: { is_expression tree.symbol ≡ true },
+}
+
+/// What an expression is, with the expressions in it.
+#[derive(Debug, Drop)]
+pub enum ExpressionNode<'t> {
+    Variable(Place, Name),
+    Constructor(Place, Name),
+    Literal(Place, Literal<'t>),
+    /// An expression on one argument or more.
+    Application(Place, Expression<'t>, Vec<Expression<'t>>),
+    Operators(Items<'t>),
+    Lambda(Place, Vec<Pattern<'t>>, Expression<'t>),
+    Let(Place, Vec<Declaration<'t>>, Expression<'t>),
+    /// The condition, and what it chooses between.
+    If(Place, Expression<'t>, Expression<'t>, Expression<'t>),
+    Case(Place, CaseWord, Expression<'t>, Vec<Alternative<'t>>),
+    /// The components; unit has none.
+    Tuple(Place, Vec<Expression<'t>>),
+    /// The constructor of tuples of so many components.
+    TupleConstructor(Place, usize),
+    LeftSection(Place, Expression<'t>, Name),
+    RightSection(Place, Name, Expression<'t>),
+    List(Place, Vec<Expression<'t>>),
+    Enumeration(Place, Enumeration<'t>),
+    Comprehension(Place, Expression<'t>, Vec<Qualifier<'t>>),
+}
+
+/// Expressions with operators between them, not grouped. There is a minus
+/// before the first of them, or an operator.
+#[derive(Debug, Drop)]
+pub struct Items<'t> {
+    pub place: Place,
+    /// The place of a minus before the first operand.
+    pub minus: Option<Place>,
+    pub first: Expression<'t>,
+    pub rest: Vec<OperatorItem<'t>>,
+}
+
+/// An operator, and the operand behind it.
+#[derive(Clone, Copy, Debug)]
+pub struct OperatorItem<'t> {
+    pub operator: Name,
+    /// The place of a minus before the operand.
+    pub minus: Option<Place>,
+    pub operand: Expression<'t>,
+}
+
+/// Whether a case distinction waits for a variable, as `case`, or narrows it,
+/// as `fcase`.
+#[derive(Clone, Copy, Debug, PartialEq, Eq)]
+pub enum CaseWord {
+    Case,
+    Fcase,
+}
+
+/// An alternative of a case distinction.
+#[derive(Clone, Copy, Debug)]
+pub struct Alternative<'t> {
+    pub pattern: Pattern<'t>,
+    pub right: RightSide<'t>,
+}
+
+/// Numbers from the first, by the step to the second, if it is there, and up
+/// to the last, if it is there.
+#[derive(Clone, Copy, Debug)]
+pub struct Enumeration<'t> {
+    pub first: Expression<'t>,
+    pub second: Option<Expression<'t>>,
+    pub last: Option<Expression<'t>>,
+}
+
+/// A qualifier of a list comprehension.
+#[derive(Debug, Drop)]
+pub enum Qualifier<'t> {
+    Generator(Place, Pattern<'t>, Expression<'t>),
+    Declarations(Place, Vec<Declaration<'t>>),
+    Condition(Place, Expression<'t>),
+}
+
+impl<'t> Expression<'t> {
+    ghost use Rattle.std.specs.Prelude.{◌≡◌, ℕ, List, IfOk, true};
+    ghost use Rattle.cu_lex.specs.Reading.{position_of};
+    ghost use Rattle.cu_names.specs.declared.names.NameId.{NameId};
+    ghost use Rattle.cu_syntax.specs.Forms.{is_expression};
+    ghost use Rattle.cu_syntax.specs.ExpressionMeaning.{expression_meaning};
+    ghost use Rattle.cu_syntax.specs.Owners.{ExpressionIsOf, ExpressionNodeIsOf, PlaceIsOf};
+    ghost use Rattle.cu_syntax.specs.Syntax.{expression_position};
+    ghost use Rattle.cu_syntax.specs.Expressions.{expression_node};
+
+    /// The expression that a tree is.
+    pub(crate) fn new(tree: Subtree<'t>) -> Expression<'t>
+        requires { is_expression tree.symbol ≡ true }
+        ensures { result.tree ≡ tree.entry }
+    {
+        Expression { tree }
+    }
+
+    /// The place of its first token, inside the parentheses round it.
+    pub fn place(self) -> Place
+        ensures position { (names : List (List ℕ)) → position_of result ≡ expression_position (expression_meaning names self.entry) }
+        ensures owned { (owner : NameId) (names : List (List ℕ)) → ExpressionIsOf owner names self.entry → PlaceIsOf owner result }
+    {
+        forms::inside(self.tree).place()
+    }
+
+    /// What it is. Parentheses round one expression leave no node.
+    ///
+    /// # Errors
+    ///
+    /// Want of memory.
+    pub fn node(self, alloc: Global) -> Result<ExpressionNode<'t>, AllocError>
+        ensures meaning { (names : List (List ℕ)) → IfOk result (λ node. expression_node names node ≡ expression_meaning names self.entry) }
+        ensures owned { (owner : NameId) (names : List (List ℕ)) → ExpressionIsOf owner names self.entry → IfOk result (ExpressionNodeIsOf owner names) }
+    {
+        let tree = forms::inside(self.tree);
+        match tree.symbol {
+            Symbol::Exp => forms::operators(alloc, tree),
+            Symbol::Lambda => forms::lambda(alloc, tree),
+            Symbol::LetExp => forms::let_in(alloc, tree),
+            Symbol::IfExp => Ok(forms::condition(tree)),
+            Symbol::CaseExp => forms::case(alloc, tree),
+            Symbol::Application => forms::application(alloc, tree),
+            Symbol::Literal => Ok(ExpressionNode::Literal(tree.place(), tree.literal())),
+            Symbol::QVar => Ok(ExpressionNode::Variable(tree.place(), tree.name())),
+            Symbol::QCon => Ok(ExpressionNode::Constructor(tree.place(), tree.name())),
+            Symbol::Unit => Ok(ExpressionNode::Tuple(tree.place(), Vec::new(alloc))),
+            Symbol::TupleCon => Ok(forms::tuple_constructor(tree)),
+            Symbol::RightSection => Ok(forms::right_section(tree)),
+            Symbol::LeftSection => Ok(forms::left_section(tree)),
+            Symbol::Tuple => forms::tuple(alloc, tree),
+            Symbol::EmptyList => Ok(ExpressionNode::List(tree.place(), Vec::new(alloc))),
+            Symbol::FromThen => Ok(forms::from_then(tree)),
+            Symbol::From => Ok(forms::from(tree)),
+            Symbol::Comprehension => forms::comprehension(alloc, tree),
+            Symbol::ListExp => forms::list(alloc, tree),
+            _ => unreachable!(),
+        }
+    }
+}
