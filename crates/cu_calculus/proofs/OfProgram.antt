@@ -13,9 +13,11 @@ use Rattle.cu_calculus.specs.declared.builtin.Primitive.TheVariants as prim
 use Rattle.cu_calculus.specs.Below as below
 use Rattle.cu_calculus.specs.Below.{AllBelow, Below}
 use Rattle.cu_calculus.specs.Builtin as builtin
-use Rattle.cu_calculus.specs.Builtin.{Answers, character, floor_quotient, floor_rest, integer, literals, on_integers, on_literals, truth_of}
+use Rattle.cu_int.specs.Integers.{floor_quotient, floor_rest}
+use Rattle.cu_calculus.specs.Builtin.{Answers, character, integer, literals, on_integers, on_literals, truth_of}
 use Rattle.cu_calculus.specs.Gives.{collected, listed}
-use Rattle.cu_calculus.specs.Literal.{is_integer, is_scalar, same_literal}
+use Rattle.cu_int.specs.Integers.{is_integer}
+use Rattle.cu_calculus.specs.Literal.{is_scalar, same_literal}
 use Rattle.cu_calculus.specs.Match.{Bindings, Environment, all_matched, bind, bind_all, matched, same_constructor}
 use Rattle.cu_calculus.specs.Program.{Program, arity_in}
 use Rattle.cu_calculus.specs.Shape.{are_of, is_of, takes, takes_more}
@@ -182,8 +184,8 @@ pub scalar_fits : (n : ℕ) → IsTrue (is_scalar n) → IsTrue (is_integer (pos
 scalar_fits n h = by (or_cases (nat_lt n 0xD800) (nat_le 0xE000 n && nat_lt n 0x110000) h)
   where
     by : ((nat_lt n 0xD800 ≡ true) ⊎ ((nat_le 0xE000 n && nat_lt n 0x110000) ≡ true)) → IsTrue (is_integer (pos n))
-    by (inl low) = below_bound n 0xD800 (2 ^ 63 - 1) refl low
-    by (inr high) = below_bound n 0x110000 (2 ^ 63 - 1) refl (and_parts (nat_le 0xE000 n) (nat_lt n 0x110000) high).1
+    by (inl low) = below_bound n 0xD800 (2 ^ 127 - 1) refl low
+    by (inr high) = below_bound n 0x110000 (2 ^ 127 - 1) refl (and_parts (nat_le 0xE000 n) (nat_lt n 0x110000) high).1
 
 pub on_literals_of : (program : Program) → HasSpecial program → (operation : Primitive) (ls : List Lit) → IsTrue (are_of program (literals ls))
     → IsTrue (answer_of program (on_literals program operation ls))

@@ -11,8 +11,10 @@ use Rattle.cu_calculus.specs.declared.Head.TheVariants as head
 use Rattle.cu_calculus.specs.Below as below
 use Rattle.cu_calculus.specs.Below.{AllBelow, Below, EnvBelow}
 use Rattle.cu_calculus.specs.Builtin as builtin
-use Rattle.cu_calculus.specs.Builtin.{Answers, character, floor_quotient, floor_rest, integer, on_integers, on_literals, truth_of}
-use Rattle.cu_calculus.specs.Literal.{is_integer, is_scalar}
+use Rattle.cu_int.specs.Integers.{floor_quotient, floor_rest}
+use Rattle.cu_calculus.specs.Builtin.{Answers, character, integer, on_integers, on_literals, truth_of}
+use Rattle.cu_int.specs.Integers.{is_integer}
+use Rattle.cu_calculus.specs.Literal.{is_scalar}
 use Rattle.cu_calculus.specs.Gives as gives
 use Rattle.cu_calculus.specs.Gives.{AllGive, Applied, Claim, Gives, collected}
 use Rattle.cu_calculus.specs.Match.{Bindings, Environment, bind, bind_all, empty}

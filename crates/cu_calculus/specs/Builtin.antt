@@ -1,12 +1,13 @@
 -- What the built-in operations answer on values.
-use Rattle.std.specs.Prelude.{◌≡◌, Bool, true, false, not, ◌&&◌, ◌||◌, List, [], ◌∷◌, Option, None, Some, if◌then◌else◌, ℤ, pos, negsuc, ◌+ℤ◌, ◌-ℤ◌, ◌*ℤ◌, int_lt, int_le, int_div, int_rem, IsTrue}
+use Rattle.std.specs.Prelude.{◌≡◌, Bool, true, false, List, [], ◌∷◌, Option, None, Some, if◌then◌else◌, ℤ, pos, negsuc, ◌+ℤ◌, ◌-ℤ◌, ◌*ℤ◌, int_lt, int_le, IsTrue}
 use Rattle.std.specs.Ordering.{int_eq}
 use Rattle.cu_calculus.specs.declared.ConId.{ConId}
 use Rattle.cu_calculus.specs.declared.Lit.{Lit}
 use Rattle.cu_calculus.specs.declared.Lit.TheVariants.{Char, Int}
 use Rattle.cu_calculus.specs.declared.builtin.Primitive.{Primitive}
 use Rattle.cu_calculus.specs.declared.builtin.Primitive.TheVariants as prim
-use Rattle.cu_calculus.specs.Literal.{is_integer, is_scalar, same_literal}
+use Rattle.cu_int.specs.Integers.{floor_quotient, floor_rest, is_integer}
+use Rattle.cu_calculus.specs.Literal.{is_scalar, same_literal}
 use Rattle.cu_calculus.specs.Match.{same_constructor}
 use Rattle.cu_calculus.specs.Program.{Program}
 use Rattle.cu_calculus.specs.Shape.{is_total_data}
@@ -20,20 +21,6 @@ truth_of program false = value.Constructed program.special.falsity NoValue
 
 abbrev pub integer : ℤ → Option Value
 integer n = if is_integer n then Some (value.Literal (Int n)) else None
-
-abbrev pub is_negative : ℤ → Bool
-is_negative n = int_lt n (pos 0)
-
--- Division rounded towards minus infinity: where division towards zero leaves a rest of the other sign than the divisor's,
--- the quotient is one less and the rest is the divisor more.
-abbrev pub is_uneven : ℤ → ℤ → Bool
-is_uneven m n = let rest = int_rem m n in (is_negative rest && not (is_negative n)) || (int_lt (pos 0) rest && is_negative n)
-
-abbrev pub floor_quotient : ℤ → ℤ → ℤ
-floor_quotient m n = if is_uneven m n then int_div m n -ℤ pos 1 else int_div m n
-
-abbrev pub floor_rest : ℤ → ℤ → ℤ
-floor_rest m n = if is_uneven m n then int_rem m n +ℤ n else int_rem m n
 
 abbrev pub character : ℤ → Option Value
 character (pos n) = if is_scalar n then Some (value.Literal (Char n)) else None

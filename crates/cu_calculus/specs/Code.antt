@@ -31,7 +31,7 @@ pub data Expr : Type 0 where
   Let : ℕ → ExprId → ExprId → Expr
   Free : ℕ → ExprId → Expr
   Or : ExprId → ExprId → Expr
-  -- a case distinction, with the variables that are in scope at it in the order of their binding
+  -- a case distinction, with the variables that its branches use beside their patterns' own, in the order of their binding
   Case : Mode → List ℕ → ExprId → List Branch → Expr
 
 -- A function has one rule, over parameters that are variables, or is built in.
@@ -62,13 +62,13 @@ is_rule _ = false
 abbrev pub expr_of : Code → ExprId → Option Expr
 expr_of code e = slice_get code.expressions e.0
 
--- the variables in scope at a case distinction, in the order of their binding
-abbrev pub variables_at : Option Expr → List ℕ
-variables_at (Some (Case mode variables e branches)) = variables
-variables_at _ = []
+-- the variables that a case distinction keeps
+abbrev pub kept_in : Option Expr → List ℕ
+kept_in (Some (Case mode kept e branches)) = kept
+kept_in _ = []
 
-abbrev pub scope_of : Code → ExprId → List ℕ
-scope_of code e = variables_at (expr_of code e)
+abbrev pub kept_by : Code → ExprId → List ℕ
+kept_by code e = kept_in (expr_of code e)
 
 -- how many arguments a head takes, where it is one of the code; a set function takes those of its function
 abbrev pub function_arity : Code → FunId → Option ℕ

@@ -1,12 +1,9 @@
 -- The literals of the language, and what they have in common.
-use Rattle.std.specs.Prelude.{ℕ, ◌-◌, ◌^◌, Bool, false, ◌&&◌, ◌||◌, nat_eq, nat_le, nat_lt, ℤ, pos, negsuc, int_le}
+use Rattle.std.specs.Prelude.{ℕ, Bool, false, ◌&&◌, ◌||◌, nat_eq, nat_le, nat_lt}
 use Rattle.std.specs.Ordering.{int_eq}
+use Rattle.cu_int.specs.Integers.{is_integer}
 use Rattle.cu_calculus.specs.declared.Lit.{Lit}
 use Rattle.cu_calculus.specs.declared.Lit.TheVariants.{Char, Int}
-
--- the integers of the language: 64 bits with a sign
-abbrev pub is_integer : ℤ → Bool
-is_integer n = int_le (negsuc (2 ^ 63 - 1)) n && int_le n (pos (2 ^ 63 - 1))
 
 -- a Unicode scalar: below 0x110000, and no surrogate
 abbrev pub is_scalar : ℕ → Bool

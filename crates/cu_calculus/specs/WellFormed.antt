@@ -1,18 +1,17 @@
 -- Well-formed flat code: each number names an expression that there is, calls are whole, variables are in scope, and each case
--- distinction knows its scope.
-use Rattle.std.specs.Prelude.{ℕ, zero, suc, Bool, true, false, not, ◌&&◌, List, [], ◌∷◌, ◌++◌, nat_eq, Option, None, Some, length}
+-- distinction keeps the variables that its branches use. It is the code of a valid flat program.
+use Rattle.std.specs.Prelude.{ℕ, zero, suc, Bool, true, false, not, ◌&&◌, List, [], ◌∷◌, ◌++◌, nat_eq, nat_lt, Option, None, Some, length}
 use Rattle.std.specs.List.{list_all, list_any}
-use Rattle.std.specs.Cmp.Lexicographic.{pointwise}
+use Rattle.cu_calculus.specs.declared.ConId.{ConId}
 use Rattle.cu_calculus.specs.declared.ExprId.{ExprId}
 use Rattle.cu_calculus.specs.declared.Head.{Head}
 use Rattle.cu_calculus.specs.declared.Head.TheVariants as head
 use Rattle.cu_calculus.specs.declared.Mode.{Mode}
 use Rattle.cu_calculus.specs.declared.Mode.TheVariants.{Flex, Rigid}
 use Rattle.cu_calculus.specs.Code as code
-use Rattle.cu_calculus.specs.Code.{Body, Branch, Code, Expr, Function, Shallow, arity_of, body_of, expr_of, is_rule}
+use Rattle.cu_calculus.specs.Code.{Body, Branch, Code, Expr, Function, Shallow, arity_of, body_of, expr_of}
 use Rattle.cu_calculus.specs.Literal.{is_literal, same_literal}
 use Rattle.cu_calculus.specs.Match.{same_constructor}
-use Rattle.cu_calculus.specs.Program.{Constructor}
 use Rattle.cu_calculus.specs.Shape.{takes, takes_more}
 use Rattle.cu_calculus.specs.Valid.{external_arity, holds, is_arity, is_linear}
 
@@ -45,7 +44,14 @@ abbrev pub bound_by : Shallow → List ℕ
 bound_by (code.Exactly l) = []
 bound_by (code.Built c xs) = xs
 
--- one expression in a scope, whose parts are tested by `part` in theirs
+-- The variables that a case distinction keeps, as a closure does, are different.
+abbrev pub fit_branches : (List ℕ → ExprId → Bool) → Code → List ℕ → List Branch → Bool
+fit_branches part program kept branches =
+    is_linear kept && all_differ branches
+    && list_all (λ branch. fits_pattern program branch.pattern && part (kept ++ bound_by branch.pattern) branch.body) branches
+
+-- One expression in a scope, whose parts are tested by `part` in theirs. In its branches a case distinction has the variables
+-- that it keeps and those of the branch's pattern.
 abbrev pub fits_expr : (List ℕ → ExprId → Bool) → Code → List ℕ → Option Expr → Bool
 fits_expr part program scope None = false
 fits_expr part program scope (Some (code.Variable x)) = holds x scope
@@ -56,9 +62,8 @@ fits_expr part program scope (Some (code.Apply function argument)) = part scope 
 fits_expr part program scope (Some (code.Let x bound body)) = part scope bound && part (scope ++ x ∷ []) body
 fits_expr part program scope (Some (code.Free x body)) = part (scope ++ x ∷ []) body
 fits_expr part program scope (Some (code.Or left right)) = part scope left && part scope right
-fits_expr part program scope (Some (code.Case mode variables e branches)) =
-    pointwise nat_eq variables scope && part scope e && all_differ branches
-    && list_all (λ branch. fits_pattern program branch.pattern && part (scope ++ bound_by branch.pattern) branch.body) branches
+fits_expr part program scope (Some (code.Case mode kept e branches)) =
+    list_all (λ x. holds x scope) kept && part scope e && fit_branches part program kept branches
 
 -- an expression of the code in a scope; the first number bounds how deep expressions nest
 abbrev pub fits : ℕ → Code → List ℕ → ExprId → Bool
@@ -74,18 +79,40 @@ fits_body program arity (code.External operation) = nat_eq (external_arity opera
 abbrev pub fits_function : Code → Function → Bool
 fits_function program function = is_arity function.arity && fits_body program function.arity function.body
 
--- A case distinction fits in the scope that it names. Other expressions are looked at where they are parts.
+-- The branches of a case distinction fit over what it keeps. Other expressions are looked at where they are parts.
 abbrev pub fits_case : Code → Expr → Bool
-fits_case program (code.Case mode variables e branches) =
-    fits_expr (fits (length program.expressions) program) program variables (Some (code.Case mode variables e branches))
+fits_case program (code.Case mode kept e branches) = fit_branches (fits (length program.expressions) program) program kept branches
 fits_case program _ = true
 
--- the built-in entities are there, with their arities, and `&&` has a rule
+abbrev pub is_variable : ℕ → Option Expr → Bool
+is_variable x (Some (code.Variable y)) = nat_eq x y
+is_variable x _ = false
+
+-- a constructor without arguments
+abbrev pub is_constant : ConId → Option Expr → Bool
+is_constant c (Some (code.Whole (head.Con d) [])) = same_constructor c d
+is_constant c _ = false
+
+-- The rule of `&&`: a flexible case distinction on the first parameter, which gives False for False, and for True the second
+-- parameter.
+abbrev pub conjoins_cases : Code → ℕ → ℕ → Option Expr → Bool
+conjoins_cases program x y (Some (code.Case Flex kept scrutinee (first ∷ second ∷ []))) =
+    is_variable x (expr_of program scrutinee) && same_pattern first.pattern (code.Built program.special.falsity [])
+    && is_constant program.special.falsity (expr_of program first.body) && same_pattern second.pattern (code.Built program.special.truth [])
+    && is_variable y (expr_of program second.body)
+conjoins_cases program x y _ = false
+
+abbrev pub conjoins : Code → Option Body → Bool
+conjoins program (Some (code.Rule (x ∷ y ∷ []) body)) = not (nat_eq x y) && conjoins_cases program x y (expr_of program body)
+conjoins program _ = false
+
+-- the built-in entities are there, with their arities, False is declared before True, and `&&` has its rule
 abbrev pub has_special : Code → Bool
 has_special program =
     takes (arity_of program (head.Con program.special.falsity)) 0 && takes (arity_of program (head.Con program.special.truth)) 0
+    && nat_lt program.special.falsity.0 program.special.truth.0
     && takes (arity_of program (head.Con program.special.nil)) 0 && takes (arity_of program (head.Con program.special.cons)) 2
-    && is_rule (body_of program program.special.both) && takes (arity_of program (head.Fun program.special.both)) 2
+    && conjoins program (body_of program program.special.both) && takes (arity_of program (head.Fun program.special.both)) 2
     && elim program.special.values [ Some c ↦ takes (arity_of program (head.Con c)) 1 | None ↦ true ]
 
 -- all functions and case distinctions fit, constructors have arities that a graph can hold, and the built-in entities are there

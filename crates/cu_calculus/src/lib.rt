@@ -7,6 +7,7 @@ mod builtin;
 mod laws;
 
 pub use builtin::{Primitive, Special};
+pub use cu_int::Int;
 pub use laws::{
     answering_is_a_function, approximation_is_an_order, calls_have_proofs, choices_rise,
     choosing_is_a_function, cited_claims_suffice, claims_extend, comparing_is_a_function,
@@ -16,9 +17,6 @@ pub use laws::{
 
 /// The operations that are built in.
 pub type Prim = Primitive;
-
-/// Curry's integers.
-pub type Int = i64;
 
 /// A literal of a program, and the value that it stands for.
 #[derive(Clone, Copy, Debug, PartialEq, Eq)]

@@ -5,7 +5,7 @@ use Rattle.cu_calculus.specs.declared.Lit.TheVariants.{Char, Int}
 use Rattle.cu_calculus.specs.declared.builtin.Primitive.{Primitive}
 use Rattle.cu_calculus.specs.declared.builtin.Primitive.TheVariants as prim
 use Rattle.cu_calculus.specs.Builtin.{character, on_integers}
-use Rattle.cu_calculus.specs.Literal.{is_integer}
+use Rattle.cu_int.specs.Integers.{is_integer}
 use Rattle.cu_calculus.specs.Program.{Program}
 use Rattle.cu_calculus.specs.Value as value
 use Rattle.cu_calculus.specs.Value.{Value}

@@ -2,7 +2,8 @@
 ghost use Rattle.std.specs.Prelude.{◌≡◌, ◌≢◌, ◌∷◌, [], IfOk, None, Option, Some, if◌then◌else◌, option_map, pos, true};
 ghost use Rattle.std.specs.Option.{option_and_then};
 ghost use Rattle.cu_calculus.specs.Answered.{answered, conjoined, literals_in, unified};
-ghost use Rattle.cu_calculus.specs.Builtin.{character, floor_quotient, floor_rest, integer, is_uneven, on_integers, on_literals, truth_of};
+ghost use Rattle.cu_int.specs.Integers.{floor_quotient, floor_rest, is_uneven};
+ghost use Rattle.cu_calculus.specs.Builtin.{character, integer, on_integers, on_literals, truth_of};
 ghost use Rattle.cu_calculus.specs.Compared.{compared};
 ghost use Rattle.cu_calculus.specs.Shape.{is_total_data};
 ghost use Rattle.cu_calculus.specs.Value as value;

@@ -10,7 +10,7 @@ ghost use Rattle.cu_crwl.specs.CellsOf.{cell_is_of};
 
 use crate::apply::function;
 use crate::{Claim, Statement};
-use cu_kernel::{GREATEST_INT, Head, Heads, LEAST_INT, Lit};
+use cu_kernel::{Head, Heads, Int, Lit};
 use cu_values::{Cell, Value};
 use std::alloc::{AllocError, Global};
 
@@ -124,7 +124,7 @@ fn literal_is_of(literal: Lit) -> bool
     ensures { result ≡ is_literal literal }
 {
     match literal {
-        Lit::Int(number) => LEAST_INT <= number && number <= GREATEST_INT,
+        Lit::Int(number) => Int::MIN <= number && number <= Int::MAX,
         Lit::Char(character) => {
             let code = u32::from(character);
             code < 0xD800 || (code >= 0xE000 && code < 0x110000)

@@ -4,7 +4,7 @@
 #![tactic(auto)]
 
 ghost use Rattle.std.specs.Prelude.{◌≡◌, ◌<◌, option_map, length, IsSome, IsTrue, Some};
-ghost use Rattle.cu_calculus.specs.Code.{arity_of, body_of, expr_of, scope_of};
+ghost use Rattle.cu_calculus.specs.Code.{arity_of, body_of, expr_of, kept_by};
 ghost use Rattle.cu_calculus.specs.WellFormed.{is_well_formed};
 ghost use Rattle.cu_flat.specs.Meaning.{body_meaning, code_of, expr_meaning};
 
@@ -120,7 +120,7 @@ impl FlatProgram {
 
     /// The expression of a number, where there is such an expression.
     pub fn find(&self, e: ExprId) -> Option<&Expr>
-        ensures { option_map (λ expr. expr_meaning (scope_of self.now e) expr.now) result ≡ expr_of self.now e }
+        ensures { option_map (λ expr. expr_meaning (kept_by self.now e) expr.now) result ≡ expr_of self.now e }
     {
         let entry = self.entries.get(e.0)?;
         Some(&entry.expr)
@@ -129,7 +129,7 @@ impl FlatProgram {
     /// An expression of the program.
     pub fn expr(&self, e: ExprId) -> &Expr
         requires { e.0 < length self.now.expressions }
-        ensures { Some (expr_meaning (scope_of self.now e) result.now) ≡ expr_of self.now e }
+        ensures { Some (expr_meaning (kept_by self.now e) result.now) ≡ expr_of self.now e }
     {
         &self.entries[e.0].expr
     }
@@ -138,7 +138,7 @@ impl FlatProgram {
     /// binding; none where there is no such expression or it is of another
     /// form.
     pub fn scope(&self, e: ExprId) -> &[u32]
-        ensures { result.now ≡ scope_of self.now e }
+        ensures { result.now ≡ kept_by self.now e }
     {
         match self.entries.get(e.0) {
             Some(entry) => match &entry.expr {

@@ -27,9 +27,3 @@ pub use local_program::{Counts, LocalParts, LocalProgram};
 pub use program::{Program, ProgramParts};
 pub use term::{Body, Function, Pattern, Rule, Term};
 pub use type_term::{Interface, SynonymId, TypeId, TypeName, TypeTerm};
-
-/// The smallest of Curry's integers.
-pub const LEAST_INT: Int = i64::MIN;
-
-/// The greatest of Curry's integers.
-pub const GREATEST_INT: Int = i64::MAX;

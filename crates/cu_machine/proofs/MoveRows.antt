@@ -13,10 +13,11 @@ use Rattle.cu_calculus.specs.declared.Lit.TheVariants.{Char, Int}
 use Rattle.cu_calculus.specs.declared.Mode.{Mode}
 use Rattle.cu_calculus.specs.declared.builtin.Primitive.{Primitive}
 use Rattle.cu_calculus.specs.declared.builtin.Primitive.TheVariants as prim
-use Rattle.cu_calculus.specs.Builtin.{floor_quotient, floor_rest}
+use Rattle.cu_int.specs.Integers.{floor_quotient, floor_rest}
 use Rattle.cu_calculus.specs.Code as code
 use Rattle.cu_calculus.specs.Code.{Body, Branch, Code, Expr, arity_of, body_of, expr_of, function_arity}
-use Rattle.cu_calculus.specs.Literal.{is_integer, is_scalar, same_literal}
+use Rattle.cu_int.specs.Integers.{is_integer}
+use Rattle.cu_calculus.specs.Literal.{is_scalar, same_literal}
 use Rattle.cu_calculus.specs.Match.{same_constructor}
 use Rattle.cu_calculus.specs.Shape.{are_data, takes_more}
 use Rattle.cu_calculus.specs.Value.{values_of}

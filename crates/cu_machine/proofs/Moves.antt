@@ -14,10 +14,11 @@ use Rattle.cu_calculus.specs.declared.Lit.TheVariants.{Char, Int}
 use Rattle.cu_calculus.specs.declared.Mode.{Mode}
 use Rattle.cu_calculus.specs.declared.builtin.Primitive.{Primitive}
 use Rattle.cu_calculus.specs.declared.builtin.Primitive.TheVariants as prim
-use Rattle.cu_calculus.specs.Builtin.{floor_quotient, floor_rest}
+use Rattle.cu_int.specs.Integers.{floor_quotient, floor_rest}
 use Rattle.cu_calculus.specs.Code as code
 use Rattle.cu_calculus.specs.Code.{Body, Branch, Code, Expr, Function, Shallow, arity_of, body_of, expr_of, function_arity}
-use Rattle.cu_calculus.specs.Literal.{is_integer, is_literal, is_scalar}
+use Rattle.cu_int.specs.Integers.{is_integer}
+use Rattle.cu_calculus.specs.Literal.{is_literal, is_scalar}
 use Rattle.cu_calculus.specs.Match.{same_constructor}
 use Rattle.cu_calculus.specs.Shape.{takes, takes_more}
 use Rattle.cu_calculus.specs.Valid.{is_arity, is_linear}
@@ -126,9 +127,9 @@ at_most c b m less high = le-leb c m (omega arith)
 
 pub scalar_integer : (c : ℕ) → is_scalar c ≡ true → is_integer (pos c) ≡ true
 scalar_integer c scalar =
-    at_most c 0x110000 (2 ^ 63 - 1)
+    at_most c 0x110000 (2 ^ 127 - 1)
     (scalar_below c 0xD800 0x110000 0xE000 (leb-true 0xD800 0xE000 refl) (leb-true 0xE000 0x110000 refl) scalar)
-    (leb-true 0x110000 (2 ^ 63 - 1) refl)
+    (leb-true 0x110000 (2 ^ 127 - 1) refl)
 
 -- ** Rows
 

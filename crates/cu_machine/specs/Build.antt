@@ -106,13 +106,14 @@ build_let part scope next x bound body =
 abbrev pub build_free : (Scope → ℕ → ExprId → Built) → Scope → ℕ → ℕ → ExprId → Built
 build_free part scope next x body = after (alone kind.Free ∷ []) (part (scope ++ (x, next) ∷ []) (next + 1) body)
 
--- the scrutinee, and then a node that keeps the values of the variables in scope
-abbrev pub build_case : (Scope → ℕ → ExprId → Built) → Scope → ℕ → Mode → ExprId → ExprId → Built
-build_case part scope next mode e scrutinee =
+-- The scrutinee, and then the variables that the branches use: the node keeps their values, as a closure does.
+abbrev pub build_case : (Scope → ℕ → ExprId → Built) → Scope → ℕ → Mode → ExprId → List ℕ → ExprId → Built
+build_case part scope next mode e kept scrutinee =
     let first = part scope next scrutinee in
+    let values = build_parts (λ place x. build_variable (place_in scope x)) (next + length (pushed first)) kept in
     record {
-      parts = pushed first;
-      top = Fresh (record { kind = kind.Case mode e.0; args = place_of next first ∷ map (λ bound. bound.1) scope });
+      parts = pushed first ++ values.nodes;
+      top = Fresh (record { kind = kind.Case mode e.0; args = place_of next first ∷ values.ids });
     }
 
 -- one expression, whose parts are built by `part`
@@ -126,7 +127,7 @@ build_expr part program scope next e (Some (code.Apply function argument)) = bui
 build_expr part program scope next e (Some (code.Let x bound body)) = build_let part scope next x bound body
 build_expr part program scope next e (Some (code.Free x body)) = build_free part scope next x body
 build_expr part program scope next e (Some (code.Or left right)) = build_node kind.Or (build_parts (part scope) next (left ∷ right ∷ []))
-build_expr part program scope next e (Some (code.Case mode variables scrutinee branches)) = build_case part scope next mode e scrutinee
+build_expr part program scope next e (Some (code.Case mode kept scrutinee branches)) = build_case part scope next mode e kept scrutinee
 
 -- An expression of the code, whose nodes begin at the place `next`. The first number bounds how deep expressions nest; as
 -- many as the code has suffice.

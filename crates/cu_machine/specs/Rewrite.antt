@@ -12,10 +12,11 @@ use Rattle.cu_calculus.specs.declared.Lit.TheVariants.{Char, Int}
 use Rattle.cu_calculus.specs.declared.builtin.Primitive.{Primitive}
 use Rattle.cu_calculus.specs.declared.builtin.Primitive.TheVariants as prim
 use Rattle.cu_calculus.specs.declared.builtin.Special.{Special}
-use Rattle.cu_calculus.specs.Builtin.{floor_quotient, floor_rest}
+use Rattle.cu_int.specs.Integers.{floor_quotient, floor_rest}
 use Rattle.cu_calculus.specs.Code as code
 use Rattle.cu_calculus.specs.Code.{Branch, Code, Shallow, arity_of, expr_of, body_of}
-use Rattle.cu_calculus.specs.Literal.{is_integer, is_scalar, same_literal}
+use Rattle.cu_int.specs.Integers.{is_integer}
+use Rattle.cu_calculus.specs.Literal.{is_scalar, same_literal}
 use Rattle.cu_calculus.specs.Match.{same_constructor}
 use Rattle.cu_calculus.specs.Shape.{are_data}
 use Rattle.cu_calculus.specs.Value.{Values, values_of}

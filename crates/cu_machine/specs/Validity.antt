@@ -30,7 +30,7 @@ abbrev pub is_operation : Primitive → ℕ → Bool
 is_operation prim.Failed n = false
 is_operation operation n = nat_eq (external_arity operation) n
 
--- a case distinction of this mode, whose node has a scrutinee and a value for each variable in scope
+-- a case distinction of this mode, whose node has a scrutinee and a value for each variable that it keeps
 abbrev pub is_case : Mode → Option code.Expr → ℕ → Bool
 is_case mode (Some (code.Case other variables e branches)) n = same_mode mode other && nat_eq n (suc (length variables))
 is_case mode _ n = false

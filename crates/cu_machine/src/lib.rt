@@ -29,8 +29,8 @@ pub enum Kind {
     /// A function that its first argument gives, on its second one.
     Apply,
     /// A case distinction, which holds the number of its expression. Its
-    /// arguments are the scrutinee and then the values of the variables in
-    /// scope.
+    /// arguments are the scrutinee and then the values of the variables that
+    /// the expression keeps.
     Case(Mode, usize),
     /// A choice between its two arguments.
     Or,

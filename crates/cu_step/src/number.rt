@@ -1,6 +1,6 @@
 //! Numbers and characters.
 ghost use Rattle.std.specs.Prelude.{◌≡◌, ◌≢◌, ◌<◌, IfOk, length, map, pos};
-ghost use Rattle.cu_calculus.specs.Builtin.{floor_quotient, floor_rest, is_uneven};
+ghost use Rattle.cu_int.specs.Integers.{floor_quotient, floor_rest, is_uneven};
 ghost use Rattle.cu_machine.specs.Graph.{head_at};
 ghost use Rattle.cu_machine.specs.Rewrite.{calculated, computed};
 ghost use Rattle.cu_step.specs.Moved.{move_of};

@@ -9,7 +9,7 @@ use Rattle.cu_calculus.specs.declared.Head.{Head}
 use Rattle.cu_calculus.specs.declared.Head.TheVariants as head
 use Rattle.cu_calculus.specs.declared.Lit.{Lit}
 use Rattle.cu_calculus.specs.declared.Lit.TheVariants as lit
-use Rattle.cu_calculus.specs.Builtin.{is_negative}
+use Rattle.cu_int.specs.Integers.{is_negative}
 use Rattle.cu_calculus.specs.Match.{same_constructor}
 use Rattle.cu_calculus.specs.Value as value
 use Rattle.cu_calculus.specs.Value.{Value, Values}
