@@ -11,11 +11,12 @@ use Rattle.cu_lex.specs.declared.token.ReservedOperator.TheVariants as reserved
 use Rattle.cu_lex.specs.declared.token.Token.{Token}
 use Rattle.cu_lex.specs.declared.token.TokenKind.{TokenKind}
 use Rattle.cu_lex.specs.declared.token.TokenKind.TheVariants as token
-use Rattle.cu_lex.specs.Reading.{is_written, lexeme_of, kind_of, position_of, HasKind, HasNatural}
+use Rattle.cu_lex.specs.Reading.{is_written, lexeme_of, kind_of, position_of, HasKind, HasNatural, IsTokenOf}
 use Rattle.cu_layout.specs.Blocks.{Marks, block, interleaving, last_of, layout_marks, with_marks}
 use Rattle.cu_layout.specs.Forms.{form_of, sight_of, token_form, token_sight}
-use Rattle.cu_layout.specs.Laws.{GivesTextBack, KeepsNames, KeepsNaturals, KeepsTokens, ReadsAlike, without_layout}
+use Rattle.cu_layout.specs.Laws.{GivesTextBack, KeepsNames, KeepsNaturals, KeepsOwners, KeepsTokens, ReadsAlike, without_layout}
 use Rattle.cu_layout.specs.Reading.{emitted_lexeme, emitted_token, token_view}
+use Rattle.cu_names.specs.declared.names.NameId.{NameId}
 
 -- tokens laid out are those of the text with some marks
 laid-with : (whole : Bool) (text laid : List Token) → block token_view whole text ≡ Ok laid → (marks : Marks) × (laid ≡ with_marks emitted_token text marks)
@@ -60,36 +61,59 @@ without-written (t ∷ more) all =
 pub text-back : GivesTextBack
 text-back whole text laid all is = tokens-kept whole text laid is ∙ without-written text all
 
--- ---- what holds of the kinds of the text, and of marks, is kept
+-- ---- what holds of the tokens of the text, and of a mark at the place of each, is kept
 
-kept-emitted : (P : TokenKind → Type 0) → ((mark : LayoutMark) → P (token.Layout mark)) → (t : Option Token) (marks : List LayoutMark) → All (λ x. P x.kind) (map (emitted_token t) marks)
-kept-emitted P of_marks t marks = All-map (λ x. P x.kind) (emitted_token t) marks (λ k d fits. of_marks (slice_index_or marks k d))
+kept-emitted : (P : Token → Type 0) (t : Option Token) (marks : List LayoutMark) → ((mark : LayoutMark) → P (emitted_token t mark)) → All P (map (emitted_token t) marks)
+kept-emitted P t marks of_marks = All-map P (emitted_token t) marks (λ k d fits. of_marks (slice_index_or marks k d))
 
-kept-token : (P : TokenKind → Type 0) (t : Token) (more : List Token) → P t.kind → All (λ x. P x.kind) more → All (λ x. P x.kind) (t ∷ more)
+kept-token : (P : Token → Type 0) (t : Token) (more : List Token) → P t → All P more → All P (t ∷ more)
 kept-token P t more here all = λ k d fits. at k d fits
   where
-    at : (k : ℕ) (d : Token) → k < length (t ∷ more) → P (slice_index_or (t ∷ more) k d).kind
+    at : (k : ℕ) (d : Token) → k < length (t ∷ more) → P (slice_index_or (t ∷ more) k d)
     at zero d fits = here
     at (suc k) d fits = all k d (omega arith)
 
-kept-interleaving : (P : TokenKind → Type 0) → ((mark : LayoutMark) → P (token.Layout mark)) → (text : List Token) (marks : List (List LayoutMark)) → All (λ x. P x.kind) text → All (λ x. P x.kind) (interleaving emitted_token text marks)
+kept-interleaving : (P : Token → Type 0) → ((t : Token) (mark : LayoutMark) → P t → P (emitted_token (Some t) mark)) → (text : List Token) (marks : List (List LayoutMark)) → All P text
+    → All P (interleaving emitted_token text marks)
 kept-interleaving P of_marks [] marks all = all
 kept-interleaving P of_marks (t ∷ more) [] all = all
 kept-interleaving P of_marks (t ∷ more) (here ∷ marks) all =
-    All-append (λ x. P x.kind) (map (emitted_token (Some t)) here) (t ∷ interleaving emitted_token more marks) (kept-emitted P of_marks (Some t) here)
-    (kept-token P t (interleaving emitted_token more marks) (all 0 t (omega arith)) (kept-interleaving P of_marks more marks (λ k d fits. all (suc k) d (omega arith))))
+    let first : P t = all 0 t (omega arith) in
+    All-append P (map (emitted_token (Some t)) here) (t ∷ interleaving emitted_token more marks) (kept-emitted P (Some t) here (λ mark. of_marks t mark first))
+    (kept-token P t (interleaving emitted_token more marks) first (kept-interleaving P of_marks more marks (λ k d fits. all (suc k) d (omega arith))))
 
-kinds-kept : (P : TokenKind → Type 0) → ((mark : LayoutMark) → P (token.Layout mark)) → (whole : Bool) (text laid : List Token) → All (λ t. P t.kind) text → block token_view whole text ≡ Ok laid → All (λ t. P t.kind) laid
-kinds-kept P of_marks whole text laid all is =
+tokens-keep : (P : Token → Type 0) → ((t : Token) (mark : LayoutMark) → P t → P (emitted_token (Some t) mark)) → (whole : Bool) (text laid : List Token)
+    → ((mark : LayoutMark) → P (emitted_token (last_of None text) mark)) → All P text → block token_view whole text ≡ Ok laid → All P laid
+tokens-keep P of_marks whole text laid at_end all is =
     let w = laid-with whole text laid is in
-    let kept = All-append (λ x. P x.kind) (interleaving emitted_token text w.0.before) (map (emitted_token (last_of None text)) w.0.after) (kept-interleaving P of_marks text w.0.before all) (kept-emitted P of_marks (last_of None text) w.0.after) in
-    subst (All (λ x. P x.kind)) (sym w.1) kept
+    let kept = All-append P (interleaving emitted_token text w.0.before) (map (emitted_token (last_of None text)) w.0.after) (kept-interleaving P of_marks text w.0.before all) (kept-emitted P (last_of None text) w.0.after at_end) in
+    subst (All P) (sym w.1) kept
 
 pub names-kept : KeepsNames
-names-kept names whole text laid all is = kinds-kept (HasKind names) (λ mark. tt) whole text laid all is
+names-kept names whole text laid all is = tokens-keep (λ t. HasKind names t.kind) (λ t mark here. tt) whole text laid (λ mark. tt) all is
 
 pub naturals-kept : KeepsNaturals
-naturals-kept whole text laid all is = kinds-kept HasNatural (λ mark. tt) whole text laid all is
+naturals-kept whole text laid all is = tokens-keep (λ t. HasNatural t.kind) (λ t mark here. tt) whole text laid (λ mark. tt) all is
+
+mark-of : (owner : NameId) (names : List (List ℕ)) (t : Token) (mark : LayoutMark) → IsTokenOf owner names t → IsTokenOf owner names (emitted_token (Some t) mark)
+mark-of owner names t mark here = record { owned = here.owned; known = tt; natural = tt }
+
+-- the last token is one of the text
+last-of : (owner : NameId) (names : List (List ℕ)) (t : Token) (more : List Token) → IsTokenOf owner names t → All (IsTokenOf owner names) more
+    → (mark : LayoutMark) → IsTokenOf owner names (emitted_token (last_of (Some t) more) mark)
+last-of owner names t [] here all mark = mark-of owner names t mark here
+last-of owner names t (next ∷ more) here all mark = last-of owner names next more (all 0 next (omega arith)) (λ k d fits. all (suc k) d (omega arith)) mark
+
+-- where the text has a token
+pub owners-kept : (owner : NameId) (names : List (List ℕ)) (whole : Bool) (text laid : List Token) → ¬ (text ≡ []) → All (IsTokenOf owner names) text → block token_view whole text ≡ Ok laid → All (IsTokenOf owner names) laid
+owners-kept owner names whole [] laid some all is = absurd (some refl)
+owners-kept owner names whole (t ∷ more) laid some all is =
+    let at_end = last-of owner names t more (all 0 t (omega arith)) (λ k d fits. all (suc k) d (omega arith)) in
+    tokens-keep (IsTokenOf owner names) (mark-of owner names) whole (t ∷ more) laid at_end all is
+
+pub owners-are : KeepsOwners
+owners-are owner names whole [] laid all is some = absurd (some (tokens-kept whole [] laid is))
+owners-are owner names whole (t ∷ more) laid all is some = owners-kept owner names whole (t ∷ more) laid (λ e. let no : ⊥ = cc in no) all is
 
 -- ---- layout sees of a token what it sees of its reading
 

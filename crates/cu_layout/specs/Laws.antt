@@ -1,8 +1,9 @@
 -- Laws of the layout rules.
-use Rattle.std.specs.Prelude.{◌≡◌, ℕ, Bool, true, List, map, filter, All, Ok}
+use Rattle.std.specs.Prelude.{◌≡◌, ℕ, Bool, true, List, [], map, filter, All, Ok}
 use Rattle.std.specs.Result.{result_map_both}
+use Rattle.cu_names.specs.declared.names.NameId.{NameId}
 use Rattle.cu_lex.specs.declared.token.Token.{Token}
-use Rattle.cu_lex.specs.Reading.{is_written, lexeme_of, HasKind, HasNatural}
+use Rattle.cu_lex.specs.Reading.{is_written, lexeme_of, HasKind, HasNatural, IsTokenOf}
 use Rattle.cu_layout.specs.Blocks.{block}
 use Rattle.cu_layout.specs.Reading.{lexeme_view, token_view}
 
@@ -30,3 +31,13 @@ KeepsNames = (names : List (List ℕ)) (whole : Bool) (text laid : List Token) �
 -- Where no number of the text is negative, none of the tokens laid out is.
 abbrev pub KeepsNaturals : Type 0
 KeepsNaturals = (whole : Bool) (text laid : List Token) → All (λ t. HasNatural t.kind) text → block token_view whole text ≡ Ok laid → All (λ t. HasNatural t.kind) laid
+
+-- All tokens are of a module, those too that layout put in; unless it put in all of them, as in a module without tokens.
+abbrev pub AreOf : NameId → List (List ℕ) → List Token → Type 0
+AreOf owner names tokens = ¬ (without_layout tokens ≡ []) → All (IsTokenOf owner names) tokens
+
+-- Where all tokens of a text are of a module, so are the tokens laid out.
+abbrev pub KeepsOwners : Type 0
+KeepsOwners =
+    (owner : NameId) (names : List (List ℕ)) (whole : Bool) (text laid : List Token)
+    → All (IsTokenOf owner names) text → block token_view whole text ≡ Ok laid → AreOf owner names laid

@@ -1,6 +1,6 @@
 //! Laws of the layout rules. These functions do nothing: their contracts are
 //! the laws.
-ghost use Rattle.cu_layout.specs.Laws.{GivesTextBack, KeepsNames, KeepsNaturals, KeepsTokens, ReadsAlike};
+ghost use Rattle.cu_layout.specs.Laws.{GivesTextBack, KeepsNames, KeepsNaturals, KeepsOwners, KeepsTokens, ReadsAlike};
 
 /// What the layout rules put in is all that tells the tokens laid out from the
 /// text.
@@ -9,6 +9,7 @@ pub fn text_is_kept()
     ensures back { GivesTextBack }
     ensures names { KeepsNames }
     ensures naturals { KeepsNaturals }
+    ensures owners { KeepsOwners }
 {}
 
 /// Layout doesn't depend on what names stand for.

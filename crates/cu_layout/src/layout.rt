@@ -169,7 +169,8 @@ fn begin_line(
     Ok(())
 }
 
-/// A token ends what its partner opened.
+/// A token ends what its partner opened. None but those that go on with an item
+/// have one.
 fn end(
     laid: &mut Vec<Token>,
     stack: &mut Vec<Entry>,
@@ -179,6 +180,9 @@ fn end(
     ensures ok { OnOk result (Lays place laid.old.items laid.new.items stack.new.items (partner_end form (stack_of stack.old.items))) }
     ensures err { IfErr result (λ fault. fault ≡ NoMemory) }
 {
+    if !form.goes_on() {
+        return Ok(());
+    }
     let cut = match to_partner(stack.as_slice(), form) {
         None => return Ok(()),
         Some(cut) => cut,

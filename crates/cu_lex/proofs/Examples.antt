@@ -70,9 +70,9 @@ texts =
     -- a base without digits
     ∷ ("0xg", Ok (at 1 1 (Int (pos 0)) ∷ at 1 2 (VarId (plain "xg")) ∷ []))
     -- the greatest number
-    ∷ ("9223372036854775807", Ok (at 1 1 (Int (pos 9223372036854775807)) ∷ []))
+    ∷ ("170141183460469231731687303715884105727", Ok (at 1 1 (Int (pos 170141183460469231731687303715884105727)) ∷ []))
     -- one more
-    ∷ (" 9223372036854775808", Err (LiteralRange (place 1 2)))
+    ∷ (" 170141183460469231731687303715884105728", Err (LiteralRange (place 1 2)))
     -- escapes in literals
     ∷ ("'\\'' \"a\\n\\x41\\66\\&7\"", Ok (at 1 1 (Char 39) ∷ at 1 6 (String (97 ∷ 10 ∷ 65 ∷ 66 ∷ 55 ∷ [])) ∷ []))
     -- a literal that is not closed

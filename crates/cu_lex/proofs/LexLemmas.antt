@@ -1,11 +1,12 @@
 -- One step of the lexer.
-use Rattle.std.proofs.Common.{◌≡◌, ℕ, ℤ, pos, ◌^◌, Bool, true, false, List, [], ◌∷◌, Option, Some, None, Ok, Err, nat_lt, if◌then◌else◌, refl, sym, ap, ◌∙◌, true≢false}
+use Rattle.std.proofs.Common.{◌≡◌, ℕ, ℤ, pos, Bool, true, false, List, [], ◌∷◌, Option, Some, None, Ok, Err, if◌then◌else◌, refl, sym, ap, ◌∙◌, true≢false}
 use Rattle.std.specs.Char.{is_ascii_digit}
 use Rattle.std.specs.Option.{option_map}
 use lib.Utf8.{scalar}
 use Rattle.cu_lex.specs.Items.{string_items, item_scan, IsQuoted}
 use Rattle.cu_lex.specs.Kind.Kind.{Int, Char, String}
-use Rattle.cu_lex.specs.Lexing.{IsPiece, int_of}
+use Rattle.cu_int.specs.Integers.{checked, is_integer}
+use Rattle.cu_lex.specs.Lexing.{IsPiece}
 use Rattle.cu_lex.specs.Located.{Located, Position, characters}
 use Rattle.cu_lex.specs.Munch.{cut_at, longest}
 use Rattle.cu_lex.specs.Pieces.{piece, number_at, start, codes_of, string_of, character_at}
@@ -46,21 +47,21 @@ number-scan text value end digit is = by (number_scan text) refl is
           cut = found.1 ∙ ap (λ t. Some (cut_at found.0 t (number_at (start text) n))) (sym (ap (λ x. x.1) both));
         }
 
-in-range : (p : Position) (n : ℕ) (v : ℤ) → Some v ≡ int_of n → number_at p n ≡ Token (Int v)
-in-range p n v is = by (nat_lt n (2 ^ 63)) is
+in-range : (p : Position) (n : ℕ) (v : ℤ) → Some v ≡ checked (pos n) → number_at p n ≡ Token (Int v)
+in-range p n v is = by (is_integer (pos n)) is
   where
     by : (b : Bool) → Some v ≡ (if b then Some (pos n) else None) → (if b then Token (Int (pos n)) else OutOfRange p) ≡ Token (Int v)
     by true is = let same : v ≡ pos n = cc in ap (λ x. Token (Int x)) (sym same)
     by false is = absurd (let impossible : ⊥ = cc in impossible)
 
-out-of-range : (p : Position) (n : ℕ) → None ≡ int_of n → number_at p n ≡ OutOfRange p
-out-of-range p n is = by (nat_lt n (2 ^ 63)) is
+out-of-range : (p : Position) (n : ℕ) → None ≡ checked (pos n) → number_at p n ≡ OutOfRange p
+out-of-range p n is = by (is_integer (pos n)) is
   where
     by : (b : Bool) → None ≡ (if b then Some (pos n) else None) → (if b then Token (Int (pos n)) else OutOfRange p) ≡ OutOfRange p
     by true is = absurd (let impossible : ⊥ = cc in impossible)
     by false is = refl
 
-pub int-piece : (text : List Located) (value : Option ℕ) (end : List Located) (v : ℤ) (s : Scan text value end) → Some v ≡ int_of s.number → IsPiece text (Token (Int v)) end
+pub int-piece : (text : List Located) (value : Option ℕ) (end : List Located) (v : ℤ) (s : Scan text value end) → Some v ≡ checked (pos s.number) → IsPiece text (Token (Int v)) end
 int-piece text value end v s is = record { front = s.front; cut = s.cut ∙ ap (λ p. Some (cut_at s.front end p)) (in-range (start text) s.number v is) }
 
 start-at : (text : List Located) (p : Position) → begins_with is_ascii_digit (characters text) ≡ true → ((first : Located) (rest : List Located) → text ≡ first ∷ rest → p ≡ first.at) → start text ≡ p
@@ -68,7 +69,7 @@ start-at [] p digit at = absurd (true≢false (sym digit))
 start-at (c ∷ text) p digit at = sym (at c text refl)
 
 pub int-fault : (text : List Located) (value : Option ℕ) (end : List Located) (p : Position) → begins_with is_ascii_digit (characters text) ≡ true → ((first : Located) (rest : List Located) → text ≡ first ∷ rest → p ≡ first.at)
-    → (s : Scan text value end) → None ≡ int_of s.number → IsPiece text (OutOfRange p) end
+    → (s : Scan text value end) → None ≡ checked (pos s.number) → IsPiece text (OutOfRange p) end
 int-fault text value end p digit at s is =
     record { front = s.front; cut = s.cut ∙ ap (λ q. Some (cut_at s.front end q)) (out-of-range (start text) s.number is ∙ ap OutOfRange (start-at text p digit at)) }
 

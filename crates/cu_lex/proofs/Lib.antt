@@ -20,5 +20,6 @@ pub mod ScanLemmas
 pub mod SpellingLemmas
 pub mod TextBeginnings
 pub mod TokenLemmas
+pub mod UnderscoreLemmas
 pub mod WordLemmas
 pub mod WrittenLemmas

@@ -9,13 +9,13 @@ use Rattle.cu_lex.specs.declared.word.WordKind.{WordKind}
 use Rattle.cu_lex.specs.declared.word.WordKind.TheVariants as kind
 use Rattle.cu_lex.specs.Chains.{BeginsAt, IsQualified}
 use Rattle.cu_lex.specs.Kind.Kind.{Mark}
-use Rattle.cu_lex.specs.Lexing.{IsNamed, IsOuter, IsPiece, IsPlain, OpensComment, named, word_cut}
+use Rattle.cu_lex.specs.Lexing.{first_mark, IsNamed, IsOuter, IsPiece, IsPlain, OpensComment, named, word_cut}
 use Rattle.cu_lex.specs.Located.{Located, characters}
-use Rattle.cu_lex.specs.Munch.{cut_at, longest}
+use Rattle.cu_lex.specs.Munch.{cut_at, longest, longest_after}
 use Rattle.cu_lex.specs.Pieces.{piece, stands_before, word_kind}
 use Rattle.cu_lex.specs.Pieces.Piece.{Blank, Token}
-use Rattle.cu_lex.specs.Scanning.{comment_end, first_of, later, left, is_base, HasNoWord, IsWord}
-use Rattle.cu_lex.specs.Words.{begins_with, mark_of, is_separator}
+use Rattle.cu_lex.specs.Scanning.{comment_end, later, left, is_base, HasNoWord, IsWord}
+use Rattle.cu_lex.specs.Words.{begins_with, is_separator}
 use Rattle.cu_lex.proofs.ChainLemmas.{dotted}
 use Rattle.cu_lex.proofs.ClassLemmas.{word-longest, word-some}
 use Rattle.cu_lex.proofs.FirstLemmas.{qualified-is, stands-named, word-is}
@@ -93,17 +93,15 @@ qualified-named text found capital q = by found.dot refl q.begins
 
 -- ---- marks, comments and separators
 
-pub mark-piece : (text : List Located) (first : ℕ) (m : mark.Mark) (end : List Located) → first_of text ≡ Some first → end ≡ later text → IsPlain text → HasNoWord text → (OpensComment text → ⊥) → Some m ≡ mark_of (first ∷ []) → IsPiece text (Token (Mark m)) end
-mark-piece [] first m end at after facts none never is = absurd (let impossible : ⊥ = cc in impossible)
-mark-piece (c ∷ text) first m end at after facts none never is =
-    let same : c.char ≡ first = cc in
-    record { front = c ∷ []; cut = mark-longest c text m facts none (record { never = never }) (ap (λ x. mark_of (x ∷ [])) same ∙ sym is) ∙ ap (λ t. Some (cut_at (c ∷ []) t (Token (Mark m)))) (sym after) }
+pub mark-piece : (text : List Located) (m : mark.Mark) (end : List Located) → end ≡ later text → IsPlain text → HasNoWord text → (OpensComment text → ⊥) → Some m ≡ first_mark text → IsPiece text (Token (Mark m)) end
+mark-piece [] m end after facts none never is = absurd (let impossible : ⊥ = cc in impossible)
+mark-piece (c ∷ text) m end after facts none never is =
+    record { front = c ∷ []; cut = mark-longest c text m facts none (record { never = never }) (sym is) ∙ ap (λ t. Some (cut_at (c ∷ []) t (Token (Mark m)))) (sym after) }
 
-pub no-mark : (text : List Located) (first : ℕ) → first_of text ≡ Some first → IsPlain text → HasNoWord text → (OpensComment text → ⊥) → None ≡ mark_of (first ∷ []) → longest piece text ≡ None
-no-mark [] first at facts none never is = absurd (let impossible : ⊥ = cc in impossible)
-no-mark (c ∷ text) first at facts none never is =
-    let same : c.char ≡ first = cc in
-    nothing-longest c text facts none (record { never = never }) (ap (λ x. mark_of (x ∷ [])) same ∙ sym is)
+pub no-mark : (text : List Located) → IsPlain text → HasNoWord text → (OpensComment text → ⊥) → None ≡ first_mark text → longest piece text ≡ None
+unfolding longest_after
+no-mark [] facts none never is = refl
+no-mark (c ∷ text) facts none never is = nothing-longest c text facts none (record { never = never }) (sym is)
 
 pub comment-piece : (text end : List Located) → IsPlain text → OpensComment text → Some end ≡ comment_end 1 (later (later text)) → IsPiece text Blank end
 comment-piece [] end facts opens is = absurd (let h = opens.0 in let impossible : ⊥ = cc in impossible)

@@ -1,5 +1,5 @@
 -- No piece of a text is a mark of layout, and none has a negative number.
-use Rattle.std.proofs.Common.{◌≡◌, ◌<◌, ℕ, zero, suc, refl, subst, arith, Bool, true, false, List, [], ◌∷◌, Option, None, Some, Result, Ok, Err, if◌then◌else◌, slice_index_or, nat_lt, ◌^◌, pos}
+use Rattle.std.proofs.Common.{◌≡◌, ◌<◌, ℕ, zero, suc, refl, subst, arith, Bool, true, false, List, [], ◌∷◌, Option, None, Some, Result, Ok, Err, if◌then◌else◌, slice_index_or, pos}
 use Rattle.std.proofs.lemmas.List.Elements.{All-append}
 use Rattle.std.specs.Option.{option_and_then, option_map, option_or, IfSome}
 use Rattle.std.specs.Int.{IsNonNegative}
@@ -10,6 +10,7 @@ use Rattle.cu_names.specs.declared.place.Place.{Place}
 use Rattle.cu_lex.specs.declared.token.Token.{Token as LexerToken}
 use Rattle.cu_lex.specs.declared.token.TokenKind.{TokenKind}
 use Rattle.cu_lex.specs.declared.token.TokenKind.TheVariants as token
+use Rattle.cu_int.specs.Integers.{is_integer}
 use Rattle.cu_lex.specs.Kind.{Kind, Spelling}
 use Rattle.cu_lex.specs.Kind.Kind.{VarOp, ConOp, Keyword, Reserved, Mark, Int, Char, Layout}
 use Rattle.cu_lex.specs.Lexing.{IsPiece, piece_of, with_token}
@@ -89,7 +90,7 @@ number-text : (p : Position) (front next : List ℕ) → IfSome (number p front 
 number-text p front next = map-if IsTextPiece (number_at p) (option_or (decimal_number front next) (based_number front)) (λ n. number_at-text p n)
   where
     number_at-text : (p : Position) (n : ℕ) → IsTextPiece (number_at p n)
-    number_at-text p n = choice-if IsTextPiece (nat_lt n (2 ^ 63)) (Token (Int (pos n))) (OutOfRange p) tt tt
+    number_at-text p n = choice-if IsTextPiece (is_integer (pos n)) (Token (Int (pos n))) (OutOfRange p) tt tt
 
 character-text : (items : List (Placed (Option ℕ))) → IfSome (one_character items) IsTextPiece
 character-text [] = tt

@@ -7,15 +7,17 @@ use Rattle.cu_lex.specs.declared.fault.LexFault.TheVariants as answer
 use Rattle.cu_lex.specs.declared.token.Name.{Name}
 use Rattle.cu_names.specs.declared.place.Place.{Place}
 use Rattle.cu_lex.specs.declared.token.Token.{Token as LexerToken}
+use Rattle.cu_lex.specs.declared.token.Mark.{Mark}
 use Rattle.cu_lex.specs.declared.token.TokenKind.{TokenKind}
+use Rattle.cu_lex.specs.declared.token.TokenKind.TheVariants as token
 use Rattle.cu_lex.specs.Located.{Located}
 use Rattle.cu_lex.specs.Munch.{cut_at, longest}
 use Rattle.cu_lex.specs.Pieces.{Piece, piece}
 use Rattle.cu_lex.specs.Pieces.Piece.{Blank, Token, OutOfRange}
 use Rattle.cu_lex.specs.Reading.{kind_of, position_of, spelling_of, HasKind, HasName}
 use Rattle.cu_lex.specs.Scanning.{left}
-use Rattle.std.specs.Prelude.{[], ℕ, ℤ, pos, ◌^◌, nat_lt, not, true, false, Bool, ◌==◌, ◌++◌, if◌then◌else◌}
-use Rattle.std.specs.Option.{option_map}
+use Rattle.std.specs.Prelude.{[], ℕ, not, true, false, Bool, ◌==◌, ◌++◌}
+use Rattle.std.specs.Option.{option_and_then, option_map}
 use Rattle.cu_lex.specs.declared.word.Qualified.{Qualified}
 use Rattle.cu_lex.specs.declared.word.WordKind.{WordKind}
 use Rattle.cu_lex.specs.declared.word.WordKind.TheVariants as kind
@@ -26,7 +28,7 @@ use Rattle.cu_lex.specs.Located.{characters}
 use Rattle.cu_lex.specs.Munch.{Cut}
 use Rattle.cu_lex.specs.Pieces.{spelled}
 use Rattle.cu_lex.specs.Scanning.{first_of, later, run, skip, IsWord}
-use Rattle.cu_lex.specs.Words.{begins_with, is_module_name, is_separator}
+use Rattle.cu_lex.specs.Words.{begins_with, is_module_name, is_separator, mark_of}
 use Rattle.std.specs.Char.{is_ascii_digit, is_ascii_uppercase}
 
 -- The piece that a kind of token stands for, and a blank where there is none.
@@ -62,9 +64,14 @@ abbrev pub Lexes : NameId → List (List ℕ) → List Located → Result (Optio
 Lexes owner names text (Ok found) = FindsPiece names text found
 Lexes owner names text (Err fault) = FailsAt owner text fault
 
--- The value of a number that an Int can hold.
-abbrev pub int_of : ℕ → Option ℤ
-int_of n = if nat_lt n (2 ^ 63) then Some (pos n) else None
+-- A token that is a mark.
+abbrev pub is_mark : Option TokenKind → Bool
+is_mark (Some (token.Mark mark)) = true
+is_mark _ = false
+
+-- The mark that the first character is, if it is one.
+abbrev pub first_mark : List Located → Option Mark
+first_mark text = option_and_then (λ c. mark_of (c ∷ [])) (first_of text)
 
 -- The kind of a token that is a word.
 abbrev pub named : Option (List ℕ) → WordKind → List ℕ → Kind

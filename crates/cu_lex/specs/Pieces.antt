@@ -1,5 +1,5 @@
 -- The pieces of a module's text: its tokens, and what stands between them.
-use Rattle.std.specs.Prelude.{ℕ, ◌^◌, pos, Bool, true, not, ◌||◌, nat_lt, List, [], ◌∷◌, ◌++◌, codes, Option, None, Some, Result, Ok, Err, if◌then◌else◌}
+use Rattle.std.specs.Prelude.{ℕ, pos, Bool, true, not, ◌||◌, List, [], ◌∷◌, ◌++◌, codes, Option, None, Some, Result, Ok, Err, if◌then◌else◌}
 use Rattle.std.specs.Option.{option_and_then, option_map, option_or}
 use Rattle.std.specs.Result.{result_map_both}
 use Rattle.std.specs.Str.{byte}
@@ -7,6 +7,7 @@ use lib.Utf8.{scalar}
 use Rattle.cu_lex.specs.declared.token.Mark.TheVariants as mark
 use Rattle.cu_lex.specs.declared.token.Special.{Special}
 use Rattle.cu_lex.specs.declared.token.Special.TheVariants as special
+use Rattle.cu_int.specs.Integers.{is_integer}
 use Rattle.cu_lex.specs.Kind.{Kind, Spelling}
 use Rattle.cu_lex.specs.Kind.Kind.{VarId, ConId, VarOp, ConOp, Keyword, Reserved, Mark, Int, Char, String}
 use Rattle.cu_lex.specs.Literals.{items_between}
@@ -85,9 +86,9 @@ word front next = option_and_then (word_before next) (word_kind front)
 
 -- ---- literals
 
--- The value of a number at a place: it is below 2 ^ 63.
+-- The value of a number at a place: it is an integer of the language.
 abbrev pub number_at : Position → ℕ → Piece
-number_at p n = if nat_lt n (2 ^ 63) then Token (Int (pos n)) else OutOfRange p
+number_at p n = if is_integer (pos n) then Token (Int (pos n)) else OutOfRange p
 
 -- A front that is a number.
 abbrev pub number : Position → List ℕ → List ℕ → Option Piece

@@ -73,9 +73,9 @@ has class.Underscore c = c == byte "_"
 has (class.Digit base) c = is_digit c base
 has class.InLine c = not (c == byte "\n")
 
--- A number that 64 bits hold.
+-- A number that 128 bits hold.
 abbrev pub within : ℕ → Option ℕ
-within n = if nat_lt n (2 ^ 64) then Some n else None
+within n = if nat_lt n (2 ^ 128) then Some n else None
 
 -- A digit of a base.
 abbrev pub is_digit_of : ℕ → ℕ → Bool
@@ -119,7 +119,7 @@ number_scan text = option_or (based_scan text) (decimal_scan text)
 abbrev pub found_number : Number → Option ℕ × List Located
 found_number number = (number.value, left number.end)
 
--- A number, none where 64 bits don't hold it.
+-- A number, none where 128 bits don't hold it.
 abbrev pub held : ℕ × List Located → Option ℕ × List Located
 held found = (within found.0, found.1)
 

@@ -1,10 +1,11 @@
 //! The lexer.
-ghost use Rattle.std.specs.Prelude.{◌≡◌, ◌↔◌, IsTrue, Some, ◌==◌, ℕ, List, true, All, IfErr, IfOk, OnOk};
+ghost use Rattle.std.specs.Prelude.{◌≡◌, ◌↔◌, IsTrue, ◌==◌, ◌&&◌, pos, ℕ, List, true, All, IfErr, IfOk, OnOk};
 ghost use Rattle.std.specs.Char.{is_ascii_digit};
 ghost use Rattle.cu_lex.specs.declared.fault.LexFault.TheVariants.{NoMemory};
-ghost use Rattle.cu_lex.specs.Lexing.{int_of, FindsPiece, IsNamed, IsPlain, IsSpelled, Lexes, OpensComment, with_token};
+ghost use Rattle.cu_int.specs.Integers.{checked};
+ghost use Rattle.cu_lex.specs.Lexing.{first_mark, is_mark, FindsPiece, IsNamed, IsPlain, IsSpelled, Lexes, OpensComment, with_token};
 ghost use Rattle.cu_lex.specs.Located.{characters};
-ghost use Rattle.cu_lex.specs.Scanning.{first_of, left, within, HasNoWord};
+ghost use Rattle.cu_lex.specs.Scanning.{first_of, is_underscore, left, within, HasNoVariable, HasNoWord};
 ghost use Rattle.cu_lex.specs.Words.{begins_with};
 ghost use Rattle.cu_names.specs.Texts.{AllDiffer, Extends};
 ghost use Rattle.cu_lex.specs.Reading.{Gives, IsTokenOf, Tells, is_written};
@@ -17,14 +18,17 @@ use crate::cursor::Cursor;
 use crate::decoding::fault_offset;
 use crate::literal::{CharLiteral, Literal, char_literal, string_literal};
 use crate::number::number_at;
-use crate::token::{Name, Token, TokenKind};
+use crate::token::{Mark, Name, Token, TokenKind};
 use crate::word::{Qualified, Word, WordKind, qualified_at, unqualified};
 use crate::words::{mark, special};
+use cu_int::Int;
 use cu_names::{NameId, Names, Place};
 use std::alloc::Global;
 
 /// The most bytes of a text.
 const MOST_BYTES: usize = 16_777_216;
+/// The least natural number that no Int holds.
+const FIRST_BEYOND_INT: u128 = 1 << 127;
 
 /// The tokens of a module's text.
 pub fn lex(
@@ -52,12 +56,21 @@ pub fn lex(
     };
     let mut tokens = Vec::new(alloc);
     let mut rest = Cursor::new(text);
+    let mut behind_underscore = false;
     while let Some(first) = rest.peek() {
-        let (kind, next) = piece(alloc, names, module, rest, first)?;
+        let (kind, next) = piece(alloc, names, module, rest, behind_underscore)?;
+        behind_underscore = is_lone_underscore(first, &kind);
         add_token(&mut tokens, kind, rest.place(module))?;
         rest = next;
     }
     Ok(tokens)
+}
+
+/// Whether a piece that begins with this character is an underscore by itself.
+fn is_lone_underscore(first: char, kind: &Option<TokenKind>) -> bool
+    ensures { result ≡ (is_underscore first && is_mark kind.now) }
+{
+    first == '_' && matches!(kind, Some(TokenKind::Mark(_)))
 }
 
 /// Adds a token of a kind, if there is one.
@@ -74,18 +87,23 @@ fn add_token(tokens: &mut Vec<Token>, kind: Option<TokenKind>, place: Place) -> 
 }
 
 /// The token at the front of a text, or none for a blank, and what follows.
+/// Right behind an underscore that begins no name none begins one: so the
+/// underscores of a run are passed once, and not from each of them.
 fn piece<'a>(
     alloc: Global,
     names: &mut Names,
     module: NameId,
     start: Cursor<'a>,
-    first: char,
+    behind_underscore: bool,
 ) -> Result<(Option<TokenKind>, Cursor<'a>), LexFault>
-    requires { first_of (left start) ≡ Some first }
+    requires { behind_underscore ≡ true → HasNoVariable (left start) }
     ensures lexes { Lexes «module» names.new (left start.entry) result }
     ensures names { Extends names.old names.new }
     ensures differ { AllDiffer names.old → AllDiffer names.new }
 {
+    if behind_underscore && start.peek() == Some('_') {
+        return mark_at(module, start);
+    }
     if Class::Separator.begins(start) {
         return Ok((None, start.after()));
     }
@@ -113,7 +131,7 @@ fn piece<'a>(
             };
             name(names, start, found)
         }
-        None => mark_at(module, start, first),
+        None => mark_at(module, start),
     }
 }
 
@@ -140,18 +158,23 @@ fn comment<'a>(
 fn mark_at<'a>(
     module: NameId,
     start: Cursor<'a>,
-    first: char,
 ) -> Result<(Option<TokenKind>, Cursor<'a>), LexFault>
-    requires first { first_of (left start) ≡ Some first }
     requires plain { IsPlain (left start) }
     requires words { HasNoWord (left start) }
     requires comments { ¬ (OpensComment (left start)) }
     ensures { (names : List (List ℕ)) → Lexes «module» names (left start.entry) result }
 {
-    match mark(first) {
+    match first_mark(start) {
         Some(mark) => Ok((Some(TokenKind::Mark(mark)), start.after())),
         None => Err(LexFault::BadToken(start.place(module))),
     }
+}
+
+/// The mark that the first character is, if it is one.
+fn first_mark<'a>(start: Cursor<'a>) -> Option<Mark>
+    ensures { result ≡ first_mark (left start.entry) }
+{
+    mark(start.peek()?)
 }
 
 fn name<'a>(
@@ -227,12 +250,13 @@ fn int<'a>(module: NameId, start: Cursor<'a>) -> Result<(Option<TokenKind>, Curs
     }
 }
 
-fn int_value(value: Option<u64>) -> Option<i64>
-    ensures { (n : ℕ) → value ≡ within n → result ≡ int_of n }
+/// The value of a number that an Int holds.
+fn int_value(value: Option<u128>) -> Option<Int>
+    ensures { (n : ℕ) → value ≡ within n → result ≡ checked (pos n) }
 {
     let value = value?;
-    if value < 0x8000_0000_0000_0000 {
-        return Some(value as i64);
+    if value < FIRST_BEYOND_INT {
+        return Some(value as Int);
     }
     None
 }

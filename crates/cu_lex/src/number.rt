@@ -12,7 +12,7 @@ use crate::cursor::Cursor;
 /// A number, or none where it is too large, and what follows it.
 #[derive(Clone, Copy)]
 pub struct Number<'a> {
-    pub value: Option<u64>,
+    pub value: Option<u128>,
     pub end: Cursor<'a>,
 }
 
@@ -102,13 +102,13 @@ fn digits_at<'a>(start: Cursor<'a>, base: u32) -> Number<'a>
     Number { value, end }
 }
 
-fn with_digit(value: Option<u64>, base: u32, digit: u32) -> Option<u64>
+fn with_digit(value: Option<u128>, base: u32, digit: u32) -> Option<u128>
     requires { 0 < base }
     ensures { (n : ℕ) → value ≡ within n → result ≡ within (n * base + digit) }
 {
     value?
-        .checked_mul(u64::from(base))?
-        .checked_add(u64::from(digit))
+        .checked_mul(u128::from(base))?
+        .checked_add(u128::from(digit))
 }
 
 /// The code that digits of a base write, up to a limit that is no scalar value.
@@ -121,7 +121,7 @@ pub fn code_at<'a>(start: Cursor<'a>, base: u32) -> (u32, Cursor<'a>)
     (code_of(found.value), found.end)
 }
 
-fn code_of(value: Option<u64>) -> u32
+fn code_of(value: Option<u128>) -> u32
     ensures { (n : ℕ) → value ≡ within n → result ≡ cap n }
 {
     match value {

@@ -234,7 +234,7 @@ const BAD_TOKENS: [(&str, u32, u32); 6] = [
 
 /// Texts, and the line and the column of a literal that is out of range.
 const LARGE_LITERALS: [(&str, u32, u32); 2] = [
-    ("9223372036854775808", 1, 1),
+    ("170141183460469231731687303715884105728", 1, 1),
     ("\"a\\1114112\"", 1, 3),
 ];
 

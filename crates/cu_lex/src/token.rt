@@ -2,6 +2,7 @@
 ghost use Rattle.std.specs.Prelude.{◌≡◌, IfOk};
 
 use crate::Characters;
+use cu_int::Int;
 use cu_names::{NameId, Place};
 use std::alloc::{AllocError, Global};
 
@@ -40,8 +41,8 @@ pub enum TokenKind {
     Keyword(Keyword),
     Reserved(ReservedOperator),
     Mark(Mark),
-    /// A number without a sign, from 0 to 2 ^ 63 - 1. `lex` gives no other.
-    Int(i64),
+    /// A number without a sign, from 0 to `Int::MAX`. `lex` gives no other.
+    Int(Int),
     Char(char),
     String(Characters),
     /// A brace or semicolon that the layout rules put in. The lexer gives none.

@@ -1,6 +1,6 @@
 use Rattle.std.proofs.Common.{◌∙◌, sym, subst, rules}
 use Rattle.std.proofs.lemmas.Int.{to_z-of_z}
-use mir.Syntax.{w64}
+use mir.Syntax.{w128}
 use mir.Val.{SFits}
 use Rattle.cu_lex.specs.Kind.Kind.{Int}
 use Rattle.cu_lex.specs.Lexing.{IsPiece}
@@ -16,9 +16,9 @@ pub returns-in-Some-int_value : goal.returns-in-Some-int_value
 returns-in-Some-int_value c = λ names.
     let s = number-scan (left c.args.start) c.in-Some.found.value (left c.in-Some.found.end) c.requires c.in-Some.ensures in
     let is = sym c.in-Some-int_value.is ∙ c.int_value.ensures s.number s.held_as in
-    let fits : SFits w64 c.in-Some-int_value.value = search rules in
+    let fits : SFits w128 c.in-Some-int_value.value = search rules in
     record {
-      piece = subst (λ v. IsPiece (left c.args.start) (Token (Int v)) (left c.in-Some.found.end)) (sym (to_z-of_z w64 c.in-Some-int_value.value fits))
+      piece = subst (λ v. IsPiece (left c.args.start) (Token (Int v)) (left c.in-Some.found.end)) (sym (to_z-of_z w128 c.in-Some-int_value.value fits))
           (int-piece (left c.args.start) c.in-Some.found.value (left c.in-Some.found.end) c.in-Some-int_value.value s is);
       known = tt;
     }

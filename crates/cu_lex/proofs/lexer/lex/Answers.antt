@@ -5,6 +5,7 @@ use Rattle.cu_lex.specs.Reading.{is_written, lexeme_of, IsTokenOf, Tells}
 use Rattle.cu_lex.specs.Scanning.{left}
 use Rattle.cu_lex.specs.Tokens.{lexemes, tokens}
 use Rattle.cu_lex.proofs.TokenLemmas.{err-from, all-found, before, ended-lexemes, next-lexemes, next-shorter, not-text, owned-more, of-text, tells, too-big}
+use Rattle.cu_lex.proofs.UnderscoreLemmas.{underscore-kept}
 use Rattle.cu_lex.proofs.WrittenLemmas.{natural-found, written-more}
 use Rattle.cu_lex.proofs.lexer.lex.Goals as goal
 
@@ -41,5 +42,6 @@ loop-first-preserved c =
           (natural-found c.in_ok-kind.kind (left c.loop-first.rest) (left c.in_ok-kind.next) c.piece.new.names c.in_ok-kind.ensures.lexes.piece));
       written = subst (All (λ t. is_written t.kind ≡ true)) (sym added) (written-more c.loop-first.tokens.items c.in_ok-kind.kind c.place.result (left c.loop-first.rest) (left c.in_ok-kind.next) c.piece.new.names c.loop-first.invariant.written c.in_ok-kind.ensures.lexes.piece);
       names = extends-trans c.loop-first.invariant.names c.in_ok-kind.ensures.names;
+      underscore = underscore-kept c.piece.new.names (left c.loop-first.rest) (left c.in_ok-kind.next) c.in-Some.first c.in_ok-kind.kind c.is_lone_underscore-behind_underscore.result (sym c.peek.ensures ∙ c.in-Some.is) c.in_ok-kind.ensures.lexes.piece c.is_lone_underscore-behind_underscore.ensures;
       differ = λ h. c.in_ok-kind.ensures.differ (c.loop-first.invariant.differ h);
     }

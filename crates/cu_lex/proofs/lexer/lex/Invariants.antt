@@ -4,7 +4,7 @@ use Rattle.std.specs.Str.{chars}
 use Rattle.cu_names.specs.Texts.{AllDiffer, Extends}
 use Rattle.cu_lex.specs.Located.{located}
 use Rattle.cu_lex.specs.Reading.{is_written, lexeme_of, IsTokenOf}
-use Rattle.cu_lex.specs.Scanning.{left}
+use Rattle.cu_lex.specs.Scanning.{left, HasNoVariable}
 use Rattle.cu_lex.specs.Tokens.{lexemes}
 use Rattle.cu_lex.proofs.TokenLemmas.{before}
 use Rattle.cu_lex.proofs.lexer.lex.Given as goal
@@ -15,6 +15,7 @@ invariant-loop-first l = record {
   owned : All (IsTokenOf l.«module» l.names) l.tokens.items;
   written : All (λ t. is_written t.kind ≡ true) l.tokens.items;
   names : Extends l.fn.names l.names;
+  underscore : l.behind_underscore ≡ true → HasNoVariable (left l.rest);
   differ : AllDiffer l.fn.names → AllDiffer l.names;
 }
 
