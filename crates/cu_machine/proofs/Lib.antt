@@ -8,6 +8,8 @@ pub mod Frames
 pub mod Building
 pub mod Rows
 pub mod Runs
+pub mod Searches
+pub mod Levels
 pub mod Moves
 pub mod Equations
 pub mod Starts

@@ -3,8 +3,6 @@ use Rattle.std.proofs.Common.{◌≡◌, ◌≢◌, ℕ, suc, ◌+◌, ◌<◌, 
 use Rattle.std.specs.List.{list_all, zip}
 use Rattle.std.specs.Ordering.{int_eq}
 use Rattle.std.specs.Prelude.{◌+ℤ◌, ◌-ℤ◌, ◌*ℤ◌, int_lt, int_le}
-use Rattle.std.proofs.lemmas.Bool.{cases_lt}
-use Rattle.std.proofs.lemmas.List.{get_or_past}
 use Rattle.cu_calculus.specs.declared.ConId.{ConId}
 use Rattle.cu_calculus.specs.declared.FunId.{FunId}
 use Rattle.cu_calculus.specs.declared.Head.{Head}
@@ -27,7 +25,7 @@ use Rattle.cu_machine.specs.declared.Kind.{Kind}
 use Rattle.cu_machine.specs.declared.Kind.TheVariants as kind
 use Rattle.cu_machine.specs.Among.{Among}
 use Rattle.cu_machine.specs.Build.{Scope, kind_of_whole, write}
-use Rattle.cu_machine.specs.Graph.{Graph, Node, alone, head_at, head_of, node_at, put, renaming, stuck}
+use Rattle.cu_machine.specs.Graph.{Graph, Node, alone, head_at, head_of, node_at, put, renaming}
 use Rattle.cu_machine.specs.Need.{At, Throughout, is_head, need_all}
 use Rattle.cu_machine.specs.Rewrite.{Become, Collect, Move, Overflows, alone_follows, applied, bound_to, branch_for, calculated, case_of, chosen, collects, compared, compared_in_pairs, computed, counted, distinguished, equated, equated_in_pairs, extended, fails, imitates, in_pairs, is_true, move, narrows, occurs_in, operated, puts, puts_character, renames, rewritten, sticks, takes_branch, takes_constructor, takes_literal, tells, unfolded}
 use Rattle.cu_machine.specs.Spell.{spelled}
@@ -35,8 +33,9 @@ use Rattle.cu_machine.specs.State as state
 use Rattle.cu_machine.specs.State.{Idle, numbers}
 use Rattle.cu_machine.specs.Steps as row
 use Rattle.cu_machine.specs.Steps.{CaseAt, FreeBeside, Steps, are_mixed, are_operands, divides, failing, imitating, is_on_integers, is_on_literals, is_partial, kinds_of, node, number_of, on_the_left, on_the_right, telling, test_of}
-use Rattle.cu_machine.specs.Validity.{IsValid, IsValidBranch, has_arguments, is_call, is_case}
+use Rattle.cu_machine.specs.Validity.{IsValid, has_arguments, is_call, is_case}
 use Rattle.cu_machine.proofs.Depth.{among_map}
+use Rattle.cu_machine.proofs.Equations.{node_whole}
 use Rattle.cu_machine.proofs.Fuel.{left_true, right_true}
 use Rattle.cu_machine.proofs.NeedPlaces.{has_bound_head, has_head, is_bound, is_ready, is_ready_for, need_at_redex}
 use Rattle.cu_machine.proofs.RowMoves.{if_false}
@@ -406,18 +405,11 @@ module _ (program : Code) (graph : Graph) (id : ℕ) where
   came_rewritten (kind.SetCall f) args is whole wholes ready = came_collects f args is
   came_rewritten _ args is whole wholes ready = let none_left : ⊥ = true≢false (sym ready) in absurd none_left
 
-pub whole_everywhere : (program : Code) (graph : Graph) (root : ℕ) (goals : List ℕ) → IsValidBranch program graph root goals
-    → (x : ℕ) → has_arguments program (node_at graph x).kind (length (node_at graph x).args) ≡ true
-whole_everywhere program graph root goals valid x = elim (cases_lt x (length graph)) [
-  | inl less ↦ valid.nodes x less
-  | inr past ↦ subst (λ (m : Node). has_arguments program m.kind (length m.args) ≡ true) (sym (get_or_past graph x stuck past)) refl
-]
-
 pub moves_row : (program : Code) (graph after : Graph) (root id : ℕ) (goals : List ℕ) (graphs : List Graph) → IsValid program (state.Branch graph root goals Idle)
     → need_all program.special.truth graph root ≡ At id → move program graph id ≡ Become graphs → Among after graphs → Steps program graph id after
 unfolding IsValid
 moves_row program graph after root id goals graphs valid needed same m =
     let branch = valid.0 in
     let redex = need_at_redex (length graph) program.special.truth graph Throughout root id branch.arguments (lt-ltb root (length graph) branch.root_there) needed in
-    came_rewritten program graph id (node_at graph id).kind (node_at graph id).args refl (whole_everywhere program graph root goals branch id)
-    (whole_everywhere program graph root goals branch) redex.2 graphs after same m
+    came_rewritten program graph id (node_at graph id).kind (node_at graph id).args refl (node_whole program graph branch.nodes id)
+    (node_whole program graph branch.nodes) redex.2 graphs after same m

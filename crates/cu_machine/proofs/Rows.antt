@@ -207,7 +207,10 @@ puts_good program sets graph goals n id p node base whole passing low = (put_goo
 pub record SpecialGood (program : Code) : Type 0 where
   pub falsity : takes (arity_of program (head.Con program.special.falsity)) 0 ≡ true
   pub truth : takes (arity_of program (head.Con program.special.truth)) 0 ≡ true
+  pub nil : takes (arity_of program (head.Con program.special.nil)) 0 ≡ true
+  pub cons : takes (arity_of program (head.Con program.special.cons)) 2 ≡ true
   pub both : is_call (arity_of program (head.Fun program.special.both)) (body_of program program.special.both) 2 ≡ true
+  pub values : elim program.special.values [ Some c ↦ takes (arity_of program (head.Con c)) 1 | None ↦ true ] ≡ true
 
 pub rule_call : (arity : Option ℕ) (body : Option Body) (n : ℕ) → is_rule body ≡ true → takes arity n ≡ true → is_call arity body n ≡ true
 rule_call arity (Some (code.Rule params e)) n rule whole = whole
@@ -231,14 +234,18 @@ special_good program special =
     let h : Bool = elim program.special.values [ Some c ↦ takes (arity_of program (head.Con c)) 1 | None ↦ true ] in
     let to_g : (a && b && c && d && e && f && g) ≡ true = left_true (a && b && c && d && e && f && g) h special in
     let to_f : (a && b && c && d && e && f) ≡ true = left_true (a && b && c && d && e && f) g to_g in
-    let to_d : (a && b && c && d) ≡ true = left_true (a && b && c && d) e (left_true (a && b && c && d && e) f to_f) in
+    let to_e : (a && b && c && d && e) ≡ true = left_true (a && b && c && d && e) f to_f in
+    let to_d : (a && b && c && d) ≡ true = left_true (a && b && c && d) e to_e in
     let to_b : (a && b) ≡ true = left_true (a && b) c (left_true (a && b && c) d to_d) in
     record {
       falsity = left_true a b to_b;
       truth = right_true a b to_b;
+      nil = right_true (a && b && c) d to_d;
+      cons = right_true (a && b && c && d) e to_e;
       both = rule_call (arity_of program (head.Fun program.special.both)) (body_of program program.special.both) 2
           (conjoins_by_rule program (body_of program program.special.both) (right_true (a && b && c && d && e) f to_f))
           (right_true (a && b && c && d && e && f) g to_g);
+      values = right_true (a && b && c && d && e && f && g) h special;
     }
 
 pub code_special : (program : Code) (sets : Bool) → CodeGood program sets → SpecialGood program

@@ -1,5 +1,6 @@
 //! Laws of the definitions.
 ghost use Rattle.std.specs.Prelude.{◌≡◌, ◌≤◌, ◌<◌, ◌-◌, ℕ, Bool, IsTrue, List, [], ◌∷◌, None, length};
+ghost use Rattle.std.specs.List.{list_all};
 ghost use Rattle.cu_calculus.specs.declared.ConId.{ConId};
 ghost use Rattle.cu_calculus.specs.declared.FunId.{FunId};
 ghost use Rattle.cu_calculus.specs.declared.Mode.TheVariants.{Rigid};
@@ -9,7 +10,7 @@ ghost use Rattle.cu_calculus.specs.WellFormed.{is_well_formed};
 ghost use Rattle.cu_machine.specs.Among.{Among};
 ghost use Rattle.cu_machine.specs.Found.{Found};
 ghost use Rattle.cu_machine.specs.Graph.{Graph, followed, head_at, head_of, head_within, node_at};
-ghost use Rattle.cu_machine.specs.Level.{level};
+ghost use Rattle.cu_machine.specs.Level.{inner_level, level};
 ghost use Rattle.cu_machine.specs.Listing.{Answered, listing};
 ghost use Rattle.cu_machine.specs.Need.{At, Done, Extent, Need, before, free_at, free_within, is_head, need, need_all, need_at, need_within, rest_at, unless_done};
 ghost use Rattle.cu_machine.specs.Next.{Answer, Go, Reading, next};
@@ -19,7 +20,7 @@ ghost use Rattle.cu_machine.specs.Spell.{spelled, spelled_at, spelled_within};
 ghost use Rattle.cu_machine.specs.Sets.{IsWithoutSets, code_is_without_sets};
 ghost use Rattle.cu_machine.specs.State.{Branch, Idle, State, start_of};
 ghost use Rattle.cu_machine.specs.Steps.{Steps};
-ghost use Rattle.cu_machine.specs.Validity.{ArgumentsThere, Founded, IsValid, are_built};
+ghost use Rattle.cu_machine.specs.Validity.{ArgumentsThere, Founded, IsValid, are_built, is_built};
 ghost use Rattle.cu_machine.specs.declared.Kind.TheVariants.{Case, Free};
 ghost use Rattle.cu_machine.specs.declared.Limits.{Limits};
 ghost use Rattle.cu_machine.specs.declared.SearchLimits.{SearchLimits};
@@ -83,15 +84,26 @@ pub fn tables_hold()
         ≡ occurs_at (occurs_within (length graph) graph variable) variable (head_of graph id) (head_at graph id).kind (head_at graph id).args }
 {}
 
-/// Valid states stay valid: in well-formed code, each state that follows a
-/// valid one without a running search is valid, and so is the state in which
-/// the search for a goal begins.
+/// Valid states stay valid: in well-formed code, the state in which the search
+/// for a goal begins is valid, and so is each state that follows a valid one,
+/// also where a search for all values of a function runs in it. A run keeps
+/// this too, of the state that it reaches and of those that follow, and so do the
+/// levels of a search.
 pub fn states_stay_valid()
     ensures start { (program : Code) (goal : FunId) → IsTrue (is_well_formed program) → IsTrue (is_rule (body_of program goal))
         → IsValid program (start_of program goal) }
-    ensures next { (program : Code) (limits : Limits) (graph : Graph) (root : ℕ) (goals : List ℕ) (states : List State) (state : State)
-        → IsTrue (is_well_formed program) → IsValid program (Branch graph root goals Idle)
-        → next program limits (Branch graph root goals Idle) ≡ Go states → Among state states → IsValid program state }
+    ensures next { (program : Code) (limits : Limits) (before state : State) (states : List State)
+        → IsTrue (is_well_formed program) → IsValid program before
+        → next program limits before ≡ Go states → Among state states → IsValid program state }
+    ensures run { (program : Code) (limits : Limits) (steps : ℕ) (before state : State) (states : List State)
+        → IsTrue (is_well_formed program) → IsValid program before
+        → run steps program limits before ≡ Go states → Among state states → IsValid program state }
+    ensures reached { (program : Code) (limits : Limits) (steps : ℕ) (state : State)
+        → IsTrue (is_well_formed program) → IsValid program state → IsValid program (reached steps program limits state) }
+    ensures level { (program : Code) (limits : SearchLimits) (start state : State) (depth : ℕ)
+        → IsTrue (is_well_formed program) → IsValid program start → Among state (level program limits start depth) → IsValid program state }
+    ensures inner_level { (program : Code) (limits : Limits) (start state : State) (depth : ℕ)
+        → IsTrue (is_well_formed program) → IsValid program start → Among state (inner_level program limits start depth) → IsValid program state }
 {}
 
 /// Where the code has no set functions, none comes up in a state.
@@ -130,9 +142,12 @@ pub fn runs_are_steps()
         → run steps program limits state ≡ next program limits (reached steps program limits state) }
 {}
 
-/// The arguments of a search that is found to end are ground data of the
-/// program: its constructors with all their arguments, and its literals.
-pub fn arguments_found_are_of_the_program()
-    ensures { (program : Code) (limits : Limits) (f : FunId) (arguments : Values) (values : List Value)
+/// What a search finds is of ground data of the program, and is such data
+/// itself: constructors of the program with all their arguments, and literals
+/// of the language.
+pub fn finds_are_of_the_program()
+    ensures arguments { (program : Code) (limits : Limits) (f : FunId) (arguments : Values) (values : List Value)
         → Found program limits f arguments values → IsTrue (are_built program arguments) }
+    ensures values { (program : Code) (limits : Limits) (f : FunId) (arguments : Values) (values : List Value)
+        → IsTrue (is_well_formed program) → Found program limits f arguments values → IsTrue (list_all (is_built program) values) }
 {}
