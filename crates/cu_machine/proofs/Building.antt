@@ -1,9 +1,7 @@
 -- What is built of fitting expressions over places that are there may be pushed.
-use Rattle.std.proofs.Common.{◌≡◌, ℕ, zero, suc, ◌+◌, ◌≤◌, Bool, true, false, not, ◌&&◌, ◌||◌, List, [], ◌∷◌, ◌++◌, Option, None, Some, IsTrue, if◌then◌else◌, refl, ap, sym, ◌∙◌, subst, true≢false, length, map, nat_eq, slice_get, arith, eq-eqb, eqb-true, length-append}
+use Rattle.std.proofs.Common.{◌≡◌, ℕ, zero, suc, ◌+◌, ◌≤◌, Bool, true, false, not, ◌&&◌, ◌||◌, List, [], ◌∷◌, ◌++◌, Option, None, Some, IsTrue, if◌then◌else◌, refl, ap, sym, ◌∙◌, subst, true≢false, length, nat_eq, slice_get, arith, eq-eqb, eqb-true, length-append}
 use Rattle.std.specs.List.{list_all, zip}
-use Rattle.std.specs.Cmp.Lexicographic.{pointwise}
-use Rattle.std.proofs.lemmas.List.Folds.{list_all-append, list_all-map}
-use Rattle.std.proofs.lemmas.List.{length-map}
+use Rattle.std.proofs.lemmas.List.Folds.{list_all-append}
 use Rattle.std.proofs.lemmas.Slice.Zip.{length-zip}
 use Rattle.cu_calculus.specs.declared.ExprId.{ExprId}
 use Rattle.cu_calculus.specs.declared.FunId.{FunId}
@@ -17,8 +15,8 @@ use Rattle.cu_calculus.specs.Code as code
 use Rattle.cu_calculus.specs.Code.{Body, Branch, Code, Expr, Function, Shallow, arity_of, body_of, expr_of, function_arity}
 use Rattle.cu_calculus.specs.Literal.{is_literal}
 use Rattle.cu_calculus.specs.Shape.{takes, takes_more}
-use Rattle.cu_calculus.specs.Valid.{external_arity, is_arity}
-use Rattle.cu_calculus.specs.WellFormed.{all_differ, bound_by, fits, fits_body, fits_case, fits_expr, fits_function, fits_pattern, has_special, is_allowed, is_well_formed, same_mode}
+use Rattle.cu_calculus.specs.Valid.{external_arity, holds, is_arity}
+use Rattle.cu_calculus.specs.WellFormed.{fit_branches, fits, fits_body, fits_case, fits_expr, fits_function, has_special, is_allowed, is_well_formed, same_mode}
 use Rattle.cu_machine.specs.declared.Kind.{Kind}
 use Rattle.cu_machine.specs.declared.Kind.TheVariants as kind
 use Rattle.cu_machine.specs.Build.{Built, BuiltParts, Scope, after, build_alone, build_case, build_expr, build_free, build_let, build_node, build_parts, build_variable, build_within, kind_of_call, kind_of_whole, place_in, place_of, pushed}
@@ -117,29 +115,38 @@ whole_passes program sets (head.Set f) pass = pass
 
 -- ** Parts
 
+pub all_hold : {A : Type 0} (xs : List A) → list_all (λ x. true) xs ≡ true
+all_hold [] = refl
+all_hold (x ∷ xs) = all_hold xs
+
 pub record GoodParts (f : Frame) (next count : ℕ) (parts : BuiltParts) : Type 0 where
   pub nodes : AllGood f next parts.nodes
   pub ids : list_all (is_there f (next + length parts.nodes)) parts.ids ≡ true
   pub count_is : length parts.ids ≡ count
+
+-- parts with one more before them
+pub one_more : (f : Frame) (next k total : ℕ) (one : Built) (others : BuiltParts) → total ≡ k + 1 → f.first ≤ next → GoodBuilt f next one
+    → GoodParts f (next + length (pushed one)) k others → GoodParts f next total (record { nodes = pushed one ++ others.nodes; ids = place_of next one ∷ others.ids })
+one_more f next k total one others is from good rest =
+    let later = next + length (pushed one) in
+    let end : later + length others.nodes ≡ next + length (pushed one ++ others.nodes) = rw (length-append (pushed one) others.nodes) (omega arith) in
+    record {
+      nodes = good_append f next (pushed one) others.nodes (pushed_good f next one good) rest.nodes;
+      ids = subst (λ (m : ℕ). list_all (is_there f m) (place_of next one ∷ others.ids) ≡ true) end
+          (both_true (is_there f (later + length others.nodes) (place_of next one)) (list_all (is_there f (later + length others.nodes)) others.ids)
+          (there_later f later (later + length others.nodes) (place_of next one) (omega arith) (place_there f next one from good)) rest.ids);
+      count_is = ap suc rest.count_is ∙ omega (arith, is);
+    }
 
 pub parts_good : {A : Type 0} (f : Frame) (part : ℕ → A → Built) (q : A → Bool) (next : ℕ) (es : List A) → f.first ≤ next
     → ((n : ℕ) (e : A) → next ≤ n → q e ≡ true → GoodBuilt f n (part n e)) → list_all q es ≡ true → GoodParts f next (length es) (build_parts part next es)
 parts_good f part q next [] from each all = record { nodes = tt; ids = refl; count_is = refl }
 parts_good f part q next (e ∷ es) from each all =
     let one = part next e in
-    let good : GoodBuilt f next (part next e) = each next e (omega arith) (left_true (q e) (list_all q es) all) in
     let later = next + length (pushed one) in
-    let others = build_parts part later es in
-    let rest : GoodParts f later (length es) others =
+    let rest : GoodParts f later (length es) (build_parts part later es) =
     parts_good f part q later es (omega arith) (λ n x after. each n x (omega arith)) (right_true (q e) (list_all q es) all) in
-    let end : later + length others.nodes ≡ next + length (pushed one ++ others.nodes) = rw (length-append (pushed one) others.nodes) (omega arith) in
-    record {
-      nodes = good_append f next (pushed one) others.nodes (pushed_good f next one good) rest.nodes;
-      ids = subst (λ (n : ℕ). list_all (is_there f n) (place_of next one ∷ others.ids) ≡ true) end
-          (both_true (is_there f (later + length others.nodes) (place_of next one)) (list_all (is_there f (later + length others.nodes)) others.ids)
-          (there_later f later (later + length others.nodes) (place_of next one) (omega arith) (place_there f next one from good)) rest.ids);
-      count_is = ap suc rest.count_is;
-    }
+    one_more f next (length es) (suc (length es)) one (build_parts part later es) (omega arith) from (each next e (omega arith) (left_true (q e) (list_all q es) all)) rest
 
 pub node_good : (f : Frame) (next count : ℕ) (k : Kind) (parts : BuiltParts) → has_arguments f.program k count ≡ true → passes f.sets k ≡ true
     → GoodParts f next count parts → GoodBuilt f next (build_node k parts)
@@ -182,11 +189,13 @@ pub variable_good : (f : Frame) (next : ℕ) (o : Option ℕ) → PlaceGood f ne
 variable_good f next (Some id) there = record { parts = tt; top = there_later f next (next + 0) id (omega arith) there }
 variable_good f next None there = alone_good f next kind.Stuck refl (or_right f.sets true refl)
 
+pub scope_places_later : (f : Frame) (next later : ℕ) (scope : Scope) → next ≤ later → list_all (λ bound. is_there f next bound.1) scope ≡ true
+    → list_all (λ bound. is_there f later bound.1) scope ≡ true
+scope_places_later f next later scope up there =
+    all_follow (λ bound. is_there f next bound.1) (λ bound. is_there f later bound.1) scope (λ bound. there_later f next later bound.1 up) there
+
 pub scope_later : (f : Frame) (next later : ℕ) (variables : List ℕ) (scope : Scope) → next ≤ later → ScopeGood f next variables scope → ScopeGood f later variables scope
-scope_later f next later variables scope up good = record {
-  count = good.count;
-  there = all_follow (λ bound. is_there f next bound.1) (λ bound. is_there f later bound.1) scope (λ bound. there_later f next later bound.1 up) good.there;
-}
+scope_later f next later variables scope up good = record { count = good.count; there = scope_places_later f next later scope up good.there }
 
 pub scope_more : (f : Frame) (next : ℕ) (variables xs : List ℕ) (scope more : Scope) → ScopeGood f next variables scope → ScopeGood f next xs more
     → ScopeGood f next (variables ++ xs) (scope ++ more)
@@ -216,19 +225,9 @@ abbrev pub BuildsGood : Frame → ℕ → Type 0
 BuildsGood f n = (variables : List ℕ) (scope : Scope) (next : ℕ) (e : ExprId) → f.first ≤ next → fits n f.program variables e ≡ true
     → ScopeGood f next variables scope → GoodBuilt f next (build_within n f.program scope next e)
 
-pub same_length : (xs ys : List ℕ) → pointwise nat_eq xs ys ≡ true → length xs ≡ length ys
-same_length [] [] same = refl
-same_length [] (y ∷ ys) same = let no : ⊥ = cc in absurd no
-same_length (x ∷ xs) [] same = let no : ⊥ = cc in absurd no
-same_length (x ∷ xs) (y ∷ ys) same = ap suc (same_length xs ys (right_true (nat_eq x y) (pointwise nat_eq xs ys) same))
-
 pub mode_itself : (mode : Mode) → same_mode mode mode ≡ true
 mode_itself Rigid = refl
 mode_itself Flex = refl
-
-pub places_there : (f : Frame) (next : ℕ) (scope : Scope) → list_all (λ bound. is_there f next bound.1) scope ≡ true
-    → list_all (is_there f next) (map (λ bound. bound.1) scope) ≡ true
-places_there f next scope there = list_all-map (is_there f next) (λ bound. bound.1) scope ∙ there
 
 pub parts_of : (f : Frame) (n : ℕ) → BuildsGood f n → (variables : List ℕ) (scope : Scope) (next : ℕ) (es : List ExprId) → f.first ≤ next
     → ScopeGood f next variables scope → list_all (fits n f.program variables) es ≡ true
@@ -237,30 +236,27 @@ parts_of f n part variables scope next es from good all =
     parts_good f (build_within n f.program scope) (fits n f.program variables) next es from
     (λ later e up fit. part variables scope later e (omega arith) fit (scope_later f next later variables scope up good)) all
 
-pub case_good : (f : Frame) (n : ℕ) → BuildsGood f n → (scope_variables : List ℕ) (scope : Scope) (next : ℕ) (mode : Mode) (e s : ExprId) (variables : List ℕ)
-    (branches : List Branch) → f.first ≤ next → ScopeGood f next scope_variables scope → expr_of f.program e ≡ Some (code.Case mode variables s branches)
-    → length variables ≡ length scope_variables → fits n f.program scope_variables s ≡ true
-    → GoodBuilt f next (build_case (build_within n f.program) scope next mode e s)
-case_good f n part names scope next mode e s variables branches from good is same fit =
+-- the values that a case distinction keeps
+pub kept_good : (f : Frame) (scope : Scope) (next : ℕ) (kept : List ℕ) → f.first ≤ next → list_all (λ bound. is_there f next bound.1) scope ≡ true
+    → GoodParts f next (length kept) (build_parts (λ place x. build_variable (place_in scope x)) next kept)
+kept_good f scope next kept from there =
+    parts_good f (λ place x. build_variable (place_in scope x)) (λ x. true) next kept from
+    (λ later x up any. variable_good f later (place_in scope x) (place_good f later scope x (scope_places_later f next later scope up there)))
+    (all_hold kept)
+
+pub case_good : (f : Frame) (n : ℕ) → BuildsGood f n → (variables : List ℕ) (scope : Scope) (next : ℕ) (mode : Mode) (e s : ExprId) (kept : List ℕ)
+    (branches : List Branch) → f.first ≤ next → ScopeGood f next variables scope → expr_of f.program e ≡ Some (code.Case mode kept s branches)
+    → fits n f.program variables s ≡ true → GoodBuilt f next (build_case (build_within n f.program) scope next mode e kept s)
+case_good f n part variables scope next mode e s kept branches from good is fit =
     let first = build_within n f.program scope next s in
-    let one : GoodBuilt f next first = part names scope next s from fit good in
-    let place = place_of next first in
     let later = next + length (pushed first) in
-    let wide : list_all (is_there f later) (place ∷ map (λ bound. bound.1) scope) ≡ true =
-    both_true (is_there f later place) (list_all (is_there f later) (map (λ bound. bound.1) scope)) (place_there f next first from one)
-    (places_there f later scope (scope_later f next later names scope (omega arith) good).there) in
-    let count : length (place ∷ map (λ bound. bound.1) scope) ≡ suc (length variables) =
-    ap suc (length-map scope (λ bound. bound.1) ∙ good.count ∙ sym same) in
-    record {
-      parts = pushed_good f next first one;
-      top = record {
-        whole = subst (λ (o : Option Expr). is_case mode o (length (place ∷ map (λ bound. bound.1) scope)) ≡ true) (sym is)
-            (both_true (same_mode mode mode) (nat_eq (length (place ∷ map (λ bound. bound.1) scope)) (suc (length variables))) (mode_itself mode)
-            (eq-eqb (length (place ∷ map (λ bound. bound.1) scope)) (suc (length variables)) count));
-        passing = or_right f.sets true refl;
-        there = wide;
-      };
-    }
+    let values = build_parts (λ place x. build_variable (place_in scope x)) later kept in
+    node_good f next (length kept + 1) (kind.Case mode e.0) (record { nodes = pushed first ++ values.nodes; ids = place_of next first ∷ values.ids })
+    (subst (λ (o : Option Expr). is_case mode o (length kept + 1) ≡ true) (sym is)
+    (both_true (same_mode mode mode) (nat_eq (length kept + 1) (suc (length kept))) (mode_itself mode) (eq-eqb (length kept + 1) (suc (length kept)) (omega arith))))
+    (or_right f.sets true refl)
+    (one_more f next (length kept) (length kept + 1) first values refl from (part variables scope next s from fit good)
+    (kept_good f scope later kept (omega arith) (scope_places_later f next later scope (omega arith) good.there)))
 
 pub let_good : (f : Frame) (n : ℕ) → BuildsGood f n → (variables : List ℕ) (scope : Scope) (next x : ℕ) (bound body : ExprId) → f.first ≤ next
     → ScopeGood f next variables scope → fits n f.program variables bound ≡ true → fits n f.program (variables ++ x ∷ []) body ≡ true
@@ -325,13 +321,11 @@ expr_good f good n part vs scope next e (Some (code.Or left right)) from is fit 
     let b = fits n f.program vs right in
     node_good f next 2 kind.Or (build_parts (build_within n f.program scope) next (left ∷ right ∷ [])) refl (or_right f.sets true refl)
     (parts_of f n part vs scope next (left ∷ right ∷ []) from scoped (both_true a (b && true) (left_true a b fit) (both_true b true (right_true a b fit) refl)))
-expr_good f good n part vs scope next e (Some (code.Case mode variables s branches)) from is fit scoped =
-    let a = pointwise nat_eq variables vs in
+expr_good f good n part vs scope next e (Some (code.Case mode kept s branches)) from is fit scoped =
+    let a = list_all (λ x. holds x vs) kept in
     let b = fits n f.program vs s in
-    let c = all_differ branches in
-    let d = list_all (λ branch. fits_pattern f.program branch.pattern && fits n f.program (vs ++ bound_by branch.pattern) branch.body) branches in
-    let ab = left_true (a && b) c (left_true (a && b && c) d fit) in
-    case_good f n part vs scope next mode e s variables branches from scoped is (same_length variables vs (left_true a b ab)) (right_true a b ab)
+    let c = fit_branches (fits n f.program) f.program kept branches in
+    case_good f n part vs scope next mode e s kept branches from scoped is (right_true a b (left_true (a && b) c fit))
 
 pub builds_good : (f : Frame) → CodeGood f.program f.sets → (n : ℕ) → BuildsGood f n
 unfolding build_within

@@ -5,12 +5,12 @@ use Rattle.cu_calculus.specs.Code.{Code}
 use Rattle.cu_machine.specs.declared.End.{End}
 use Rattle.cu_machine.specs.declared.End.TheVariants.{Answers, Rounds, Stopped}
 use Rattle.cu_machine.specs.declared.Stop.TheVariants.{TooWide}
-use Rattle.cu_machine.specs.declared.Limits.{Limits}
 use Rattle.cu_machine.specs.declared.SearchLimits.{SearchLimits}
 use Rattle.cu_machine.specs.Among.{Among}
-use Rattle.cu_machine.specs.Level.{go_list, level}
+use Rattle.cu_machine.specs.Level.{go_list, level, level_by}
 use Rattle.cu_machine.specs.Listing.{Answered, Line, Listing, Round, Tally, is_last, list_level, nothing, one_answer, one_wait, only_end, round_of, rounds, unless_ended, unless_exhausted}
-use Rattle.cu_machine.specs.Next.{Answer, Fails, Go, Next, Reading, Stops, Waits, next}
+use Rattle.cu_machine.specs.Next.{Answer, Fails, Go, Next, Reading, Stops, Waits}
+use Rattle.cu_machine.specs.Run.{run}
 use Rattle.cu_machine.specs.State.{State}
 
 -- an element of two lists in a row is one of the first or of the second
@@ -61,18 +61,18 @@ round_lists d limit tally (Waits names ∷ outcomes) e r m = elim m [
 ]
 round_lists d limit tally (Stops stop ∷ outcomes) e r m = absurd m
 
--- a state of a level whose next event is the answer
-abbrev pub AnswersAt : Code → Limits → State → ℕ → Reading → Type 0
-AnswersAt code limits start e r = (state : State) × Among state (level code limits start e) × (next code limits state ≡ Answer r)
+-- a state of a level that is taken on to the answer
+abbrev pub AnswersAt : Code → SearchLimits → State → ℕ → Reading → Type 0
+AnswersAt code limits start e r = (state : State) × Among state (level code limits start e) × (run limits.stride code limits.step state ≡ Answer r)
 
 -- the states that follow a level are the next level
-pub following_level : (code : Code) (limits : Limits) (start : State) (d : ℕ) (states : List State) → states ≡ level code limits start d
-    → flat_map go_list (map (next code limits) states) ≡ level code limits start (d + 1)
-unfolding level
-following_level code limits start d states is_level =
-    flat_map-map (next code limits) go_list states
-    ∙ ap (flat_map (λ state. go_list (next code limits state))) is_level
-    ∙ ap (level code limits start) (sym (add-one d))
+pub following_level : (event : State → Next) (start : State) (d : ℕ) (states : List State) → states ≡ level_by event start d
+    → flat_map go_list (map event states) ≡ level_by event start (d + 1)
+unfolding level_by
+following_level event start d states is_level =
+    flat_map-map event go_list states
+    ∙ ap (flat_map (λ state. go_list (event state))) is_level
+    ∙ ap (level_by event start) (sym (add-one d))
 
 -- an answer behind a round is one that the later rounds list
 pub later_lists : (end : Option End) (others : Tally → List State → Listing) (tally : Tally) (following : List State) (line : Line)
@@ -83,21 +83,21 @@ later_lists None others tally (state ∷ states) line m = m
 
 -- what is listed from a level on answers at a state of its depth, if what is listed of the later levels does
 pub level_lists : (others : Tally → List State → Listing) (code : Code) (limits : SearchLimits) (start : State) (d : ℕ) (tally : Tally)
-    (states : List State) (e : ℕ) (r : Reading) → states ≡ level code limits.step start d
-    → ((after : Tally) (following : List State) → following ≡ level code limits.step start (d + 1)
-    → Among (Answered e r) (others after following).lines → AnswersAt code limits.step start e r)
-    → Among (Answered e r) (list_level others code limits d tally states).lines → AnswersAt code limits.step start e r
+    (states : List State) (e : ℕ) (r : Reading) → states ≡ level code limits start d
+    → ((after : Tally) (following : List State) → following ≡ level code limits start (d + 1)
+    → Among (Answered e r) (others after following).lines → AnswersAt code limits start e r)
+    → Among (Answered e r) (list_level others code limits d tally states).lines → AnswersAt code limits start e r
 level_lists others code limits start d tally states e r is_level later m =
-    let outcomes = map (next code limits.step) states in
+    let outcomes = map (run limits.stride code limits.step) states in
     let round = round_of d limits.answers tally outcomes in
     let following = flat_map go_list outcomes in
     elim (among_append (Answered e r) round.lines (unless_ended round.end (unless_exhausted others round.tally following)).lines m) [
       | inl here ↦
           let found = round_lists d limits.answers tally outcomes e r here in
-          let state = among_map (next code limits.step) (Answer r) states found.1 in
-          (state.0, subst (λ (depth : ℕ). Among state.0 (level code limits.step start depth)) found.0 (subst (Among state.0) is_level state.1), state.2)
+          let state = among_map (run limits.stride code limits.step) (Answer r) states found.1 in
+          (state.0, subst (λ (depth : ℕ). Among state.0 (level code limits start depth)) found.0 (subst (Among state.0) is_level state.1), state.2)
       | inr there ↦
-          later round.tally following (following_level code limits.step start d states is_level)
+          later round.tally following (following_level (run limits.stride code limits.step) start d states is_level)
           (later_lists round.end others round.tally following (Answered e r) there)
     ]
 
@@ -109,8 +109,8 @@ unless_wide false end rest line m = m
 
 -- so does the whole listing
 pub rounds_list : (left : ℕ) (code : Code) (limits : SearchLimits) (start : State) (d : ℕ) (tally : Tally) (states : List State) (e : ℕ) (r : Reading)
-    → states ≡ level code limits.step start d → Among (Answered e r) (rounds left code limits d tally states).lines
-    → AnswersAt code limits.step start e r
+    → states ≡ level code limits start d → Among (Answered e r) (rounds left code limits d tally states).lines
+    → AnswersAt code limits start e r
 unfolding rounds
 rounds_list zero code limits start d tally states e r is_level m =
     level_lists (λ after following. only_end (Rounds d (length following))) code limits start d tally states e r is_level

@@ -21,7 +21,7 @@ use Rattle.cu_machine.specs.Graph.{Graph, Node, head_at, head_of, node_at, put, 
 use Rattle.cu_machine.specs.Rewrite.{Collect, build_pairs, collects, compared, equated, equated_in_pairs, fails, imitates, in_pairs, joined_from_right, move, occurs_in, operated, pair_nodes, renames, rewritten, sticks, tells}
 use Rattle.cu_machine.specs.Spell.{spelled, spelled_at, spelled_within}
 use Rattle.cu_machine.specs.State.{free_nodes, numbers}
-use Rattle.cu_machine.specs.Validity.{AllPlain, has_arguments, is_plain, more, none}
+use Rattle.cu_machine.specs.Validity.{AllPlain, NodesFit, has_arguments, is_plain, more, none}
 use Rattle.cu_machine.proofs.Frames.{AllGood, Closed, Fine, Frame, GoodBuilt, all_there_below, at_new, at_old, at_same, is_there, length_written, or_right, passes, place_there, pushed_good, same_or_other, there_is, there_new}
 use Rattle.cu_machine.proofs.Building.{CodeGood, after_good}
 use Rattle.cu_machine.proofs.Fuel.{both_true, left_true, right_true}
@@ -217,6 +217,20 @@ spelled_at_fits program part id (kind.Part h) args each whole =
     (subst (λ (m : ℕ). (is_allowed program h && takes_more (arity_of program h) m) ≡ true) (sym (count_values part args)) whole) (values_fit program part args each)
 spelled_at_fits program part id _ args each whole = refl
 
+-- every place has a node of the program: past the end it is a stuck one
+pub node_whole : (program : Code) (graph : Graph) → NodesFit program graph → (x : ℕ) → has_arguments program (node_at graph x).kind (length (node_at graph x).args) ≡ true
+node_whole program graph nodes x = elim (cases_lt x (length graph)) [
+  | inl less ↦ nodes x less
+  | inr past ↦ subst (λ (m : Node). has_arguments program m.kind (length m.args) ≡ true) (sym (get_or_past graph x stuck past)) refl
+]
+
+pub spelled_fits : (program : Code) (graph : Graph) → NodesFit program graph → (depth x : ℕ) → fits_value program (spelled_within depth graph x) ≡ true
+unfolding spelled_within
+spelled_fits program graph nodes zero x = refl
+spelled_fits program graph nodes (suc depth) x =
+    spelled_at_fits program (spelled_within depth graph) (head_of graph x) (head_at graph x).kind (head_at graph x).args (spelled_fits program graph nodes depth)
+    (node_whole program graph nodes (head_of graph x))
+
 module _ (program : Code) (sets : Bool) (graph : Graph) (goals : List ℕ) (n id : ℕ) (p : ℕ → Bool) (base : Base program sets graph goals n id p) where
   -- ** `==`
 
@@ -373,19 +387,6 @@ module _ (program : Code) (sets : Bool) (graph : Graph) (goals : List ℕ) (n id
 
   -- ** Set functions
 
-  pub node_whole : (x : ℕ) → has_arguments program (node_at graph x).kind (length (node_at graph x).args) ≡ true
-  node_whole x = elim (cases_lt x (length graph)) [
-    | inl less ↦ base.fine.nodes x less
-    | inr past ↦ subst (λ (m : Node). has_arguments program m.kind (length m.args) ≡ true) (sym (get_or_past graph x stuck past)) refl
-  ]
-
-  pub spelled_fits : (depth x : ℕ) → fits_value program (spelled_within depth graph x) ≡ true
-  unfolding spelled_within
-  spelled_fits zero x = refl
-  spelled_fits (suc depth) x =
-      spelled_at_fits program (spelled_within depth graph) (head_of graph x) (head_at graph x).kind (head_at graph x).args (spelled_fits depth)
-      (node_whole (head_of graph x))
-
   pub collects_if : (f : FunId) (arguments : Values) (plain_data : Bool) → CollectGood program sets f arguments
       → MoveGood program sets goals n (if plain_data then Collect f arguments else sticks graph id)
   collects_if f arguments true good = good
@@ -399,7 +400,7 @@ module _ (program : Code) (sets : Bool) (graph : Graph) (goals : List ℕ) (n id
         sets_there = or_false sets passing;
         whole = subst (λ (m : ℕ). takes (arity_of program (head.Set f)) m ≡ true) (sym (count_values (spelled graph) args))
             (right_true (is_allowed program (head.Set f)) (takes (arity_of program (head.Set f)) (length args)) whole);
-        fit = values_fit program (spelled graph) args (spelled_fits (length graph));
+        fit = values_fit program (spelled graph) args (spelled_fits program graph base.fine.nodes (length graph));
       })
 
   -- ** All rows
@@ -419,20 +420,29 @@ module _ (program : Code) (sets : Bool) (graph : Graph) (goals : List ℕ) (n id
   rewritten_good (kind.SetCall f) args whole passing low = collects_good f args whole passing
   rewritten_good _ args whole passing low = sticks_good program sets graph goals n id p base
 
+-- what is below a node of a fine graph, at which no goal variable's value stands
+pub base_at : (program : Code) (sets : Bool) (graph : Graph) (goals : List ℕ) (id : ℕ) → CodeGood program sets → Fine program sets graph → AllPlain graph goals
+    → id < length graph → is_plain (node_at graph id).kind ≡ false
+    → (p : ℕ → Bool) × Base program sets graph goals (length graph) id p × (list_all p (node_at graph id).args ≡ true)
+base_at program sets graph goals id good fine goals_plain here unplain =
+    let under = beneath graph id fine.arguments (fine.acyclic id here) here in (
+      under.0,
+      record {
+        code = good;
+        fine = fine;
+        plain = goals_plain;
+        longer = omega arith;
+        here = here;
+        unplain = unplain;
+        closed = under.1.closed;
+        apart = under.1.apart;
+      },
+      under.1.args,
+    )
+
 -- every row keeps graphs fine, where no goal variable's value stands
 pub move_good : (program : Code) (sets : Bool) (graph : Graph) (goals : List ℕ) (id : ℕ) → CodeGood program sets → Fine program sets graph → AllPlain graph goals
     → id < length graph → is_plain (node_at graph id).kind ≡ false → MoveGood program sets goals (length graph) (move program graph id)
 move_good program sets graph goals id good fine goals_plain here unplain =
-    let under = beneath graph id fine.arguments (fine.acyclic id here) here in
-    rewritten_good program sets graph goals (length graph) id under.0
-    (record {
-      code = good;
-      fine = fine;
-      plain = goals_plain;
-      longer = omega arith;
-      here = here;
-      unplain = unplain;
-      closed = under.1.closed;
-      apart = under.1.apart;
-    })
-    (node_at graph id).kind (node_at graph id).args (fine.nodes id here) (fine.passing id here) under.1.args
+    let base = base_at program sets graph goals id good fine goals_plain here unplain in
+    rewritten_good program sets graph goals (length graph) id base.0 base.1 (node_at graph id).kind (node_at graph id).args (fine.nodes id here) (fine.passing id here) base.2

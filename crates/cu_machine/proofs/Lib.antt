@@ -7,6 +7,9 @@ pub mod Tables
 pub mod Frames
 pub mod Building
 pub mod Rows
+pub mod Runs
+pub mod Searches
+pub mod Levels
 pub mod Moves
 pub mod Equations
 pub mod Starts
@@ -14,3 +17,4 @@ pub mod NeedPlaces
 pub mod Successors
 pub mod RowMoves
 pub mod MoveRows
+pub mod RigidRows

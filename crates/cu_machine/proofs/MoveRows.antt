@@ -3,14 +3,13 @@ use Rattle.std.proofs.Common.{◌≡◌, ◌≢◌, ℕ, suc, ◌+◌, ◌<◌, 
 use Rattle.std.specs.List.{list_all, zip}
 use Rattle.std.specs.Ordering.{int_eq}
 use Rattle.std.specs.Prelude.{◌+ℤ◌, ◌-ℤ◌, ◌*ℤ◌, int_lt, int_le}
-use Rattle.std.proofs.lemmas.Bool.{cases_lt}
-use Rattle.std.proofs.lemmas.List.{get_or_past}
 use Rattle.cu_calculus.specs.declared.ConId.{ConId}
 use Rattle.cu_calculus.specs.declared.FunId.{FunId}
 use Rattle.cu_calculus.specs.declared.Head.{Head}
 use Rattle.cu_calculus.specs.declared.Lit.{Lit}
 use Rattle.cu_calculus.specs.declared.Lit.TheVariants.{Char, Int}
 use Rattle.cu_calculus.specs.declared.Mode.{Mode}
+use Rattle.cu_calculus.specs.declared.Mode.TheVariants.{Flex, Rigid}
 use Rattle.cu_calculus.specs.declared.builtin.Primitive.{Primitive}
 use Rattle.cu_calculus.specs.declared.builtin.Primitive.TheVariants as prim
 use Rattle.cu_int.specs.Integers.{floor_quotient, floor_rest}
@@ -21,12 +20,12 @@ use Rattle.cu_calculus.specs.Literal.{is_scalar, same_literal}
 use Rattle.cu_calculus.specs.Match.{same_constructor}
 use Rattle.cu_calculus.specs.Shape.{are_data, takes_more}
 use Rattle.cu_calculus.specs.Value.{values_of}
-use Rattle.cu_calculus.specs.WellFormed.{bound_by, is_allowed}
+use Rattle.cu_calculus.specs.WellFormed.{bound_by, is_allowed, same_mode}
 use Rattle.cu_machine.specs.declared.Kind.{Kind}
 use Rattle.cu_machine.specs.declared.Kind.TheVariants as kind
 use Rattle.cu_machine.specs.Among.{Among}
 use Rattle.cu_machine.specs.Build.{Scope, kind_of_whole, write}
-use Rattle.cu_machine.specs.Graph.{Graph, Node, alone, head_at, head_of, node_at, put, renaming, stuck}
+use Rattle.cu_machine.specs.Graph.{Graph, Node, alone, head_at, head_of, node_at, put, renaming}
 use Rattle.cu_machine.specs.Need.{At, Throughout, is_head, need_all}
 use Rattle.cu_machine.specs.Rewrite.{Become, Collect, Move, Overflows, alone_follows, applied, bound_to, branch_for, calculated, case_of, chosen, collects, compared, compared_in_pairs, computed, counted, distinguished, equated, equated_in_pairs, extended, fails, imitates, in_pairs, is_true, move, narrows, occurs_in, operated, puts, puts_character, renames, rewritten, sticks, takes_branch, takes_constructor, takes_literal, tells, unfolded}
 use Rattle.cu_machine.specs.Spell.{spelled}
@@ -34,10 +33,11 @@ use Rattle.cu_machine.specs.State as state
 use Rattle.cu_machine.specs.State.{Idle, numbers}
 use Rattle.cu_machine.specs.Steps as row
 use Rattle.cu_machine.specs.Steps.{CaseAt, FreeBeside, Steps, are_mixed, are_operands, divides, failing, imitating, is_on_integers, is_on_literals, is_partial, kinds_of, node, number_of, on_the_left, on_the_right, telling, test_of}
-use Rattle.cu_machine.specs.Validity.{IsValid, IsValidBranch, has_arguments, is_call, is_case}
+use Rattle.cu_machine.specs.Validity.{IsValid, has_arguments, is_call, is_case}
 use Rattle.cu_machine.proofs.Depth.{among_map}
-use Rattle.cu_machine.proofs.Fuel.{right_true}
-use Rattle.cu_machine.proofs.NeedPlaces.{has_bound_head, has_head, is_bound, is_ready, need_at_redex}
+use Rattle.cu_machine.proofs.Equations.{node_whole}
+use Rattle.cu_machine.proofs.Fuel.{left_true, right_true}
+use Rattle.cu_machine.proofs.NeedPlaces.{has_bound_head, has_head, is_bound, is_ready, is_ready_for, need_at_redex}
 use Rattle.cu_machine.proofs.RowMoves.{if_false}
 
 abbrev Came : Code → Graph → ℕ → Move → Type 0
@@ -59,6 +59,12 @@ both_first false b h = h
 
 pub two_wanted : (n : ℕ) → nat_eq 2 n ≡ true → nat_eq n 2 ≡ true
 two_wanted n same = eq-eqb n 2 (sym (eqb-true 2 n same))
+
+pub mode_is : (mode other : Mode) → same_mode mode other ≡ true → other ≡ mode
+mode_is Rigid Rigid same = refl
+mode_is Flex Flex same = refl
+mode_is Rigid Flex same = let none_left : ⊥ = true≢false (sym same) in absurd none_left
+mode_is Flex Rigid same = let none_left : ⊥ = true≢false (sym same) in absurd none_left
 
 module _ (program : Code) (graph : Graph) (id : ℕ) where
   came_alone : (what : Graph) → ((after : Graph) → after ≡ what → Steps program graph id after) → Came program graph id (alone_follows what)
@@ -98,23 +104,23 @@ module _ (program : Code) (graph : Graph) (id : ℕ) where
 
   -- ** Case distinctions
 
-  came_literal : (scrutinee : ℕ) (scope : Scope) (branches : List Branch) (l : Lit) (args : List ℕ) (o : Option Branch) → CaseAt program graph id scrutinee scope branches
+  came_literal : (mode : Mode) (scrutinee : ℕ) (scope : Scope) (branches : List Branch) (l : Lit) (args : List ℕ) (o : Option Branch) → CaseAt program graph id mode scrutinee scope branches
       → head_at graph scrutinee ≡ node (kind.Lit l) args → branch_for (takes_literal l) branches ≡ o → Came program graph id (takes_branch program scope graph id [] o)
-  came_literal s scope branches l args None at head found = came_alone (failing graph id) (λ after same. row.no_literal_branch s scope branches l args at head found same)
-  came_literal s scope branches l args (Some branch) at head found =
+  came_literal mode s scope branches l args None at head found = came_alone (failing graph id) (λ after same. row.no_literal_branch mode s scope branches l args at head found same)
+  came_literal mode s scope branches l args (Some branch) at head found =
       came_alone (write program (scope ++ zip (bound_by branch.pattern) []) graph id branch.body)
-      (λ after same. row.literal_branch s scope branches l args branch at head found same)
+      (λ after same. row.literal_branch mode s scope branches l args branch at head found same)
 
-  came_constructor : (scrutinee : ℕ) (scope : Scope) (branches : List Branch) (c : ConId) (args : List ℕ) (o : Option Branch) → CaseAt program graph id scrutinee scope branches
+  came_constructor : (mode : Mode) (scrutinee : ℕ) (scope : Scope) (branches : List Branch) (c : ConId) (args : List ℕ) (o : Option Branch) → CaseAt program graph id mode scrutinee scope branches
       → head_at graph scrutinee ≡ node (kind.Cons c) args → branch_for (takes_constructor c) branches ≡ o
       → Came program graph id (takes_branch program scope graph id args o)
-  came_constructor s scope branches c args None at head found =
-      came_alone (failing graph id) (λ after same. row.no_constructor_branch s scope branches c args at head found same)
-  came_constructor s scope branches c args (Some branch) at head found =
+  came_constructor mode s scope branches c args None at head found =
+      came_alone (failing graph id) (λ after same. row.no_constructor_branch mode s scope branches c args at head found same)
+  came_constructor mode s scope branches c args (Some branch) at head found =
       came_alone (write program (scope ++ zip (bound_by branch.pattern) args) graph id branch.body)
-      (λ after same. row.constructor_branch s scope branches c args branch at head found same)
+      (λ after same. row.constructor_branch mode s scope branches c args branch at head found same)
 
-  came_narrows : (scrutinee : ℕ) (scope : Scope) (branches : List Branch) (args : List ℕ) → CaseAt program graph id scrutinee scope branches
+  came_narrows : (scrutinee : ℕ) (scope : Scope) (branches : List Branch) (args : List ℕ) → CaseAt program graph id Flex scrutinee scope branches
       → head_at graph scrutinee ≡ node kind.Free args → Came program graph id (narrows graph (head_of graph scrutinee) branches)
   came_narrows s scope branches args at head graphs after same m =
       let f = λ (branch : Branch). bound_to graph (head_of graph s) branch.pattern in
@@ -122,24 +128,35 @@ module _ (program : Code) (graph : Graph) (id : ℕ) where
       let found = among_map f after branches (subst (λ (gs : List Graph). Among after gs) (sym listed) m) in
       row.narrowing s scope branches args found.0 at head found.1 (sym found.2)
 
-  came_distinguished : (scrutinee : ℕ) (scope : Scope) (branches : List Branch) (k : Kind) (args : List ℕ) → CaseAt program graph id scrutinee scope branches
-      → head_at graph scrutinee ≡ node k args → is_head k ≡ true
+  came_distinguished : (mode : Mode) (scrutinee : ℕ) (scope : Scope) (branches : List Branch) (k : Kind) (args : List ℕ)
+      → CaseAt program graph id mode scrutinee scope branches → head_at graph scrutinee ≡ node k args → is_ready_for mode k ≡ true
       → Came program graph id (distinguished program scope graph id branches (head_of graph scrutinee) k args)
-  came_distinguished s scope branches (kind.Lit l) args at head there = came_literal s scope branches l args (branch_for (takes_literal l) branches) at head refl
-  came_distinguished s scope branches (kind.Cons c) args at head there = came_constructor s scope branches c args (branch_for (takes_constructor c) branches) at head refl
-  came_distinguished s scope branches (kind.Part h) args at head there =
-      came_alone (failing graph id) (λ after same. row.no_partial_branch s scope branches h args at head same)
-  came_distinguished s scope branches kind.Free args at head there = came_narrows s scope branches args at head
-  came_distinguished s scope branches _ args at head there = let none_left : ⊥ = true≢false (sym there) in absurd none_left
+  came_distinguished mode s scope branches (kind.Lit l) args at head there = came_literal mode s scope branches l args (branch_for (takes_literal l) branches) at head refl
+  came_distinguished mode s scope branches (kind.Cons c) args at head there = came_constructor mode s scope branches c args (branch_for (takes_constructor c) branches) at head refl
+  came_distinguished mode s scope branches (kind.Part h) args at head there =
+      came_alone (failing graph id) (λ after same. row.no_partial_branch mode s scope branches h args at head same)
+  came_distinguished Flex s scope branches kind.Free args at head there = came_narrows s scope branches args at head
+  came_distinguished Rigid s scope branches kind.Free args at head there = let none_left : ⊥ = true≢false (sym there) in absurd none_left
+  came_distinguished Flex s scope branches _ args at head there = let none_left : ⊥ = true≢false (sym there) in absurd none_left
+  came_distinguished Rigid s scope branches _ args at head there = let none_left : ⊥ = true≢false (sym there) in absurd none_left
 
   came_case : (mode : Mode) (e scrutinee : ℕ) (values : List ℕ) (o : Option Expr) → node_at graph id ≡ node (kind.Case mode e) (scrutinee ∷ values)
-      → expr_of program (record { 0 = e }) ≡ o → is_case mode o (suc (length values)) ≡ true → has_head graph scrutinee ≡ true
+      → expr_of program (record { 0 = e }) ≡ o → is_case mode o (suc (length values)) ≡ true → is_ready graph (kind.Case mode e) (scrutinee ∷ values) ≡ true
       → Came program graph id (case_of program graph id scrutinee values o)
-  came_case mode e scrutinee values (Some (code.Case other variables inner branches)) is has whole there =
-      came_distinguished scrutinee (zip variables values) branches (head_at graph scrutinee).kind (head_at graph scrutinee).args
-      (record { mode = mode; code_mode = other; number = e; inner = inner; variables = variables; values = values; node_is = is; code_is = has; scope_is = refl })
-      refl there
-  came_case mode e scrutinee values _ is has whole there = let none_left : ⊥ = true≢false (sym whole) in absurd none_left
+  came_case mode e scrutinee values (Some (code.Case other kept inner branches)) is has whole ready =
+      let one_mode : other ≡ mode = mode_is mode other (left_true (same_mode mode other) (nat_eq (suc (length values)) (suc (length kept))) whole) in
+      came_distinguished mode scrutinee (zip kept values) branches (head_at graph scrutinee).kind (head_at graph scrutinee).args
+      (record {
+        number = e;
+        inner = inner;
+        kept = kept;
+        values = values;
+        node_is = is;
+        code_is = has ∙ ap (λ (m : Mode). Some (code.Case m kept inner branches)) one_mode;
+        scope_is = refl;
+      })
+      refl ready
+  came_case mode e scrutinee values _ is has whole ready = let none_left : ⊥ = true≢false (sym whole) in absurd none_left
 
   -- ** Applications
 
@@ -388,18 +405,11 @@ module _ (program : Code) (graph : Graph) (id : ℕ) where
   came_rewritten (kind.SetCall f) args is whole wholes ready = came_collects f args is
   came_rewritten _ args is whole wholes ready = let none_left : ⊥ = true≢false (sym ready) in absurd none_left
 
-pub whole_everywhere : (program : Code) (graph : Graph) (root : ℕ) (goals : List ℕ) → IsValidBranch program graph root goals
-    → (x : ℕ) → has_arguments program (node_at graph x).kind (length (node_at graph x).args) ≡ true
-whole_everywhere program graph root goals valid x = elim (cases_lt x (length graph)) [
-  | inl less ↦ valid.nodes x less
-  | inr past ↦ subst (λ (m : Node). has_arguments program m.kind (length m.args) ≡ true) (sym (get_or_past graph x stuck past)) refl
-]
-
 pub moves_row : (program : Code) (graph after : Graph) (root id : ℕ) (goals : List ℕ) (graphs : List Graph) → IsValid program (state.Branch graph root goals Idle)
     → need_all program.special.truth graph root ≡ At id → move program graph id ≡ Become graphs → Among after graphs → Steps program graph id after
 unfolding IsValid
 moves_row program graph after root id goals graphs valid needed same m =
     let branch = valid.0 in
     let redex = need_at_redex (length graph) program.special.truth graph Throughout root id branch.arguments (lt-ltb root (length graph) branch.root_there) needed in
-    came_rewritten program graph id (node_at graph id).kind (node_at graph id).args refl (whole_everywhere program graph root goals branch id)
-    (whole_everywhere program graph root goals branch) redex.2 graphs after same m
+    came_rewritten program graph id (node_at graph id).kind (node_at graph id).args refl (node_whole program graph branch.nodes id)
+    (node_whole program graph branch.nodes) redex.2 graphs after same m

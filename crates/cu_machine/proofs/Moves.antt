@@ -23,7 +23,6 @@ use Rattle.cu_calculus.specs.Match.{same_constructor}
 use Rattle.cu_calculus.specs.Shape.{takes, takes_more}
 use Rattle.cu_calculus.specs.Valid.{is_arity, is_linear}
 use Rattle.cu_calculus.specs.WellFormed.{all_differ, bound_by, fits, fits_body, fits_case, fits_function, fits_pattern, is_allowed, same_mode}
-use Rattle.std.specs.Cmp.Lexicographic.{pointwise}
 use Rattle.cu_machine.specs.declared.Kind.{Kind}
 use Rattle.cu_machine.specs.declared.Kind.TheVariants as kind
 use Rattle.cu_machine.specs.Build.{Built, Fresh, Scope, build, build_alone, kind_of_whole, written}
@@ -302,15 +301,14 @@ module _ (program : Code) (sets : Bool) (graph : Graph) (goals : List ℕ) (n id
   case_of_good mode e scrutinee values (Some (code.Case other variables s branches)) got whole low lows =
       let fit : fits_case program (code.Case other variables s branches) ≡ true =
       all_get (fits_case program) program.expressions e (code.Case other variables s branches) (cases_fit program base.code.well_formed) got in
-      let a = pointwise nat_eq variables variables in
-      let b = fits (length program.expressions) program variables s in
-      let c = all_differ branches in
+      let a = is_linear variables in
+      let b = all_differ branches in
       let count : suc (length values) ≡ suc (length variables) =
       eqb-true (suc (length values)) (suc (length variables)) (right_true (same_mode mode other) (nat_eq (suc (length values)) (suc (length variables))) whole) in
       let head : HeadGood program sets graph p scrutinee = head_good scrutinee low in
       distinguished_good variables (zip variables values) branches (head_of graph scrutinee) (head_at graph scrutinee).kind (head_at graph scrutinee).args
       (scope_zip (frame_of program sets graph p) (length graph) variables values (omega (arith, count)) (all_there_below (frame_of program sets graph p) (length graph) values lows))
-      (right_true (a && b && c) (list_all (fits_branch program variables) branches) fit) head.there head.whole head.args
+      (right_true (a && b) (list_all (fits_branch program variables) branches) fit) head.there head.whole head.args
   case_of_good mode e scrutinee values _ got whole low lows = sticks_good program sets graph goals n id p base
 
   -- ** Applications

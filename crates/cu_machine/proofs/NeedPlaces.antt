@@ -70,11 +70,16 @@ has_head graph x = is_head (head_at graph x).kind
 abbrev pub has_bound_head : Graph → ℕ → Bool
 has_bound_head graph x = is_bound (head_at graph x).kind
 
+-- a rigid case distinction wants its scrutinee bound
+abbrev pub is_ready_for : Mode → Kind → Bool
+is_ready_for Flex k = is_head k
+is_ready_for Rigid k = is_bound k
+
 -- the heads that the rows look at are there
 abbrev pub is_ready : Graph → Kind → List ℕ → Bool
 is_ready graph (kind.Call f) args = true
 is_ready graph kind.Or args = true
-is_ready graph (kind.Case mode e) (scrutinee ∷ values) = has_head graph scrutinee
+is_ready graph (kind.Case mode e) (scrutinee ∷ values) = is_ready_for mode (head_at graph scrutinee).kind
 is_ready graph kind.Apply (function ∷ args) = has_bound_head graph function
 is_ready graph (kind.Prim prim.Unify) args = list_all (has_head graph) args
 is_ready graph (kind.Prim prim.And) args = true
@@ -88,6 +93,10 @@ bound_head id (kind.Lit l) is same = refl
 bound_head id (kind.Part h) is same = refl
 bound_head id kind.Free is same = let none_left : ⊥ = cc in absurd none_left
 bound_head id _ is same = let none_left : ⊥ = true≢false (sym is) in absurd none_left
+
+pub ready_for : (mode : Mode) (id : ℕ) (k : Kind) → is_head k ≡ true → unless_rigid mode id k ≡ Done → is_ready_for mode k ≡ true
+ready_for Flex id k is same = is
+ready_for Rigid id k is same = bound_head id k is same
 
 pub free_not_at : (id : ℕ) (k : Kind) (i : ℕ) → unless_free id k ≡ At i → ⊥
 free_not_at id kind.Free i same = cc
@@ -154,7 +163,7 @@ module _ (R : Type 0) (truth : ConId) (graph : Graph) (part : Extent → ℕ →
   table_at (kind.Case mode e) (scrutinee ∷ values) own low same =
       let kept = unless_rigid mode (head_of graph scrutinee) (head_at graph scrutinee).kind in
       unless_done_at R (part Outermost scrutinee) (unless_done kept (At id)) i (each Outermost scrutinee (left_true (p scrutinee) (list_all p values) low))
-      (λ there. unless_done_at R kept (At id) i (λ is. absurd (rigid_not_at mode (head_of graph scrutinee) (head_at graph scrutinee).kind i is)) (λ free is. own refl (done scrutinee there) cc)) same
+      (λ there. unless_done_at R kept (At id) i (λ is. absurd (rigid_not_at mode (head_of graph scrutinee) (head_at graph scrutinee).kind i is)) (λ free is. own refl (ready_for mode (head_of graph scrutinee) (head_at graph scrutinee).kind (done scrutinee there) free) cc)) same
   table_at (kind.SetCall f) args own low same =
       unless_done_at R (first (map (part Throughout) args)) (unless_done (waiting (free_of graph args)) (At id)) i
       (first_at R p (part Throughout) args i (each Throughout) low)

@@ -6,6 +6,8 @@ use Rattle.cu_calculus.specs.declared.ConId.{ConId}
 use Rattle.cu_calculus.specs.declared.Head.{Head}
 use Rattle.cu_calculus.specs.declared.Lit.{Lit}
 use Rattle.cu_calculus.specs.declared.Lit.TheVariants.{Char, Int}
+use Rattle.cu_calculus.specs.declared.Mode.{Mode}
+use Rattle.cu_calculus.specs.declared.Mode.TheVariants.{Flex}
 use Rattle.cu_calculus.specs.declared.builtin.Primitive.{Primitive}
 use Rattle.cu_calculus.specs.declared.builtin.Primitive.TheVariants as prim
 use Rattle.cu_calculus.specs.declared.builtin.Special.{Special}
@@ -42,11 +44,11 @@ among_image f x (y ∷ ys) m = elim m [ inl same ↦ inl (ap f same) | inr rest 
 
 -- ** Case distinctions
 
-pub case_moves : (program : Code) (graph : Graph) (id scrutinee : ℕ) (scope : Scope) (branches : List Branch) (k : Kind) (args : List ℕ)
-    → CaseAt program graph id scrutinee scope branches → head_at graph scrutinee ≡ node k args
+pub case_moves : (program : Code) (graph : Graph) (id : ℕ) (mode : Mode) (scrutinee : ℕ) (scope : Scope) (branches : List Branch) (k : Kind) (args : List ℕ)
+    → CaseAt program graph id mode scrutinee scope branches → head_at graph scrutinee ≡ node k args
     → move program graph id ≡ distinguished program scope graph id branches (head_of graph scrutinee) k args
-case_moves program graph id scrutinee scope branches k args at head =
-    move_as program graph id (kind.Case at.mode at.number) (scrutinee ∷ at.values) at.node_is
+case_moves program graph id mode scrutinee scope branches k args at head =
+    move_as program graph id (kind.Case mode at.number) (scrutinee ∷ at.values) at.node_is
     ∙ ap (case_of program graph id scrutinee at.values) at.code_is
     ∙ ap (λ (s : Scope). distinguished program s graph id branches (head_of graph scrutinee) (head_at graph scrutinee).kind (head_at graph scrutinee).args) (sym at.scope_is)
     ∙ ap (λ (m : Node). distinguished program scope graph id branches (head_of graph scrutinee) m.kind m.args) head
@@ -252,23 +254,23 @@ row_moves program graph id after (row.left one two is same) =
     (put graph id (renaming one) ∷ put graph id (renaming two) ∷ [], move_as program graph id kind.Or (one ∷ two ∷ []) is, inl (sym same))
 row_moves program graph id after (row.right one two is same) =
     (put graph id (renaming one) ∷ put graph id (renaming two) ∷ [], move_as program graph id kind.Or (one ∷ two ∷ []) is, inr (inl (sym same)))
-row_moves program graph id after (row.literal_branch s scope branches l args branch at head found same) =
+row_moves program graph id after (row.literal_branch mode s scope branches l args branch at head found same) =
     follows_alone program graph id after _
-    (case_moves program graph id s scope branches (kind.Lit l) args at head ∙ ap (takes_branch program scope graph id []) found) same
-row_moves program graph id after (row.constructor_branch s scope branches c args branch at head found same) =
+    (case_moves program graph id mode s scope branches (kind.Lit l) args at head ∙ ap (takes_branch program scope graph id []) found) same
+row_moves program graph id after (row.constructor_branch mode s scope branches c args branch at head found same) =
     follows_alone program graph id after _
-    (case_moves program graph id s scope branches (kind.Cons c) args at head ∙ ap (takes_branch program scope graph id args) found) same
-row_moves program graph id after (row.no_literal_branch s scope branches l args at head found same) =
+    (case_moves program graph id mode s scope branches (kind.Cons c) args at head ∙ ap (takes_branch program scope graph id args) found) same
+row_moves program graph id after (row.no_literal_branch mode s scope branches l args at head found same) =
     follows_alone program graph id after _
-    (case_moves program graph id s scope branches (kind.Lit l) args at head ∙ ap (takes_branch program scope graph id []) found) same
-row_moves program graph id after (row.no_constructor_branch s scope branches c args at head found same) =
+    (case_moves program graph id mode s scope branches (kind.Lit l) args at head ∙ ap (takes_branch program scope graph id []) found) same
+row_moves program graph id after (row.no_constructor_branch mode s scope branches c args at head found same) =
     follows_alone program graph id after _
-    (case_moves program graph id s scope branches (kind.Cons c) args at head ∙ ap (takes_branch program scope graph id args) found) same
-row_moves program graph id after (row.no_partial_branch s scope branches h args at head same) =
-    follows_alone program graph id after _ (case_moves program graph id s scope branches (kind.Part h) args at head) same
+    (case_moves program graph id mode s scope branches (kind.Cons c) args at head ∙ ap (takes_branch program scope graph id args) found) same
+row_moves program graph id after (row.no_partial_branch mode s scope branches h args at head same) =
+    follows_alone program graph id after _ (case_moves program graph id mode s scope branches (kind.Part h) args at head) same
 row_moves program graph id after (row.narrowing s scope branches args branch at head m same) = (
   map (λ b. bound_to graph (head_of graph s) b.pattern) branches,
-  case_moves program graph id s scope branches kind.Free args at head,
+  case_moves program graph id Flex s scope branches kind.Free args at head,
   subst (λ (g : Graph). Among g (map (λ b. bound_to graph (head_of graph s) b.pattern) branches)) (sym same)
       (among_image (λ b. bound_to graph (head_of graph s) b.pattern) branch branches m),
 )

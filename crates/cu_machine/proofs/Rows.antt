@@ -11,7 +11,7 @@ use Rattle.cu_calculus.specs.Literal.{is_literal}
 use Rattle.cu_calculus.specs.Shape.{takes, takes_more}
 use Rattle.cu_calculus.specs.Value as value
 use Rattle.cu_calculus.specs.Value.{Value, Values, count}
-use Rattle.cu_calculus.specs.WellFormed.{has_special, is_allowed}
+use Rattle.cu_calculus.specs.WellFormed.{conjoins, has_special, is_allowed}
 use Rattle.cu_machine.specs.declared.Kind.{Kind}
 use Rattle.cu_machine.specs.declared.Kind.TheVariants as kind
 use Rattle.cu_machine.specs.Build.{Built, build_alone, written}
@@ -207,32 +207,45 @@ puts_good program sets graph goals n id p node base whole passing low = (put_goo
 pub record SpecialGood (program : Code) : Type 0 where
   pub falsity : takes (arity_of program (head.Con program.special.falsity)) 0 ≡ true
   pub truth : takes (arity_of program (head.Con program.special.truth)) 0 ≡ true
+  pub nil : takes (arity_of program (head.Con program.special.nil)) 0 ≡ true
+  pub cons : takes (arity_of program (head.Con program.special.cons)) 2 ≡ true
   pub both : is_call (arity_of program (head.Fun program.special.both)) (body_of program program.special.both) 2 ≡ true
+  pub values : elim program.special.values [ Some c ↦ takes (arity_of program (head.Con c)) 1 | None ↦ true ] ≡ true
 
 pub rule_call : (arity : Option ℕ) (body : Option Body) (n : ℕ) → is_rule body ≡ true → takes arity n ≡ true → is_call arity body n ≡ true
 rule_call arity (Some (code.Rule params e)) n rule whole = whole
 rule_call arity (Some (code.External operation)) n rule whole = let no : ⊥ = true≢false (sym rule) in absurd no
 rule_call arity None n rule whole = let no : ⊥ = true≢false (sym rule) in absurd no
 
+pub conjoins_by_rule : (program : Code) (body : Option Body) → conjoins program body ≡ true → is_rule body ≡ true
+conjoins_by_rule program (Some (code.Rule params e)) is = refl
+conjoins_by_rule program (Some (code.External operation)) is = is
+conjoins_by_rule program None is = is
+
 pub special_good : (program : Code) → has_special program ≡ true → SpecialGood program
 special_good program special =
     let a = takes (arity_of program (head.Con program.special.falsity)) 0 in
     let b = takes (arity_of program (head.Con program.special.truth)) 0 in
-    let c = takes (arity_of program (head.Con program.special.nil)) 0 in
-    let d = takes (arity_of program (head.Con program.special.cons)) 2 in
-    let e = is_rule (body_of program program.special.both) in
-    let f = takes (arity_of program (head.Fun program.special.both)) 2 in
-    let g : Bool = elim program.special.values [ Some c ↦ takes (arity_of program (head.Con c)) 1 | None ↦ true ] in
-    let abcdef : (a && b && c && d && e && f) ≡ true = left_true (a && b && c && d && e && f) g special in
-    let abcde : (a && b && c && d && e) ≡ true = left_true (a && b && c && d && e) f abcdef in
-    let abcd : (a && b && c && d) ≡ true = left_true (a && b && c && d) e abcde in
-    let abc : (a && b && c) ≡ true = left_true (a && b && c) d abcd in
-    let ab : (a && b) ≡ true = left_true (a && b) c abc in
+    let c = nat_lt program.special.falsity.0 program.special.truth.0 in
+    let d = takes (arity_of program (head.Con program.special.nil)) 0 in
+    let e = takes (arity_of program (head.Con program.special.cons)) 2 in
+    let f = conjoins program (body_of program program.special.both) in
+    let g = takes (arity_of program (head.Fun program.special.both)) 2 in
+    let h : Bool = elim program.special.values [ Some c ↦ takes (arity_of program (head.Con c)) 1 | None ↦ true ] in
+    let to_g : (a && b && c && d && e && f && g) ≡ true = left_true (a && b && c && d && e && f && g) h special in
+    let to_f : (a && b && c && d && e && f) ≡ true = left_true (a && b && c && d && e && f) g to_g in
+    let to_e : (a && b && c && d && e) ≡ true = left_true (a && b && c && d && e) f to_f in
+    let to_d : (a && b && c && d) ≡ true = left_true (a && b && c && d) e to_e in
+    let to_b : (a && b) ≡ true = left_true (a && b) c (left_true (a && b && c) d to_d) in
     record {
-      falsity = left_true a b ab;
-      truth = right_true a b ab;
+      falsity = left_true a b to_b;
+      truth = right_true a b to_b;
+      nil = right_true (a && b && c) d to_d;
+      cons = right_true (a && b && c && d) e to_e;
       both = rule_call (arity_of program (head.Fun program.special.both)) (body_of program program.special.both) 2
-          (right_true (a && b && c && d) e abcde) (right_true (a && b && c && d && e) f abcdef);
+          (conjoins_by_rule program (body_of program program.special.both) (right_true (a && b && c && d && e) f to_f))
+          (right_true (a && b && c && d && e && f) g to_g);
+      values = right_true (a && b && c && d && e && f && g) h special;
     }
 
 pub code_special : (program : Code) (sets : Bool) → CodeGood program sets → SpecialGood program

@@ -14,14 +14,14 @@ use Rattle.cu_calculus.specs.Value.{Value, Values, count}
 use Rattle.cu_calculus.specs.WellFormed.{is_allowed, is_well_formed}
 use Rattle.cu_machine.specs.declared.Kind.{Kind}
 use Rattle.cu_machine.specs.declared.Kind.TheVariants as kind
-use Rattle.cu_machine.specs.Build.{Built, BuiltParts, kind_of_call, place_of, pushed}
+use Rattle.cu_machine.specs.Build.{BuiltParts, kind_of_call, pushed}
 use Rattle.cu_machine.specs.Graph.{Node, alone, node_at, stuck}
 use Rattle.cu_machine.specs.Sets.{IsWithoutSets, is_set_kind, without}
 use Rattle.cu_machine.specs.Spell.{push_value, push_values}
 use Rattle.cu_machine.specs.State.{call_on, free_nodes, numbers, start_of, start_on}
 use Rattle.cu_machine.specs.Validity.{Founded, IsValid, has_arguments, none}
-use Rattle.cu_machine.proofs.Building.{GoodParts, alone_good, call_fits, call_passes, node_good}
-use Rattle.cu_machine.proofs.Frames.{AllGood, Fine, Frame, Good, GoodBuilt, all_founded, founded_as, good_append, good_at, is_there, or_right, passes, place_there, pushed_good, there_later}
+use Rattle.cu_machine.proofs.Building.{GoodParts, alone_good, call_fits, call_passes, node_good, one_more}
+use Rattle.cu_machine.proofs.Frames.{AllGood, Fine, Frame, Good, GoodBuilt, all_founded, founded_as, good_append, good_at, is_there, or_right, passes}
 use Rattle.cu_machine.proofs.Fuel.{all_follow, both_true, left_true, right_true}
 use Rattle.cu_machine.proofs.Moves.{free_at_place, free_nodes_good, length_free, length_numbers, numbers_plain, numbers_there}
 use Rattle.cu_machine.proofs.Rows.{fit_values, fits_value, plain_as}
@@ -69,19 +69,6 @@ fresh_fine program sets nodes good = record {
 pub sets_pass : (sets : Bool) (k : Kind) → sets ≡ true → passes sets k ≡ true
 sets_pass sets k there = rw there refl
 
-pub one_more : (f : Frame) (next k : ℕ) (one : Built) (others : BuiltParts) → f.first ≤ next → GoodBuilt f next one
-    → GoodParts f (next + length (pushed one)) k others → GoodParts f next (k + 1) (record { nodes = pushed one ++ others.nodes; ids = place_of next one ∷ others.ids })
-one_more f next k one others from good rest =
-    let later = next + length (pushed one) in
-    let end : later + length others.nodes ≡ next + length (pushed one ++ others.nodes) = rw (length-append (pushed one) others.nodes) (omega arith) in
-    record {
-      nodes = good_append f next (pushed one) others.nodes (pushed_good f next one good) rest.nodes;
-      ids = subst (λ (m : ℕ). list_all (is_there f m) (place_of next one ∷ others.ids) ≡ true) end
-          (both_true (is_there f (later + length others.nodes) (place_of next one)) (list_all (is_there f (later + length others.nodes)) others.ids)
-          (there_later f later (later + length others.nodes) (place_of next one) (omega arith) (place_there f next one from good)) rest.ids);
-      count_is = ap suc rest.count_is ∙ omega arith;
-    }
-
 mutual
   pub value_good : (f : Frame) (next : ℕ) (v : Value) → f.first ≤ next → f.sets ≡ true → fits_value f.program v ≡ true → GoodBuilt f next (push_value next v)
   value_good f next value.Bottom from sets fit = alone_good f next kind.Stuck refl (or_right f.sets true refl)
@@ -99,7 +86,7 @@ mutual
   pub values_good : (f : Frame) (next : ℕ) (vs : Values) → f.first ≤ next → f.sets ≡ true → fit_values f.program vs ≡ true → GoodParts f next (count vs) (push_values next vs)
   values_good f next value.NoValue from sets fit = record { nodes = tt; ids = refl; count_is = refl }
   values_good f next (value.MoreValues v vs) from sets fit =
-      one_more f next (count vs) (push_value next v) (push_values (next + length (pushed (push_value next v))) vs) from
+      one_more f next (count vs) (count vs + 1) (push_value next v) (push_values (next + length (pushed (push_value next v))) vs) refl from
       (value_good f next v from sets (left_true (fits_value f.program v) (fit_values f.program vs) fit))
       (values_good f (next + length (pushed (push_value next v))) vs (omega arith) sets (right_true (fits_value f.program v) (fit_values f.program vs) fit))
 

@@ -1,6 +1,6 @@
 -- Building the graph of an expression: nodes for its parts from left to right, and then its own node.
 -- What is built depends on the number of the next node alone, and not on the graph that it joins.
-use Rattle.std.specs.Prelude.{ℕ, zero, suc, ◌+◌, List, [], ◌∷◌, ◌++◌, Option, None, Some, if◌then◌else◌, length, map, nat_eq}
+use Rattle.std.specs.Prelude.{ℕ, zero, suc, ◌+◌, List, [], ◌∷◌, ◌++◌, Option, None, Some, if◌then◌else◌, length, nat_eq}
 use Rattle.cu_calculus.specs.declared.ExprId.{ExprId}
 use Rattle.cu_calculus.specs.declared.FunId.{FunId}
 use Rattle.cu_calculus.specs.declared.Head.{Head}

@@ -3,17 +3,18 @@ use Rattle.std.specs.Prelude.{◌≡◌, ℕ, zero, suc, Bool, true, false, List
 use Rattle.std.specs.List.{list_all}
 use Rattle.cu_calculus.specs.declared.FunId.{FunId}
 use Rattle.cu_calculus.specs.Code.{Code, function_arity}
-use Rattle.cu_calculus.specs.Shape.{are_ground, is_ground}
+use Rattle.cu_calculus.specs.Shape.{is_ground}
 use Rattle.cu_calculus.specs.Value.{Value, Values, count}
 use Rattle.cu_machine.specs.declared.Limits.{Limits}
-use Rattle.cu_machine.specs.Level.{level}
+use Rattle.cu_machine.specs.Level.{inner_level}
 use Rattle.cu_machine.specs.Next.{Next, Answer, Fails, Go, Stops, Waits, next}
 use Rattle.cu_machine.specs.Sort.{sorted}
 use Rattle.cu_machine.specs.State.{call_on}
+use Rattle.cu_machine.specs.Validity.{are_built}
 
 -- the events of the states at a depth of the tree of a call on values
 abbrev pub inner_events : Code → Limits → FunId → Values → ℕ → List Next
-inner_events program limits f arguments depth = map (next program limits) (level program limits (call_on program f arguments) depth)
+inner_events program limits f arguments depth = map (next program limits) (inner_level program limits (call_on program f arguments) depth)
 
 -- an event that leaves the search going: no answer that isn't ground data, no wait and no stop
 abbrev pub is_quiet : Next → Bool
@@ -32,12 +33,13 @@ abbrev pub answers_before : (ℕ → List Next) → ℕ → List Value
 answers_before events zero = []
 answers_before events (suc depth) = answers_before events depth ++ flat_map answered_by (events depth)
 
--- The search of a function on ground data ends, at an empty level; all events before it are quiet, and these are the values
--- that were answered, sorted and without repeats.
+-- The search of a function on ground data of the program ends, at an empty level; all events before it are quiet, and these are
+-- the values that were answered, sorted and without repeats.
 pub record Found (program : Code) (limits : Limits) (f : FunId) (arguments : Values) (values : List Value) : Type 0 where
   pub whole : function_arity program f ≡ Some (count arguments)
-  pub ground : IsTrue (are_ground arguments)
+  -- the arguments are ground data of the program
+  pub built : IsTrue (are_built program arguments)
   pub depth : ℕ
-  pub ended : level program limits (call_on program f arguments) depth ≡ []
+  pub ended : inner_level program limits (call_on program f arguments) depth ≡ []
   pub quiet : (k : ℕ) → IsTrue (list_all is_quiet (inner_events program limits f arguments k))
   pub collected : values ≡ sorted (answers_before (inner_events program limits f arguments) depth)

@@ -2,7 +2,9 @@
 use Rattle.std.specs.Prelude.{ℕ, zero, suc, List, [], ◌∷◌, flat_map}
 use Rattle.cu_calculus.specs.Code.{Code}
 use Rattle.cu_machine.specs.declared.Limits.{Limits}
+use Rattle.cu_machine.specs.declared.SearchLimits.{SearchLimits}
 use Rattle.cu_machine.specs.Next.{Next, Answer, Fails, Go, Stops, Waits, next}
+use Rattle.cu_machine.specs.Run.{run}
 use Rattle.cu_machine.specs.State.{State}
 
 -- the states that follow
@@ -13,7 +15,15 @@ go_list Fails = []
 go_list (Waits names) = []
 go_list (Stops stop) = []
 
--- the states at a depth of the tree, from left to right
-unfoldable pub level : Code → Limits → State → ℕ → List State
-level program limits start zero = start ∷ []
-level program limits start (suc depth) = flat_map (λ state. go_list (next program limits state)) (level program limits start depth)
+-- the states at a depth of the tree in which `event` says what becomes of a state, from left to right
+unfoldable pub level_by : (State → Next) → State → ℕ → List State
+level_by event start zero = start ∷ []
+level_by event start (suc depth) = flat_map (λ state. go_list (event state)) (level_by event start depth)
+
+-- the levels of a search, whose rounds take each state on by its stride
+abbrev pub level : Code → SearchLimits → State → ℕ → List State
+level program limits start depth = level_by (run limits.stride program limits.step) start depth
+
+-- the levels of an inner search, which are single steps
+abbrev pub inner_level : Code → Limits → State → ℕ → List State
+inner_level program limits start depth = level_by (next program limits) start depth

@@ -8,6 +8,7 @@ pub mod Need
 pub mod Next
 pub mod Places
 pub mod Rewrite
+pub mod Run
 pub mod Sets
 pub mod Sort
 pub mod Spell

@@ -1,4 +1,4 @@
--- The listing of a goal: level by level, in rounds.
+-- The listing of a goal: level by level, in rounds. A round takes each state on by at most so many steps, the stride.
 use Rattle.std.specs.Prelude.{ℕ, zero, suc, ◌+◌, List, [], ◌∷◌, ◌++◌, Option, None, Some, Bool, false, if◌then◌else◌, nat_lt, nat_eq, length, map, flat_map}
 use Rattle.cu_calculus.specs.Code.{Code}
 use Rattle.cu_machine.specs.declared.End.{End}
@@ -7,7 +7,8 @@ use Rattle.cu_machine.specs.declared.SearchLimits.{SearchLimits}
 use Rattle.cu_machine.specs.declared.Stop.TheVariants.{TooWide}
 use Rattle.cu_machine.specs.declared.Waited.{Waited}
 use Rattle.cu_machine.specs.Level.{go_list}
-use Rattle.cu_machine.specs.Next.{Next, Answer, Fails, Go, Reading, Stops, Waits, next}
+use Rattle.cu_machine.specs.Next.{Next, Answer, Fails, Go, Reading, Stops, Waits}
+use Rattle.cu_machine.specs.Run.{run}
 use Rattle.cu_machine.specs.State.{State}
 
 pub data Line : Type 0 where
@@ -83,7 +84,7 @@ unless_exhausted others tally (state ∷ states) = others tally (state ∷ state
 -- one level, and what `others` lists of the level after it
 abbrev pub list_level : (Tally → List State → Listing) → Code → SearchLimits → ℕ → Tally → List State → Listing
 list_level others program limits d tally states =
-    let outcomes = map (next program limits.step) states in
+    let outcomes = map (run limits.stride program limits.step) states in
     let round = round_of d limits.answers tally outcomes
     in after_lines round.lines (unless_ended round.end (unless_exhausted others round.tally (flat_map go_list outcomes)))
 

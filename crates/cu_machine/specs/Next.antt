@@ -1,26 +1,23 @@
 -- One step of a state.
-use Rattle.std.specs.Prelude.{ℕ, zero, suc, ◌+◌, Bool, true, false, List, [], ◌∷◌, ◌++◌, Option, None, Some, if◌then◌else◌, nat_eq, nat_lt, length, map}
+use Rattle.std.specs.Prelude.{ℕ, ◌+◌, Bool, List, [], ◌∷◌, ◌++◌, Option, None, Some, if◌then◌else◌, nat_eq, nat_lt, length, map}
 use Rattle.std.specs.List.{list_any}
-use Rattle.cu_calculus.specs.declared.ConId.{ConId}
 use Rattle.cu_calculus.specs.Code.{Code}
 use Rattle.cu_calculus.specs.Gives.{listed}
 use Rattle.cu_calculus.specs.Shape.{is_ground}
 use Rattle.cu_calculus.specs.Value as value
 use Rattle.cu_calculus.specs.Value.{Value, Values, values_of}
-use Rattle.cu_machine.specs.declared.Kind.TheVariants as kind
 use Rattle.cu_machine.specs.declared.Limits.{Limits}
 use Rattle.cu_machine.specs.declared.Stop.{Stop}
 use Rattle.cu_machine.specs.declared.Stop.TheVariants.{Overflow, TooLarge, TooWide}
 use Rattle.cu_machine.specs.declared.Waited.{Waited}
 use Rattle.cu_machine.specs.declared.Waited.TheVariants.{Named, Other}
-use Rattle.cu_machine.specs.Build.{Built, pushed, written}
-use Rattle.cu_machine.specs.Graph.{Graph, Node, alone, head_of, put, stuck}
+use Rattle.cu_machine.specs.Build.{written}
+use Rattle.cu_machine.specs.Graph.{Graph, head_of, put, stuck}
 use Rattle.cu_machine.specs.Need.{Need, At, Dead, Done, Wait, need_all}
-use Rattle.cu_machine.specs.Places.{joined}
 use Rattle.cu_machine.specs.Rewrite.{Become, Collect, Move, Overflows, move}
 use Rattle.cu_machine.specs.Sort.{sorted}
 use Rattle.cu_machine.specs.Spell.{cells_of_all, ordinal, push_value, renumbered, spelled, variables_of_all}
-use Rattle.cu_machine.specs.State.{Branch, Idle, MoreStates, NoState, Running, Search, State, States, call_on, graph_of, states_of}
+use Rattle.cu_machine.specs.State.{Branch, Idle, MoreStates, NoState, Running, State, States, call_on, graph_of, states_of}
 
 -- what is read off a state whose value is there: what the goal variables are bound to, and the value
 pub record Reading : Type 0 where

@@ -1,10 +1,9 @@
 -- The step table: what becomes of a graph where the node at a place is rewritten. A call's arguments are shared by all their
 -- uses, which is call-time choice; a flexible case distinction on a free variable narrows it, once for each branch.
-use Rattle.std.specs.Prelude.{ℕ, zero, suc, ◌+◌, ◌-◌, Bool, true, false, ◌&&◌, List, [], ◌∷◌, ◌++◌, Option, None, Some, if◌then◌else◌, length, map, nat_eq, nat_lt, zip, ℤ, pos, negsuc, ◌+ℤ◌, ◌-ℤ◌, ◌*ℤ◌, int_lt, int_le}
-use Rattle.std.specs.List.{list_all, list_any}
+use Rattle.std.specs.Prelude.{ℕ, zero, suc, ◌+◌, Bool, true, false, ◌&&◌, List, [], ◌∷◌, ◌++◌, Option, None, Some, if◌then◌else◌, length, map, nat_eq, nat_lt, zip, ℤ, pos, negsuc, ◌+ℤ◌, ◌-ℤ◌, ◌*ℤ◌, int_lt, int_le}
+use Rattle.std.specs.List.{list_any}
 use Rattle.std.specs.Ordering.{int_eq}
 use Rattle.cu_calculus.specs.declared.ConId.{ConId}
-use Rattle.cu_calculus.specs.declared.ExprId.{ExprId}
 use Rattle.cu_calculus.specs.declared.FunId.{FunId}
 use Rattle.cu_calculus.specs.declared.Head.{Head}
 use Rattle.cu_calculus.specs.declared.Lit.{Lit}
@@ -25,7 +24,6 @@ use Rattle.cu_machine.specs.declared.Kind.{Kind}
 use Rattle.cu_machine.specs.declared.Kind.TheVariants as kind
 use Rattle.cu_machine.specs.Build.{Built, Fresh, Scope, Shared, after, build_alone, kind_of_whole, place_of, pushed, write, written}
 use Rattle.cu_machine.specs.Graph.{Graph, Node, alone, head_at, head_of, node_at, put, renaming}
-use Rattle.cu_machine.specs.Places.{holds}
 use Rattle.cu_machine.specs.Spell.{spelled}
 use Rattle.cu_machine.specs.State.{free_nodes, numbers}
 

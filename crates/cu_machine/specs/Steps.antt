@@ -9,6 +9,7 @@ use Rattle.cu_calculus.specs.declared.Head.{Head}
 use Rattle.cu_calculus.specs.declared.Lit.{Lit}
 use Rattle.cu_calculus.specs.declared.Lit.TheVariants.{Char, Int}
 use Rattle.cu_calculus.specs.declared.Mode.{Mode}
+use Rattle.cu_calculus.specs.declared.Mode.TheVariants.{Flex}
 use Rattle.cu_calculus.specs.declared.builtin.Primitive.{Primitive}
 use Rattle.cu_calculus.specs.declared.builtin.Primitive.TheVariants as prim
 use Rattle.cu_int.specs.Integers.{floor_quotient, floor_rest}
@@ -42,17 +43,15 @@ telling program graph id answer = put graph id (truth_node program.special answe
 
 -- ** Premises
 
--- a case distinction at a place, with the places of the variables in scope and its branches
-pub record CaseAt (program : Code) (graph : Graph) (id scrutinee : ℕ) (scope : Scope) (branches : List Branch) : Type 0 where
-  pub mode : Mode
-  pub code_mode : Mode
+-- a case distinction at a place, of the mode that its code has, with the places of the variables that it keeps and its branches
+pub record CaseAt (program : Code) (graph : Graph) (id : ℕ) (mode : Mode) (scrutinee : ℕ) (scope : Scope) (branches : List Branch) : Type 0 where
   pub number : ℕ
   pub inner : ExprId
-  pub variables : List ℕ
+  pub kept : List ℕ
   pub values : List ℕ
   pub node_is : node_at graph id ≡ node (kind.Case mode number) (scrutinee ∷ values)
-  pub code_is : expr_of program (record { 0 = number }) ≡ Some (code.Case code_mode variables inner branches)
-  pub scope_is : scope ≡ zip variables values
+  pub code_is : expr_of program (record { 0 = number }) ≡ Some (code.Case mode kept inner branches)
+  pub scope_is : scope ≡ zip kept values
 
 abbrev pub is_partial : Kind → Bool
 is_partial (kind.Part h) = true
@@ -129,24 +128,24 @@ pub data Steps (program : Code) (graph : Graph) (id : ℕ) (after : Graph) : Typ
   left : (one two : ℕ) → node_at graph id ≡ node kind.Or (one ∷ two ∷ []) → after ≡ put graph id (renaming one) → Steps program graph id after
   right : (one two : ℕ) → node_at graph id ≡ node kind.Or (one ∷ two ∷ []) → after ≡ put graph id (renaming two) → Steps program graph id after
   -- a case distinction on a literal, a constructor or a partial application: the branch that matches, or failure
-  literal_branch : (scrutinee : ℕ) (scope : Scope) (branches : List Branch) (l : Lit) (args : List ℕ) (branch : Branch)
-      → CaseAt program graph id scrutinee scope branches → head_at graph scrutinee ≡ node (kind.Lit l) args → branch_for (takes_literal l) branches ≡ Some branch
+  literal_branch : (mode : Mode) (scrutinee : ℕ) (scope : Scope) (branches : List Branch) (l : Lit) (args : List ℕ) (branch : Branch)
+      → CaseAt program graph id mode scrutinee scope branches → head_at graph scrutinee ≡ node (kind.Lit l) args → branch_for (takes_literal l) branches ≡ Some branch
       → after ≡ write program (scope ++ zip (bound_by branch.pattern) []) graph id branch.body → Steps program graph id after
-  constructor_branch : (scrutinee : ℕ) (scope : Scope) (branches : List Branch) (c : ConId) (args : List ℕ) (branch : Branch)
-      → CaseAt program graph id scrutinee scope branches → head_at graph scrutinee ≡ node (kind.Cons c) args → branch_for (takes_constructor c) branches ≡ Some branch
+  constructor_branch : (mode : Mode) (scrutinee : ℕ) (scope : Scope) (branches : List Branch) (c : ConId) (args : List ℕ) (branch : Branch)
+      → CaseAt program graph id mode scrutinee scope branches → head_at graph scrutinee ≡ node (kind.Cons c) args → branch_for (takes_constructor c) branches ≡ Some branch
       → after ≡ write program (scope ++ zip (bound_by branch.pattern) args) graph id branch.body → Steps program graph id after
-  no_literal_branch : (scrutinee : ℕ) (scope : Scope) (branches : List Branch) (l : Lit) (args : List ℕ)
-      → CaseAt program graph id scrutinee scope branches → head_at graph scrutinee ≡ node (kind.Lit l) args → branch_for (takes_literal l) branches ≡ None
+  no_literal_branch : (mode : Mode) (scrutinee : ℕ) (scope : Scope) (branches : List Branch) (l : Lit) (args : List ℕ)
+      → CaseAt program graph id mode scrutinee scope branches → head_at graph scrutinee ≡ node (kind.Lit l) args → branch_for (takes_literal l) branches ≡ None
       → after ≡ failing graph id → Steps program graph id after
-  no_constructor_branch : (scrutinee : ℕ) (scope : Scope) (branches : List Branch) (c : ConId) (args : List ℕ)
-      → CaseAt program graph id scrutinee scope branches → head_at graph scrutinee ≡ node (kind.Cons c) args → branch_for (takes_constructor c) branches ≡ None
+  no_constructor_branch : (mode : Mode) (scrutinee : ℕ) (scope : Scope) (branches : List Branch) (c : ConId) (args : List ℕ)
+      → CaseAt program graph id mode scrutinee scope branches → head_at graph scrutinee ≡ node (kind.Cons c) args → branch_for (takes_constructor c) branches ≡ None
       → after ≡ failing graph id → Steps program graph id after
-  no_partial_branch : (scrutinee : ℕ) (scope : Scope) (branches : List Branch) (h : Head) (args : List ℕ)
-      → CaseAt program graph id scrutinee scope branches → head_at graph scrutinee ≡ node (kind.Part h) args → after ≡ failing graph id
+  no_partial_branch : (mode : Mode) (scrutinee : ℕ) (scope : Scope) (branches : List Branch) (h : Head) (args : List ℕ)
+      → CaseAt program graph id mode scrutinee scope branches → head_at graph scrutinee ≡ node (kind.Part h) args → after ≡ failing graph id
       → Steps program graph id after
   -- a flexible case distinction on a free variable, which becomes what one of the branches asks for
   narrowing : (scrutinee : ℕ) (scope : Scope) (branches : List Branch) (args : List ℕ) (branch : Branch)
-      → CaseAt program graph id scrutinee scope branches → head_at graph scrutinee ≡ node kind.Free args → Among branch branches
+      → CaseAt program graph id Flex scrutinee scope branches → head_at graph scrutinee ≡ node kind.Free args → Among branch branches
       → after ≡ bound_to graph (head_of graph scrutinee) branch.pattern → Steps program graph id after
   -- an application of a partial application, which is partial still, or whole; and of anything else
   still_partial : (function argument : ℕ) (h : Head) (args : List ℕ) (arity : ℕ) → node_at graph id ≡ node kind.Apply (function ∷ argument ∷ [])

@@ -1,30 +1,37 @@
 //! Laws of the definitions.
-ghost use Rattle.std.specs.Prelude.{◌≡◌, ◌≤◌, ◌<◌, ℕ, Bool, IsTrue, List, length};
+ghost use Rattle.std.specs.Prelude.{◌≡◌, ◌≤◌, ◌<◌, ◌-◌, ℕ, Bool, IsTrue, List, [], ◌∷◌, None, length};
+ghost use Rattle.std.specs.List.{list_all};
 ghost use Rattle.cu_calculus.specs.declared.ConId.{ConId};
 ghost use Rattle.cu_calculus.specs.declared.FunId.{FunId};
+ghost use Rattle.cu_calculus.specs.declared.Mode.TheVariants.{Rigid};
+ghost use Rattle.cu_calculus.specs.Value.{Value, Values};
 ghost use Rattle.cu_calculus.specs.Code.{Code, body_of, is_rule};
 ghost use Rattle.cu_calculus.specs.WellFormed.{is_well_formed};
 ghost use Rattle.cu_machine.specs.Among.{Among};
+ghost use Rattle.cu_machine.specs.Found.{Found};
 ghost use Rattle.cu_machine.specs.Graph.{Graph, followed, head_at, head_of, head_within, node_at};
-ghost use Rattle.cu_machine.specs.Level.{level};
+ghost use Rattle.cu_machine.specs.Level.{inner_level, level};
 ghost use Rattle.cu_machine.specs.Listing.{Answered, listing};
 ghost use Rattle.cu_machine.specs.Need.{At, Done, Extent, Need, before, free_at, free_within, is_head, need, need_all, need_at, need_within, rest_at, unless_done};
 ghost use Rattle.cu_machine.specs.Next.{Answer, Go, Reading, next};
+ghost use Rattle.cu_machine.specs.Run.{only_state, reached, reading_at, run};
 ghost use Rattle.cu_machine.specs.Rewrite.{Become, move, occurs_at, occurs_within};
 ghost use Rattle.cu_machine.specs.Spell.{spelled, spelled_at, spelled_within};
 ghost use Rattle.cu_machine.specs.Sets.{IsWithoutSets, code_is_without_sets};
 ghost use Rattle.cu_machine.specs.State.{Branch, Idle, State, start_of};
 ghost use Rattle.cu_machine.specs.Steps.{Steps};
-ghost use Rattle.cu_machine.specs.Validity.{ArgumentsThere, Founded, IsValid};
+ghost use Rattle.cu_machine.specs.Validity.{ArgumentsThere, Founded, IsValid, are_built, is_built};
+ghost use Rattle.cu_machine.specs.declared.Kind.TheVariants.{Case, Free};
 ghost use Rattle.cu_machine.specs.declared.Limits.{Limits};
 ghost use Rattle.cu_machine.specs.declared.SearchLimits.{SearchLimits};
 
-/// An answer that is listed at a depth is that of a branch at this depth of
-/// the search tree.
+/// An answer that is listed in a round is that of a state of the round's
+/// level, and it is what is read off the state that a run reaches from there.
 pub fn answers_stand_at_their_depth()
     ensures { (code : Code) (limits : SearchLimits) (start : State) (depth : ℕ) (reading : Reading)
         → Among (Answered depth reading) (listing code limits start).lines
-        → (state : State) × Among state (level code limits.step start depth) × (next code limits.step state ≡ Answer reading) }
+        → (state : State) × Among state (level code limits start depth) × (run limits.stride code limits.step state ≡ Answer reading)
+        × (reading ≡ reading_at (reached limits.stride code limits.step state)) }
 {}
 
 /// What needs nothing has a head that is there: a constructor, a literal, a
@@ -77,15 +84,26 @@ pub fn tables_hold()
         ≡ occurs_at (occurs_within (length graph) graph variable) variable (head_of graph id) (head_at graph id).kind (head_at graph id).args }
 {}
 
-/// Valid states stay valid: in well-formed code, each state that follows a
-/// valid one without a running search is valid, and so is the state in which
-/// the search for a goal begins.
+/// Valid states stay valid: in well-formed code, the state in which the search
+/// for a goal begins is valid, and so is each state that follows a valid one,
+/// also where a search for all values of a function runs in it. A run keeps
+/// this too, of the state that it reaches and of those that follow, and so do the
+/// levels of a search.
 pub fn states_stay_valid()
     ensures start { (program : Code) (goal : FunId) → IsTrue (is_well_formed program) → IsTrue (is_rule (body_of program goal))
         → IsValid program (start_of program goal) }
-    ensures next { (program : Code) (limits : Limits) (graph : Graph) (root : ℕ) (goals : List ℕ) (states : List State) (state : State)
-        → IsTrue (is_well_formed program) → IsValid program (Branch graph root goals Idle)
-        → next program limits (Branch graph root goals Idle) ≡ Go states → Among state states → IsValid program state }
+    ensures next { (program : Code) (limits : Limits) (before state : State) (states : List State)
+        → IsTrue (is_well_formed program) → IsValid program before
+        → next program limits before ≡ Go states → Among state states → IsValid program state }
+    ensures run { (program : Code) (limits : Limits) (steps : ℕ) (before state : State) (states : List State)
+        → IsTrue (is_well_formed program) → IsValid program before
+        → run steps program limits before ≡ Go states → Among state states → IsValid program state }
+    ensures reached { (program : Code) (limits : Limits) (steps : ℕ) (state : State)
+        → IsTrue (is_well_formed program) → IsValid program state → IsValid program (reached steps program limits state) }
+    ensures level { (program : Code) (limits : SearchLimits) (start state : State) (depth : ℕ)
+        → IsTrue (is_well_formed program) → IsValid program start → Among state (level program limits start depth) → IsValid program state }
+    ensures inner_level { (program : Code) (limits : Limits) (start state : State) (depth : ℕ)
+        → IsTrue (is_well_formed program) → IsValid program start → Among state (inner_level program limits start depth) → IsValid program state }
 {}
 
 /// Where the code has no set functions, none comes up in a state.
@@ -98,11 +116,38 @@ pub fn states_stay_without_sets()
 
 /// The rows of the step table as a relation are the moves of the function:
 /// each row's graph is one that the move gives, and where a valid state needs
-/// the node each graph that the move gives comes by a row.
+/// the node each graph that the move gives comes by a row. A rigid case
+/// distinction on a free variable has no row: it waits.
 pub fn rows_are_moves()
     ensures rows { (program : Code) (graph after : Graph) (id : ℕ) → Steps program graph id after
         → (graphs : List Graph) × (move program graph id ≡ Become graphs) × Among after graphs }
     ensures moves { (program : Code) (graph after : Graph) (root id : ℕ) (goals : List ℕ) (graphs : List Graph)
         → IsValid program (Branch graph root goals Idle) → need_all program.special.truth graph root ≡ At id
         → move program graph id ≡ Become graphs → Among after graphs → Steps program graph id after }
+    ensures rigid { (program : Code) (graph after : Graph) (id number scrutinee : ℕ) (values : List ℕ)
+        → node_at graph id ≡ record { kind = Case Rigid number; args = scrutinee ∷ values }
+        → (head_at graph scrutinee).kind ≡ Free → Steps program graph id after → ⊥ }
+{}
+
+/// A run of one step is that step. A run of more steps goes on with the one
+/// state that follows, and is a single step where there isn't exactly one. So
+/// it is one step of the state that it reaches.
+pub fn runs_are_steps()
+    ensures one { (program : Code) (limits : Limits) (state : State) → run 1 program limits state ≡ next program limits state }
+    ensures alone { (program : Code) (limits : Limits) (steps : ℕ) (state after : State) → 1 < steps → next program limits state ≡ Go (after ∷ [])
+        → run steps program limits state ≡ run (steps - 1) program limits after }
+    ensures otherwise { (program : Code) (limits : Limits) (steps : ℕ) (state : State) → only_state (next program limits state) ≡ None
+        → run steps program limits state ≡ next program limits state }
+    ensures reaches { (program : Code) (limits : Limits) (steps : ℕ) (state : State)
+        → run steps program limits state ≡ next program limits (reached steps program limits state) }
+{}
+
+/// What a search finds is of ground data of the program, and is such data
+/// itself: constructors of the program with all their arguments, and literals
+/// of the language.
+pub fn finds_are_of_the_program()
+    ensures arguments { (program : Code) (limits : Limits) (f : FunId) (arguments : Values) (values : List Value)
+        → Found program limits f arguments values → IsTrue (are_built program arguments) }
+    ensures values { (program : Code) (limits : Limits) (f : FunId) (arguments : Values) (values : List Value)
+        → IsTrue (is_well_formed program) → Found program limits f arguments values → IsTrue (list_all (is_built program) values) }
 {}

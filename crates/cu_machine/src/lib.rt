@@ -7,8 +7,9 @@ mod laws;
 
 use cu_calculus::{ConId, FunId, Head, Int, Lit, Mode, Prim};
 pub use laws::{
-    answers_stand_at_their_depth, done_has_a_head, needs_are_joined, rows_are_moves,
-    states_stay_valid, states_stay_without_sets, tables_hold, visits_suffice,
+    answers_stand_at_their_depth, done_has_a_head, finds_are_of_the_program, needs_are_joined,
+    rows_are_moves, runs_are_steps, states_stay_valid, states_stay_without_sets, tables_hold,
+    visits_suffice,
 };
 
 /// What a node of a graph is.
@@ -70,6 +71,9 @@ pub struct SearchLimits {
     pub rounds: u64,
     /// The last answer that is listed, 1 to 1,000,000,000, where there is one.
     pub answers: Option<u64>,
+    /// The most steps by which a round takes a branch on, 1 to 1,000,000: a
+    /// round ends for a branch where it forks or ends, or after so many steps.
+    pub stride: u64,
     /// The bounds on each step.
     pub step: Limits,
 }
