@@ -20,11 +20,11 @@ and_wider : (b m w : Bool) → (IsTrue m → IsTrue w) → IsTrue (b && m) → I
 and_wider true m w h k = h k
 and_wider false m w h k = k
 
-or_wider : (b m w : Bool) → (IsTrue m → IsTrue w) → IsTrue (b || m) → IsTrue (b || w)
+pub or_wider : (b m w : Bool) → (IsTrue m → IsTrue w) → IsTrue (b || m) → IsTrue (b || w)
 or_wider true m w h k = k
 or_wider false m w h k = h k
 
-both_wider : (a b c d : Bool) → (IsTrue a → IsTrue c) → (IsTrue b → IsTrue d) → IsTrue (a && b) → IsTrue (c && d)
+pub both_wider : (a b c d : Bool) → (IsTrue a → IsTrue c) → (IsTrue b → IsTrue d) → IsTrue (a && b) → IsTrue (c && d)
 both_wider a b c d h k e = let parts = and_parts a b e in and_from c d (h parts.0) (k parts.1)
 
 mutual

@@ -6,6 +6,9 @@ pub mod Choosing
 pub mod Comparing
 pub mod ExactClaims
 pub mod Fitting
+pub mod FlatFitting
+pub mod FlatTerms
+pub mod FlatValid
 pub mod Joining
 pub mod ListToRelation
 pub mod Lists

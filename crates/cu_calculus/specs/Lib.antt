@@ -8,6 +8,7 @@ pub mod Claims
 pub mod Code
 pub mod Compared
 pub mod Flat
+pub mod FlatProgram
 pub mod Gives
 pub mod Joined
 pub mod Literal

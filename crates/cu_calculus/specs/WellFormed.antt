@@ -1,7 +1,7 @@
 -- Well-formed flat code: each number names an expression that there is, calls are whole, variables are in scope, and each case
 -- distinction keeps the variables that its branches use. It is the code of a valid flat program.
 use Rattle.std.specs.Prelude.{ℕ, zero, suc, Bool, true, false, not, ◌&&◌, List, [], ◌∷◌, ◌++◌, nat_eq, nat_lt, Option, None, Some, length}
-use Rattle.std.specs.List.{list_all, list_any}
+use Rattle.std.specs.List.{filter, list_all, list_any}
 use Rattle.cu_calculus.specs.declared.ConId.{ConId}
 use Rattle.cu_calculus.specs.declared.ExprId.{ExprId}
 use Rattle.cu_calculus.specs.declared.Head.{Head}
@@ -44,14 +44,18 @@ abbrev pub bound_by : Shallow → List ℕ
 bound_by (code.Exactly l) = []
 bound_by (code.Built c xs) = xs
 
--- The variables that a case distinction keeps, as a closure does, are different.
+-- Branches over the variables that their case distinction keeps, as a closure does. Those are different, no two patterns are
+-- alike, and each body stands over them and its pattern's own variables alone.
 abbrev pub fit_branches : (List ℕ → ExprId → Bool) → Code → List ℕ → List Branch → Bool
 fit_branches part program kept branches =
     is_linear kept && all_differ branches
     && list_all (λ branch. fits_pattern program branch.pattern && part (kept ++ bound_by branch.pattern) branch.body) branches
 
--- One expression in a scope, whose parts are tested by `part` in theirs. In its branches a case distinction has the variables
--- that it keeps and those of the branch's pattern.
+-- a scope without a variable
+abbrev pub without : ℕ → List ℕ → List ℕ
+without x scope = filter (λ y. not (nat_eq x y)) scope
+
+-- One expression in a scope, whose parts are tested by `part` in theirs. A variable doesn't stand in its own definition by Let.
 abbrev pub fits_expr : (List ℕ → ExprId → Bool) → Code → List ℕ → Option Expr → Bool
 fits_expr part program scope None = false
 fits_expr part program scope (Some (code.Variable x)) = holds x scope
@@ -59,7 +63,7 @@ fits_expr part program scope (Some (code.Literal l)) = is_literal l
 fits_expr part program scope (Some (code.Whole h es)) = is_allowed program h && takes (arity_of program h) (length es) && list_all (part scope) es
 fits_expr part program scope (Some (code.Part h es)) = is_allowed program h && takes_more (arity_of program h) (length es) && list_all (part scope) es
 fits_expr part program scope (Some (code.Apply function argument)) = part scope function && part scope argument
-fits_expr part program scope (Some (code.Let x bound body)) = part scope bound && part (scope ++ x ∷ []) body
+fits_expr part program scope (Some (code.Let x bound body)) = part (without x scope) bound && part (scope ++ x ∷ []) body
 fits_expr part program scope (Some (code.Free x body)) = part (scope ++ x ∷ []) body
 fits_expr part program scope (Some (code.Or left right)) = part scope left && part scope right
 fits_expr part program scope (Some (code.Case mode kept e branches)) =

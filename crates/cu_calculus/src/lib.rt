@@ -4,10 +4,12 @@
 #![tactic(auto)]
 
 mod builtin;
+mod flat_laws;
 mod laws;
 
 pub use builtin::{Primitive, Special};
 pub use cu_int::Int;
+pub use flat_laws::{expressions_are_terms, flat_code_is_a_program};
 pub use laws::{
     answering_is_a_function, approximation_is_an_order, calls_have_proofs, choices_rise,
     choosing_is_a_function, cited_claims_suffice, claims_extend, comparing_is_a_function,

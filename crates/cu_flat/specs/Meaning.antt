@@ -22,20 +22,20 @@ pattern_meaning (pattern.Con c xs) = code.Built c xs.items
 abbrev pub branch_meaning : Pattern × ExprId → code.Branch
 branch_meaning branch = record { pattern = pattern_meaning branch.0; body = branch.1 }
 
--- an expression, where a case distinction has these variables in scope
+-- an expression, where a case distinction keeps these variables
 abbrev pub expr_meaning : List ℕ → Expr → code.Expr
-expr_meaning scope (expr.Var x) = code.Variable x
-expr_meaning scope (expr.Lit l) = code.Literal l
-expr_meaning scope (expr.Whole h es) = code.Whole h es.items
-expr_meaning scope (expr.Part h es) = code.Part h es.items
-expr_meaning scope (expr.Apply function argument) = code.Apply function argument
-expr_meaning scope (expr.Let x bound body) = code.Let x bound body
-expr_meaning scope (expr.Free x body) = code.Free x body
-expr_meaning scope (expr.Or left right) = code.Or left right
-expr_meaning scope (expr.Case mode e branches) = code.Case mode scope e (map branch_meaning branches.items)
+expr_meaning kept (expr.Var x) = code.Variable x
+expr_meaning kept (expr.Lit l) = code.Literal l
+expr_meaning kept (expr.Whole h es) = code.Whole h es.items
+expr_meaning kept (expr.Part h es) = code.Part h es.items
+expr_meaning kept (expr.Apply function argument) = code.Apply function argument
+expr_meaning kept (expr.Let x bound body) = code.Let x bound body
+expr_meaning kept (expr.Free x body) = code.Free x body
+expr_meaning kept (expr.Or left right) = code.Or left right
+expr_meaning kept (expr.Case mode e branches) = code.Case mode kept e (map branch_meaning branches.items)
 
 abbrev pub entry_meaning : Entry → code.Expr
-entry_meaning entry = expr_meaning entry.scope.items entry.expr
+entry_meaning entry = expr_meaning entry.kept.items entry.expr
 
 abbrev pub body_meaning : FlatBody → code.Body
 body_meaning (body.Rule params e) = code.Rule params.items e

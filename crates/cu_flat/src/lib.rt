@@ -14,15 +14,19 @@ pub use cu_calculus::{ConId, FunId, Head, Int, Lit, Mode, Prim, Special};
 pub use expr::{Expr, ExprId, FlatBody, FlatConstructor, FlatFunction, Pattern};
 use std::marker::Model;
 
-/// An expression with the variables that are in scope at it, in the order of
-/// their binding. Only those of a case distinction are kept.
+/// An expression, and the variables that it keeps where it is a case
+/// distinction: those that its branches use beside their patterns' own, in the
+/// order of their binding. An expression of another form keeps none.
 #[derive(Drop)]
 pub struct Entry {
     pub expr: Expr,
-    pub scope: Vec<u32>,
+    pub kept: Vec<u32>,
 }
 
-/// A flat program. Contracts see its code. It is well-formed.
+/// A flat program. Contracts see its code, which is well-formed: numbers are in
+/// range, calls are whole, variables are in scope, case distinctions keep what
+/// their branches use, and the built-in entities are there, with the rule of
+/// `&&`. So it is the code of a valid program.
 #[derive(Drop)]
 pub struct FlatProgram {
     functions: Vec<FlatFunction>,
@@ -134,15 +138,15 @@ impl FlatProgram {
         &self.entries[e.0].expr
     }
 
-    /// The variables in scope at a case distinction, in the order of their
+    /// The variables that a case distinction keeps, in the order of their
     /// binding; none where there is no such expression or it is of another
     /// form.
-    pub fn scope(&self, e: ExprId) -> &[u32]
+    pub fn kept(&self, e: ExprId) -> &[u32]
         ensures { result.now ≡ kept_by self.now e }
     {
         match self.entries.get(e.0) {
             Some(entry) => match &entry.expr {
-                Expr::Case(_, _, _) => entry.scope.as_slice(),
+                Expr::Case(_, _, _) => entry.kept.as_slice(),
                 _ => &[],
             },
             None => &[],

@@ -2,7 +2,6 @@
 use Rattle.std.proofs.Common.{◌≡◌, ℕ, zero, suc, ◌+◌, ◌≤◌, Bool, true, false, not, ◌&&◌, ◌||◌, List, [], ◌∷◌, ◌++◌, Option, None, Some, IsTrue, if◌then◌else◌, refl, ap, sym, ◌∙◌, subst, true≢false, length, nat_eq, slice_get, arith, eq-eqb, eqb-true, length-append}
 use Rattle.std.specs.List.{list_all, zip}
 use Rattle.std.proofs.lemmas.List.Folds.{list_all-append}
-use Rattle.std.proofs.lemmas.Slice.Zip.{length-zip}
 use Rattle.cu_calculus.specs.declared.ExprId.{ExprId}
 use Rattle.cu_calculus.specs.declared.FunId.{FunId}
 use Rattle.cu_calculus.specs.declared.Head.{Head}
@@ -16,7 +15,7 @@ use Rattle.cu_calculus.specs.Code.{Body, Branch, Code, Expr, Function, Shallow, 
 use Rattle.cu_calculus.specs.Literal.{is_literal}
 use Rattle.cu_calculus.specs.Shape.{takes, takes_more}
 use Rattle.cu_calculus.specs.Valid.{external_arity, holds, is_arity}
-use Rattle.cu_calculus.specs.WellFormed.{fit_branches, fits, fits_body, fits_case, fits_expr, fits_function, has_special, is_allowed, is_well_formed, same_mode}
+use Rattle.cu_calculus.specs.WellFormed.{fit_branches, fits, fits_body, fits_case, fits_expr, fits_function, has_special, is_allowed, is_well_formed, same_mode, without}
 use Rattle.cu_machine.specs.declared.Kind.{Kind}
 use Rattle.cu_machine.specs.declared.Kind.TheVariants as kind
 use Rattle.cu_machine.specs.Build.{Built, BuiltParts, Scope, after, build_alone, build_case, build_expr, build_free, build_let, build_node, build_parts, build_variable, build_within, kind_of_call, kind_of_whole, place_in, place_of, pushed}
@@ -168,7 +167,6 @@ after_good f next nodes built front good = record {
 -- ** Scopes
 
 pub record ScopeGood (f : Frame) (next : ℕ) (variables : List ℕ) (scope : Scope) : Type 0 where
-  pub count : length scope ≡ length variables
   pub there : list_all (λ bound. is_there f next bound.1) scope ≡ true
 
 abbrev pub PlaceGood : Frame → ℕ → Option ℕ → Type 0
@@ -195,18 +193,17 @@ scope_places_later f next later scope up there =
     all_follow (λ bound. is_there f next bound.1) (λ bound. is_there f later bound.1) scope (λ bound. there_later f next later bound.1 up) there
 
 pub scope_later : (f : Frame) (next later : ℕ) (variables : List ℕ) (scope : Scope) → next ≤ later → ScopeGood f next variables scope → ScopeGood f later variables scope
-scope_later f next later variables scope up good = record { count = good.count; there = scope_places_later f next later scope up good.there }
+scope_later f next later variables scope up good = record { there = scope_places_later f next later scope up good.there }
 
 pub scope_more : (f : Frame) (next : ℕ) (variables xs : List ℕ) (scope more : Scope) → ScopeGood f next variables scope → ScopeGood f next xs more
     → ScopeGood f next (variables ++ xs) (scope ++ more)
 scope_more f next variables xs scope more good new = record {
-  count = length-append scope more ∙ omega (arith, good.count, new.count, length-append variables xs);
   there = list_all-append (λ bound. is_there f next bound.1) scope more
       ∙ both_true (list_all (λ bound. is_there f next bound.1) scope) (list_all (λ bound. is_there f next bound.1) more) good.there new.there;
 }
 
 pub scope_one : (f : Frame) (next x id : ℕ) → is_there f next id ≡ true → ScopeGood f next (x ∷ []) ((x, id) ∷ [])
-scope_one f next x id there = record { count = refl; there = both_true (is_there f next id) true there refl }
+scope_one f next x id there = record { there = both_true (is_there f next id) true there refl }
 
 -- variables beside places
 pub zip_there : (f : Frame) (next : ℕ) (xs ids : List ℕ) → list_all (is_there f next) ids ≡ true → list_all (λ bound. is_there f next bound.1) (zip xs ids) ≡ true
@@ -217,7 +214,7 @@ zip_there f next (x ∷ xs) (id ∷ ids) there =
     (zip_there f next xs ids (right_true (is_there f next id) (list_all (is_there f next) ids) there))
 
 pub scope_zip : (f : Frame) (next : ℕ) (xs ids : List ℕ) → length xs ≡ length ids → list_all (is_there f next) ids ≡ true → ScopeGood f next xs (zip xs ids)
-scope_zip f next xs ids same there = record { count = length-zip xs ids ∙ omega (arith, same); there = zip_there f next xs ids there }
+scope_zip f next xs ids same there = record { there = zip_there f next xs ids there }
 
 -- ** Expressions
 
@@ -258,12 +255,12 @@ case_good f n part variables scope next mode e s kept branches from good is fit 
     (one_more f next (length kept) (length kept + 1) first values refl from (part variables scope next s from fit good)
     (kept_good f scope later kept (omega arith) (scope_places_later f next later scope (omega arith) good.there)))
 
-pub let_good : (f : Frame) (n : ℕ) → BuildsGood f n → (variables : List ℕ) (scope : Scope) (next x : ℕ) (bound body : ExprId) → f.first ≤ next
-    → ScopeGood f next variables scope → fits n f.program variables bound ≡ true → fits n f.program (variables ++ x ∷ []) body ≡ true
+pub let_good : (f : Frame) (n : ℕ) → BuildsGood f n → (inner variables : List ℕ) (scope : Scope) (next x : ℕ) (bound body : ExprId) → f.first ≤ next
+    → ScopeGood f next variables scope → fits n f.program inner bound ≡ true → fits n f.program (variables ++ x ∷ []) body ≡ true
     → GoodBuilt f next (build_let (build_within n f.program) scope next x bound body)
-let_good f n part variables scope next x bound body from good fit_bound fit_body =
+let_good f n part inner variables scope next x bound body from good fit_bound fit_body =
     let first = build_within n f.program scope next bound in
-    let one : GoodBuilt f next first = part variables scope next bound from fit_bound good in
+    let one : GoodBuilt f next first = part inner scope next bound from fit_bound (record { there = good.there }) in
     let later = next + length (pushed first) in
     let wider = scope ++ (x, place_of next first) ∷ [] in
     after_good f next (pushed first) (build_within n f.program wider later body) (pushed_good f next first one)
@@ -312,9 +309,9 @@ expr_good f good n part vs scope next e (Some (code.Apply function argument)) fr
     node_good f next 2 kind.Apply (build_parts (build_within n f.program scope) next (function ∷ argument ∷ [])) refl (or_right f.sets true refl)
     (parts_of f n part vs scope next (function ∷ argument ∷ []) from scoped (both_true a (b && true) (left_true a b fit) (both_true b true (right_true a b fit) refl)))
 expr_good f good n part vs scope next e (Some (code.Let x bound body)) from is fit scoped =
-    let a = fits n f.program vs bound in
+    let a = fits n f.program (without x vs) bound in
     let b = fits n f.program (vs ++ x ∷ []) body in
-    let_good f n part vs scope next x bound body from scoped (left_true a b fit) (right_true a b fit)
+    let_good f n part (without x vs) vs scope next x bound body from scoped (left_true a b fit) (right_true a b fit)
 expr_good f good n part vs scope next e (Some (code.Free x body)) from is fit scoped = free_good f n part vs scope next x body from scoped fit
 expr_good f good n part vs scope next e (Some (code.Or left right)) from is fit scoped =
     let a = fits n f.program vs left in
