@@ -12,7 +12,7 @@ use Rattle.cu_machine.specs.declared.Limits.{Limits}
 use Rattle.cu_machine.specs.declared.SearchLimits.{SearchLimits}
 use Rattle.cu_machine.specs.Among.{Among}
 use Rattle.cu_machine.specs.Found.{Found, answered_by, answers_before, inner_events, is_quiet}
-use Rattle.cu_machine.specs.Level.{go_list, inner_level, level, level_by}
+use Rattle.cu_machine.specs.Level.{go_list, step_level, level, level_by}
 use Rattle.cu_machine.specs.Next.{Answer, Fails, Go, Next, Stops, Waits, next}
 use Rattle.cu_machine.specs.Run.{run, run_on}
 use Rattle.cu_machine.specs.State.{State, call_on}
@@ -59,7 +59,7 @@ level_valid program limits start state depth well valid m =
     level_by_valid program (run limits.stride program limits.step) start (run_event_valid program limits.step (limits.stride - 1) well) valid depth state m
 
 pub inner_valid : (program : Code) (limits : Limits) (start state : State) (depth : ℕ) → IsTrue (is_well_formed program) → IsValid program start
-    → Among state (inner_level program limits start depth) → IsValid program state
+    → Among state (step_level program limits start depth) → IsValid program state
 inner_valid program limits start state depth well valid m = level_by_valid program (next program limits) start (event_of_valid program limits well) valid depth state m
 
 -- ** What is found
@@ -99,5 +99,5 @@ found_built program limits f arguments values well found =
     subst (λ (vs : List Value). list_all (is_built program) vs ≡ true) (sym found.collected)
     (sorted_all (is_built program) (answers_before (inner_events program limits f arguments) found.depth)
     (answers_built program (inner_events program limits f arguments) found.depth
-    (λ k. events_built program limits (inner_level program limits (call_on program f arguments) k) well
+    (λ k. events_built program limits (step_level program limits (call_on program f arguments) k) well
     (λ state m. inner_valid program limits (call_on program f arguments) state k well start m) (found.quiet k))))

@@ -10,6 +10,8 @@ pub mod Rows
 pub mod Runs
 pub mod Searches
 pub mod Levels
+pub mod Rounds
+pub mod Strides
 pub mod Moves
 pub mod Equations
 pub mod Starts

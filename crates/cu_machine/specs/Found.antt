@@ -6,7 +6,7 @@ use Rattle.cu_calculus.specs.Code.{Code, function_arity}
 use Rattle.cu_calculus.specs.Shape.{is_ground}
 use Rattle.cu_calculus.specs.Value.{Value, Values, count}
 use Rattle.cu_machine.specs.declared.Limits.{Limits}
-use Rattle.cu_machine.specs.Level.{inner_level}
+use Rattle.cu_machine.specs.Level.{step_level}
 use Rattle.cu_machine.specs.Next.{Next, Answer, Fails, Go, Stops, Waits, next}
 use Rattle.cu_machine.specs.Sort.{sorted}
 use Rattle.cu_machine.specs.State.{call_on}
@@ -14,7 +14,7 @@ use Rattle.cu_machine.specs.Validity.{are_built}
 
 -- the events of the states at a depth of the tree of a call on values
 abbrev pub inner_events : Code → Limits → FunId → Values → ℕ → List Next
-inner_events program limits f arguments depth = map (next program limits) (inner_level program limits (call_on program f arguments) depth)
+inner_events program limits f arguments depth = map (next program limits) (step_level program limits (call_on program f arguments) depth)
 
 -- an event that leaves the search going: no answer that isn't ground data, no wait and no stop
 abbrev pub is_quiet : Next → Bool
@@ -40,6 +40,6 @@ pub record Found (program : Code) (limits : Limits) (f : FunId) (arguments : Val
   -- the arguments are ground data of the program
   pub built : IsTrue (are_built program arguments)
   pub depth : ℕ
-  pub ended : inner_level program limits (call_on program f arguments) depth ≡ []
+  pub ended : step_level program limits (call_on program f arguments) depth ≡ []
   pub quiet : (k : ℕ) → IsTrue (list_all is_quiet (inner_events program limits f arguments k))
   pub collected : values ≡ sorted (answers_before (inner_events program limits f arguments) depth)

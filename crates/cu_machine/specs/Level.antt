@@ -24,6 +24,6 @@ level_by event start (suc depth) = flat_map (λ state. go_list (event state)) (l
 abbrev pub level : Code → SearchLimits → State → ℕ → List State
 level program limits start depth = level_by (run limits.stride program limits.step) start depth
 
--- the levels of an inner search, which are single steps
-abbrev pub inner_level : Code → Limits → State → ℕ → List State
-inner_level program limits start depth = level_by (next program limits) start depth
+-- the levels by single steps, which are those of an inner search
+abbrev pub step_level : Code → Limits → State → ℕ → List State
+step_level program limits start depth = level_by (next program limits) start depth

@@ -1,5 +1,7 @@
 pub mod Among
 pub mod Build
+pub mod Coin
+pub mod Earlier
 pub mod Found
 pub mod Graph
 pub mod Level

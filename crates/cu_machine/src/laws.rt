@@ -1,5 +1,5 @@
 //! Laws of the definitions.
-ghost use Rattle.std.specs.Prelude.{◌≡◌, ◌≤◌, ◌<◌, ◌-◌, ℕ, Bool, IsTrue, List, [], ◌∷◌, None, length};
+ghost use Rattle.std.specs.Prelude.{◌≡◌, ◌≤◌, ◌<◌, ◌-◌, ◌++◌, ◌⊎◌, ℕ, Bool, IsTrue, List, [], ◌∷◌, None, length};
 ghost use Rattle.std.specs.List.{list_all};
 ghost use Rattle.cu_calculus.specs.declared.ConId.{ConId};
 ghost use Rattle.cu_calculus.specs.declared.FunId.{FunId};
@@ -8,10 +8,12 @@ ghost use Rattle.cu_calculus.specs.Value.{Value, Values};
 ghost use Rattle.cu_calculus.specs.Code.{Code, body_of, is_rule};
 ghost use Rattle.cu_calculus.specs.WellFormed.{is_well_formed};
 ghost use Rattle.cu_machine.specs.Among.{Among};
+ghost use Rattle.cu_machine.specs.Coin.{coin, coin_code, loop_or_one, number_at, small_limits, zero_or_one};
+ghost use Rattle.cu_machine.specs.Earlier.{EndedBefore, IsReached, earlier};
 ghost use Rattle.cu_machine.specs.Found.{Found};
 ghost use Rattle.cu_machine.specs.Graph.{Graph, followed, head_at, head_of, head_within, node_at};
-ghost use Rattle.cu_machine.specs.Level.{inner_level, level};
-ghost use Rattle.cu_machine.specs.Listing.{Answered, listing};
+ghost use Rattle.cu_machine.specs.Level.{step_level, level};
+ghost use Rattle.cu_machine.specs.Listing.{Answered, Line, listing};
 ghost use Rattle.cu_machine.specs.Need.{At, Done, Extent, Need, before, free_at, free_within, is_head, need, need_all, need_at, need_within, rest_at, unless_done};
 ghost use Rattle.cu_machine.specs.Next.{Answer, Go, Reading, next};
 ghost use Rattle.cu_machine.specs.Run.{only_state, reached, reading_at, run};
@@ -22,6 +24,7 @@ ghost use Rattle.cu_machine.specs.State.{Branch, Idle, State, start_of};
 ghost use Rattle.cu_machine.specs.Steps.{Steps};
 ghost use Rattle.cu_machine.specs.Validity.{ArgumentsThere, Founded, IsValid, are_built, is_built};
 ghost use Rattle.cu_machine.specs.declared.Kind.TheVariants.{Case, Free};
+ghost use Rattle.cu_machine.specs.declared.End.TheVariants.{NoMore, Rounds};
 ghost use Rattle.cu_machine.specs.declared.Limits.{Limits};
 ghost use Rattle.cu_machine.specs.declared.SearchLimits.{SearchLimits};
 
@@ -102,8 +105,8 @@ pub fn states_stay_valid()
         → IsTrue (is_well_formed program) → IsValid program state → IsValid program (reached steps program limits state) }
     ensures level { (program : Code) (limits : SearchLimits) (start state : State) (depth : ℕ)
         → IsTrue (is_well_formed program) → IsValid program start → Among state (level program limits start depth) → IsValid program state }
-    ensures inner_level { (program : Code) (limits : Limits) (start state : State) (depth : ℕ)
-        → IsTrue (is_well_formed program) → IsValid program start → Among state (inner_level program limits start depth) → IsValid program state }
+    ensures step_level { (program : Code) (limits : Limits) (start state : State) (depth : ℕ)
+        → IsTrue (is_well_formed program) → IsValid program start → Among state (step_level program limits start depth) → IsValid program state }
 {}
 
 /// Where the code has no set functions, none comes up in a state.
@@ -140,6 +143,43 @@ pub fn runs_are_steps()
         → run steps program limits state ≡ next program limits state }
     ensures reaches { (program : Code) (limits : Limits) (steps : ℕ) (state : State)
         → run steps program limits state ≡ next program limits (reached steps program limits state) }
+{}
+
+/// An answer whose state stands so many single steps from the start is due in
+/// a round of at most that number, and of exactly that number where rounds are
+/// single steps. There it is listed behind what is listed before it, unless the
+/// listing ended by then: by a limit on rounds or answers, or by a stop.
+pub fn answers_are_listed()
+    ensures round { (code : Code) (limits : SearchLimits) (start state : State) (steps : ℕ) (reading : Reading)
+        → Among state (step_level code limits.step start steps) → next code limits.step state ≡ Answer reading
+        → (round : ℕ) × (round ≤ steps) × (limits.stride ≡ 1 → round ≡ steps)
+        × (before : List State) × IsReached code limits start round before state }
+    ensures listed { (code : Code) (limits : SearchLimits) (start state : State) (round : ℕ) (before : List State) (reading : Reading)
+        → IsReached code limits start round before state → next code limits.step state ≡ Answer reading
+        → ((rest : List Line) × ((listing code limits start).lines ≡ earlier code limits start round before ++ Answered round reading ∷ rest))
+        ⊎ EndedBefore limits round (earlier code limits start round before) (listing code limits start) }
+    ensures depth { (code : Code) (limits : SearchLimits) (start state : State) (steps : ℕ) (reading : Reading)
+        → Among state (step_level code limits.step start steps) → next code limits.step state ≡ Answer reading
+        → (round : ℕ) × (round ≤ steps) × (limits.stride ≡ 1 → round ≡ steps) × (before : List State)
+        × (Among (Answered round reading) (listing code limits start).lines
+        ⊎ EndedBefore limits round (earlier code limits start round before) (listing code limits start)) }
+{}
+
+/// Listings by definition: of two rules for a coin in rounds of one step, two
+/// and three; of a choice, which is a function's call; and of a choice beside
+/// what never ends.
+pub fn coins_are_listed()
+    ensures code { IsTrue (is_well_formed coin_code) }
+    ensures one { listing coin_code (small_limits 10 1) (start_of coin_code coin)
+        ≡ record { lines = number_at 3 0 ∷ number_at 3 1 ∷ []; end = NoMore 0 } }
+    ensures two { listing coin_code (small_limits 10 2) (start_of coin_code coin)
+        ≡ record { lines = number_at 2 0 ∷ number_at 2 1 ∷ []; end = NoMore 0 } }
+    ensures three { listing coin_code (small_limits 10 3) (start_of coin_code coin)
+        ≡ record { lines = number_at 1 0 ∷ number_at 1 1 ∷ []; end = NoMore 0 } }
+    ensures choice { listing coin_code (small_limits 10 1) (start_of coin_code zero_or_one)
+        ≡ record { lines = number_at 3 0 ∷ number_at 3 1 ∷ []; end = NoMore 0 } }
+    ensures endless { listing coin_code (small_limits 100 10) (start_of coin_code loop_or_one)
+        ≡ record { lines = number_at 1 1 ∷ []; end = Rounds 100 1 } }
 {}
 
 /// What a search finds is of ground data of the program, and is such data

@@ -7,9 +7,9 @@ mod laws;
 
 use cu_calculus::{ConId, FunId, Head, Int, Lit, Mode, Prim};
 pub use laws::{
-    answers_stand_at_their_depth, done_has_a_head, finds_are_of_the_program, needs_are_joined,
-    rows_are_moves, runs_are_steps, states_stay_valid, states_stay_without_sets, tables_hold,
-    visits_suffice,
+    answers_are_listed, answers_stand_at_their_depth, coins_are_listed, done_has_a_head,
+    finds_are_of_the_program, needs_are_joined, rows_are_moves, runs_are_steps, states_stay_valid,
+    states_stay_without_sets, tables_hold, visits_suffice,
 };
 
 /// What a node of a graph is.

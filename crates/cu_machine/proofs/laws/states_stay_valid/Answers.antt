@@ -11,5 +11,5 @@ returns c = record {
   run = λ program limits steps before state states well. run_valid program limits well (steps - 1) before state states;
   reached = λ program limits steps state well. reached_valid program limits well (steps - 1) state;
   level = level_valid;
-  inner_level = inner_valid;
+  step_level = inner_valid;
 }
