@@ -11,6 +11,7 @@ pub mod Runs
 pub mod Searches
 pub mod Levels
 pub mod Rounds
+pub mod CoinFound
 pub mod Strides
 pub mod Moves
 pub mod Equations

@@ -16,13 +16,14 @@ use Rattle.cu_calculus.specs.declared.builtin.Special.{Special}
 use Rattle.cu_calculus.specs.Code.{Built, Case, Code, Expr, Function, Literal, Or, Rule, Variable, Whole}
 use Rattle.cu_calculus.specs.Program.{Constructor}
 use Rattle.cu_calculus.specs.Value as value
+use Rattle.cu_calculus.specs.Value.{Value}
 use Rattle.cu_machine.specs.declared.SearchLimits.{SearchLimits}
 use Rattle.cu_machine.specs.Listing.{Answered, Line}
 
 abbrev e : ℕ → ExprId
 e n = record { 0 = n }
 
-abbrev pub function : ℕ → FunId
+abbrev function : ℕ → FunId
 function n = record { 0 = n }
 
 abbrev constructor : ℕ → ConId
@@ -77,6 +78,10 @@ expressions =
 abbrev pub coin_code : Code
 coin_code = record { functions = functions; constructors = constructors; special = special; expressions = expressions }
 
+-- the coin itself
+abbrev pub coin_function : FunId
+coin_function = function 0
+
 -- the goals
 abbrev pub coin : FunId
 coin = function 4
@@ -96,6 +101,9 @@ small_limits rounds stride = record {
   step = record { nodes = 1000; width = 100 };
 }
 
+abbrev pub number : ℕ → Value
+number n = value.Literal (Int (pos n))
+
 -- the answer of a number in a round, of a goal without variables
 abbrev pub number_at : ℕ → ℕ → Line
-number_at round n = Answered round (record { bindings = []; value = value.Literal (Int (pos n)) })
+number_at round n = Answered round (record { bindings = []; value = number n })
