@@ -29,6 +29,11 @@ run_reaches (suc more) program limits state =
     reaches_by program limits state (run_on more program limits) (reached_on more program limits) (only_state (next program limits state))
     (run_reaches more program limits)
 
+-- a run of one step is a step, as functions
+pub run_of_one : (stride : ℕ) (program : Code) (limits : Limits) → stride ≡ 1 → run stride program limits ≡ next program limits
+unfolding run_on
+run_of_one stride program limits one = ap (λ (n : ℕ). run n program limits) one
+
 pub run_alone : (program : Code) (limits : Limits) (steps : ℕ) (state after : State) → 1 < steps → next program limits state ≡ Go (after ∷ [])
     → run steps program limits state ≡ run (steps - 1) program limits after
 unfolding run_on

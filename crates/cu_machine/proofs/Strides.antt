@@ -177,7 +177,7 @@ module _ (program : Code) (limits : SearchLimits) (start : State) where
 
   pub answer_depth : (steps : ℕ) (state : State) (reading : Reading) → Among state (step_level program limits.step start steps)
       → next program limits.step state ≡ Answer reading
-      → (round : ℕ) × (round ≤ steps) × (limits.stride ≡ 1 → round ≡ steps) × (before : List State)
+      → (round : ℕ) × (round ≤ steps) × (limits.stride ≡ 1 → round ≡ steps) × (before : List State) × IsReached program limits start round before state
       × (Among (Answered round reading) (listing program limits start).lines
       ⊎ EndedBefore limits round (earlier program limits start round before) (listing program limits start))
   answer_depth steps state reading m answers =
@@ -186,6 +186,7 @@ module _ (program : Code) (limits : SearchLimits) (start : State) where
         due.1,
         due.2,
         due.3,
+        due.4,
         elim (answer_listed due.0 due.3 state reading due.4 answers) [
           | inl there ↦ inl (subst (λ (ls : List Line). Among (Answered due.0 reading) ls) (sym there.1)
               (among_at (earlier program limits start due.0 due.3) there.0 (Answered due.0 reading)))

@@ -147,22 +147,20 @@ pub fn runs_are_steps()
 
 /// An answer whose state stands so many single steps from the start is due in
 /// a round of at most that number, and of exactly that number where rounds are
-/// single steps. There it is listed behind what is listed before it, unless the
+/// single steps: a run reaches the state from one of that round's level. There
+/// the answer is listed, right behind what is listed before it, unless the
 /// listing ended by then: by a limit on rounds or answers, or by a stop.
 pub fn answers_are_listed()
-    ensures round { (code : Code) (limits : SearchLimits) (start state : State) (steps : ℕ) (reading : Reading)
+    ensures depth { (code : Code) (limits : SearchLimits) (start state : State) (steps : ℕ) (reading : Reading)
         → Among state (step_level code limits.step start steps) → next code limits.step state ≡ Answer reading
         → (round : ℕ) × (round ≤ steps) × (limits.stride ≡ 1 → round ≡ steps)
-        × (before : List State) × IsReached code limits start round before state }
-    ensures listed { (code : Code) (limits : SearchLimits) (start state : State) (round : ℕ) (before : List State) (reading : Reading)
+        × (before : List State) × IsReached code limits start round before state
+        × (Among (Answered round reading) (listing code limits start).lines
+        ⊎ EndedBefore limits round (earlier code limits start round before) (listing code limits start)) }
+    ensures place { (code : Code) (limits : SearchLimits) (start state : State) (round : ℕ) (before : List State) (reading : Reading)
         → IsReached code limits start round before state → next code limits.step state ≡ Answer reading
         → ((rest : List Line) × ((listing code limits start).lines ≡ earlier code limits start round before ++ Answered round reading ∷ rest))
         ⊎ EndedBefore limits round (earlier code limits start round before) (listing code limits start) }
-    ensures depth { (code : Code) (limits : SearchLimits) (start state : State) (steps : ℕ) (reading : Reading)
-        → Among state (step_level code limits.step start steps) → next code limits.step state ≡ Answer reading
-        → (round : ℕ) × (round ≤ steps) × (limits.stride ≡ 1 → round ≡ steps) × (before : List State)
-        × (Among (Answered round reading) (listing code limits start).lines
-        ⊎ EndedBefore limits round (earlier code limits start round before) (listing code limits start)) }
 {}
 
 /// Listings by definition: of two rules for a coin in rounds of one step, two

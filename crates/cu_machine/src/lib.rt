@@ -1,4 +1,4 @@
-//! The machine by definition: graphs, states, needs, steps, levels and
+//! The machine by definition: graphs, states, needs, steps, runs, levels and
 //! listings. The crate has the plain types that the definitions name, and in
 //! `specs/` the definitions themselves; it computes nothing.
 #![tactic(auto)]

@@ -1,9 +1,8 @@
-use Rattle.cu_machine.proofs.Strides.{answer_depth, answer_listed, answer_round}
+use Rattle.cu_machine.proofs.Strides.{answer_depth, answer_listed}
 use Rattle.cu_machine.proofs.laws.answers_are_listed.Goals as goal
 
 pub returns : goal.returns
 returns c = record {
-  round = λ code limits start state steps reading. answer_round code limits start steps state reading;
-  listed = λ code limits start state round before reading. answer_listed code limits start round before state reading;
   depth = λ code limits start state steps reading. answer_depth code limits start steps state reading;
+  place = λ code limits start state round before reading. answer_listed code limits start round before state reading;
 }
