@@ -37,11 +37,11 @@ mutual
         length-layout n left,
         length-layout (n + size left) right,
       )
-  length-layout n (Decision variables value if_false if_true) =
+  length-layout n (Decision kept value if_false if_true) =
       let m = n + size value in
       let k = n + size value + size if_false in
       let front = layout n value ++ layout m if_false in
-      let case = code.Case Flex variables (place n value) (branches (place m if_false) (place k if_true)) ∷ [] in
+      let case = code.Case Flex kept (place n value) (branches (place m if_false) (place k if_true)) ∷ [] in
       omega (
         arith,
         length-append (layout n value) (layout m if_false),

@@ -18,6 +18,7 @@ use Rattle.cu_machine.specs.Level.{go_list}
 use Rattle.cu_cmd.specs.Line.{end_text, line_text, line_texts, pieces}
 use Rattle.cu_machine.specs.Listing.{Answered, Line, Listing, Round, Tally, Waiting, after_lines, is_last, list_level, listing, nothing, one_answer, one_wait, only_end, round_of, rounds, unless_ended, unless_exhausted, with_line}
 use Rattle.cu_machine.specs.Next.{Next, Answer, Fails, Go, Reading, Stops, Waits, next}
+use Rattle.cu_machine.specs.Run.{run, run_on}
 use Rattle.cu_machine.specs.State.{State}
 use Rattle.cu_cmd.specs.Report.{Adds, AddsFront}
 
@@ -304,6 +305,15 @@ module _ (code : Code) (limits : SearchLimits) (d : ℕ) where
   rounds-level zero tally states = refl
   rounds-level (suc left) tally states = refl
 
+  -- a round of single steps
+  single_steps : limits.stride ≡ 1 → (states : List State) → map (run limits.stride code limits.step) states ≡ map (next code limits.step) states
+  unfolding run_on
+  single_steps single [] = refl
+  single_steps single (state ∷ states) =
+      let first : run limits.stride code limits.step state ≡ next code limits.step state = rw single refl in
+      let rest : map (run limits.stride code limits.step) states ≡ map (next code limits.step) states = single_steps single states in
+      cc
+
   -- what becomes of these states, and the round over it
   abbrev pub outcomes_of : List State → List Next
   outcomes_of states = map (next code limits.step) states
@@ -311,24 +321,34 @@ module _ (code : Code) (limits : SearchLimits) (d : ℕ) where
   abbrev pub round_over : Tally → List State → Round
   round_over tally states = round_of d limits.answers tally (outcomes_of states)
 
-  pub round_written : {a b : Option (List ℕ)} {whole : Listing} (c : Option (List ℕ)) (left : ℕ) (tally after : Tally) (end : Option End) (states following : List State)
+  -- what is listed from these outcomes on
+  abbrev listed_from : ℕ → Tally → List Next → Listing
+  listed_from left tally outcomes =
+      let round = round_of d limits.answers tally outcomes
+      in after_lines round.lines (after_round left round.end round.tally (flat_map go_list outcomes))
+
+  rounds-single : limits.stride ≡ 1 → (left : ℕ) (tally : Tally) (states : List State)
+      → rounds left code limits d tally states ≡ listed_from left tally (outcomes_of states)
+  rounds-single single left tally states = rounds-level left tally states ∙ ap (listed_from left tally) (single_steps single states)
+
+  pub round_written : {a b : Option (List ℕ)} {whole : Listing} (c : Option (List ℕ)) → limits.stride ≡ 1 → (left : ℕ) (tally after : Tally) (end : Option End) (states following : List State)
       → ListingLeft a b whole (rounds left code limits d tally states) → Adds b c (lines_bytes (round_over tally states).lines)
       → after ≡ (round_over tally states).tally → end ≡ (round_over tally states).end → following ≡ flat_map go_list (outcomes_of states)
       → ListingLeft a c whole (after_round left end after following)
-  round_written {a} {b} {whole} c left tally after end states following h k t e f =
+  round_written {a} {b} {whole} c single left tally after end states following h k t e f =
       let round = round_over tally states in
       let next_states = flat_map go_list (outcomes_of states) in
-      let g = lines_written a b c whole (after_round left round.end round.tally next_states) round.lines (subst (ListingLeft a b whole) (rounds-level left tally states) h) k in
+      let g = lines_written a b c whole (after_round left round.end round.tally next_states) round.lines (subst (ListingLeft a b whole) (rounds-single single left tally states) h) k in
       subst (λ level. ListingLeft a c whole (after_round left end after level)) (sym f)
       (subst (λ last. ListingLeft a c whole (after_round left last after next_states)) (sym e)
       (subst (λ count. ListingLeft a c whole (after_round left round.end count next_states)) (sym t) g))
 
-  pub round_written_front : {a b : Option (List ℕ)} {whole : Listing} (c : Option (List ℕ)) (left : ℕ) (tally : Tally) (states : List State)
+  pub round_written_front : {a b : Option (List ℕ)} {whole : Listing} (c : Option (List ℕ)) → limits.stride ≡ 1 → (left : ℕ) (tally : Tally) (states : List State)
       → ListingLeft a b whole (rounds left code limits d tally states) → AddsFront b c (lines_bytes (round_over tally states).lines)
       → AddsFront a c (concat (pieces whole))
-  round_written_front {a} {b} {whole} c left tally states h k =
+  round_written_front {a} {b} {whole} c single left tally states h k =
       let round = round_over tally states in
-      lines_front a b c whole (after_round left round.end round.tally (flat_map go_list (outcomes_of states))) round.lines (subst (ListingLeft a b whole) (rounds-level left tally states) h) k
+      lines_front a b c whole (after_round left round.end round.tally (flat_map go_list (outcomes_of states))) round.lines (subst (ListingLeft a b whole) (rounds-single single left tally states) h) k
 
   -- how the listing ends after round d, if it does, where so many branches wait and so many follow
   abbrev pub ending_of : ℕ → ℕ → Option End
@@ -409,23 +429,23 @@ module _ (code : Code) (limits : SearchLimits) (d : ℕ) where
   decided b c tally after states following last done =
       done.last_is ∙ ap (option_or done.listed) (done.next_is ∙ ap (λ k. ending_of k done.count) done.waits_is ∙ ap (ending_of after.waits) done.count_is)
 
-  pub last_round : {a b c : Option (List ℕ)} {whole : Listing} {tally after : Tally} {states following : List State} {last : Option End} (end : End) → d ≤ limits.rounds
+  pub last_round : {a b c : Option (List ℕ)} {whole : Listing} {tally after : Tally} {states following : List State} {last : Option End} (end : End) → limits.stride ≡ 1 → d ≤ limits.rounds
       → ListingLeft a b whole (rounds (limits.rounds - d) code limits d tally states) → RoundDone b c tally after states following last → last ≡ Some end
       → ListingLeft a c whole (only_end end)
-  last_round {a} {b} {c} {whole} {tally} {after} {states} {following} {last} end within h done some =
+  last_round {a} {b} {c} {whole} {tally} {after} {states} {following} {last} end single within h done some =
       let left = limits.rounds - d in
       let sum : limits.rounds - d + d ≡ limits.rounds = omega arith in
       subst (ListingLeft a c whole) (ends_here left done.listed after following end sum (sym some ∙ decided b c tally after states following last done))
-      (round_written c left tally after done.listed states following h done.written done.tally_is done.listed_is done.following_is)
+      (round_written c single left tally after done.listed states following h done.written done.tally_is done.listed_is done.following_is)
 
-  pub next_round : {a b c : Option (List ℕ)} {whole : Listing} {tally after : Tally} {states following : List State} {last : Option End} → d ≤ limits.rounds
+  pub next_round : {a b c : Option (List ℕ)} {whole : Listing} {tally after : Tally} {states following : List State} {last : Option End} → limits.stride ≡ 1 → d ≤ limits.rounds
       → ListingLeft a b whole (rounds (limits.rounds - d) code limits d tally states) → RoundDone b c tally after states following last → last ≡ None
       → (d < limits.rounds) × ListingLeft a c whole (rounds (limits.rounds - (d + 1)) code limits (d + 1) after following)
-  next_round {a} {b} {c} {whole} {tally} {after} {states} {following} {last} within h done none =
+  next_round {a} {b} {c} {whole} {tally} {after} {states} {following} {last} single within h done none =
       let left = limits.rounds - d in
       let sum : limits.rounds - d + d ≡ limits.rounds = omega arith in
       let on = goes_on_here left done.listed after following sum (sym none ∙ decided b c tally after states following last done) in
-      (on.0, subst (ListingLeft a c whole) on.1 (round_written c left tally after done.listed states following h done.written done.tally_is done.listed_is done.following_is))
+      (on.0, subst (ListingLeft a c whole) on.1 (round_written c single left tally after done.listed states following h done.written done.tally_is done.listed_is done.following_is))
 
 -- nothing is written before the first round
 pub listing_starts : (x : Option (List ℕ)) (code : Code) (limits : SearchLimits) (start : State) (tally : Tally) (states : List State)

@@ -1,6 +1,5 @@
 -- Terms whose calls are whole and whose variables are parameters, and the flat code of programs that are made of them.
 use Rattle.std.proofs.Common.{◌≡◌, ℕ, zero, suc, ◌+◌, ◌-◌, ◌*◌, ◌^◌, ◌<◌, ◌≤◌, Bool, true, not, ◌&&◌, IsTrue, List, [], ◌∷◌, ◌++◌, Option, None, Some, length, map, nat_eq, nat_le, pos, slice_get, option_map, get_or, refl, ap, sym, subst, ◌∙◌, arith, add-zero, append-nil, leb-true, length-append}
-use Rattle.std.specs.Cmp.Lexicographic.{pointwise}
 use Rattle.std.specs.List.{All, list_all}
 use Rattle.std.proofs.lemmas.Bool.{eq-eqb, le-leb}
 use Rattle.std.proofs.lemmas.List.{length-map}
@@ -18,7 +17,7 @@ use Rattle.cu_calculus.specs.Literal.{is_literal}
 use Rattle.cu_calculus.specs.Program.{Constructor}
 use Rattle.cu_calculus.specs.Shape.{takes}
 use Rattle.cu_calculus.specs.Valid.{holds, is_arity, is_linear}
-use Rattle.cu_calculus.specs.WellFormed.{fits, fits_case, fits_expr, fits_function, is_allowed, is_well_formed}
+use Rattle.cu_calculus.specs.WellFormed.{fit_branches, fits, fits_case, fits_expr, fits_function, is_allowed, is_well_formed}
 use Rattle.cu_calculus.proofs.Lists.{all_append}
 use Rattle.cu_machine.proofs.Fuel.{left_true, right_true}
 use Rattle.cu_machine.specs.Sets.{code_is_without_sets, has_set_head, is_set_head}
@@ -39,15 +38,20 @@ abbrev pub count : Terms → ℕ
 count End = 0
 count (More t ts) = count ts + 1
 
--- a term whose variables are in scope, where `known` says the arities of heads
+-- different variables, all of them in scope
+pub record IsKept (scope kept : List ℕ) : Type 0 where
+  pub there : IsTrue (list_all (λ x. holds x scope) kept)
+  pub linear : IsTrue (is_linear kept)
+
+-- A term whose variables are in scope, where `known` says the arities of heads. The branches of a decision use what it keeps.
 abbrev mutual
   pub IsScoped : (Head → Option ℕ) → List ℕ → Term → Type 0
   IsScoped known scope (Variable x) = IsTrue (holds x scope)
   IsScoped known scope (Literal l) = IsTrue (is_literal l)
   IsScoped known scope (Whole h ts) = (known h ≡ Some (count ts)) × AreScoped known scope ts
   IsScoped known scope (Choice left right) = IsScoped known scope left × IsScoped known scope right
-  IsScoped known scope (Decision variables value if_false if_true) =
-      (variables ≡ scope) × IsScoped known scope value × IsScoped known scope if_false × IsScoped known scope if_true
+  IsScoped known scope (Decision kept value if_false if_true) =
+      IsKept scope kept × IsScoped known scope value × IsScoped known kept if_false × IsScoped known kept if_true
 
   pub AreScoped : (Head → Option ℕ) → List ℕ → Terms → Type 0
   AreScoped known scope End = Unit {0}
@@ -93,11 +97,6 @@ length-places n (More t ts) = omega (arith, length-places (n + size t) ts)
 both : (a b : Bool) → IsTrue a → IsTrue b → IsTrue (a && b)
 both a b p q = rw (p, q) refl
 
--- a list of numbers is itself
-pointwise-same : (xs : List ℕ) → IsTrue (pointwise nat_eq xs xs)
-pointwise-same [] = refl
-pointwise-same (x ∷ xs) = both (nat_eq x x) (pointwise nat_eq xs xs) (eq-eqb x x refl) (pointwise-same xs)
-
 -- an expression fits where its kind does
 fits-deep : (program : Code) (scope : List ℕ) (depth : ℕ) (e : ExprId) (found : Expr) → 1 ≤ depth → expr_of program e ≡ Some found
     → IsTrue (fits_expr (fits (depth - 1) program) program scope (Some found)) → IsTrue (fits depth program scope e)
@@ -119,15 +118,21 @@ module _ (program : Code) (known : Head → Option ℕ) (knows : Knows program k
       → IsTrue (is_allowed program h && takes (arity_of program h) m && rest)
   whole-fits h m n rest is same holds_rest = both (is_allowed program h && takes (arity_of program h) m) rest (rw same (knows.heads h n is)) holds_rest
 
-  -- a case distinction in the scope that it names, whose parts fit
-  decision-fits : (part : List ℕ → ExprId → Bool) (scope : List ℕ) (value if_false if_true : ExprId)
-      → IsTrue (part scope value) → IsTrue (part scope if_false) → IsTrue (part scope if_true)
-      → IsTrue (fits_expr part program scope (Some (code.Case Flex scope value (branches if_false if_true))))
-  decision-fits part scope value if_false if_true v n y =
-      let bare : scope ++ [] ≡ scope = append-nil scope in
-      both _ _ (both _ _ (both _ _ (pointwise-same scope) v) refl)
+  -- branches that fit over what their case distinction keeps
+  branches-fit : (part : List ℕ → ExprId → Bool) (kept : List ℕ) (if_false if_true : ExprId) → IsTrue (is_linear kept)
+      → IsTrue (part kept if_false) → IsTrue (part kept if_true) → IsTrue (fit_branches part program kept (branches if_false if_true))
+  branches-fit part kept if_false if_true linear n y =
+      let bare : kept ++ [] ≡ kept = append-nil kept in
+      both _ _ (both _ _ linear refl)
       (both _ _ (both _ _ (both _ _ knows.falsity_known refl) (rw bare n))
       (both _ _ (both _ _ (both _ _ knows.truth_known refl) (rw bare y)) refl))
+
+  -- a case distinction whose parts fit
+  decision-fits : (part : List ℕ → ExprId → Bool) (scope kept : List ℕ) (value if_false if_true : ExprId) → IsKept scope kept
+      → IsTrue (part scope value) → IsTrue (part kept if_false) → IsTrue (part kept if_true)
+      → IsTrue (fits_expr part program scope (Some (code.Case Flex kept value (branches if_false if_true))))
+  decision-fits part scope kept value if_false if_true is v n y =
+      both _ _ (both _ _ is.there v) (branches-fit part kept if_false if_true is.linear n y)
 
   -- a term in scope fits where it was laid out
   mutual
@@ -161,10 +166,10 @@ module _ (program : Code) (known : Head → Option ℕ) (knows : Knows program k
         (fits-layout scope (depth - 1) n left scoped.0 (Stands-left program.expressions n (layout n left) (layout m right) within) (omega arith))
         (fits-layout scope (depth - 1) m right scoped.1
         (Stands-right program.expressions n m (layout n left) (layout m right) within (omega (arith, length-layout n left))) (omega arith)))
-    fits-layout scope depth n (Decision variables value if_false if_true) scoped stands deep =
+    fits-layout scope depth n (Decision kept value if_false if_true) scoped stands deep =
         let m = n + size value in
         let k = n + size value + size if_false in
-        let case = code.Case Flex variables (place n value) (branches (place m if_false) (place k if_true)) in
+        let case = code.Case Flex kept (place n value) (branches (place m if_false) (place k if_true)) in
         let front = layout n value ++ layout m if_false in
         let parts = front ++ layout k if_true in
         let within : Stands program.expressions n parts = Stands-left program.expressions n parts (case ∷ []) stands in
@@ -180,17 +185,15 @@ module _ (program : Code) (known : Head → Option ℕ) (knows : Knows program k
         ) in
         let last : Stands program.expressions (k + size if_true) (case ∷ []) =
         Stands-right program.expressions n (k + size if_true) parts (case ∷ []) stands (omega (arith, lengths)) in
-        fits-deep program scope depth (place n (Decision variables value if_false if_true)) case (omega arith)
+        fits-deep program scope depth (place n (Decision kept value if_false if_true)) case (omega arith)
         (Stands-first program.expressions (k + size if_true) (n + (size value + size if_false + size if_true + 1 - 1)) case [] last (omega arith))
-        (subst (λ (xs : List ℕ). IsTrue (fits_expr (fits (depth - 1) program) program scope
-        (Some (code.Case Flex xs (place n value) (branches (place m if_false) (place k if_true)))))) (sym scoped.0)
-        (decision-fits (fits (depth - 1) program) scope (place n value) (place m if_false) (place k if_true)
+        (decision-fits (fits (depth - 1) program) scope kept (place n value) (place m if_false) (place k if_true) scoped.0
         (fits-layout scope (depth - 1) n value scoped.1 (Stands-left program.expressions n (layout n value) (layout m if_false) first_two) (omega arith))
-        (fits-layout scope (depth - 1) m if_false scoped.2
+        (fits-layout kept (depth - 1) m if_false scoped.2
         (Stands-right program.expressions n m (layout n value) (layout m if_false) first_two (omega (arith, length-layout n value))) (omega arith))
-        (fits-layout scope (depth - 1) k if_true scoped.3
+        (fits-layout kept (depth - 1) k if_true scoped.3
         (Stands-right program.expressions n k front (layout k if_true) within
-        (omega (arith, length-append (layout n value) (layout m if_false), length-layout n value, length-layout m if_false))) (omega arith))))
+        (omega (arith, length-append (layout n value) (layout m if_false), length-layout n value, length-layout m if_false))) (omega arith)))
 
     fits-layouts : (scope : List ℕ) (depth n : ℕ) (ts : Terms) → AreScoped known scope ts
         → Stands program.expressions n (layouts n ts) → sizes ts ≤ depth → IsTrue (list_all (fits depth program scope) (places n ts))
@@ -202,19 +205,19 @@ module _ (program : Code) (known : Head → Option ℕ) (knows : Knows program k
         (fits-layouts scope depth m ts scoped.1
         (Stands-right program.expressions n m (layout n t) (layouts m ts) stands (omega (arith, length-layout n t))) (omega arith))
 
-  -- a test that expressions of terms in a scope pass, where the parts of case distinctions fit
-  pub record Passes (test : Expr → Bool) (scope : List ℕ) : Type 0 where
+  -- a test that expressions of terms in scope pass, where the branches of case distinctions fit
+  pub record Passes (test : Expr → Bool) : Type 0 where
     pub variable : (x : ℕ) → IsTrue (test (code.Variable x))
     pub literal : (l : Lit) → IsTrue (test (code.Literal l))
     pub whole : (h : Head) (n : ℕ) (es : List ExprId) → known h ≡ Some n → IsTrue (test (code.Whole h es))
     pub or : (left right : ExprId) → IsTrue (test (code.Or left right))
-    pub case : (value if_false if_true : ExprId) → IsTrue (fits (length program.expressions) program scope value)
-        → IsTrue (fits (length program.expressions) program scope if_false) → IsTrue (fits (length program.expressions) program scope if_true)
-        → IsTrue (test (code.Case Flex scope value (branches if_false if_true)))
+    pub case : (kept : List ℕ) (value if_false if_true : ExprId) → IsTrue (is_linear kept)
+        → IsTrue (fits (length program.expressions) program kept if_false) → IsTrue (fits (length program.expressions) program kept if_true)
+        → IsTrue (test (code.Case Flex kept value (branches if_false if_true)))
 
   -- each expression of a term that was laid out passes it
   mutual
-    all-pass : (test : Expr → Bool) (scope : List ℕ) (n : ℕ) (t : Term) → Passes test scope → IsScoped known scope t
+    all-pass : (test : Expr → Bool) (scope : List ℕ) (n : ℕ) (t : Term) → Passes test → IsScoped known scope t
         → Stands program.expressions n (layout n t) → size t ≤ length program.expressions → IsTrue (list_all test (layout n t))
     all-pass test scope n (Variable x) passes scoped stands deep = both (test (code.Variable x)) true (passes.variable x) refl
     all-pass test scope n (Literal l) passes scoped stands deep = both (test (code.Literal l)) true (passes.literal l) refl
@@ -234,10 +237,10 @@ module _ (program : Code) (known : Head → Option ℕ) (knows : Knows program k
         (all-pass test scope m right passes scoped.1
         (Stands-right program.expressions n m (layout n left) (layout m right) within (omega (arith, length-layout n left))) (omega arith)))
         (both (test or) true (passes.or (place n left) (place m right)) refl)
-    all-pass test scope n (Decision variables value if_false if_true) passes scoped stands deep =
+    all-pass test scope n (Decision kept value if_false if_true) passes scoped stands deep =
         let m = n + size value in
         let k = n + size value + size if_false in
-        let case = code.Case Flex variables (place n value) (branches (place m if_false) (place k if_true)) in
+        let case = code.Case Flex kept (place n value) (branches (place m if_false) (place k if_true)) in
         let front = layout n value ++ layout m if_false in
         let parts = front ++ layout k if_true in
         let within : Stands program.expressions n parts = Stands-left program.expressions n parts (case ∷ []) stands in
@@ -253,17 +256,15 @@ module _ (program : Code) (known : Head → Option ℕ) (knows : Knows program k
         (all_append test front (layout k if_true)
         (all_append test (layout n value) (layout m if_false)
         (all-pass test scope n value passes scoped.1 a (omega arith))
-        (all-pass test scope m if_false passes scoped.2 b (omega arith)))
-        (all-pass test scope k if_true passes scoped.3 c (omega arith)))
+        (all-pass test kept m if_false passes scoped.2 b (omega arith)))
+        (all-pass test kept k if_true passes scoped.3 c (omega arith)))
         (both (test case) true
-        (subst (λ (xs : List ℕ). IsTrue (test (code.Case Flex xs (place n value) (branches (place m if_false) (place k if_true))))) (sym scoped.0)
-        (passes.case (place n value) (place m if_false) (place k if_true)
-        (fits-layout scope depth n value scoped.1 a (omega arith))
-        (fits-layout scope depth m if_false scoped.2 b (omega arith))
-        (fits-layout scope depth k if_true scoped.3 c (omega arith))))
+        (passes.case kept (place n value) (place m if_false) (place k if_true) scoped.0.linear
+        (fits-layout kept depth m if_false scoped.2 b (omega arith))
+        (fits-layout kept depth k if_true scoped.3 c (omega arith)))
         refl)
 
-    every-pass : (test : Expr → Bool) (scope : List ℕ) (n : ℕ) (ts : Terms) → Passes test scope → AreScoped known scope ts
+    every-pass : (test : Expr → Bool) (scope : List ℕ) (n : ℕ) (ts : Terms) → Passes test → AreScoped known scope ts
         → Stands program.expressions n (layouts n ts) → sizes ts ≤ length program.expressions → IsTrue (list_all test (layouts n ts))
     every-pass test scope n End passes scoped stands deep = refl
     every-pass test scope n (More t ts) passes scoped stands deep =
@@ -273,23 +274,23 @@ module _ (program : Code) (known : Head → Option ℕ) (knows : Knows program k
         (every-pass test scope m ts passes scoped.1
         (Stands-right program.expressions n m (layout n t) (layouts m ts) stands (omega (arith, length-layout n t))) (omega arith))
 
-  -- case distinctions fit in the scopes that they name, and no head is a set function
-  cases-pass : (scope : List ℕ) → Passes (fits_case program) scope
-  cases-pass scope = record {
+  -- case distinctions fit over what they keep, and no head is a set function
+  cases-pass : Passes (fits_case program)
+  cases-pass = record {
     variable = λ x. refl;
     literal = λ l. refl;
     whole = λ h n es is. refl;
     or = λ left right. refl;
-    case = decision-fits (fits (length program.expressions) program) scope;
+    case = λ kept value. branches-fit (fits (length program.expressions) program) kept;
   }
 
-  sets-pass : (scope : List ℕ) → Passes (λ expr. not (has_set_head expr)) scope
-  sets-pass scope = record {
+  sets-pass : Passes (λ expr. not (has_set_head expr))
+  sets-pass = record {
     variable = λ x. refl;
     literal = λ l. refl;
     whole = λ h n es is. knows.no_sets h n is;
     or = λ left right. refl;
-    case = λ value if_false if_true v n y. refl;
+    case = λ kept value if_false if_true linear n y. refl;
   }
 
 -- an operation whose parameters are different and whose body is in their scope
@@ -320,7 +321,7 @@ module _ (program : Code) (known : Head → Option ℕ) (knows : Knows program k
       (Stands-right program.expressions n m (layout n o.body) others stands (omega (arith, length-layout n o.body))) (omega arith))
 
   -- and each of their expressions passes what expressions of terms in scope pass
-  operations-pass : (test : Expr → Bool) → ((scope : List ℕ) → Passes program known knows test scope) → (n : ℕ) (os : List Operation) → AllScoped known os
+  operations-pass : (test : Expr → Bool) → Passes program known knows test → (n : ℕ) (os : List Operation) → AllScoped known os
       → Stands program.expressions n (operations_from n os).expressions → length (operations_from n os).expressions ≤ length program.expressions
       → IsTrue (list_all test (operations_from n os).expressions)
   operations-pass test passes n [] scoped stands within = refl
@@ -329,7 +330,7 @@ module _ (program : Code) (known : Head → Option ℕ) (knows : Knows program k
       let others = (operations_from m os).expressions in
       let lengths : length (layout n o.body ++ others) ≡ length (layout n o.body) + length others = length-append (layout n o.body) others in
       all_append test (layout n o.body) others
-      (all-pass program known knows test o.params n o.body (passes o.params) scoped.0.body
+      (all-pass program known knows test o.params n o.body passes scoped.0.body
       (Stands-left program.expressions n (layout n o.body) others stands) (omega (arith, length-layout n o.body)))
       (operations-pass test passes m os scoped.1
       (Stands-right program.expressions n m (layout n o.body) others stands (omega (arith, length-layout n o.body))) (omega arith))
@@ -436,7 +437,7 @@ known_none definitions goal k within =
 program-scoped : (definitions : List Definition) (goal : ℕ) → goal < length definitions → AreSound definitions
     → AllScoped (known (program_of definitions goal)) (program_of definitions goal)
 program-scoped definitions goal within sound = (
-  record { arity = refl; linear = refl; body = (refl, refl, (refl, tt), refl) },
+  record { arity = refl; linear = refl; body = (record { there = refl; linear = refl }, refl, (refl, tt), refl) },
   (
     record { arity = refl; linear = refl; body = (refl, refl) },
     definitions_scoped (known (program_of definitions goal)) (length definitions) refl (known_none definitions goal) definitions goal within sound,
@@ -485,7 +486,7 @@ numeral-is_literal : (word : List ℕ) → IsNumeral word → IsTrue (is_literal
 numeral-is_literal word numeral =
     let below : value_from 0 word < 10 ^ (0 + length word) = digits-below 0 0 word (omega arith) numeral.digits in
     let small : value_from 0 word < 10 ^ 18 = below_digits (value_from 0 word) (0 + length word) 18 below (omega (arith, numeral.few)) in
-    le-leb (value_from 0 word) (2 ^ 63 - 1) (omega (arith, small))
+    le-leb (value_from 0 word) (2 ^ 127 - 1) (omega (arith, small))
 
 -- an item that was read is one of the language
 item_named : (definitions : List Definition) (word : List ℕ) (item : Item) → IsItem definitions word item → IsSoundItem (length definitions) item

@@ -34,11 +34,11 @@ abbrev pub IsRunnable : Due → Type 0
 IsRunnable (Refusal line) = Unit {0}
 IsRunnable (Listing program goal) = IsTrue (is_rule (body_of program goal)) × IsTrue (code_is_without_sets program)
 
--- The library's count of faults rose where it failed, and stands otherwise.
+-- The library's count of faults rose where it failed, and stands otherwise, also where memory ran out.
 abbrev pub HasReadCause : {A : Type 0} → Result A ReadFault → ℕ → ℕ → Type 0
 HasReadCause (Ok x) old new = new ≡ old
 HasReadCause (Err Outside) old new = Rose old new
-HasReadCause (Err NoMemory) old new = Unit {0}
+HasReadCause (Err NoMemory) old new = new ≡ old
 
 -- a run wrote a report that ends so, or broke off after a front of whatever the report is
 abbrev pub Ends : Result Status SearchFault → List (List ℕ) → Held → Option (List ℕ) → Option (List ℕ) → Type 0

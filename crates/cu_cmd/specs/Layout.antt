@@ -16,7 +16,7 @@ abbrev mutual
   size (term.Literal l) = 1
   size (term.Whole h arguments) = sizes arguments + 1
   size (term.Choice left right) = size left + size right + 1
-  size (term.Decision variables value if_false if_true) = size value + size if_false + size if_true + 1
+  size (term.Decision kept value if_false if_true) = size value + size if_false + size if_true + 1
 
   pub sizes : Terms → ℕ
   sizes term.End = 0
@@ -43,9 +43,9 @@ abbrev mutual
   layout n (term.Whole h arguments) = layouts n arguments ++ Whole h (places n arguments) ∷ []
   layout n (term.Choice left right) =
       layout n left ++ layout (n + size left) right ++ Or (place n left) (place (n + size left) right) ∷ []
-  layout n (term.Decision variables value if_false if_true) =
+  layout n (term.Decision kept value if_false if_true) =
       layout n value ++ layout (n + size value) if_false ++ layout (n + size value + size if_false) if_true
-      ++ Case Flex variables (place n value) (branches (place (n + size value) if_false) (place (n + size value + size if_false) if_true)) ∷ []
+      ++ Case Flex kept (place n value) (branches (place (n + size value) if_false) (place (n + size value + size if_false) if_true)) ∷ []
 
   pub layouts : ℕ → Terms → List Expr
   layouts n term.End = []

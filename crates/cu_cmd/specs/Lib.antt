@@ -7,6 +7,7 @@ pub mod Due
 pub mod Faults
 pub mod Layout
 pub mod Line
+pub mod Numbers
 pub mod Program
 pub mod Ready
 pub mod Report

@@ -41,9 +41,13 @@ constant body = record { params = []; body = body }
 abbrev pub two_params : List ℕ
 two_params = 0 ∷ 1 ∷ []
 
+-- the second of them
+abbrev pub second_param : List ℕ
+second_param = 1 ∷ []
+
 -- False && x is False, and True && x is x
 abbrev pub conjunction_operation : Operation
-conjunction_operation = record { params = two_params; body = Decision two_params (Variable 0) (Whole (Con falsity) End) (Variable 1) }
+conjunction_operation = record { params = two_params; body = Decision second_param (Variable 0) (Whole (Con falsity) End) (Variable 1) }
 
 -- x ? y is either of its arguments
 abbrev pub choice_operation : Operation

@@ -22,7 +22,7 @@ Held = List ℕ → List ℕ → Option (List ℕ)
 
 -- the bounds where the words give none
 abbrev pub default_limits : SearchLimits
-default_limits = record { rounds = 100000; answers = None; step = record { nodes = 1000000; width = 65536 } }
+default_limits = record { rounds = 100000; answers = None; stride = 1; step = record { nodes = 1000000; width = 65536 } }
 
 -- the status of a listing that ends so
 abbrev pub status_of : End → Status

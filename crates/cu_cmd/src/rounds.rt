@@ -43,7 +43,8 @@ impl From<AllocError> for SearchFault {
 }
 
 /// Writes the listing of a goal without parameters, each line as a piece of
-/// its own, and answers how it ended.
+/// its own, and answers how it ended. Each round is a single step of each
+/// branch.
 pub fn list_goal<S: Store, K: Sink>(
     alloc: Global,
     program: &FlatProgram,
@@ -53,6 +54,7 @@ pub fn list_goal<S: Store, K: Sink>(
 ) -> Result<End, SearchFault>
     requires rule { IsTrue (is_rule (body_of program.now goal)) }
     requires code { IsTrue (code_is_without_sets program.now) }
+    requires single { limits.now.stride ≡ 1 }
     ensures end { IfOk result (λ end. end ≡ (listing program.now limits.now (start_of program.now goal)).end) }
     ensures whole { IfOk result (λ _. Adds (K.written sink.old) (K.written sink.new)
         (concat (pieces (listing program.now limits.now (start_of program.now goal))))) }

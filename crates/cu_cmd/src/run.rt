@@ -23,6 +23,7 @@ use std::alloc::Global;
 const DEFAULT_LIMITS: SearchLimits = SearchLimits {
     rounds: 100_000,
     answers: None,
+    stride: 1,
     step: Limits {
         nodes: 1_000_000,
         width: 65_536,

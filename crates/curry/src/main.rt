@@ -2,6 +2,10 @@
 //! command that its words say, and ends with the status's number.
 #![tactic(auto)]
 
+ghost use Rattle.std.specs.Prelude.{◌≡◌};
+ghost use Rattle.std.specs.Process.{exit_status};
+ghost use Rattle.cu_cmd.specs.Numbers.{number_of};
+
 use cu_cmd::{Status, top};
 use cu_io::{FolderLibrary, OutputSink, VecSource};
 use std::alloc::AllocError;
@@ -36,6 +40,9 @@ fn words<R: Env + AllocGlobal>(rt: &R) -> Result<Vec<String>, AllocError> {
     }
 }
 
-fn exit_code(status: Status) -> ExitCode {
-    ExitCode::from(status as u8)
+/// The end of the process that a status stands for.
+fn exit_code(status: Status) -> ExitCode
+    ensures { exit_status result ≡ number_of status }
+{
+    ExitCode::from(status.number())
 }

@@ -25,7 +25,7 @@ returns-in_err-listed-clause-front g c =
     let written = g.K.Sink.written in
     let whole = listing c.args.program.now c.args.limits.now (start_of c.args.program.now c.args.goal) in
     OnErr-always c.from_residual-in_err-listed.result
-    (round_written_front c.args.program.now c.args.limits.now c.loop-level.round {whole = whole} (written c.list_round.new.sink) (c.args.limits.now.rounds - c.loop-level.round) c.loop-level.tally
+    (round_written_front c.args.program.now c.args.limits.now c.loop-level.round {whole = whole} (written c.list_round.new.sink) c.requires.single (c.args.limits.now.rounds - c.loop-level.round) c.loop-level.tally
     (map (state_of content) c.loop-level.level.items) c.loop-level.invariant.left c.in_err-listed.ensures.front)
 
 -- what the round comes to
@@ -53,7 +53,7 @@ ended : (g : Over) (c : After-or g) (end : End) → c.or.result ≡ Some end
     → ListingLeft (g.K.Sink.written c.args.sink.now) (g.K.Sink.written c.list_round.new.sink) (listing c.args.program.now c.args.limits.now (start_of c.args.program.now c.args.goal)) (only_end end)
 ended g c end is =
     let whole = listing c.args.program.now c.args.limits.now (start_of c.args.program.now c.args.goal) in
-    last_round c.args.program.now c.args.limits.now c.loop-level.round {whole = whole} end c.loop-level.invariant.within c.loop-level.invariant.left (done g c) is
+    last_round c.args.program.now c.args.limits.now c.loop-level.round {whole = whole} end c.requires.single c.loop-level.invariant.within c.loop-level.invariant.left (done g c) is
 
 pub returns-in-Some-clause-end : goal.returns-in-Some-clause-end
 returns-in-Some-clause-end g c =
@@ -74,6 +74,6 @@ returns-in-Some-clause-front g c =
 pub loop-level-preserved : goal.loop-level-preserved
 loop-level-preserved g c =
     let whole = listing c.args.program.now c.args.limits.now (start_of c.args.program.now c.args.goal) in
-    let on = next_round c.args.program.now c.args.limits.now c.loop-level.round {whole = whole} c.loop-level.invariant.within c.loop-level.invariant.left (done g (goal.at.loop-level-preserved g c).After-or) c.in_default.is in
+    let on = next_round c.args.program.now c.args.limits.now c.loop-level.round {whole = whole} c.requires.single c.loop-level.invariant.within c.loop-level.invariant.left (done g (goal.at.loop-level-preserved g c).After-or) c.in_default.is in
     let below : c.loop-level.round < c.args.limits.now.rounds = on.0 in
     record { left = on.1; ready = c.in_ok-listed.ensures.ready; within = omega arith; count = c.in_ok-listed.ensures.cause ∙ c.loop-level.invariant.count }

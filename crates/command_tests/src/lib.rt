@@ -1,0 +1,5 @@
+//! Tests of the outside.
+#![tactic(auto)]
+
+#[cfg(test)]
+mod commands;
