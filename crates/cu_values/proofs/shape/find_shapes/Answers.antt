@@ -5,7 +5,7 @@ use Rattle.cu_values.specs.Cells.{arity_of, first, put, read_all}
 use Rattle.cu_values.specs.LabelsOf.{labels_meaning}
 use Rattle.cu_values.specs.Shapes.{shape_of}
 use Rattle.cu_values.proofs.StackLemmas.{found_left, stack_room, stack_step}
-use Rattle.cu_values.proofs.shape.shapes.Goals as goal
+use Rattle.cu_values.proofs.shape.find_shapes.Goals as goal
 
 pub shape_of-shape-requires-in-loop-at : goal.shape_of-shape-requires-in-loop-at
 shape_of-shape-requires-in-loop-at c =

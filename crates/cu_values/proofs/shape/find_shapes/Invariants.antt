@@ -3,7 +3,7 @@ use Rattle.std.proofs.Common.{◌≡◌, ◌≤◌, drop, length, reverse}
 use Rattle.cu_values.specs.Cells.{read_all}
 use Rattle.cu_values.specs.LabelsOf.{labels_meaning}
 use Rattle.cu_values.specs.Shapes.{shapes_at, stacked}
-use Rattle.cu_values.proofs.shape.shapes.Given as goal
+use Rattle.cu_values.proofs.shape.find_shapes.Given as goal
 
 abbrev pub invariant-loop-at : goal.invariant-loop-at
 invariant-loop-at l = record {
