@@ -109,11 +109,12 @@ case_nests program e mode kept scrutinee branches well is =
 pub chosen_nests : (program : Code) (p : Shallow → Bool) (branches : List Branch) → branches_nest program branches ≡ true
     → branch_nests program (branch_for p branches) ≡ true
 chosen_nests program p [] all = refl
-chosen_nests program p (branch ∷ branches) all = go (p branch.pattern)
+chosen_nests program p (branch ∷ branches) all =
+    go (p branch.pattern) (chosen_nests program p branches (right_true (nests program branch.body) (branches_nest program branches) all))
   where
-    go : (b : Bool) → branch_nests program (if b then Some branch else branch_for p branches) ≡ true
-    go true = left_true (nests program branch.body) (branches_nest program branches) all
-    go false = chosen_nests program p branches (right_true (nests program branch.body) (branches_nest program branches) all)
+    go : (b : Bool) → branch_nests program (branch_for p branches) ≡ true → branch_nests program (if b then Some branch else branch_for p branches) ≡ true
+    go true others = left_true (nests program branch.body) (branches_nest program branches) all
+    go false others = others
 
 -- ** What was read of the program
 
