@@ -1,5 +1,5 @@
 -- What adapters to the outside answer.
-use Rattle.std.specs.Prelude.{◌≡◌, ℕ, ◌≤◌, List, ◌++◌, Option, length, take, map, codes, if◌then◌else◌, ◌==◌}
+use Rattle.std.specs.Prelude.{◌≡◌, ℕ, zero, suc, ◌≤◌, List, ◌++◌, Option, None, Some, Result, Ok, Err, length, take, map, codes, if◌then◌else◌, ◌==◌}
 use Rattle.std.specs.Str.{chars, encode_utf8_all}
 use Rattle.std.specs.Io.KnownBytes.{Appends, Consumes}
 use Rattle.cu_io.specs.declared.library.Fetched.{Fetched}
@@ -12,6 +12,12 @@ abbrev pub IsTextWithin : ℕ → Fetched → Type 0
 IsTextWithin most (Text bytes) = length bytes.items ≤ most
 IsTextWithin most Absent = Unit {0}
 IsTextWithin most Failed = Unit {0}
+
+-- How many bytes went out of more than none, by what a write said. An error and taking none are faults.
+abbrev pub gone : {E : Type 0} → Result ℕ E → Option ℕ
+gone (Ok zero) = None
+gone (Ok (suc count)) = Some (suc count)
+gone (Err error) = None
 
 -- What a writer is known to hold grew by the piece, or where it failed by a front of it.
 abbrev pub Writes : Put → List ℕ → Option (List ℕ) → Option (List ℕ) → Type 0

@@ -1,5 +1,5 @@
 //! Files of a file system as a library.
-ghost use Rattle.std.specs.Prelude.{◌≡◌, ◌<◌, ◌≤◌, ℕ, None, Ok, Err, ◌≢◌, IsErr, IfErr, IfOk, IfSome, MatchResult, length, take};
+ghost use Rattle.std.specs.Prelude.{◌≡◌, ◌<◌, ◌≤◌, ◌++◌, ℕ, None, Ok, Err, ◌≢◌, IsErr, IfErr, IfOk, IfSome, MatchOption, MatchResult, length, take};
 ghost use Rattle.std.specs.IoError.{error_kind};
 ghost use Rattle.std.specs.String.{string_bytes};
 ghost use Rattle.std.specs.Io.KnownBytes.{IsAtEnd};
@@ -27,7 +27,20 @@ fn read_piece<F: Read>(file: &mut F, text: &mut Vec<u8>, most: usize) -> io::Res
 {
     let mut piece = [0; PIECE];
     let room = &mut piece[..most.min(PIECE)];
-    let count = file.read(room)?;
+    let said = file.read(room);
+    take_read(said, room, text)
+}
+
+/// Takes what a read put into a room to the end of a text; tells how many
+/// bytes that is. An error of the read is passed on.
+fn take_read(said: io::Result<usize>, room: &[u8], text: &mut Vec<u8>) -> io::Result<usize>
+    requires { IfOk said (λ count. count ≤ length room.now) }
+    ensures failed { IfErr said (λ e. (result ≡ Err e) × (text.new.items ≡ text.old.items)) }
+    ensures taken { IfOk said (λ count. IfOk result (λ told.
+        (told ≡ count) × (text.new.items ≡ text.old.items ++ take count room.now))) }
+    ensures memory { IfOk said (λ _. IfErr result (λ e. error_kind e ≡ ErrorKind.OutOfMemory)) }
+{
+    let count = said?;
     text.extend_from_slice(&room[..count])?;
     Ok(count)
 }
@@ -81,11 +94,16 @@ fn unopened(error: io::Error) -> io::Result<Option<Vec<u8>>>
     Err(error)
 }
 
-/// The front of the file at a path, or `None` where it isn't there.
-fn read_file<R: Files>(files: &R, alloc: Global, path: &str) -> io::Result<Option<Vec<u8>>>
-    ensures { IfOk result (λ read. IfSome read (λ text. length text.items ≤ most_bytes)) }
+/// What a file holds, by what opening it said: the front of a file that was
+/// opened, nothing where it isn't there, and else the error.
+fn held<F: Read + Drop>(alloc: Global, opened: io::Result<F>) -> io::Result<Option<Vec<u8>>>
+    ensures text { IfOk opened (λ file. IfOk result (λ held. MatchOption held ⊥ (λ text.
+        (length text.items ≤ most_bytes)
+        × IfSome (F.remaining file) (λ bytes. text.items ≡ take most_bytes bytes)))) }
+    ensures absent { IfErr opened (λ e. error_kind e ≡ ErrorKind.NotFound → result ≡ Ok None) }
+    ensures failed { IfErr opened (λ e. error_kind e ≢ ErrorKind.NotFound → result ≡ Err e) }
 {
-    match fs::open(files, path) {
+    match opened {
         Ok(mut file) => Ok(Some(read_front(alloc, &mut file, MOST_BYTES)?)),
         Err(error) => unopened(error),
     }
@@ -145,8 +163,8 @@ impl<R: Files> FolderLibrary<R> {
             (λ fetched. FetchCount fetched self.old self.new)
             (λ _. self.new ≡ self.old) }
     {
-        let read = read_file(&self.files, alloc, path);
-        self.answer(read)
+        let opened = fs::open(&self.files, path);
+        self.answer(held(alloc, opened))
     }
 }
 
@@ -166,36 +184,5 @@ impl<R: Files> Library for FolderLibrary<R> {
 
     fn file(&mut self, alloc: Global, path: &str) -> Result<Fetched, AllocError> {
         self.read(alloc, path)
-    }
-}
-
-#[cfg(test)]
-mod tests {
-    use super::*;
-    use crate::library::tests::told;
-    use std::test::Fail;
-    use std::{env, process};
-
-    #[test]
-    fn reads_the_files_of_modules(rt: HostRuntime) -> Result<(), Fail> {
-        let alloc = rt.alloc();
-        let name = format!(in alloc; "cu_io-test-{}", process::id(rt.process()))?;
-        let dir = env::temp_dir(&rt)?.join(alloc, name.as_str())?;
-        let inner = dir.join(alloc, "A")?;
-        fs::create_dir(&rt, dir.as_path())?;
-        fs::create_dir(&rt, inner.as_path())?;
-        let file = inner.join(alloc, "B.curry")?;
-        fs::write(&rt, file.as_path(), "text")?;
-        let mut library = FolderLibrary::new(&rt);
-        let held = library.fetch(alloc, dir.as_str(), "A.B")?;
-        let absent = library.fetch(alloc, dir.as_str(), "A.C")?;
-        let before = library.faults();
-        let failed = library.file(alloc, inner.as_str())?;
-        fs::remove_dir_all(&rt, dir.as_path())?;
-        assert_eq!(rt; told(&held), b"text".as_slice());
-        assert_eq!(rt; told(&absent), b"absent".as_slice());
-        assert_eq!(rt; told(&failed), b"failed".as_slice());
-        assert_eq!(rt; (before, library.faults()), (0, 1));
-        Ok(())
     }
 }

@@ -50,17 +50,3 @@ pub trait Library {
             (λ fetched. FetchCount fetched (fault_count self.old) (fault_count self.new))
             (λ _. fault_count self.new ≡ fault_count self.old) };
 }
-
-#[cfg(test)]
-pub(crate) mod tests {
-    use super::*;
-
-    /// A text, or the name of another answer.
-    pub(crate) fn told(fetched: &Fetched) -> &[u8] {
-        match fetched {
-            Fetched::Text(text) => text.as_slice(),
-            Fetched::Absent => b"absent",
-            Fetched::Failed => b"failed",
-        }
-    }
-}

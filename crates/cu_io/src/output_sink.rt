@@ -1,6 +1,6 @@
 //! The standard output as a sink.
 ghost use Rattle.std.specs.Prelude.{◌≡◌, None};
-ghost use Rattle.cu_io.specs.Outside.{Writes};
+ghost use Rattle.cu_io.specs.Outside.{gone, Writes};
 
 use crate::sink::{Put, Sink};
 use std::io;
@@ -14,12 +14,23 @@ fn write_whole<W: Write>(writer: &mut W, piece: &[u8]) -> Put
 {
     let mut done = 0;
     while done < piece.len() {
-        match writer.write(&piece[done..]) {
-            Ok(0) | Err(_) => return Put::Failed,
-            Ok(count) => done += count,
+        match gone(writer.write(&piece[done..])) {
+            Some(count) => done += count,
+            None => return Put::Failed,
         }
     }
     Put::Done
+}
+
+/// How many bytes went out, one at least, by what a write of more than none
+/// said: an error and taking none are faults.
+fn gone(said: io::Result<usize>) -> Option<usize>
+    ensures { result ≡ gone said }
+{
+    match said {
+        Ok(0) | Err(_) => None,
+        Ok(count) => Some(count),
+    }
 }
 
 /// The standard output of a runtime as a sink. It doesn't tell what it wrote.
@@ -62,73 +73,5 @@ impl<R: Print> Sink for OutputSink<R> {
             self.faults = self.faults.saturating_add(1);
         }
         put
-    }
-}
-
-#[cfg(test)]
-mod tests {
-    use super::*;
-    use std::cell::{Cell, RefCell};
-    use std::fmt::Display;
-    use std::io::ErrorKind;
-    use std::test::Fail;
-
-    /// How many bytes each write takes, in turn; after these it fails.
-    const TAKES: [usize; 3] = [2, 1, 0];
-
-    /// A runtime that writes little at a time.
-    #[derive(Drop)]
-    struct Slow {
-        writes: Cell<usize>,
-        out: RefCell<Vec<u8>>,
-    }
-
-    impl Print for Slow {
-        fn print<D: Display + Drop>(&self, _value: D) -> io::Result<()> {
-            Err(io::Error::from(ErrorKind::Unsupported))
-        }
-
-        fn println<D: Display + Drop>(&self, _value: D) -> io::Result<()> {
-            Err(io::Error::from(ErrorKind::Unsupported))
-        }
-
-        fn write_all(&self, _bytes: &[u8]) -> io::Result<()> {
-            Err(io::Error::from(ErrorKind::Unsupported))
-        }
-
-        fn write_some(&self, bytes: &[u8]) -> io::Result<usize> {
-            let write = self.writes.get();
-            self.writes.set(write.saturating_add(1));
-            let Some(takes) = TAKES.get(write) else {
-                return Err(io::Error::from(ErrorKind::BrokenPipe));
-            };
-            let count = (*takes).min(bytes.len());
-            if let Ok(mut out) = self.out.try_borrow_mut() {
-                out.extend_from_slice(&bytes[..count])?;
-            }
-            Ok(count)
-        }
-    }
-
-    #[test]
-    fn writes_whole_pieces_and_counts_faults(rt: HostRuntime) -> Result<(), Fail> {
-        let slow = Slow {
-            writes: Cell::new(0),
-            out: RefCell::new(Vec::new(rt.alloc())),
-        };
-        let mut sink = OutputSink::new(&slow);
-        let rows = [
-            ("abc", Put::Done, 0),
-            ("", Put::Done, 0),
-            ("de", Put::Failed, 1),
-            ("f", Put::Failed, 2),
-        ];
-        for (piece, want, faults) in rows {
-            assert_eq!(rt; sink.put(piece.as_bytes()), want, "{piece}");
-            assert_eq!(rt; sink.faults(), faults);
-        }
-        let out = slow.out.try_borrow().ok().expect(&rt, "no other borrow");
-        assert_eq!(rt; out.as_slice(), b"abc".as_slice());
-        Ok(())
     }
 }

@@ -256,35 +256,3 @@ impl Library for ShelfLibrary {
         Ok(fetched)
     }
 }
-
-#[cfg(test)]
-mod tests {
-    use super::*;
-    use crate::library::tests::told;
-    use std::test::Fail;
-
-    #[test]
-    fn gives_the_newest_text_and_fails_where_listed(rt: HostRuntime) -> Result<(), Fail> {
-        let alloc = rt.alloc();
-        let mut shelf = ShelfLibrary::new(alloc, vec![in alloc; 2, 4]?);
-        shelf.add_module(".", "M", b"old")?;
-        shelf.add_module(".", "M", b"new")?;
-        shelf.add_module("lib", "M", b"other")?;
-        shelf.add_file("M", b"flat")?;
-        let rows = [
-            (".", "M", "new"),
-            ("lib", "M", "other"),
-            (".", "M", "failed"),
-            (".", "N", "absent"),
-        ];
-        for (dir, name, want) in rows {
-            let fetched = shelf.fetch(alloc, dir, name)?;
-            assert_eq!(rt; told(&fetched), want.as_bytes(), "{dir} {name}");
-        }
-        for want in ["failed", "flat"] {
-            assert_eq!(rt; told(&shelf.file(alloc, "M")?), want.as_bytes());
-        }
-        assert_eq!(rt; shelf.faults(), 2);
-        Ok(())
-    }
-}

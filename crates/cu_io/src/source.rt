@@ -27,7 +27,8 @@ pub trait Source {
     fn faults(&self) -> u64
         ensures { result ≡ fault_count self.now };
 
-    /// Takes bytes from the front of the input into the front of `room`.
+    /// Takes bytes from the front of the input into the front of `room`, which
+    /// stays as it was where the read fails.
     fn read(&mut self, room: &mut [u8]) -> Took
         requires { 0 < length room.old }
         ensures told { Reads result room.old room.new (remaining self.old) (remaining self.new) }

@@ -123,28 +123,3 @@ impl Sink for VecSink {
         if failed { Put::Failed } else { Put::Done }
     }
 }
-
-#[cfg(test)]
-mod tests {
-    use super::*;
-    use std::test::Fail;
-
-    #[test]
-    fn takes_what_fits_and_fails_where_listed(rt: HostRuntime) -> Result<(), Fail> {
-        let alloc = rt.alloc();
-        let mut sink = VecSink::new(alloc, 6, vec![in alloc; (1, 1), (4, 9)]?)?;
-        let rows = [
-            ("ab", Put::Done, "ab", 0),
-            ("cd", Put::Failed, "abc", 1),
-            ("defg", Put::Failed, "abc", 2),
-            ("", Put::Done, "abc", 2),
-            ("xyzw", Put::Failed, "abcxyz", 3),
-        ];
-        for (piece, want, bytes, faults) in rows {
-            assert_eq!(rt; sink.put(piece.as_bytes()), want, "{piece}");
-            assert_eq!(rt; sink.bytes(), bytes.as_bytes());
-            assert_eq!(rt; sink.faults(), faults);
-        }
-        Ok(())
-    }
-}

@@ -10,6 +10,7 @@ use Rattle.cu_calculus.specs.declared.ConId.{ConId}
 use Rattle.cu_calculus.specs.declared.Head.TheVariants as head
 use Rattle.cu_calculus.specs.declared.builtin.Special.{Special}
 use Rattle.cu_kernel.proofs.Conjunction.{conjunction_is, is_the_conjunction, parts_true, true_parts}
+use Rattle.cu_kernel.specs.FirstTypes.{has_first_types}
 use Rattle.cu_kernel.specs.Kernel.{Kernel, plain_function, program_of}
 use Rattle.cu_kernel.specs.KernelOf.{function_meaning, kernel_of}
 use Rattle.cu_kernel.specs.declared.program.ProgramParts.{ProgramParts}
@@ -84,15 +85,16 @@ is_special program is =
     (are_values program s.values is.values))
 
 -- a program that passes all tests is valid
-pub passes_all : (kernel : Kernel) → has_arities (program_of kernel) ≡ true → has_special (program_of kernel) ≡ true → fit_declarations kernel ≡ true
+pub passes_all : (kernel : Kernel) → has_first_types kernel.special kernel.types ≡ true → has_arities (program_of kernel) ≡ true → has_special (program_of kernel) ≡ true → fit_declarations kernel ≡ true
     → list_all (fits_function (program_of kernel)) (program_of kernel).functions ≡ true → IsValid kernel
-passes_all kernel arities special declarations functions =
+passes_all kernel first arities special declarations functions =
     let types = list_all (fits_data_type kernel) kernel.types in let synonyms = list_all (fits_synonym kernel) kernel.synonyms in
     let marks = fit_marks kernel kernel.marks kernel.functions in let goal = fits_goal kernel kernel.goal in
     let all = parts_true (types && synonyms && marks) goal declarations in let three = parts_true (types && synonyms) marks all.0 in
     let two = parts_true types synonyms three.0 in
     record {
       program = record { constructors = arities; functions = functions; special = special_is (program_of kernel) special };
+      first_types = first;
       types = two.0;
       synonyms = two.1;
       marks = three.1;
@@ -115,16 +117,16 @@ valid_passes kernel valid =
 
 -- the last test decides, where the others passed
 pub exactly_valid : (parts : ProgramParts) (program : calculus.Program) (functions : List Function) (result : Result Bool AllocError)
-    → program ≡ program_of (kernel_of parts) → has_arities program ≡ true → has_special program ≡ true → fit_declarations (kernel_of parts) ≡ true
+    → program ≡ program_of (kernel_of parts) → has_first_types (kernel_of parts).special (kernel_of parts).types ≡ true → has_arities program ≡ true → has_special program ≡ true → fit_declarations (kernel_of parts) ≡ true
     → functions ≡ parts.functions.items
     → IfOk result (λ fit. fit ≡ list_all (fits_function program) (map plain_function (map function_meaning functions)))
     → IfOk result (λ valid. IsTrue valid ↔ IsValid (kernel_of parts))
 unfolding program_of
-exactly_valid parts program functions (Err e) is arities special declarations same fits = tt
-exactly_valid parts program functions (Ok fit) is arities special declarations same fits =
+exactly_valid parts program functions (Err e) is first arities special declarations same fits = tt
+exactly_valid parts program functions (Ok fit) is first arities special declarations same fits =
     let kernel = kernel_of parts in let whole = program_of kernel in
     let functions_fit : fit ≡ list_all (fits_function whole) whole.functions =
     fits ∙ (λ i. list_all (fits_function (is i)) (map plain_function (map function_meaning (same i)))) in (
-      (λ valid. passes_all kernel (ap has_arities (sym is) ∙ arities) (ap has_special (sym is) ∙ special) declarations (sym functions_fit ∙ valid)),
+      (λ valid. passes_all kernel first (ap has_arities (sym is) ∙ arities) (ap has_special (sym is) ∙ special) declarations (sym functions_fit ∙ valid)),
       (λ valid. functions_fit ∙ (valid_passes kernel valid).3),
     )

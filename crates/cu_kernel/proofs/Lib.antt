@@ -1,6 +1,9 @@
 pub mod Conjunction
+pub mod ConstructorLemmas
 pub mod Decides
+pub mod FirstTypeLemmas
 pub mod HeadLemmas
+pub mod Joining
 pub mod ListCounts
 pub mod Loops
 pub mod MarkLemmas

@@ -6,7 +6,7 @@ use Rattle.cu_kernel.specs.Valid.{fit_marks, fits_mark}
 use Rattle.cu_kernel.specs.declared.declarations.Mark.{Mark}
 use Rattle.cu_kernel.specs.declared.term.Function.{Function}
 
-not_both : (b : Bool) → false ≡ (b && false)
+pub not_both : (b : Bool) → false ≡ (b && false)
 not_both false = refl
 not_both true = refl
 

@@ -1,6 +1,7 @@
 -- Kernel programs: what a program has beside the rules of its functions, and the program of the calculus that it is.
-use Rattle.std.specs.Prelude.{ℕ, ◌+◌, Bool, List, [], ◌∷◌, ◌++◌, Option, length, map}
+use Rattle.std.specs.Prelude.{ℕ, ◌+◌, Bool, List, [], ◌∷◌, ◌++◌, Option, length, map, slice_get}
 use Rattle.cu_calculus.specs.Program as calculus
+use Rattle.cu_calculus.specs.declared.ConId.{ConId}
 use Rattle.cu_calculus.specs.declared.FunId.{FunId}
 use Rattle.cu_calculus.specs.declared.builtin.Special.{Special}
 use Rattle.cu_names.specs.declared.names.NameId.{NameId}
@@ -70,6 +71,23 @@ constructors_of place cs = map (λ c. record { of_type = place; arity = length c
 abbrev pub constructors_from : ℕ → List DataType → List calculus.Constructor
 constructors_from place [] = []
 constructors_from place (t ∷ ts) = constructors_of place t.constructors ++ constructors_from (place + 1) ts
+
+-- a constructor, and its type's place among the program's types
+pub record Placed : Type 0 where
+  pub of_type : ℕ
+  pub constructor : Constructor
+
+abbrev pub placed : ℕ → List Constructor → List Placed
+placed place cs = map (λ c. record { of_type = place; constructor = c }) cs
+
+-- the constructors of the types from a place on, each with its type's place
+abbrev pub placed_from : ℕ → List DataType → List Placed
+placed_from place [] = []
+placed_from place (t ∷ ts) = placed place t.constructors ++ placed_from (place + 1) ts
+
+-- the constructor with a number, where the types have one: those of the first type are counted first
+abbrev pub constructor_at : List DataType → ConId → Option Placed
+constructor_at types c = slice_get (placed_from 0 types) c.0
 
 -- a function without its name
 abbrev pub plain_function : Function → calculus.Function

@@ -5,6 +5,7 @@ use Rattle.cu_kernel.specs.Kernel as kernel
 use Rattle.cu_kernel.specs.Kernel.{Kernel}
 use Rattle.cu_kernel.specs.TermsOf.{patterns_of, term_of}
 use Rattle.cu_kernel.specs.TypesOf.{type_of}
+use Rattle.cu_kernel.specs.declared.constructors.Placed.{Placed}
 use Rattle.cu_kernel.specs.declared.declarations.Constructor.{Constructor}
 use Rattle.cu_kernel.specs.declared.declarations.DataType.{DataType}
 use Rattle.cu_kernel.specs.declared.declarations.Goal.{Goal}
@@ -29,6 +30,9 @@ function_meaning f = record { name = f.name; arity = f.arity; body = body_meanin
 
 abbrev pub constructor_meaning : Constructor → kernel.Constructor
 constructor_meaning c = record { name = c.name; public = c.public; fields = map type_of c.fields.items }
+
+abbrev pub placed_meaning : Placed → kernel.Placed
+placed_meaning p = record { of_type = p.of_type.0; constructor = constructor_meaning p.constructor.now }
 
 abbrev pub type_meaning : DataType → kernel.DataType
 type_meaning t = record {

@@ -1,3 +1,5 @@
+pub mod Captures
+pub mod FirstTypes
 pub mod Heads
 pub mod Kernel
 pub mod KernelOf
@@ -7,6 +9,8 @@ pub mod LocalKernelOf
 pub mod LocalStored
 pub mod LocalTerm
 pub mod LocalTermsOf
+pub mod LocalValid
+pub mod OutlineOf
 pub mod Scope
 pub mod TermStored
 pub mod TermsOf

@@ -1,6 +1,7 @@
 -- Programs before lifting, and the program of several modules in a row.
 use Rattle.std.specs.Prelude.{◌≡◌, ℕ, ◌+◌, List, ◌++◌, Option, None, Some, length}
 use Rattle.cu_calculus.specs.Term as calculus
+use Rattle.cu_calculus.specs.declared.ConId.{ConId}
 use Rattle.cu_calculus.specs.declared.builtin.Primitive.{Primitive}
 use Rattle.cu_calculus.specs.declared.builtin.Special.{Special}
 use Rattle.cu_names.specs.declared.names.NameId.{NameId}
@@ -55,6 +56,22 @@ abbrev pub last_goal : Option Goal → Option Goal → Option Goal
 last_goal first None = first
 last_goal first (Some goal) = Some goal
 
+-- the constructor of the values of set functions, once there is one
+abbrev pub last_values : Option ConId → Option ConId → Option ConId
+last_values first None = first
+last_values first (Some values) = Some values
+
+-- the built-in entities of the second program, with that constructor
+abbrev pub last_special : Special → Special → Special
+last_special first second = record {
+  falsity = second.falsity;
+  truth = second.truth;
+  nil = second.nil;
+  cons = second.cons;
+  both = second.both;
+  values = last_values first.values second.values;
+}
+
 -- the first program's parts and then the second's
 abbrev pub joined : LocalKernel → LocalKernel → LocalKernel
 joined first second = record {
@@ -65,5 +82,5 @@ joined first second = record {
   modules = first.modules ++ second.modules;
   marks = first.marks ++ second.marks;
   goal = last_goal first.goal second.goal;
-  special = second.special;
+  special = last_special first.special second.special;
 }

@@ -1,9 +1,10 @@
--- Valid kernel programs: the program of the calculus is valid, each function has its mark, and what stands beside the rules
--- names modules, types and functions of the program.
+-- Valid kernel programs: the program of the calculus is valid, its types begin with the built-in ones, each function has its
+-- mark, and what stands beside the rules names modules, types and functions of the program.
 use Rattle.std.specs.Prelude.{ℕ, Bool, true, false, ◌&&◌, List, [], ◌∷◌, Option, None, Some, IsTrue, length, nat_eq, nat_le, nat_lt, slice_get}
 use Rattle.std.specs.List.{list_all}
 use Rattle.cu_calculus.specs.Program as calculus
 use Rattle.cu_calculus.specs.Valid as calculus_valid
+use Rattle.cu_kernel.specs.FirstTypes.{has_first_types}
 use Rattle.cu_kernel.specs.Kernel.{Constructor, DataType, Function, Goal, Kernel, Mark, Synonym, program_of}
 use Rattle.cu_kernel.specs.TypeExpr as type
 use Rattle.cu_kernel.specs.TypeExpr.{TypeExpr, TypeExprs}
@@ -73,6 +74,7 @@ fits_goal kernel (Some g) = takes_names (length g.names) (slice_get kernel.funct
 
 pub record IsValid (kernel : Kernel) : Type 0 where
   pub program : calculus_valid.IsValid (program_of kernel)
+  pub first_types : IsTrue (has_first_types kernel.special kernel.types)
   pub types : IsTrue (list_all (fits_data_type kernel) kernel.types)
   pub synonyms : IsTrue (list_all (fits_synonym kernel) kernel.synonyms)
   pub marks : IsTrue (fit_marks kernel kernel.marks kernel.functions)

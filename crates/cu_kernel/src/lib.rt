@@ -3,8 +3,10 @@
 //! of FlatCurry need beside them.
 #![tactic(auto)]
 
+mod constructors;
 mod declarations;
 mod declared;
+mod first_types;
 mod heads;
 mod local;
 mod local_program;
@@ -14,11 +16,10 @@ mod scope;
 mod special;
 mod term;
 mod terms;
-#[cfg(test)]
-mod tests;
 mod type_term;
 mod valid;
 
+pub use constructors::Placed;
 pub use cu_calculus::{ConId, FunId, Head, Int, Lit, Mode, Prim, Special};
 pub use declarations::{Constructor, DataType, Goal, Mark, ModuleInfo, Operator, Side, Synonym};
 pub use heads::{Heads, Shape};

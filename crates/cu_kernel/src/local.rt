@@ -13,9 +13,18 @@ pub enum LocalHead {
     Local(u32),
 }
 
-/// A term before lifting. A variable has one number within a top-level
-/// function, so the variables that a local function captures are found by
-/// their numbers.
+/// A term before lifting.
+///
+/// A variable has one number within a top-level function, so the variables
+/// that a local function captures are found by their numbers. These are given
+/// in the order of their declaration in the text, those of the function's own
+/// parameters and those of its local functions and blocks alike: a variable of
+/// a pattern is declared where it stands in the pattern, and the fresh one
+/// that stands for the whole value of a pattern binding comes before the
+/// pattern's. A goal's own variables come last. Lifting puts the variables
+/// that a local function captures before its parameters in the order of their
+/// numbers: of `f = let { g y = (w + y) + z; z = 1; w = 2 } in g 3` the
+/// function `g` becomes `f#1`, which takes z, w and y.
 #[derive(Drop)]
 pub enum LocalTerm {
     /// A variable.

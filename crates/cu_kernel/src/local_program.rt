@@ -1,7 +1,8 @@
 //! Programs before lifting, and their joining.
 ghost use Rattle.std.specs.Prelude.{◌≡◌, ◌+◌, ◌≤◌, ◌++◌, OnErr, OnOk, vec_capacity, vec_len};
-ghost use Rattle.cu_kernel.specs.LocalKernel.{Follows, joined};
+ghost use Rattle.cu_kernel.specs.LocalKernel.{Follows, joined, last_special};
 ghost use Rattle.cu_kernel.specs.LocalKernelOf.{local_kernel_of};
+ghost use Rattle.cu_kernel.specs.LocalValid.{IsPart};
 
 use crate::{DataType, Goal, Mark, ModuleInfo, Special, Synonym, TopFunction};
 use std::alloc::AllocError;
@@ -45,7 +46,22 @@ pub struct LocalParts {
 }
 
 /// A program whose local functions aren't lifted yet, or the modules of one
-/// from some module on.
+/// from some module on. All is right that can be told of these parts alone:
+///
+/// - Each rule has a pattern for each parameter, and the numbers of parameters
+///   and of fields are below 2^32 - 1. A built-in operation has the number of
+///   parameters that it takes.
+/// - Local functions that are called are there. One with all its arguments has
+///   as many as it has parameters, and a partial application has fewer;
+///   captured variables don't count.
+/// - Each variable of a top-level function is bound once in it. What a local
+///   function captures is bound outside of it, and the top-level function's
+///   own rules use no variable that they don't bind, by way of local functions
+///   neither.
+/// - No variable of a `Let` is free in its own definition, by way of local
+///   functions neither.
+/// - The variables of declared types and synonyms are their parameters, and
+///   each top-level function has a mark, which counts no captured variables.
 #[derive(Drop)]
 pub struct LocalProgram {
     parts: LocalParts,
@@ -60,8 +76,11 @@ impl Model for LocalProgram {
     ghost coded = { local_kernel_code };
 
     ghost use Rattle.cu_kernel.specs.LocalKernelOf.{local_kernel_of};
+    ghost use Rattle.cu_kernel.specs.LocalValid.{IsPart};
 
     ghost view = { λ p. local_kernel_of p.parts };
+
+    ghost invariant = { λ p. IsPart (local_kernel_of p.parts) };
 }
 
 /// Moves all elements of the second list behind those of the first, where
@@ -77,35 +96,29 @@ fn move_behind<T: Drop>(front: &mut Vec<T>, back: Vec<T>)
     }
 }
 
-impl LocalProgram {
-    /// The program of these parts.
-    pub fn new(parts: LocalParts) -> LocalProgram
-        ensures { result ≡ local_kernel_of parts }
-    {
-        LocalProgram { parts }
+/// The built-in entities of the second part, with the constructor of the
+/// values of set functions that the first part has where the second has none.
+fn last_special(first: Special, second: Special) -> Special
+    ensures { result ≡ last_special first second }
+{
+    match second.values {
+        Some(_) => second,
+        None => Special {
+            values: first.values,
+            ..second
+        },
     }
+}
 
-    /// Its parts, to be read.
-    pub fn parts(&self) -> &LocalParts
-        ensures { local_kernel_of result.now ≡ self.now }
-    {
-        &self.parts
-    }
+impl LocalParts {
+    ghost use Rattle.std.specs.Prelude.{◌≡◌, OnErr, OnOk};
+    ghost use Rattle.cu_kernel.specs.LocalKernel.{joined};
+    ghost use Rattle.cu_kernel.specs.LocalKernelOf.{local_kernel_of};
 
-    /// Its parts, to be taken.
-    pub fn into_parts(self) -> LocalParts
-        ensures { local_kernel_of result ≡ self }
-    {
-        self.parts
-    }
-
-    /// Appends the parts of the next module, whose numbers follow. Its goal,
-    /// where it has one, and its built-in entities are those of the whole.
-    /// Without memory the program stays as it was.
-    pub fn join(&mut self, next: LocalProgram) -> Result<(), AllocError>
-        requires { Follows self.old next }
-        ensures whole { OnOk result (self.new ≡ joined self.old next) }
-        ensures unchanged { OnErr result (self.new ≡ self.old) }
+    /// Appends the next parts; without memory these parts stay as they were.
+    fn append(&mut self, next: LocalParts) -> Result<(), AllocError>
+        ensures whole { OnOk result (local_kernel_of self.new ≡ joined (local_kernel_of self.old) (local_kernel_of next)) }
+        ensures unchanged { OnErr result (local_kernel_of self.new ≡ local_kernel_of self.old) }
     {
         let LocalParts {
             start: _,
@@ -116,21 +129,60 @@ impl LocalProgram {
             marks,
             goal,
             special,
-        } = next.parts;
-        self.parts.types.reserve(types.len())?;
-        self.parts.functions.reserve(functions.len())?;
-        self.parts.synonyms.reserve(synonyms.len())?;
-        self.parts.modules.reserve(modules.len())?;
-        self.parts.marks.reserve(marks.len())?;
-        move_behind(&mut self.parts.types, types);
-        move_behind(&mut self.parts.functions, functions);
-        move_behind(&mut self.parts.synonyms, synonyms);
-        move_behind(&mut self.parts.modules, modules);
-        move_behind(&mut self.parts.marks, marks);
+        } = next;
+        self.types.reserve(types.len())?;
+        self.functions.reserve(functions.len())?;
+        self.synonyms.reserve(synonyms.len())?;
+        self.modules.reserve(modules.len())?;
+        self.marks.reserve(marks.len())?;
+        move_behind(&mut self.types, types);
+        move_behind(&mut self.functions, functions);
+        move_behind(&mut self.synonyms, synonyms);
+        move_behind(&mut self.modules, modules);
+        move_behind(&mut self.marks, marks);
         if goal.is_some() {
-            self.parts.goal = goal;
+            self.goal = goal;
         }
-        self.parts.special = special;
+        self.special = last_special(self.special, special);
         Ok(())
+    }
+}
+
+impl LocalProgram {
+    /// The program of these parts, of which all is right that can be told of
+    /// them alone.
+    pub fn new(parts: LocalParts) -> LocalProgram
+        requires { IsPart (local_kernel_of parts) }
+        ensures { result ≡ local_kernel_of parts }
+    {
+        LocalProgram { parts }
+    }
+
+    /// Its parts, to be read.
+    pub fn parts(&self) -> &LocalParts
+        ensures parts { local_kernel_of result.now ≡ self.now }
+        ensures right { IsPart self.now }
+    {
+        &self.parts
+    }
+
+    /// Its parts, to be taken.
+    pub fn into_parts(self) -> LocalParts
+        ensures parts { local_kernel_of result ≡ self }
+        ensures right { IsPart self }
+    {
+        self.parts
+    }
+
+    /// Appends the parts of the next module, whose numbers follow. Its goal,
+    /// where it has one, and its built-in entities are those of the whole; but
+    /// the constructor of the values of set functions stays once a part has
+    /// it. The one error is want of memory, and the program is then as it was.
+    pub fn join(&mut self, next: LocalProgram) -> Result<(), AllocError>
+        requires { Follows self.old next }
+        ensures whole { OnOk result (self.new ≡ joined self.old next) }
+        ensures unchanged { OnErr result (self.new ≡ self.old) }
+    {
+        self.parts.append(next.parts)
     }
 }

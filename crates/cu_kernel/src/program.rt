@@ -1,21 +1,24 @@
 //! Programs and their parts.
 ghost use Rattle.std.specs.Prelude.{◌≡◌, map, option_map};
-ghost use Rattle.cu_kernel.specs.KernelOf.{function_meaning, goal_meaning, kernel_of, mark_meaning, module_meaning, synonym_meaning, type_meaning};
+ghost use Rattle.cu_kernel.specs.Kernel.{constructor_at};
+ghost use Rattle.cu_kernel.specs.KernelOf.{function_meaning, goal_meaning, kernel_of, mark_meaning, module_meaning, placed_meaning, synonym_meaning, type_meaning};
 ghost use Rattle.cu_kernel.specs.Valid.{IsValid};
 
-use crate::{DataType, Function, Goal, Mark, ModuleInfo, Special, Synonym};
+use crate::constructors::constructor_at;
+use crate::{ConId, DataType, Function, Goal, Mark, ModuleInfo, Placed, Special, Synonym};
 use std::marker::Model;
 
 /// What a program is made of.
 #[derive(Drop)]
 pub struct ProgramParts {
-    /// The data types, those that are built in first.
+    /// The data types: first the list, unit, the tuples of 2 to 15
+    /// components, `Int` and `Char`.
     pub types: Vec<DataType>,
     /// The functions.
     pub functions: Vec<Function>,
     /// The type synonyms.
     pub synonyms: Vec<Synonym>,
-    /// The modules, imports before importers.
+    /// The modules, imports before importers; the first is the Prelude.
     pub modules: Vec<ModuleInfo>,
     /// A mark for each function, in the order of the functions.
     pub marks: Vec<Mark>,
@@ -25,8 +28,20 @@ pub struct ProgramParts {
     pub special: Special,
 }
 
-/// A program. It is valid: numbers name something, calls are whole, patterns
-/// are linear, and every variable is bound.
+/// A program. It is valid:
+///
+/// - Numbers name something, and arities are below 2^32 - 1.
+/// - A head with all its arguments has as many as it takes, a partial
+///   application has fewer, and each rule has a pattern for each parameter.
+/// - Patterns are linear, and every variable is bound, a `Let`'s not in its
+///   own definition.
+/// - The first 18 types are the list, unit, the tuples of 2 to 15 components,
+///   `Int` and `Char`, all of the first module, the Prelude.
+/// - The built-in entities are there, and `&&` has its rules.
+/// - Declared types have no variables beside their parameters, each function
+///   has its mark, and the goal's function a parameter for each name.
+///
+/// [`ProgramParts::valid`] lists the rules in full.
 #[derive(Drop)]
 pub struct Program {
     parts: ProgramParts,
@@ -63,6 +78,15 @@ impl Program {
         ensures valid { IsValid self.now }
     {
         self.parts.types.as_slice()
+    }
+
+    /// The constructor with this number, where the program has one. Takes
+    /// time in proportion to the number of types before its own.
+    pub fn constructor(&self, id: ConId) -> Option<Placed<'_>>
+        ensures constructor { option_map placed_meaning result ≡ constructor_at self.now.types id }
+        ensures valid { IsValid self.now }
+    {
+        constructor_at(self.parts.types.as_slice(), id)
     }
 
     /// The functions.

@@ -162,11 +162,16 @@ pub(crate) fn rules_fit(
 }
 
 impl Heads<'_> {
-    /// Whether a term fits the program, where every variable may stand.
+    /// Whether a term fits the program, where every variable may stand: its
+    /// heads are the program's, those with all their arguments have as many
+    /// as they take, partial applications have fewer, the patterns of its
+    /// alternatives are linear, and no `Let` binds its variable in its own
+    /// definition. The one error is want of memory.
     #[tactic(auto, using(crate::specs::Scope::allowed_variants))]
-    pub fn fits(&self, alloc: Global, term: &Term) -> Result<bool, AllocError>
+    pub fn fits(&self, term: &Term) -> Result<bool, AllocError>
         ensures { IfOk result (λ fits. fits ≡ fits_term (heads_program self.now) (λ x. true) (term_of term.now)) }
     {
+        let alloc = *self.constructors.allocator();
         term_fits(alloc, self, term, &Scope::All)
     }
 }

@@ -9,6 +9,7 @@ ghost use Rattle.cu_kernel.specs.Tests.{has_arities};
 ghost use Rattle.cu_kernel.specs.Valid.{IsValid};
 
 use crate::declared::declarations_fit;
+use crate::first_types::has_first_types;
 use crate::heads::Heads;
 use crate::special::has_special;
 use crate::terms::rules_fit;
@@ -71,16 +72,46 @@ fn has_arities(heads: &Heads) -> bool
 }
 
 impl ProgramParts {
-    /// Whether these parts make a program: numbers name something, calls are
-    /// whole, patterns are linear, every variable is bound, no `Let` is
-    /// recursive, and the built-in entities are there.
+    /// Whether these parts make a program, which is so where all of this
+    /// holds:
+    ///
+    /// - Functions, constructors, types, synonyms and modules that are named
+    ///   are there, and the numbers of parameters and of fields are below
+    ///   2^32 - 1.
+    /// - A head with all its arguments has as many as it takes, in terms and
+    ///   in patterns; a partial application has fewer. A built-in operation
+    ///   has the number of parameters that it takes.
+    /// - Each rule has a pattern for each parameter. No variable stands twice
+    ///   in the patterns of one rule or of one alternative.
+    /// - Each variable of a term is bound around it. A `Let` doesn't bind its
+    ///   variable in its own definition, where an outer variable of the same
+    ///   number may not stand either.
+    /// - The types begin with the list, unit, the tuples of 2 to 15
+    ///   components, `Int` and `Char`, all of the first module, which is the
+    ///   Prelude. These have the parameters and the constructors with the
+    ///   fields that the language gives them, and `[]` and `:` are those of
+    ///   the built-in entities.
+    /// - The other built-in entities are there: `False`, declared before
+    ///   `True`, both without fields; `&&` with its two rules or with the
+    ///   case distinction that is made of them; and a constructor of one field
+    ///   for the values of set functions wherever a set function stands.
+    /// - The variables in a declared type's fields and in a synonym's body
+    ///   are its parameters.
+    /// - Each function has one mark, in the order of the functions, which
+    ///   counts at most as many captured variables as there are parameters.
+    /// - The goal's function has rules and a parameter for each of its names.
     ///
     /// Takes memory for the variables of one rule at a time, and a list of
-    /// the constructors. Terms are walked by recursion.
-    pub fn valid(&self, alloc: Global) -> Result<bool, AllocError>
+    /// the constructors. Terms are walked by recursion. The one error is want
+    /// of memory.
+    pub fn valid(&self) -> Result<bool, AllocError>
         ensures { IfOk result (λ valid. IsTrue valid ↔ IsValid (kernel_of self.now)) }
     {
+        let alloc = *self.types.allocator();
         let heads = Heads::new(alloc, self)?;
+        if !has_first_types(&self.special, self.types.as_slice()) {
+            return Ok(false);
+        }
         if !has_arities(&heads) || !has_special(&heads) || !declarations_fit(self) {
             return Ok(false);
         }

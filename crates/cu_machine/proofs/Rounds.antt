@@ -8,7 +8,7 @@ use Rattle.cu_machine.specs.declared.End.TheVariants.{Answers, NoMore, Rounds, S
 use Rattle.cu_machine.specs.declared.Stop.TheVariants.{TooWide}
 use Rattle.cu_machine.specs.declared.SearchLimits.{SearchLimits}
 use Rattle.cu_machine.specs.declared.Waited.{Waited}
-use Rattle.cu_machine.specs.Earlier.{EndedBefore, EndsBy, answers_in, earlier, events, events_of, lines_before, lines_of}
+use Rattle.cu_machine.specs.Earlier.{EndedBefore, EndsBy, IsListed, answers_in, earlier, events, events_of, lines_before, lines_of}
 use Rattle.cu_machine.specs.Level.{go_list, level, level_by}
 use Rattle.cu_machine.specs.Listing.{Answered, Line, Listing, Round, Tally, Waiting, after_lines, is_last, list_level, listing, nothing, one_answer, one_wait, only_end, round_of, rounds, unless_ended, unless_exhausted, with_line}
 use Rattle.cu_machine.specs.Next.{Answer, Fails, Go, Next, Reading, Stops, Waits}
@@ -335,11 +335,10 @@ module _ (program : Code) (limits : SearchLimits) (start : State) (round : ℕ) 
   ]
 
   -- the whole listing
-  pub listing_lists : ((rest : List Line) × ((listing program limits start).lines ≡ wanted ++ Answered round reading ∷ rest))
-      ⊎ EndedBefore limits round wanted (listing program limits start)
+  pub listing_lists : IsListed round wanted reading (listing program limits start) ⊎ EndedBefore limits round wanted (listing program limits start)
   unfolding level_by
   listing_lists =
       elim (rounds_list_answer limits.rounds 0 (record { answers = 0; waits = 0 }) (start ∷ []) [] (omega arith) (omega arith) refl refl refl) [
-        | inl there ↦ inl there
+        | inl there ↦ inl (record { rest = there.0; behind = there.1 })
         | inr ends ↦ inr (record { rest = ends.0; first = ends.1; end = ends.2 })
       ]

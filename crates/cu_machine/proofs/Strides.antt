@@ -5,7 +5,7 @@ use Rattle.cu_calculus.specs.Code.{Code}
 use Rattle.cu_machine.specs.declared.Limits.{Limits}
 use Rattle.cu_machine.specs.declared.SearchLimits.{SearchLimits}
 use Rattle.cu_machine.specs.Among.{Among}
-use Rattle.cu_machine.specs.Earlier.{EndedBefore, IsReached, earlier}
+use Rattle.cu_machine.specs.Earlier.{EndedBefore, IsListed, IsReached, earlier}
 use Rattle.cu_machine.specs.Level.{go_list, step_level, level, level_by}
 use Rattle.cu_machine.specs.Listing.{Answered, Line, listing}
 use Rattle.cu_machine.specs.Next.{Answer, Go, Next, Reading, next}
@@ -169,7 +169,7 @@ module _ (program : Code) (limits : SearchLimits) (start : State) where
 
   pub answer_listed : (round : ℕ) (before : List State) (state : State) (reading : Reading) → IsReached program limits start round before state
       → next program limits.step state ≡ Answer reading
-      → ((rest : List Line) × ((listing program limits start).lines ≡ earlier program limits start round before ++ Answered round reading ∷ rest))
+      → IsListed round (earlier program limits start round before) reading (listing program limits start)
       ⊎ EndedBefore limits round (earlier program limits start round before) (listing program limits start)
   answer_listed round before state reading place answers =
       listing_lists program limits start round before place.after place.from reading place.level_is
@@ -188,8 +188,8 @@ module _ (program : Code) (limits : SearchLimits) (start : State) where
         due.3,
         due.4,
         elim (answer_listed due.0 due.3 state reading due.4 answers) [
-          | inl there ↦ inl (subst (λ (ls : List Line). Among (Answered due.0 reading) ls) (sym there.1)
-              (among_at (earlier program limits start due.0 due.3) there.0 (Answered due.0 reading)))
+          | inl there ↦ inl (subst (λ (ls : List Line). Among (Answered due.0 reading) ls) (sym there.behind)
+              (among_at (earlier program limits start due.0 due.3) there.rest (Answered due.0 reading)))
           | inr ends ↦ inr ends
         ],
       )

@@ -6,7 +6,7 @@ use Rattle.cu_machine.specs.declared.End.TheVariants.{Answers, NoMore, Rounds, S
 use Rattle.cu_machine.specs.declared.SearchLimits.{SearchLimits}
 use Rattle.cu_machine.specs.Level.{level}
 use Rattle.cu_machine.specs.Listing.{Answered, Line, Listing, Waiting}
-use Rattle.cu_machine.specs.Next.{Next, Answer, Fails, Go, Stops, Waits}
+use Rattle.cu_machine.specs.Next.{Next, Answer, Fails, Go, Reading, Stops, Waits}
 use Rattle.cu_machine.specs.Run.{reached, run}
 use Rattle.cu_machine.specs.State.{State}
 
@@ -46,6 +46,11 @@ abbrev pub answers_in : List Line → ℕ
 answers_in [] = 0
 answers_in (Answered round reading ∷ lines) = answers_in lines + 1
 answers_in (Waiting round names ∷ lines) = answers_in lines
+
+-- a listing that lists an answer of a round right behind these lines
+pub record IsListed (round : ℕ) (lines : List Line) (reading : Reading) (listing : Listing) : Type 0 where
+  pub rest : List Line
+  pub behind : listing.lines ≡ lines ++ Answered round reading ∷ rest
 
 -- an end that comes by the time of a round, where these lines were listed: by the limit on rounds, by that on answers, or by a
 -- search that stops

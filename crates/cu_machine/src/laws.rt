@@ -9,7 +9,7 @@ ghost use Rattle.cu_calculus.specs.Code.{Code, body_of, is_rule};
 ghost use Rattle.cu_calculus.specs.WellFormed.{is_well_formed};
 ghost use Rattle.cu_machine.specs.Among.{Among};
 ghost use Rattle.cu_machine.specs.Coin.{coin, coin_code, coin_function, loop_or_one, number, number_at, small_limits, zero_or_one};
-ghost use Rattle.cu_machine.specs.Earlier.{EndedBefore, IsReached, earlier};
+ghost use Rattle.cu_machine.specs.Earlier.{EndedBefore, IsListed, IsReached, earlier};
 ghost use Rattle.cu_machine.specs.Found.{Found};
 ghost use Rattle.cu_machine.specs.Graph.{Graph, followed, head_at, head_of, head_within, node_at};
 ghost use Rattle.cu_machine.specs.Level.{step_level, level};
@@ -33,14 +33,16 @@ ghost use Rattle.cu_machine.specs.declared.SearchLimits.{SearchLimits};
 pub fn answers_stand_at_their_depth()
     ensures { (code : Code) (limits : SearchLimits) (start : State) (depth : ℕ) (reading : Reading)
         → Among (Answered depth reading) (listing code limits start).lines
-        → (state : State) × Among state (level code limits start depth) × (run limits.stride code limits.step state ≡ Answer reading)
+        → (state : State) × Among state (level code limits start depth)
+        × (run limits.stride code limits.step state ≡ Answer reading)
         × (reading ≡ reading_at (reached limits.stride code limits.step state)) }
 {}
 
 /// What needs nothing has a head that is there: a constructor, a literal, a
 /// partial application or a free variable.
 pub fn done_has_a_head()
-    ensures { (truth : ConId) (graph : Graph) (id : ℕ) → need truth graph id ≡ Done → IsTrue (is_head (head_at graph id).kind) }
+    ensures { (truth : ConId) (graph : Graph) (id : ℕ) → need truth graph id ≡ Done
+        → IsTrue (is_head (head_at graph id).kind) }
 {}
 
 /// One need before another is an associative operation, in which a need that
@@ -55,15 +57,21 @@ pub fn needs_are_joined()
 /// path is endless, as many visits as the graph has nodes suffice: more of
 /// them give the same.
 pub fn visits_suffice()
-    ensures head { (graph : Graph) (id visits : ℕ) → ArgumentsThere graph → Founded graph id → id < length graph → length graph ≤ visits
+    ensures head { (graph : Graph) (id visits : ℕ) → ArgumentsThere graph → Founded graph id
+        → id < length graph → length graph ≤ visits
         → head_within visits graph id ≡ head_of graph id }
-    ensures need { (truth : ConId) (graph : Graph) (extent : Extent) (id visits : ℕ) → ArgumentsThere graph → Founded graph id → id < length graph → length graph ≤ visits
-        → need_within visits truth graph extent id ≡ need_within (length graph) truth graph extent id }
-    ensures free { (graph : Graph) (id visits : ℕ) → ArgumentsThere graph → Founded graph id → id < length graph → length graph ≤ visits
+    ensures need { (truth : ConId) (graph : Graph) (extent : Extent) (id visits : ℕ)
+        → ArgumentsThere graph → Founded graph id → id < length graph → length graph ≤ visits
+        → need_within visits truth graph extent id
+        ≡ need_within (length graph) truth graph extent id }
+    ensures free { (graph : Graph) (id visits : ℕ) → ArgumentsThere graph → Founded graph id
+        → id < length graph → length graph ≤ visits
         → free_within visits graph id ≡ free_within (length graph) graph id }
-    ensures spelled { (graph : Graph) (id visits : ℕ) → ArgumentsThere graph → Founded graph id → id < length graph → length graph ≤ visits
+    ensures spelled { (graph : Graph) (id visits : ℕ) → ArgumentsThere graph → Founded graph id
+        → id < length graph → length graph ≤ visits
         → spelled_within visits graph id ≡ spelled graph id }
-    ensures occurs { (graph : Graph) (variable id visits : ℕ) → ArgumentsThere graph → Founded graph id → id < length graph → length graph ≤ visits
+    ensures occurs { (graph : Graph) (variable id visits : ℕ) → ArgumentsThere graph
+        → Founded graph id → id < length graph → length graph ≤ visits
         → occurs_within visits graph variable id ≡ occurs_within (length graph) graph variable id }
 {}
 
@@ -71,20 +79,28 @@ pub fn visits_suffice()
 /// arguments need, with no bound on the visits, and likewise its head, its
 /// value and the free variables in it.
 pub fn tables_hold()
-    ensures head { (graph : Graph) (id : ℕ) → ArgumentsThere graph → Founded graph id → id < length graph
-        → head_of graph id ≡ followed (head_of graph) id (node_at graph id).kind (node_at graph id).args }
-    ensures need { (truth : ConId) (graph : Graph) (extent : Extent) (id : ℕ) → ArgumentsThere graph → Founded graph id → id < length graph
-        → need_within (length graph) truth graph extent id
-        ≡ unless_done (need_at truth graph (need_within (length graph) truth graph) (head_of graph id) (head_at graph id).kind (head_at graph id).args)
-        (rest_at (need_within (length graph) truth graph) extent (head_at graph id).kind (head_at graph id).args) }
-    ensures free { (graph : Graph) (id : ℕ) → ArgumentsThere graph → Founded graph id → id < length graph
-        → free_within (length graph) graph id
-        ≡ free_at (free_within (length graph) graph) (head_of graph id) (head_at graph id).kind (head_at graph id).args }
-    ensures spelled { (graph : Graph) (id : ℕ) → ArgumentsThere graph → Founded graph id → id < length graph
-        → spelled graph id ≡ spelled_at (spelled graph) (head_of graph id) (head_at graph id).kind (head_at graph id).args }
-    ensures occurs { (graph : Graph) (variable id : ℕ) → ArgumentsThere graph → Founded graph id → id < length graph
-        → occurs_within (length graph) graph variable id
-        ≡ occurs_at (occurs_within (length graph) graph variable) variable (head_of graph id) (head_at graph id).kind (head_at graph id).args }
+    ensures head { (graph : Graph) (id : ℕ) → ArgumentsThere graph → Founded graph id
+        → id < length graph → head_of graph id
+        ≡ followed (head_of graph) id (node_at graph id).kind (node_at graph id).args }
+    ensures need { (truth : ConId) (graph : Graph) (extent : Extent) (id : ℕ) → ArgumentsThere graph
+        → Founded graph id → id < length graph → need_within (length graph) truth graph extent id
+        ≡ unless_done
+        (need_at truth graph (need_within (length graph) truth graph) (head_of graph id)
+        (head_at graph id).kind (head_at graph id).args)
+        (rest_at (need_within (length graph) truth graph) extent (head_at graph id).kind
+        (head_at graph id).args) }
+    ensures free { (graph : Graph) (id : ℕ) → ArgumentsThere graph → Founded graph id
+        → id < length graph → free_within (length graph) graph id
+        ≡ free_at (free_within (length graph) graph) (head_of graph id) (head_at graph id).kind
+        (head_at graph id).args }
+    ensures spelled { (graph : Graph) (id : ℕ) → ArgumentsThere graph → Founded graph id
+        → id < length graph → spelled graph id
+        ≡ spelled_at (spelled graph) (head_of graph id) (head_at graph id).kind
+        (head_at graph id).args }
+    ensures occurs { (graph : Graph) (variable id : ℕ) → ArgumentsThere graph → Founded graph id
+        → id < length graph → occurs_within (length graph) graph variable id
+        ≡ occurs_at (occurs_within (length graph) graph variable) variable (head_of graph id)
+        (head_at graph id).kind (head_at graph id).args }
 {}
 
 /// Valid states stay valid: in well-formed code, the state in which the search
@@ -93,28 +109,34 @@ pub fn tables_hold()
 /// this too, of the state that it reaches and of those that follow, and so do the
 /// levels of a search.
 pub fn states_stay_valid()
-    ensures start { (program : Code) (goal : FunId) → IsTrue (is_well_formed program) → IsTrue (is_rule (body_of program goal))
-        → IsValid program (start_of program goal) }
+    ensures start { (program : Code) (goal : FunId) → IsTrue (is_well_formed program)
+        → IsTrue (is_rule (body_of program goal)) → IsValid program (start_of program goal) }
     ensures next { (program : Code) (limits : Limits) (before state : State) (states : List State)
         → IsTrue (is_well_formed program) → IsValid program before
         → next program limits before ≡ Go states → Among state states → IsValid program state }
-    ensures run { (program : Code) (limits : Limits) (steps : ℕ) (before state : State) (states : List State)
+    ensures run { (program : Code) (limits : Limits) (steps : ℕ) (before state : State)
+        (states : List State)
         → IsTrue (is_well_formed program) → IsValid program before
         → run steps program limits before ≡ Go states → Among state states → IsValid program state }
     ensures reached { (program : Code) (limits : Limits) (steps : ℕ) (state : State)
-        → IsTrue (is_well_formed program) → IsValid program state → IsValid program (reached steps program limits state) }
+        → IsTrue (is_well_formed program) → IsValid program state
+        → IsValid program (reached steps program limits state) }
     ensures level { (program : Code) (limits : SearchLimits) (start state : State) (depth : ℕ)
-        → IsTrue (is_well_formed program) → IsValid program start → Among state (level program limits start depth) → IsValid program state }
+        → IsTrue (is_well_formed program) → IsValid program start
+        → Among state (level program limits start depth) → IsValid program state }
     ensures step_level { (program : Code) (limits : Limits) (start state : State) (depth : ℕ)
-        → IsTrue (is_well_formed program) → IsValid program start → Among state (step_level program limits start depth) → IsValid program state }
+        → IsTrue (is_well_formed program) → IsValid program start
+        → Among state (step_level program limits start depth) → IsValid program state }
 {}
 
 /// Where the code has no set functions, none comes up in a state.
 pub fn states_stay_without_sets()
-    ensures start { (program : Code) (goal : FunId) → IsTrue (is_rule (body_of program goal)) → IsWithoutSets (start_of program goal) }
+    ensures start { (program : Code) (goal : FunId) → IsTrue (is_rule (body_of program goal))
+        → IsWithoutSets (start_of program goal) }
     ensures next { (program : Code) (limits : Limits) (before state : State) (states : List State)
-        → IsTrue (is_well_formed program) → IsTrue (code_is_without_sets program) → IsValid program before → IsWithoutSets before
-        → next program limits before ≡ Go states → Among state states → IsWithoutSets state }
+        → IsTrue (is_well_formed program) → IsTrue (code_is_without_sets program)
+        → IsValid program before → IsWithoutSets before → next program limits before ≡ Go states
+        → Among state states → IsWithoutSets state }
 {}
 
 /// The rows of the step table as a relation are the moves of the function:
@@ -124,10 +146,13 @@ pub fn states_stay_without_sets()
 pub fn rows_are_moves()
     ensures rows { (program : Code) (graph after : Graph) (id : ℕ) → Steps program graph id after
         → (graphs : List Graph) × (move program graph id ≡ Become graphs) × Among after graphs }
-    ensures moves { (program : Code) (graph after : Graph) (root id : ℕ) (goals : List ℕ) (graphs : List Graph)
-        → IsValid program (Branch graph root goals Idle) → need_all program.special.truth graph root ≡ At id
-        → move program graph id ≡ Become graphs → Among after graphs → Steps program graph id after }
-    ensures rigid { (program : Code) (graph after : Graph) (id number scrutinee : ℕ) (values : List ℕ)
+    ensures moves { (program : Code) (graph after : Graph) (root id : ℕ) (goals : List ℕ)
+        (graphs : List Graph)
+        → IsValid program (Branch graph root goals Idle)
+        → need_all program.special.truth graph root ≡ At id → move program graph id ≡ Become graphs
+        → Among after graphs → Steps program graph id after }
+    ensures rigid { (program : Code) (graph after : Graph) (id number scrutinee : ℕ)
+        (values : List ℕ)
         → node_at graph id ≡ record { kind = Case Rigid number; args = scrutinee ∷ values }
         → (head_at graph scrutinee).kind ≡ Free → Steps program graph id after → ⊥ }
 {}
@@ -136,13 +161,17 @@ pub fn rows_are_moves()
 /// state that follows, and is a single step where there isn't exactly one. So
 /// it is one step of the state that it reaches.
 pub fn runs_are_steps()
-    ensures one { (program : Code) (limits : Limits) (state : State) → run 1 program limits state ≡ next program limits state }
-    ensures alone { (program : Code) (limits : Limits) (steps : ℕ) (state after : State) → 1 < steps → next program limits state ≡ Go (after ∷ [])
+    ensures one { (program : Code) (limits : Limits) (state : State)
+        → run 1 program limits state ≡ next program limits state }
+    ensures alone { (program : Code) (limits : Limits) (steps : ℕ) (state after : State) → 1 < steps
+        → next program limits state ≡ Go (after ∷ [])
         → run steps program limits state ≡ run (steps - 1) program limits after }
-    ensures otherwise { (program : Code) (limits : Limits) (steps : ℕ) (state : State) → only_state (next program limits state) ≡ None
+    ensures otherwise { (program : Code) (limits : Limits) (steps : ℕ) (state : State)
+        → only_state (next program limits state) ≡ None
         → run steps program limits state ≡ next program limits state }
     ensures reaches { (program : Code) (limits : Limits) (steps : ℕ) (state : State)
-        → run steps program limits state ≡ next program limits (reached steps program limits state) }
+        → run steps program limits state
+        ≡ next program limits (reached steps program limits state) }
 {}
 
 /// An answer whose state stands so many single steps from the start is due in
@@ -151,16 +180,21 @@ pub fn runs_are_steps()
 /// the answer is listed, right behind what is listed before it, unless the
 /// listing ended by then: by a limit on rounds or answers, or by a stop.
 pub fn answers_are_listed()
-    ensures depth { (code : Code) (limits : SearchLimits) (start state : State) (steps : ℕ) (reading : Reading)
-        → Among state (step_level code limits.step start steps) → next code limits.step state ≡ Answer reading
+    ensures depth { (code : Code) (limits : SearchLimits) (start state : State) (steps : ℕ)
+        (reading : Reading) → Among state (step_level code limits.step start steps)
+        → next code limits.step state ≡ Answer reading
         → (round : ℕ) × (round ≤ steps) × (limits.stride ≡ 1 → round ≡ steps)
         × (before : List State) × IsReached code limits start round before state
         × (Among (Answered round reading) (listing code limits start).lines
-        ⊎ EndedBefore limits round (earlier code limits start round before) (listing code limits start)) }
-    ensures place { (code : Code) (limits : SearchLimits) (start state : State) (round : ℕ) (before : List State) (reading : Reading)
-        → IsReached code limits start round before state → next code limits.step state ≡ Answer reading
-        → ((rest : List Line) × ((listing code limits start).lines ≡ earlier code limits start round before ++ Answered round reading ∷ rest))
-        ⊎ EndedBefore limits round (earlier code limits start round before) (listing code limits start) }
+        ⊎ EndedBefore limits round (earlier code limits start round before)
+        (listing code limits start)) }
+    ensures place { (code : Code) (limits : SearchLimits) (start state : State) (round : ℕ)
+        (before : List State) (reading : Reading) → IsReached code limits start round before state
+        → next code limits.step state ≡ Answer reading
+        → IsListed round (earlier code limits start round before) reading
+        (listing code limits start)
+        ⊎ EndedBefore limits round (earlier code limits start round before)
+        (listing code limits start) }
 {}
 
 /// Listings by definition: of two rules for a coin in rounds of one step, two
@@ -178,15 +212,19 @@ pub fn coins_are_listed()
         ≡ record { lines = number_at 3 0 ∷ number_at 3 1 ∷ []; end = NoMore 0 } }
     ensures endless { listing coin_code (small_limits 100 10) (start_of coin_code loop_or_one)
         ≡ record { lines = number_at 1 1 ∷ []; end = Rounds 100 1 } }
-    ensures found { Found coin_code (small_limits 10 1).step coin_function NoValue (number 0 ∷ number 1 ∷ []) }
+    ensures found { Found coin_code (small_limits 10 1).step coin_function NoValue
+        (number 0 ∷ number 1 ∷ []) }
 {}
 
 /// What a search finds is of ground data of the program, and is such data
 /// itself: constructors of the program with all their arguments, and literals
 /// of the language.
 pub fn finds_are_of_the_program()
-    ensures arguments { (program : Code) (limits : Limits) (f : FunId) (arguments : Values) (values : List Value)
+    ensures arguments { (program : Code) (limits : Limits) (f : FunId) (arguments : Values)
+        (values : List Value)
         → Found program limits f arguments values → IsTrue (are_built program arguments) }
-    ensures values { (program : Code) (limits : Limits) (f : FunId) (arguments : Values) (values : List Value)
-        → IsTrue (is_well_formed program) → Found program limits f arguments values → IsTrue (list_all (is_built program) values) }
+    ensures values { (program : Code) (limits : Limits) (f : FunId) (arguments : Values)
+        (values : List Value)
+        → IsTrue (is_well_formed program) → Found program limits f arguments values
+        → IsTrue (list_all (is_built program) values) }
 {}

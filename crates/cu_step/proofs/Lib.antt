@@ -12,6 +12,7 @@ pub mod Looks
 pub mod Marks
 pub mod Namings
 pub mod Needs
+pub mod Nesting
 pub mod Occurrences
 pub mod Operands
 pub mod Orders
@@ -20,4 +21,5 @@ pub mod Readings
 pub mod Reversals
 pub mod StepLemmas
 pub mod Steps
+pub mod Tasks
 pub mod Walks

@@ -8,6 +8,6 @@ pub mod Outcome
 pub mod Pairs
 pub mod Reading
 pub mod Samples
-pub mod Top
+pub mod Inside
 pub mod Walk
 pub mod Written

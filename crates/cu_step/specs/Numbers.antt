@@ -4,16 +4,11 @@ use Rattle.cu_calculus.specs.declared.Lit.TheVariants.{Char, Int}
 use Rattle.cu_calculus.specs.declared.builtin.Primitive.{Primitive}
 use Rattle.cu_calculus.specs.declared.builtin.Primitive.TheVariants as prim
 use Rattle.cu_calculus.specs.declared.builtin.Special.{Special}
-use Rattle.cu_int.specs.Integers.{is_integer}
 use Rattle.cu_calculus.specs.Literal.{is_scalar}
 use Rattle.cu_machine.specs.declared.Kind.{Kind}
 use Rattle.cu_machine.specs.declared.Kind.TheVariants as kind
 use Rattle.cu_machine.specs.Graph.{Graph, alone}
 use Rattle.cu_machine.specs.Rewrite.{Move, Overflows, calculated, fails, puts, puts_character}
-
--- a number, where it is an integer of the language
-abbrev pub checked : ℤ → Option ℤ
-checked n = if is_integer n then Some n else None
 
 -- the character of a number, where there is one
 abbrev pub character_of : ℤ → Option ℕ

@@ -1,59 +1,15 @@
-//! Building the graph of an expression.
-ghost use Rattle.std.specs.Prelude.{◌≡◌, ◌<◌, [], ◌∷◌, ◌++◌, IfOk, OnOk, length, map, slice_set, zip};
-ghost use Rattle.cu_calculus.specs.Code.{body_of};
-ghost use Rattle.cu_machine.specs.Build.{Fresh, build_parts, build_variable, build_within, instead, kind_of_call, kind_of_whole, on_top, place_in, place_of, pushed, top_id, write};
-ghost use Rattle.cu_machine.specs.Graph.{stuck};
-ghost use Rattle.cu_step.specs.Top.{top_of};
+//! Building the graph of an expression. What is left to do stands in a list of
+//! tasks, so that the depth of an expression takes no stack.
+ghost use Rattle.std.specs.Prelude.{◌≡◌, ◌<◌, [], ◌∷◌, ◌++◌, ◌+◌, ◌-◌, IfOk, OnOk, length, map, reverse, slice_get, true, zip};
+ghost use Rattle.cu_calculus.specs.Code.{body_of, expr_of};
+ghost use Rattle.cu_machine.specs.Build.{kind_of_call, kind_of_whole, place_in, write};
+ghost use Rattle.cu_machine.specs.Graph.{Graph};
+ghost use Rattle.cu_step.specs.Inside.Building.{argument, begun, bound_last, finished, left_by, nests, node_tasks, performed, state_of, tasks_of, with_free, with_node, with_value};
 
 use crate::node;
 use cu_flat::{Expr, ExprId, FlatBody, FlatProgram, FunId, Head, Prim};
 use cu_graph::{Kind, Store};
 use std::alloc::{AllocError, Global};
-
-/// Where the value of an expression stands.
-#[derive(Drop)]
-pub(crate) enum Top {
-    /// At a node that is there already.
-    Shared(u32),
-    /// In a node of this kind over these arguments, which is still to be
-    /// placed.
-    Fresh(Kind, Vec<u32>),
-}
-
-impl Top {
-    fn alone(alloc: Global, kind: Kind) -> Top
-        ensures { top_of result ≡ Fresh (record { kind = kind; args = [] }) }
-    {
-        Top::Fresh(kind, Vec::new(alloc))
-    }
-}
-
-/// The place of a variable's value, where the last binding counts.
-fn place_in(scope: &[(u32, u32)], x: u32) -> Option<u32>
-    ensures { result ≡ place_in scope.now x }
-{
-    let mut place = None;
-    for (y, id) in scope {
-        if x == *y {
-            place = Some(*id);
-        }
-    }
-    place
-}
-
-/// A scope in which one variable more has a value.
-fn extended(
-    alloc: Global,
-    scope: &[(u32, u32)],
-    x: u32,
-    id: u32,
-) -> Result<Vec<(u32, u32)>, AllocError>
-    ensures { IfOk result (λ extended. extended.items ≡ scope.now ++ (x, id) ∷ []) }
-{
-    let mut extended = Vec::from_slice(alloc, scope)?;
-    extended.push((x, id))?;
-    Ok(extended)
-}
 
 /// The values of variables, each at the place beside it.
 pub(crate) fn scope_of(
@@ -93,146 +49,295 @@ pub(crate) fn kind_of_whole(program: &FlatProgram, head: Head) -> Kind
     }
 }
 
-/// The arguments of a case distinction: the scrutinee, and the values of the
-/// variables in scope.
-fn case_args(alloc: Global, scrutinee: u32, scope: &[(u32, u32)]) -> Result<Vec<u32>, AllocError>
-    ensures { IfOk result (λ args. args.items ≡ scrutinee ∷ map (λ bound. bound.1) scope.now) }
+/// The place of a variable's value, where the last binding counts.
+fn place_in(scope: &[(u32, u32)], x: u32) -> Option<u32>
+    ensures { result ≡ place_in scope.now x }
 {
-    let mut args = Vec::with_capacity(alloc, scope.len())?;
-    args.push(scrutinee)?;
-    for (_, id) in scope {
-        args.push(*id)?;
+    let mut place = None;
+    for (y, id) in scope {
+        if x == *y {
+            place = Some(*id);
+        }
     }
-    Ok(args)
+    place
 }
 
-/// Pushes the outermost node where it is a fresh one, and answers its place.
-fn place<S: Store>(store: &mut S, top: Top) -> Result<u32, AllocError>
-    ensures place { IfOk result (λ id. id ≡ top_id (length (S.content store.old)) (top_of top)) }
-    ensures content { OnOk result (S.content store.new
-        ≡ S.content store.old ++ on_top (top_of top)) }
-{
-    match top {
-        Top::Shared(id) => Ok(id),
-        Top::Fresh(kind, args) => node::push(store, kind, args.as_slice()),
-    }
+/// What a value is built for.
+#[derive(Clone, Copy)]
+enum Target {
+    /// It is an argument of a node that is made later.
+    Argument,
+    /// It is written over the root.
+    Root,
 }
 
-/// Puts the outermost node of what was built in the place of another.
-fn put<S: Store>(store: &mut S, id: u32, top: Top) -> Result<(), AllocError>
-    requires { id < length (S.content store.old) }
-    ensures { OnOk result (S.content store.new
-        ≡ slice_set (S.content store.old) id (instead (top_of top))) }
-{
-    match top {
-        Top::Shared(other) => store.put(id, Kind::Ind, &[other]),
-        Top::Fresh(kind, args) => store.put(id, kind, args.as_slice()),
-    }
+/// What is left to do.
+#[derive(Clone, Copy)]
+enum Task {
+    /// An expression is built.
+    Build(ExprId, Target),
+    /// The value of a variable is an argument.
+    Take(u32),
+    /// A node of this kind is made over the last arguments, so many.
+    Finish(Kind, usize, Target),
+    /// The last argument is what a variable stands for.
+    Bind(u32),
+    /// The last binding ends.
+    Unbind,
 }
 
-/// Builds an expression in a scope, down to a depth; all but its outermost
-/// node is pushed.
-#[cycle(build)]
-fn build<S: Store>(
-    alloc: Global,
-    program: &FlatProgram,
-    store: &mut S,
-    scope: &[(u32, u32)],
-    depth: usize,
-    e: ExprId,
-) -> Result<Top, AllocError>
-    ensures parts { OnOk result (S.content store.new ≡ S.content store.old
-        ++ (build_within depth program.now scope.now (length (S.content store.old)) e).parts) }
-    ensures top { IfOk result (λ top. top_of top
-        ≡ (build_within depth program.now scope.now (length (S.content store.old)) e).top) }
+/// Adds the building of arguments, of which the first is to come first.
+fn push_arguments(tasks: &mut Vec<Task>, parts: &[ExprId]) -> Result<(), AllocError>
+    ensures { OnOk result (tasks.new.items ≡ tasks.old.items ++ reverse (map argument parts.now)) }
 {
-    if depth == 0 {
-        return Ok(Top::alone(alloc, Kind::Stuck));
+    let mut i = parts.len();
+    while i > 0 {
+        i -= 1;
+        tasks.push(Task::Build(parts[i], Target::Argument))?;
     }
-    match program.find(e) {
-        None => Ok(Top::alone(alloc, Kind::Stuck)),
-        Some(Expr::Var(x)) => match place_in(scope, *x) {
-            Some(id) => Ok(Top::Shared(id)),
-            None => Ok(Top::alone(alloc, Kind::Stuck)),
-        },
-        Some(Expr::Lit(literal)) => Ok(Top::alone(alloc, Kind::Lit(*literal))),
-        Some(Expr::Whole(head, parts)) => {
-            let ids = build_parts(alloc, program, store, scope, depth - 1, parts.as_slice())?;
-            Ok(Top::Fresh(kind_of_whole(program, *head), ids))
-        }
-        Some(Expr::Part(head, parts)) => {
-            let ids = build_parts(alloc, program, store, scope, depth - 1, parts.as_slice())?;
-            Ok(Top::Fresh(Kind::Part(*head), ids))
-        }
-        Some(Expr::Apply(function, argument)) => {
-            let parts = [*function, *argument];
-            let ids = build_parts(alloc, program, store, scope, depth - 1, &parts)?;
-            Ok(Top::Fresh(Kind::Apply, ids))
-        }
-        Some(Expr::Or(left, right)) => {
-            let parts = [*left, *right];
-            let ids = build_parts(alloc, program, store, scope, depth - 1, &parts)?;
-            Ok(Top::Fresh(Kind::Or, ids))
-        }
-        Some(Expr::Let(x, bound, body)) => {
-            let id = build_part(alloc, program, store, scope, depth - 1, *bound)?;
-            let inner = extended(alloc, scope, *x, id)?;
-            build(alloc, program, store, inner.as_slice(), depth - 1, *body)
-        }
-        Some(Expr::Free(x, body)) => {
-            let id = node::push(store, Kind::Free, &[])?;
-            let inner = extended(alloc, scope, *x, id)?;
-            build(alloc, program, store, inner.as_slice(), depth - 1, *body)
-        }
-        Some(Expr::Case(mode, scrutinee, _)) => {
-            let id = build_part(alloc, program, store, scope, depth - 1, *scrutinee)?;
-            let args = case_args(alloc, id, scope)?;
-            Ok(Top::Fresh(Kind::Case(*mode, e.0), args))
-        }
-    }
+    Ok(())
 }
 
-/// Builds an expression, and answers the place of its value.
-#[cycle(build)]
-fn build_part<S: Store>(
-    alloc: Global,
-    program: &FlatProgram,
-    store: &mut S,
-    scope: &[(u32, u32)],
-    depth: usize,
-    e: ExprId,
-) -> Result<u32, AllocError>
-    ensures nodes { OnOk result (S.content store.new ≡ S.content store.old
-        ++ pushed (build_within depth program.now scope.now (length (S.content store.old)) e)) }
-    ensures id { IfOk result (λ id. id ≡ place_of (length (S.content store.old))
-        (build_within depth program.now scope.now (length (S.content store.old)) e)) }
+/// Adds variables whose values are arguments, of which the first is to come
+/// first.
+fn push_variables(tasks: &mut Vec<Task>, variables: &[u32]) -> Result<(), AllocError>
+    ensures { OnOk result (tasks.new.items ≡ tasks.old.items ++ reverse (map Task.Take variables.now)) }
 {
-    let top = build(alloc, program, store, scope, depth, e)?;
-    place(store, top)
+    let mut i = variables.len();
+    while i > 0 {
+        i -= 1;
+        tasks.push(Task::Take(variables[i]))?;
+    }
+    Ok(())
 }
 
-/// Builds expressions from left to right, and answers the places of their
-/// values.
-#[cycle(build)]
-fn build_parts<S: Store>(
-    alloc: Global,
-    program: &FlatProgram,
-    store: &mut S,
-    scope: &[(u32, u32)],
-    depth: usize,
-    parts: &[ExprId],
-) -> Result<Vec<u32>, AllocError>
-    ensures nodes { OnOk result (S.content store.new ≡ S.content store.old
-        ++ (build_parts (build_within depth program.now scope.now) (length (S.content store.old)) parts.now).nodes) }
-    ensures ids { IfOk result (λ ids. ids.items
-        ≡ (build_parts (build_within depth program.now scope.now) (length (S.content store.old)) parts.now).ids) }
-{
-    let mut ids = Vec::with_capacity(alloc, parts.len())?;
-    for part in parts {
-        let id = build_part(alloc, program, store, scope, depth, *part)?;
-        ids.push(id)?;
+/// An expression that is being built.
+#[derive(Drop)]
+struct Work {
+    /// The node that it is written over.
+    root: u32,
+    /// What is left to do. The last task comes first.
+    tasks: Vec<Task>,
+    /// The places of the values that are arguments of nodes to come.
+    ids: Vec<u32>,
+    /// The variables in scope and the places of their values. The last binding
+    /// of a variable counts.
+    scope: Vec<(u32, u32)>,
+}
+
+impl Work {
+    /// A node without arguments is made.
+    fn make<S: Store>(&mut self, store: &mut S, kind: Kind, target: Target) -> Result<(), AllocError>
+        requires { self.old.root < length (S.content store.old) }
+        ensures state { OnOk result (state_of (S.content store.new) self.new
+            ≡ with_node target (state_of (S.content store.old) self.old) (record { kind = kind; args = [] })) }
+        ensures tasks { OnOk result (self.new.tasks.items ≡ self.old.tasks.items) }
+    {
+        match target {
+            Target::Argument => {
+                let id = node::push(store, kind, &[])?;
+                self.ids.push(id)?;
+                Ok(())
+            }
+            Target::Root => store.put(self.root, kind, &[]),
+        }
     }
-    Ok(ids)
+
+    /// A node is made over the last arguments, so many.
+    fn finish<S: Store>(
+        &mut self,
+        store: &mut S,
+        kind: Kind,
+        count: usize,
+        target: Target,
+    ) -> Result<(), AllocError>
+        requires { self.old.root < length (S.content store.old) }
+        ensures state { OnOk result (state_of (S.content store.new) self.new
+            ≡ finished (state_of (S.content store.old) self.old) kind count target) }
+        ensures tasks { OnOk result (self.new.tasks.items ≡ self.old.tasks.items) }
+    {
+        let first = self.ids.len().saturating_sub(count);
+        match target {
+            Target::Argument => {
+                let id = node::push(store, kind, &self.ids[first..])?;
+                self.ids.truncate(first);
+                self.ids.push(id)?;
+            }
+            Target::Root => {
+                store.put(self.root, kind, &self.ids[first..])?;
+                self.ids.truncate(first);
+            }
+        }
+        Ok(())
+    }
+
+    /// A variable's value is used. Where it has none, it is stuck.
+    fn take<S: Store>(&mut self, store: &mut S, x: u32, target: Target) -> Result<(), AllocError>
+        requires { self.old.root < length (S.content store.old) }
+        ensures state { OnOk result (state_of (S.content store.new) self.new
+            ≡ with_value target (state_of (S.content store.old) self.old) (place_in self.old.scope.items x)) }
+        ensures tasks { OnOk result (self.new.tasks.items ≡ self.old.tasks.items) }
+    {
+        let Some(id) = place_in(self.scope.as_slice(), x) else {
+            return self.make(store, Kind::Stuck, target);
+        };
+        match target {
+            Target::Argument => {
+                self.ids.push(id)?;
+                Ok(())
+            }
+            Target::Root => store.put(self.root, Kind::Ind, &[id]),
+        }
+    }
+
+    /// The last argument is what a variable stands for.
+    fn bind(&mut self, x: u32) -> Result<(), AllocError>
+        ensures state { (graph : Graph) → OnOk result (state_of graph self.new
+            ≡ bound_last x (state_of graph self.old) (slice_get self.old.ids.items (length self.old.ids.items - 1))) }
+        ensures tasks { OnOk result (self.new.tasks.items ≡ self.old.tasks.items) }
+    {
+        if let Some(id) = self.ids.pop() {
+            self.scope.push((x, id))?;
+        }
+        Ok(())
+    }
+
+    /// A node over parts is left to do.
+    fn begin_node(&mut self, kind: Kind, parts: &[ExprId], target: Target) -> Result<(), AllocError>
+        ensures state { (graph : Graph) → OnOk result (state_of graph self.new ≡ state_of graph self.old) }
+        ensures tasks { OnOk result (self.new.tasks.items ≡ self.old.tasks.items
+            ++ reverse (node_tasks (map argument parts.now) kind (length parts.now) target)) }
+    {
+        self.tasks.push(Task::Finish(kind, parts.len(), target))?;
+        push_arguments(&mut self.tasks, parts)
+    }
+
+    /// A case distinction over a scrutinee and the variables that it keeps is
+    /// left to do.
+    fn begin_case(
+        &mut self,
+        kind: Kind,
+        scrutinee: ExprId,
+        kept: &[u32],
+        target: Target,
+    ) -> Result<(), AllocError>
+        ensures state { (graph : Graph) → OnOk result (state_of graph self.new ≡ state_of graph self.old) }
+        ensures tasks { OnOk result (self.new.tasks.items ≡ self.old.tasks.items
+            ++ reverse (node_tasks (argument scrutinee ∷ map Task.Take kept.now) kind (length kept.now + 1) target)) }
+    {
+        self.tasks.push(Task::Finish(kind, kept.len() + 1, target))?;
+        push_variables(&mut self.tasks, kept)?;
+        self.tasks.push(Task::Build(scrutinee, Target::Argument))?;
+        Ok(())
+    }
+
+    /// A body in which one variable more is bound is left to do.
+    fn begin_body(&mut self, body: ExprId, target: Target) -> Result<(), AllocError>
+        ensures state { (graph : Graph) → OnOk result (state_of graph self.new ≡ state_of graph self.old) }
+        ensures tasks { OnOk result (self.new.tasks.items ≡ self.old.tasks.items
+            ++ reverse (Task.Build body target ∷ Task.Unbind ∷ [])) }
+    {
+        self.tasks.push(Task::Unbind)?;
+        self.tasks.push(Task::Build(body, target))?;
+        Ok(())
+    }
+
+    /// A variable is bound to an expression's value, and then the body is left
+    /// to do.
+    fn begin_let(
+        &mut self,
+        x: u32,
+        bound: ExprId,
+        body: ExprId,
+        target: Target,
+    ) -> Result<(), AllocError>
+        ensures state { (graph : Graph) → OnOk result (state_of graph self.new ≡ state_of graph self.old) }
+        ensures tasks { OnOk result (self.new.tasks.items ≡ self.old.tasks.items
+            ++ reverse (argument bound ∷ Task.Bind x ∷ Task.Build body target ∷ Task.Unbind ∷ [])) }
+    {
+        self.begin_body(body, target)?;
+        self.tasks.push(Task::Bind(x))?;
+        self.tasks.push(Task::Build(bound, Target::Argument))?;
+        Ok(())
+    }
+
+    /// A variable is free, and the body is left to do.
+    fn begin_free<S: Store>(
+        &mut self,
+        store: &mut S,
+        x: u32,
+        body: ExprId,
+        target: Target,
+    ) -> Result<(), AllocError>
+        ensures state { OnOk result (state_of (S.content store.new) self.new ≡ with_free (state_of (S.content store.old) self.old) x) }
+        ensures tasks { OnOk result (self.new.tasks.items ≡ self.old.tasks.items
+            ++ reverse (Task.Build body target ∷ Task.Unbind ∷ [])) }
+    {
+        let id = node::push(store, Kind::Free, &[])?;
+        self.scope.push((x, id))?;
+        self.begin_body(body, target)
+    }
+
+    /// An expression is built as far as it has no parts. Its parts are left to
+    /// do.
+    fn begin<S: Store>(
+        &mut self,
+        program: &FlatProgram,
+        store: &mut S,
+        e: ExprId,
+        target: Target,
+    ) -> Result<(), AllocError>
+        requires { self.old.root < length (S.content store.old) }
+        ensures state { OnOk result (state_of (S.content store.new) self.new
+            ≡ begun target (state_of (S.content store.old) self.old) (expr_of program.now e)) }
+        ensures tasks { OnOk result (self.new.tasks.items ≡ self.old.tasks.items
+            ++ reverse (tasks_of program.now e target (expr_of program.now e))) }
+    {
+        match program.find(e) {
+            None => self.make(store, Kind::Stuck, target),
+            Some(Expr::Var(x)) => self.take(store, *x, target),
+            Some(Expr::Lit(literal)) => self.make(store, Kind::Lit(*literal), target),
+            Some(Expr::Whole(head, parts)) => {
+                self.begin_node(kind_of_whole(program, *head), parts.as_slice(), target)
+            }
+            Some(Expr::Part(head, parts)) => {
+                self.begin_node(Kind::Part(*head), parts.as_slice(), target)
+            }
+            Some(Expr::Apply(function, argument)) => {
+                self.begin_node(Kind::Apply, &[*function, *argument], target)
+            }
+            Some(Expr::Or(left, right)) => self.begin_node(Kind::Or, &[*left, *right], target),
+            Some(Expr::Let(x, bound, body)) => self.begin_let(*x, *bound, *body, target),
+            Some(Expr::Free(x, body)) => self.begin_free(store, *x, *body, target),
+            Some(Expr::Case(mode, scrutinee, _)) => {
+                self.begin_case(Kind::Case(*mode, e.0), *scrutinee, program.kept(e), target)
+            }
+        }
+    }
+
+    /// Does what comes first.
+    fn perform<S: Store>(
+        &mut self,
+        program: &FlatProgram,
+        store: &mut S,
+        task: Task,
+    ) -> Result<(), AllocError>
+        requires { self.old.root < length (S.content store.old) }
+        ensures state { OnOk result (state_of (S.content store.new) self.new
+            ≡ performed program.now (state_of (S.content store.old) self.old) task) }
+        ensures tasks { OnOk result (self.new.tasks.items ≡ self.old.tasks.items ++ reverse (left_by program.now task)) }
+    {
+        match task {
+            Task::Build(e, target) => self.begin(program, store, e, target),
+            Task::Take(x) => self.take(store, x, Target::Argument),
+            Task::Finish(kind, count, target) => self.finish(store, kind, count, target),
+            Task::Bind(x) => self.bind(x),
+            Task::Unbind => {
+                let _ = self.scope.pop();
+                Ok(())
+            }
+        }
+    }
 }
 
 /// Writes an expression over the node at a place. Its variables have values at
@@ -246,9 +351,18 @@ pub(crate) fn write<S: Store>(
     id: u32,
     e: ExprId,
 ) -> Result<(), AllocError>
-    requires { id < length (S.content store.old) }
+    requires id { id < length (S.content store.old) }
+    requires nests { nests program.now e ≡ true }
     ensures { OnOk result (S.content store.new ≡ write program.now scope.now (S.content store.old) id e) }
 {
-    let top = build(alloc, program, store, scope, program.expr_count(), e)?;
-    put(store, id, top)
+    let mut work = Work {
+        root: id,
+        tasks: vec![in alloc; Task::Build(e, Target::Root)]?,
+        ids: Vec::new(alloc),
+        scope: Vec::from_slice(alloc, scope)?,
+    };
+    while let Some(task) = work.tasks.pop() {
+        work.perform(program, store, task)?;
+    }
+    Ok(())
 }

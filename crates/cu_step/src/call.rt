@@ -1,6 +1,7 @@
 //! Calls and choices.
-ghost use Rattle.std.specs.Prelude.{◌≡◌, ◌<◌, IfOk, length};
+ghost use Rattle.std.specs.Prelude.{◌≡◌, ◌<◌, IfOk, IsTrue, length};
 ghost use Rattle.cu_calculus.specs.Code.{body_of};
+ghost use Rattle.cu_calculus.specs.WellFormed.{is_well_formed};
 ghost use Rattle.cu_machine.specs.Graph.{node_at};
 ghost use Rattle.cu_machine.specs.Rewrite.{chosen, unfolded};
 ghost use Rattle.cu_step.specs.Moved.{move_of};
@@ -20,7 +21,8 @@ pub(crate) fn unfolded<S: Store>(
     id: u32,
     f: FunId,
 ) -> Result<Moved<S>, AllocError>
-    requires { id < length (S.content store) }
+    requires code { IsTrue (is_well_formed program.now) }
+    requires id { id < length (S.content store) }
     ensures { IfOk result (λ moved. move_of S.content moved ≡ unfolded program.now (S.content store) id
         (node_at (S.content store) id).args (body_of program.now f)) }
 {

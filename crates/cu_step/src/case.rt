@@ -1,10 +1,12 @@
 //! Case distinctions.
-ghost use Rattle.std.specs.Prelude.{◌≡◌, ◌<◌, IfOk, length, map, option_map};
+ghost use Rattle.std.specs.Prelude.{◌≡◌, ◌<◌, IfOk, IsTrue, length, map, option_map, true};
 ghost use Rattle.cu_calculus.specs.Literal.{same_literal};
+ghost use Rattle.cu_calculus.specs.WellFormed.{is_well_formed};
 ghost use Rattle.cu_flat.specs.Meaning.{branch_meaning, pattern_meaning};
 ghost use Rattle.cu_machine.specs.declared.Kind.TheVariants as kind;
 ghost use Rattle.cu_machine.specs.Graph.{node_at};
 ghost use Rattle.cu_machine.specs.Rewrite.{bound_to, branch_for, distinguished, narrows, rewritten, takes_branch};
+ghost use Rattle.cu_step.specs.Inside.Building.{branch_nests, branches_nest};
 ghost use Rattle.cu_step.specs.Matching.{takes_pattern};
 ghost use Rattle.cu_step.specs.Moved.{move_of};
 
@@ -71,7 +73,8 @@ fn takes_branch<S: Store>(
     args: &[u32],
     branch: Option<&(Pattern, ExprId)>,
 ) -> Result<Moved<S>, AllocError>
-    requires { id < length (S.content store) }
+    requires id { id < length (S.content store) }
+    requires nests { branch_nests program.now (option_map (λ branch. branch_meaning branch.now) branch) ≡ true }
     ensures { IfOk result (λ moved. move_of S.content moved
         ≡ takes_branch program.now scope.now (S.content store) id args.now
         (option_map (λ branch. branch_meaning branch.now) branch.entry)) }
@@ -147,6 +150,7 @@ fn by_head<S: Store>(
     scrutinee: &Operand,
 ) -> Result<Moved<S>, AllocError>
     requires id { id < length (S.content store) }
+    requires nest { branches_nest program.now (map branch_meaning branches.now) ≡ true }
     requires free { scrutinee.now.kind ≡ kind.Free → scrutinee.now.id < length (S.content store) }
     ensures { IfOk result (λ moved. move_of S.content moved
         ≡ distinguished program.now scope.now (S.content store) id (map branch_meaning branches.now)
@@ -177,7 +181,8 @@ pub(crate) fn distinguished<S: Store>(
     mode: Mode,
     e: usize,
 ) -> Result<Moved<S>, AllocError>
-    requires { id < length (S.content store) }
+    requires code { IsTrue (is_well_formed program.now) }
+    requires id { id < length (S.content store) }
     ensures { IfOk result (λ moved. move_of S.content moved
         ≡ rewritten program.now (S.content store) id (kind.Case mode e) (node_at (S.content store) id).args) }
 {
@@ -188,7 +193,7 @@ pub(crate) fn distinguished<S: Store>(
     let Some(Expr::Case(_, _, branches)) = program.find(ExprId(e)) else {
         return moved::sticks(alloc, store, id);
     };
-    let scope = build::scope_of(alloc, program.scope(ExprId(e)), values)?;
+    let scope = build::scope_of(alloc, program.kept(ExprId(e)), values)?;
     let head = operand::at(alloc, &store, *scrutinee)?;
     by_head(
         alloc,

@@ -1,49 +1,16 @@
 //! Numbers and characters.
-ghost use Rattle.std.specs.Prelude.{◌≡◌, ◌≢◌, ◌<◌, IfOk, length, map, pos};
-ghost use Rattle.cu_int.specs.Integers.{floor_quotient, floor_rest, is_uneven};
+ghost use Rattle.std.specs.Prelude.{◌≡◌, ◌<◌, IfOk, length, map};
 ghost use Rattle.cu_machine.specs.Graph.{head_at};
 ghost use Rattle.cu_machine.specs.Rewrite.{calculated, computed};
 ghost use Rattle.cu_step.specs.Moved.{move_of};
-ghost use Rattle.cu_step.specs.Numbers.{character_in, character_of, checked, counted_by, integer_in, on_character, on_integer, on_integers, on_one};
+ghost use Rattle.cu_step.specs.Numbers.{character_in, character_of, counted_by, integer_in, on_character, on_integer, on_integers, on_one};
 
 use crate::moved::{self, Moved};
 use crate::operand;
 use cu_flat::{Int, Lit, Prim, Special};
 use cu_graph::{Kind, Store};
+use cu_int::{floor_quotient, floor_rest};
 use std::alloc::{AllocError, Global};
-
-/// Whether a division towards zero leaves a rest of the other sign than the
-/// divisor's.
-fn is_uneven(m: Int, n: Int) -> bool
-    requires { n ≢ pos 0 }
-    ensures { result ≡ is_uneven m n }
-{
-    let rest = m.wrapping_rem(n);
-    let is_negative = n < 0;
-    (rest < 0 && !is_negative) || (0 < rest && is_negative)
-}
-
-/// The quotient rounded towards minus infinity, where it is an `Int`.
-fn floor_quotient(m: Int, n: Int) -> Option<Int>
-    requires { n ≢ pos 0 }
-    ensures { result ≡ checked (floor_quotient m n) }
-{
-    let quotient = m.checked_div(n)?;
-    if is_uneven(m, n) {
-        quotient.checked_sub(1)
-    } else {
-        Some(quotient)
-    }
-}
-
-/// The rest of that division. It has the divisor's sign.
-fn floor_rest(m: Int, n: Int) -> Int
-    requires { n ≢ pos 0 }
-    ensures { result ≡ floor_rest m n }
-{
-    let rest = m.wrapping_rem(n);
-    if is_uneven(m, n) { rest + n } else { rest }
-}
 
 /// The character of a number, where there is one.
 fn character_of(n: Int) -> Option<char>

@@ -1,6 +1,7 @@
 //! The rows of the step table.
 ghost use Rattle.std.specs.Prelude.{◌≡◌, ◌<◌, IfOk, IsTrue, length, not};
 ghost use Rattle.cu_calculus.specs.declared.builtin.Primitive.TheVariants as prim;
+ghost use Rattle.cu_calculus.specs.WellFormed.{is_well_formed};
 ghost use Rattle.cu_machine.specs.Graph.{node_at};
 ghost use Rattle.cu_machine.specs.Rewrite.{move, operated, rewritten};
 ghost use Rattle.cu_machine.specs.Sets.{is_set_kind};
@@ -107,6 +108,7 @@ pub(crate) fn rewritten<S: Store>(
     store: S,
     id: u32,
 ) -> Result<Moved<S>, AllocError>
+    requires code { IsTrue (is_well_formed program.now) }
     requires id { id < length (S.content store) }
     requires sets { IsTrue (not (is_set_kind (node_at (S.content store) id).kind)) }
     requires arguments { ArgumentsThere (S.content store) }

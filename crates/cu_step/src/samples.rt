@@ -98,9 +98,9 @@ impl Parts {
     fn push<R: Abort>(&mut self, rt: &R, expr: Expr)
         ensures { self.new ≡ (self.old.0, self.old.1 ++ expr_meaning [] expr ∷ []) }
     {
-        let scope = Vec::new(self.alloc);
+        let kept = Vec::new(self.alloc);
         self.entries
-            .push(Entry { expr, scope })
+            .push(Entry { expr, kept })
             .expect(rt, "memory");
     }
 
@@ -170,19 +170,19 @@ impl Parts {
         &mut self,
         rt: &R,
         mode: Mode,
-        scope: &[u32],
+        kept: &[u32],
         scrutinee: ExprId,
         branches: Vec<(Pattern, ExprId)>,
     )
         ensures { self.new ≡ (
           self.old.0,
-          self.old.1 ++ code.Case mode scope.now scrutinee (map branch_meaning branches.items) ∷ [],
+          self.old.1 ++ code.Case mode kept.now scrutinee (map branch_meaning branches.items) ∷ [],
         ) }
     {
-        let scope = Vec::from_slice(self.alloc, scope).expect(rt, "memory");
+        let kept = Vec::from_slice(self.alloc, kept).expect(rt, "memory");
         let expr = Expr::Case(mode, scrutinee, branches);
         self.entries
-            .push(Entry { expr, scope })
+            .push(Entry { expr, kept })
             .expect(rt, "memory");
     }
 

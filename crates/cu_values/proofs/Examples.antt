@@ -1,5 +1,5 @@
 -- Displays of values, computed. The values stand as lists of cells.
-use Rattle.std.specs.Prelude.{◌≡◌, ℕ, List, [], ◌∷◌, codes, map, refl, pos, negsuc, slice_index_or}
+use Rattle.std.specs.Prelude.{◌≡◌, ℕ, List, [], ◌∷◌, codes, map, refl, nat_le, ◌&&◌, pos, negsuc, slice_index_or}
 use Rattle.std.specs.Char.{encode_utf8}
 use Rattle.std.specs.Fmt.{digits}
 use Rattle.std.proofs.Common.{◌-◌}
@@ -17,6 +17,7 @@ names =
 abbrev labels : Labels
 labels = record {
   constructor = λ c. slice_index_or names c.0 [];
+  tuple = λ c. nat_le 2 c.0 && nat_le c.0 4;
   function = λ f. slice_index_or (codes "f" ∷ codes "g'" ∷ []) f.0 [];
   arity = λ f. slice_index_or (1 ∷ 2 ∷ []) f.0 0;
   nil = record { 0 = 0 };

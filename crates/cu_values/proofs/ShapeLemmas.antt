@@ -141,7 +141,7 @@ enclosed_number true = refl
 enclosed_number false = refl
 
 abbrev pub tuple_named : Labels → ConId → Bool
-tuple_named labels c = d.is_tuple (labels.constructor c)
+tuple_named labels c = labels.tuple c
 
 pub list_by_shape : (labels : Labels) (v : Value) → d.is_list labels v ≡ lists (shape_of labels v)
 list_by_shape labels value.Bottom = refl
@@ -326,7 +326,7 @@ none_of_them _ e = let no : ⊥ = cc in absurd no
 
 pub shown_other : (labels : Labels) (c : ConId) (vs : Values) → is_no_list (shape_of labels (value.Constructed c vs)) ≡ true
     → d.display labels (value.Constructed c vs)
-    ≡ (if d.is_tuple (labels.constructor c) then codes "(" ++ (d.components labels vs ++ codes ")")
+    ≡ (if labels.tuple c then codes "(" ++ (d.components labels vs ++ codes ")")
     else d.in_parentheses (d.is_operator (labels.constructor c)) (labels.constructor c) ++ d.arguments labels vs)
 shown_other labels c vs e =
     let n = none_of_them (shape_of labels (value.Constructed c vs)) e in

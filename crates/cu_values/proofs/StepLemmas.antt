@@ -167,7 +167,7 @@ headed labels cells shapes at tasks k n x ready is shaped =
     }
 
 pub unit_step : (labels : Labels) (cells : List Cell) (at : ℕ) (tasks others : List Task) (text longer : List ℕ) (k : ConId) (n : ℕ) (x : Shape)
-    → Ready labels cells at (tasks ++ task.Alone ∷ []) → Headed labels cells at k n x → is_no_list x ≡ true → d.is_tuple (labels.constructor k) ≡ true
+    → Ready labels cells at (tasks ++ task.Alone ∷ []) → Headed labels cells at k n x → is_no_list x ≡ true → labels.tuple k ≡ true
     → n ≡ 0 → longer ≡ text ++ codes "(" → others ≡ tasks ++ task.ClosingParenthesis ∷ []
     → Step labels cells 6 at (tasks ++ task.Alone ∷ []) text (at + 1) others longer
 unit_step labels cells at tasks others text longer k n x ready head none tuple zero_is e f =
@@ -181,7 +181,7 @@ unit_step labels cells at tasks others text longer k n x ready head none tuple z
     (w.reverse_snoc tasks task.ClosingParenthesis) e (omega (arith, w.length_snoc tasks task.ClosingParenthesis)))
 
 pub tuple_step : (labels : Labels) (cells : List Cell) (at : ℕ) (tasks one two three : List Task) (text longer : List ℕ) (k : ConId) (n m : ℕ) (x : Shape)
-    → Ready labels cells at (tasks ++ task.Alone ∷ []) → Headed labels cells at k n x → is_no_list x ≡ true → d.is_tuple (labels.constructor k) ≡ true
+    → Ready labels cells at (tasks ++ task.Alone ∷ []) → Headed labels cells at k n x → is_no_list x ≡ true → labels.tuple k ≡ true
     → n ≡ suc m → longer ≡ text ++ codes "(" → one ≡ tasks ++ task.ClosingParenthesis ∷ [] → two ≡ one ++ task.Components m ∷ []
     → three ≡ two ++ task.Alone ∷ [] → Step labels cells 6 at (tasks ++ task.Alone ∷ []) text (at + 1) three longer
 tuple_step labels cells at tasks one two three text longer k n m x ready head none tuple more e f g i =
@@ -201,7 +201,7 @@ tuple_step labels cells at tasks one two three text longer k n m x ready head no
     (omega (arith, w.length_snoc tasks task.ClosingParenthesis, w.length_snoc a (task.Components m), w.length_snoc b task.Alone)))
 
 pub application_step : (labels : Labels) (cells : List Cell) (at : ℕ) (tasks others : List Task) (text longer : List ℕ) (k : ConId) (n : ℕ) (x : Shape)
-    → Ready labels cells at (tasks ++ task.Alone ∷ []) → Headed labels cells at k n x → is_no_list x ≡ true → d.is_tuple (labels.constructor k) ≡ false
+    → Ready labels cells at (tasks ++ task.Alone ∷ []) → Headed labels cells at k n x → is_no_list x ≡ true → labels.tuple k ≡ false
     → longer ≡ text ++ d.in_parentheses (d.is_operator (labels.constructor k)) (labels.constructor k) → others ≡ tasks ++ task.Arguments n ∷ []
     → Step labels cells 6 at (tasks ++ task.Alone ∷ []) text (at + 1) others longer
 application_step labels cells at tasks others text longer k n x ready h none tuple e f =

@@ -1,6 +1,7 @@
 -- How values are displayed: in the notation of the language, as the program that gives them would write them. Texts are lists of
 -- bytes, in UTF-8.
 use Rattle.std.specs.Prelude.{ℕ, Bool, true, false, not, ◌&&◌, ◌||◌, List, [], ◌∷◌, ◌++◌, if◌then◌else◌, codes, decimal, nat_eq, nat_le, nat_lt}
+use Rattle.std.specs.List.{list_any}
 use Rattle.std.specs.Fmt.{signed_decimal}
 use Rattle.std.specs.Char.{encode_utf8}
 use Rattle.cu_calculus.specs.declared.ConId.{ConId}
@@ -17,6 +18,8 @@ use Rattle.cu_calculus.specs.Value.{Value, Values}
 -- what a program calls its entities, without their modules
 pub record Labels : Type 0 where
   pub constructor : ConId → List ℕ
+  -- whether a constructor is unit or that of a type of tuples
+  pub tuple : ConId → Bool
   pub function : FunId → List ℕ
   -- how many arguments a function takes
   pub arity : FunId → ℕ
@@ -65,21 +68,14 @@ variable_text n = codes "_" ++ decimal n
 
 -- Names.
 
--- commas and then a closing parenthesis
-abbrev pub closes : List ℕ → Bool
-closes [] = false
-closes (b ∷ []) = nat_eq b 41
-closes (b ∷ bs) = nat_eq b 44 && closes bs
+-- the characters of operators
+abbrev pub symbols : List ℕ
+symbols = codes "~!@#$%^&*+-=<>?./|\\:"
 
--- the name of unit or of a tuple's constructor: `()`, `(,)` and so on
-abbrev pub is_tuple : List ℕ → Bool
-is_tuple [] = false
-is_tuple (b ∷ bs) = nat_eq b 40 && closes bs
-
--- a constructor's operator begins with a colon
+-- a name is an operator where its first character is one of an operator
 abbrev pub is_operator : List ℕ → Bool
 is_operator [] = false
-is_operator (b ∷ bs) = nat_eq b 58
+is_operator (b ∷ bs) = list_any (nat_eq b) symbols
 
 abbrev pub head_text : Labels → Head → List ℕ
 head_text labels (head.Fun f) = labels.function f
@@ -125,7 +121,7 @@ abbrev pub takes_parentheses : Labels → Value → Bool
 takes_parentheses labels (value.Literal (lit.Int n)) = is_negative n
 takes_parentheses labels (value.Constructed c (value.MoreValues v vs)) =
     let whole = value.Constructed c (value.MoreValues v vs) in
-    not (is_list labels whole) && (is_open labels whole || not (is_tuple (labels.constructor c)))
+    not (is_list labels whole) && (is_open labels whole || not (labels.tuple c))
 takes_parentheses labels _ = false
 
 abbrev mutual
@@ -140,7 +136,7 @@ abbrev mutual
       if has_arguments vs && is_text labels whole then 34 ∷ (string_text (characters whole) ++ 34 ∷ [])
       else if is_list labels whole then codes "[" ++ (elements labels vs ++ codes "]")
       else if is_open labels whole then open_elements labels vs
-      else if is_tuple (labels.constructor c) then codes "(" ++ (components labels vs ++ codes ")")
+      else if labels.tuple c then codes "(" ++ (components labels vs ++ codes ")")
       else in_parentheses (is_operator (labels.constructor c)) (labels.constructor c) ++ arguments labels vs
 
   -- the elements of a finite list, of which the parts are given: `a,b,c`

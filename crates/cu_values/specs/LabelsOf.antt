@@ -1,10 +1,7 @@
--- What the tables of a display stand for.
-use Rattle.std.specs.Prelude.{map}
-use Rattle.cu_kernel.specs.KernelOf.{function_meaning}
+-- What the names of a display stand for.
 use Rattle.cu_values.specs.declared.labels.ProgramNames.{ProgramNames}
 use Rattle.cu_values.specs.Display.{Labels}
-use Rattle.cu_values.specs.ProgramLabels.{labels_by}
+use Rattle.cu_values.specs.ProgramLabels.{labels_of}
 
 abbrev pub labels_meaning : ProgramNames → Labels
-labels_meaning names =
-    labels_by names.names.now names.constructors.items (map function_meaning names.functions.now) names.nil names.cons
+labels_meaning names = labels_of names.names.now names.program.now

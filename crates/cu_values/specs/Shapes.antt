@@ -10,7 +10,7 @@ use Rattle.cu_values.specs.declared.cell.Cell.{Cell}
 use Rattle.cu_values.specs.declared.shape.Shape.{Shape}
 use Rattle.cu_values.specs.declared.shape.Shape.TheVariants as shape
 use Rattle.cu_values.specs.Cells.{first, read_all}
-use Rattle.cu_values.specs.Display.{is_tuple, Labels}
+use Rattle.cu_values.specs.Display.{Labels}
 
 abbrev pub list_shape : Shape → Shape → Shape → Shape
 list_shape shape.Character shape.Empty other = shape.Text
@@ -24,7 +24,7 @@ list_shape element rest other = other
 
 -- an application with arguments
 abbrev pub other_shape : Labels → ConId → Shape
-other_shape labels c = if is_tuple (labels.constructor c) then shape.Simple else shape.Compound
+other_shape labels c = if labels.tuple c then shape.Simple else shape.Compound
 
 abbrev pub shape_of : Labels → Value → Shape
 shape_of labels value.Bottom = shape.Simple

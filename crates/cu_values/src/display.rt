@@ -1,18 +1,41 @@
 //! The display of values.
-ghost use Rattle.std.specs.Prelude.{◌≡◌, ◌++◌, IfOk, OnErr, OnOk};
+ghost use Rattle.std.specs.Prelude.{◌≡◌, ◌++◌, OnErr, OnOk};
 ghost use Rattle.std.specs.String.{string_bytes};
+ghost use Rattle.cu_values.specs.Cells.{read, IsOneSpelled};
 ghost use Rattle.cu_values.specs.Display.{display};
 ghost use Rattle.cu_values.specs.LabelsOf.{labels_meaning};
+ghost use Rattle.cu_values.specs.Layouts.{IsShaped};
 ghost use Rattle.cu_values.specs.ProgramLabels.{labels_of};
 
 use crate::Value;
 use crate::labels::ProgramNames;
 use crate::layout::Layout;
-use crate::shape::shapes;
+use crate::shape::{Shape, find_shapes};
 use crate::task::Task;
 use cu_kernel::Program;
 use cu_names::Names;
 use std::alloc::{AllocError, Global};
+
+/// The length in bytes of the lines for which [`Workspace::with_room`] takes
+/// room.
+const LINE: usize = 4096;
+
+/// A value that a line displays has at most so many cells, where it is ground
+/// data or has variables, and names aren't empty: two for each byte, as a
+/// string has.
+const CELLS: usize = 2 * LINE;
+
+/// What is left to do has at most so many parts: each cell leaves three.
+const TASKS: usize = 3 * CELLS + 1;
+
+/// What displaying a value takes memory for, kept from one value to the next.
+#[derive(Drop)]
+pub struct Workspace {
+    text: String,
+    tasks: Vec<Task>,
+    shapes: Vec<Shape>,
+    behind: Vec<Shape>,
+}
 
 /// Appends the display of a value to a text in UTF-8, by the names that a
 /// program gives its constructors and functions. A name that the table lacks
@@ -28,31 +51,85 @@ pub fn show(
     ensures ok { OnOk result (out.new.items ≡ out.old.items ++ display (labels_of names.now program.now) value.now) }
     ensures err { OnErr result (out.new.items ≡ out.old.items) }
 {
-    let names = ProgramNames::new(alloc, program, names)?;
-    let text = displayed(alloc, value, &names)?;
-    out.extend_from_slice(text.as_bytes())
+    Workspace::new(alloc).show(value, program, names, out)
 }
 
-/// The display of a value.
-pub(crate) fn displayed(
-    alloc: Global,
-    value: &Value,
-    names: &ProgramNames,
-) -> Result<String, AllocError>
-    ensures { IfOk result (λ text. string_bytes text ≡ display (labels_meaning names.now) value.now) }
+/// Displays the value of a layout.
+fn write(layout: &Layout, tasks: &mut Vec<Task>, text: &mut String) -> Result<(), AllocError>
+    requires one { IsOneSpelled layout.now.cells.now }
+    requires shapes { IsShaped layout.now }
+    ensures { OnOk result (string_bytes text.new ≡ display (labels_meaning layout.now.names.now) (read layout.now.cells.now)) }
 {
-    let cells = value.cells();
-    let shapes = shapes(alloc, names, cells)?;
-    let layout = Layout {
-        names,
-        cells,
-        shapes: shapes.as_slice(),
-    };
-    let mut text = String::new(alloc);
-    let mut tasks = vec![in alloc; Task::Alone]?;
+    text.clear();
+    tasks.clear();
+    tasks.push(Task::Alone)?;
     let mut at = 0;
     while let Some(task) = tasks.pop() {
-        at = layout.step(at, task, &mut tasks, &mut text)?;
+        at = layout.step(at, task, tasks, text)?;
     }
-    Ok(text)
+    Ok(())
+}
+
+impl Workspace {
+    ghost use Rattle.std.specs.Prelude.{◌≡◌, ◌++◌, OnErr, OnOk};
+    ghost use Rattle.std.specs.String.{string_bytes};
+    ghost use Rattle.cu_values.specs.Display.{display};
+    ghost use Rattle.cu_values.specs.LabelsOf.{labels_meaning};
+    ghost use Rattle.cu_values.specs.ProgramLabels.{labels_of};
+
+    /// A workspace that has taken no memory yet.
+    pub fn new(alloc: Global) -> Workspace {
+        Workspace {
+            text: String::new(alloc),
+            tasks: Vec::new(alloc),
+            shapes: Vec::new(alloc),
+            behind: Vec::new(alloc),
+        }
+    }
+
+    /// A workspace with room for lines of 4,096 bytes: displaying a value in
+    /// at most so many takes no memory, if there is room in the text that it
+    /// is appended to. A function in the value counts with the cells of its
+    /// arguments, which aren't shown. The one error is want of memory.
+    pub fn with_room(alloc: Global) -> Result<Workspace, AllocError> {
+        let mut workspace = Workspace::new(alloc);
+        workspace.text.reserve(LINE)?;
+        workspace.tasks.reserve(TASKS)?;
+        workspace.shapes.reserve(CELLS)?;
+        workspace.behind.reserve(CELLS)?;
+        Ok(workspace)
+    }
+
+    /// Appends the display of a value to a text, as [`show`] does, and takes
+    /// no memory where the value and its display are no longer than those
+    /// before, and the text has the room. The one error is want of memory,
+    /// and the text is then as it was.
+    pub fn show(
+        &mut self,
+        value: &Value,
+        program: &Program,
+        names: &Names,
+        out: &mut Vec<u8>,
+    ) -> Result<(), AllocError>
+        ensures ok { OnOk result (out.new.items ≡ out.old.items ++ display (labels_of names.now program.now) value.now) }
+        ensures err { OnErr result (out.new.items ≡ out.old.items) }
+    {
+        let names = ProgramNames { names, program };
+        self.display(value, &names)?;
+        out.extend_from_slice(self.text.as_bytes())
+    }
+
+    /// Makes the text the display of a value.
+    fn display(&mut self, value: &Value, names: &ProgramNames) -> Result<(), AllocError>
+        ensures { OnOk result (string_bytes self.new.text ≡ display (labels_meaning names.now) value.now) }
+    {
+        let cells = value.cells();
+        find_shapes(names, cells, &mut self.shapes, &mut self.behind)?;
+        let layout = Layout {
+            names,
+            cells,
+            shapes: self.shapes.as_slice(),
+        };
+        write(&layout, &mut self.tasks, &mut self.text)
+    }
 }

@@ -1,22 +1,24 @@
 //! What a program calls its entities.
-ghost use Rattle.std.specs.Prelude.{◌≡◌, ◌++◌, IfOk, OnOk, map};
+ghost use Rattle.std.specs.Prelude.{◌≡◌, option_map};
 ghost use Rattle.cu_names.specs.Texts.{text_of};
-ghost use Rattle.cu_kernel.specs.KernelOf.{constructor_meaning, type_meaning};
-ghost use Rattle.cu_values.specs.ProgramLabels.{constructor_names, label, labels_of};
+ghost use Rattle.cu_values.specs.ProgramLabels.{is_tuple_type};
 
-use cu_kernel::{ConId, Constructor, DataType, FunId, Function, Program};
+use cu_kernel::{ConId, FunId, Program, TypeId};
 use cu_names::{NameId, Names};
-use std::alloc::{AllocError, Global};
+
+/// The place of unit's type; behind it stand those of the tuples of 2 to 15
+/// components.
+const UNIT: usize = 1;
+
+/// The place of the type of tuples of 15 components.
+const LONGEST_TUPLE: usize = 15;
 
 /// The names of a program's constructors and functions. A name that the table
 /// of names lacks has no text.
-#[derive(Drop)]
+#[derive(Clone, Copy)]
 pub(crate) struct ProgramNames<'a> {
-    names: &'a Names,
-    functions: &'a [Function],
-    constructors: Vec<NameId>,
-    pub(crate) nil: ConId,
-    pub(crate) cons: ConId,
+    pub(crate) names: &'a Names,
+    pub(crate) program: &'a Program,
 }
 
 /// The text of a name; none where the table lacks it.
@@ -30,76 +32,48 @@ fn text(names: &Names, id: NameId) -> &str
     }
 }
 
-/// The names of constructors, behind those that are there.
-fn push_names(names: &mut Vec<NameId>, constructors: &[Constructor]) -> Result<(), AllocError>
-    ensures { OnOk result (names.new.items ≡ names.old.items ++ map (λ c. c.name) (map constructor_meaning constructors.now)) }
+/// Whether a type is unit, or a type of tuples.
+fn is_tuple_type(id: TypeId) -> bool
+    ensures { result ≡ is_tuple_type (Some id.0) }
 {
-    for constructor in constructors {
-        names.push(constructor.name)?;
-    }
-    Ok(())
+    UNIT <= id.0 && id.0 <= LONGEST_TUPLE
 }
 
-/// The names of the constructors of all types.
-fn constructor_names(alloc: Global, types: &[DataType]) -> Result<Vec<NameId>, AllocError>
-    ensures { IfOk result (λ names. names.items ≡ constructor_names (map type_meaning types.now)) }
-{
-    let mut names = Vec::new(alloc);
-    for data_type in types {
-        push_names(&mut names, data_type.constructors.as_slice())?;
-    }
-    Ok(names)
-}
-
-impl<'a> ProgramNames<'a> {
-    ghost use Rattle.std.specs.Prelude.{◌≡◌, IfOk};
+impl ProgramNames<'_> {
+    ghost use Rattle.std.specs.Prelude.{◌≡◌};
     ghost use Rattle.cu_values.specs.LabelsOf.{labels_meaning};
-    ghost use Rattle.cu_values.specs.ProgramLabels.{labels_of};
 
-    /// The names of a program.
-    pub(crate) fn new(
-        alloc: Global,
-        program: &'a Program,
-        names: &'a Names,
-    ) -> Result<ProgramNames<'a>, AllocError>
-        ensures { IfOk result (λ labels. labels_meaning labels ≡ labels_of names.now program.now) }
+    /// The empty list.
+    pub(crate) fn nil(&self) -> ConId
+        ensures { result ≡ (labels_meaning self.now).nil }
     {
-        let constructors = constructor_names(alloc, program.types())?;
-        let special = program.special();
-        Ok(ProgramNames {
-            names,
-            functions: program.functions(),
-            constructors,
-            nil: special.nil,
-            cons: special.cons,
-        })
+        self.program.special().nil
     }
 
-    /// Names without a program.
-    #[cfg(test)]
-    pub(crate) fn of(
-        names: &'a Names,
-        functions: &'a [Function],
-        constructors: Vec<NameId>,
-        nil: ConId,
-        cons: ConId,
-    ) -> ProgramNames<'a> {
-        ProgramNames {
-            names,
-            functions,
-            constructors,
-            nil,
-            cons,
-        }
+    /// The constructor `:` of lists.
+    pub(crate) fn cons(&self) -> ConId
+        ensures { result ≡ (labels_meaning self.now).cons }
+    {
+        self.program.special().cons
     }
 
     /// The name of a constructor.
     pub(crate) fn constructor(&self, constructor: ConId) -> &str
         ensures { result.now ≡ (labels_meaning self.now).constructor constructor }
     {
-        match self.constructors.get(constructor.0) {
-            Some(id) => text(self.names, *id),
+        match self.program.constructor(constructor) {
+            Some(placed) => text(self.names, placed.constructor.name),
             None => "",
+        }
+    }
+
+    /// Whether a constructor is unit, or that of a type of tuples.
+    pub(crate) fn is_tuple(&self, constructor: ConId) -> bool
+        ensures { result ≡ (labels_meaning self.now).tuple constructor }
+    {
+        match self.program.constructor(constructor) {
+            Some(placed) => is_tuple_type(placed.of_type),
+            None => false,
         }
     }
 
@@ -107,7 +81,7 @@ impl<'a> ProgramNames<'a> {
     pub(crate) fn function(&self, function: FunId) -> &str
         ensures { result.now ≡ (labels_meaning self.now).function function }
     {
-        match self.functions.get(function.0) {
+        match self.program.functions().get(function.0) {
             Some(function) => text(self.names, function.name),
             None => "",
         }
@@ -117,7 +91,7 @@ impl<'a> ProgramNames<'a> {
     pub(crate) fn arity(&self, function: FunId) -> u32
         ensures { result ≡ (labels_meaning self.now).arity function }
     {
-        match self.functions.get(function.0) {
+        match self.program.functions().get(function.0) {
             Some(function) => function.arity,
             None => 0,
         }

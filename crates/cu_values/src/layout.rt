@@ -2,7 +2,7 @@
 use crate::Cell;
 use crate::labels::ProgramNames;
 use crate::literals::{push_literal, push_variable};
-use crate::names::{is_tuple, push_constructor, push_partial};
+use crate::names::{push_constructor, push_partial};
 use crate::shape::Shape;
 use crate::string::push_string;
 use crate::task::Task;
@@ -153,8 +153,7 @@ impl Layout<'_> {
         requires shape { is_no_list (slice_index_or self.now.shapes.now at Shape.Character) ≡ true }
         ensures { IfOk result (λ next. Begun self.now 6 at tasks.old.items Task.Alone (string_bytes text.old) next tasks.new.items (string_bytes text.new)) }
     {
-        let name = self.names.constructor(constructor);
-        if is_tuple(name.as_bytes()) {
+        if self.names.is_tuple(constructor) {
             text.push_str("(")?;
             tasks.push(Task::ClosingParenthesis)?;
             if arity == 0 {
@@ -164,7 +163,7 @@ impl Layout<'_> {
             tasks.push(Task::Alone)?;
             return Ok(at + 1);
         }
-        push_constructor(text, name)?;
+        push_constructor(text, self.names.constructor(constructor))?;
         tasks.push(Task::Arguments(arity))?;
         Ok(at + 1)
     }

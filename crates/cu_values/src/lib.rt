@@ -4,22 +4,16 @@
 
 mod cell;
 mod display;
-#[cfg(test)]
-mod displays;
 mod labels;
 mod layout;
 mod literals;
 mod names;
-#[cfg(test)]
-mod programs;
 mod shape;
 mod string;
 mod task;
-#[cfg(test)]
-mod tests;
 mod value;
 mod walk;
 
 pub use cell::Cell;
-pub use display::show;
+pub use display::{Workspace, show};
 pub use value::Value;

@@ -1,7 +1,7 @@
 //! Names in a display.
 ghost use Rattle.std.specs.Prelude.{◌≡◌, ◌++◌, OnOk, codes};
 ghost use Rattle.std.specs.String.{string_bytes};
-ghost use Rattle.cu_values.specs.Display.{closes, head_text, in_parentheses, is_operator, is_tuple};
+ghost use Rattle.cu_values.specs.Display.{head_text, in_parentheses, is_operator};
 ghost use Rattle.cu_values.specs.LabelsOf.{labels_meaning};
 
 use crate::labels::ProgramNames;
@@ -9,37 +9,15 @@ use cu_kernel::Head;
 use itoa::Buffer;
 use std::alloc::AllocError;
 
-/// Whether these are commas and then a closing parenthesis.
-fn closes(rest: &[u8]) -> bool
-    ensures { result ≡ closes rest.now }
-{
-    for (i, byte) in rest.iter().enumerate() {
-        if i == rest.len() - 1 {
-            return *byte == b')';
-        }
-        if *byte != b',' {
-            return false;
-        }
-    }
-    false
-}
-
-/// Whether this is the name of unit or of a tuple's constructor.
-pub(crate) fn is_tuple(name: &[u8]) -> bool
-    ensures { result ≡ is_tuple name.now }
-{
-    match name {
-        [first, rest @ ..] => *first == b'(' && closes(rest),
-        [] => false,
-    }
-}
+/// The characters of operators.
+const SYMBOLS: &[u8] = b"~!@#$%^&*+-=<>?./|\\:";
 
 /// Whether this is the name of an operator.
 fn is_operator(name: &[u8]) -> bool
     ensures { result ≡ is_operator name.now }
 {
     match name {
-        [first, ..] => *first == b':',
+        [first, ..] => SYMBOLS.contains(first),
         [] => false,
     }
 }

@@ -1,5 +1,5 @@
 //! What its neighbours must know of a value to display it.
-ghost use Rattle.std.specs.Prelude.{◌≡◌, ◌≤◌, IfOk, length};
+ghost use Rattle.std.specs.Prelude.{◌≡◌, ◌≤◌, OnOk, length};
 ghost use Rattle.cu_calculus.specs.Value as value;
 ghost use Rattle.cu_calculus.specs.Value.{Values};
 ghost use Rattle.cu_values.specs.Cells.{arity_of, first, front, put, IsSpelled};
@@ -8,9 +8,8 @@ ghost use Rattle.cu_values.specs.LabelsOf.{labels_meaning};
 
 use crate::Cell;
 use crate::labels::ProgramNames;
-use crate::names::is_tuple;
 use cu_kernel::{ConId, Lit};
-use std::alloc::{AllocError, Global};
+use std::alloc::AllocError;
 
 /// How a value is written, as far as its neighbours must know.
 #[derive(Clone, Copy)]
@@ -61,7 +60,7 @@ impl Shape {
 fn other_shape(names: &ProgramNames, constructor: ConId) -> Shape
     ensures { result ≡ other_shape (labels_meaning names.now) constructor }
 {
-    if is_tuple(names.constructor(constructor).as_bytes()) {
+    if names.is_tuple(constructor) {
         Shape::Simple
     } else {
         Shape::Compound
@@ -80,14 +79,14 @@ fn constructed_shape(
     ensures { (vs : Values) → behind.now ≡ stacked (labels_meaning names.now) vs → result ≡ shape_of (labels_meaning names.now) (value.Constructed constructor (front arity vs)) }
 {
     if arity == 0 {
-        return if constructor == names.nil {
+        return if constructor == names.nil() {
             Shape::Empty
         } else {
             Shape::Simple
         };
     }
     let other = other_shape(names, constructor);
-    if arity == 2 && constructor == names.cons {
+    if arity == 2 && constructor == names.cons() {
         let nearest = behind.len() - 1;
         list_shape(behind[nearest], behind[nearest - 1], other)
     } else {
@@ -117,17 +116,19 @@ fn shape_of(names: &ProgramNames, cell: Cell, behind: &[Shape]) -> Shape
     }
 }
 
-/// For each cell, the shape of the value that begins there.
-pub(crate) fn shapes(
-    alloc: Global,
+/// Finds for each cell the shape of the value that begins there. The shapes
+/// of the values that are met are kept on a stack, `behind`.
+pub(crate) fn find_shapes(
     names: &ProgramNames,
     cells: &[Cell],
-) -> Result<Vec<Shape>, AllocError>
+    shapes: &mut Vec<Shape>,
+    behind: &mut Vec<Shape>,
+) -> Result<(), AllocError>
     requires { IsSpelled cells.now }
-    ensures { IfOk result (λ shapes. shapes.items ≡ shapes_at (labels_meaning names.now) cells.now) }
+    ensures { OnOk result (shapes.new.items ≡ shapes_at (labels_meaning names.now) cells.now) }
 {
-    let mut shapes = Vec::new(alloc);
-    let mut behind = Vec::new(alloc);
+    shapes.clear();
+    behind.clear();
     let mut at = cells.len();
     while at > 0 {
         at -= 1;
@@ -138,5 +139,5 @@ pub(crate) fn shapes(
         shapes.push(shape)?;
     }
     shapes.reverse();
-    Ok(shapes)
+    Ok(())
 }

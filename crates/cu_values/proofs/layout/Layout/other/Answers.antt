@@ -3,14 +3,14 @@ use borrow.Author.Tests.{tests}
 use Rattle.std.specs.String.{string_bytes}
 use Rattle.cu_values.specs.LabelsOf.{labels_meaning}
 use Rattle.cu_values.specs.declared.shape.Shape.TheVariants.{Character}
-use Rattle.cu_values.specs.Display.{in_parentheses, is_operator, is_tuple}
+use Rattle.cu_values.specs.Display.{in_parentheses, is_operator}
 use Rattle.cu_values.proofs.StepLemmas.{application_step, headed, tuple_step, unit_step}
 use Rattle.cu_values.proofs.layout.Layout.other.Goals as goal
 
 pub returns-then-arity-eq0 : goal.returns-then-arity-eq0
 returns-then-arity-eq0 c =
     let labels = labels_meaning c.args.self.now.names.now in
-    let tuple : is_tuple (labels.constructor c.args.constructor) ≡ true = search (rules, tests) in
+    let tuple : labels.tuple c.args.constructor ≡ true = search (rules, tests) in
     unit_step labels c.args.self.now.cells.now c.args.at c.args.tasks.now.items c.push.new.self.items (string_bytes c.args.text.now)
     (string_bytes c.push_str.new.self) c.args.constructor c.args.arity _ c.requires.ready
     (headed labels c.args.self.now.cells.now c.args.self.now.shapes.now c.args.at c.args.tasks.now.items c.args.constructor c.args.arity Character c.requires.ready
@@ -20,7 +20,7 @@ returns-then-arity-eq0 c =
 pub returns-then-is_tuple : goal.returns-then-is_tuple
 returns-then-is_tuple c =
     let labels = labels_meaning c.args.self.now.names.now in
-    let tuple : is_tuple (labels.constructor c.args.constructor) ≡ true = search (rules, tests) in
+    let tuple : labels.tuple c.args.constructor ≡ true = search (rules, tests) in
     tuple_step labels c.args.self.now.cells.now c.args.at c.args.tasks.now.items c.push.new.self.items c.push-then-is_tuple.new.self.items
     c.push-then-is_tuple-2.new.self.items (string_bytes c.args.text.now) (string_bytes c.push_str.new.self) c.args.constructor c.args.arity (c.args.arity - 1) _
     c.requires.ready
@@ -31,11 +31,11 @@ returns-then-is_tuple c =
 pub returns : goal.returns
 returns c =
     let labels = labels_meaning c.args.self.now.names.now in
-    let tuple : is_tuple (labels.constructor c.args.constructor) ≡ false = search (rules, tests) in
+    let tuple : labels.tuple c.args.constructor ≡ false = search (rules, tests) in
     let written : string_bytes c.push_constructor.new.text
     ≡ string_bytes c.args.text.now ++ in_parentheses (is_operator (labels.constructor c.args.constructor)) (labels.constructor c.args.constructor) =
     c.in_ok-push_constructor.ensures
-    ∙ ap (λ (name : List ℕ). string_bytes c.args.text.now ++ in_parentheses (is_operator name) name) c.constructor-name.ensures in
+    ∙ ap (λ (name : List ℕ). string_bytes c.args.text.now ++ in_parentheses (is_operator name) name) c.constructor.ensures in
     application_step labels c.args.self.now.cells.now c.args.at c.args.tasks.now.items c.push-2.new.self.items (string_bytes c.args.text.now)
     (string_bytes c.push_constructor.new.text) c.args.constructor c.args.arity _ c.requires.ready
     (headed labels c.args.self.now.cells.now c.args.self.now.shapes.now c.args.at c.args.tasks.now.items c.args.constructor c.args.arity Character c.requires.ready

@@ -1,0 +1,18 @@
+-- The branch that is taken is one of those that nest.
+use Rattle.std.proofs.Common.{ap, map, ◌∙◌}
+use Rattle.cu_flat.specs.Meaning.{branch_meaning}
+use Rattle.cu_machine.specs.declared.Kind.TheVariants as kind
+use Rattle.cu_step.specs.Inside.Building.{branch_nests}
+use Rattle.cu_step.specs.Matching.{takes_pattern}
+use Rattle.cu_step.proofs.Nesting.{chosen_nests}
+use Rattle.cu_step.proofs.case.by_head.Goals as goal
+
+pub takes_branch-requires-clause-nests : goal.takes_branch-requires-clause-nests
+takes_branch-requires-clause-nests g c κs within =
+    ap (branch_nests c.args.program.now) c.branch_for-branch.ensures
+    ∙ chosen_nests c.args.program.now (takes_pattern (kind.Lit c.in-Lit.l)) (map branch_meaning c.args.branches.now) c.requires.nest
+
+pub takes_branch-requires-in-Cons-clause-nests : goal.takes_branch-requires-in-Cons-clause-nests
+takes_branch-requires-in-Cons-clause-nests g c κs within =
+    ap (branch_nests c.args.program.now) c.branch_for-branch-in-Cons.ensures
+    ∙ chosen_nests c.args.program.now (takes_pattern (kind.Cons c.in-Cons.c)) (map branch_meaning c.args.branches.now) c.requires.nest
