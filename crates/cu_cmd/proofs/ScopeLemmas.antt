@@ -1,5 +1,5 @@
 -- Terms whose calls are whole and whose variables are parameters, and the flat code of programs that are made of them.
-use Rattle.std.proofs.Common.{◌≡◌, ℕ, zero, suc, ◌+◌, ◌-◌, ◌*◌, ◌^◌, ◌<◌, ◌≤◌, Bool, true, not, ◌&&◌, IsTrue, List, [], ◌∷◌, ◌++◌, Option, None, Some, length, map, nat_eq, nat_le, pos, slice_get, option_map, get_or, refl, ap, sym, subst, ◌∙◌, arith, add-zero, append-nil, leb-true, length-append}
+use Rattle.std.proofs.Common.{◌≡◌, ℕ, zero, suc, ◌+◌, ◌-◌, ◌*◌, ◌^◌, ◌<◌, ◌≤◌, Bool, true, not, ◌&&◌, IsTrue, List, [], ◌∷◌, ◌++◌, Option, None, Some, length, map, nat_le, pos, slice_get, option_map, get_or, refl, ap, sym, subst, ◌∙◌, arith, add-zero, append-nil, leb-true, length-append}
 use Rattle.std.specs.List.{All, list_all}
 use Rattle.std.proofs.lemmas.Bool.{eq-eqb, le-leb}
 use Rattle.std.proofs.lemmas.List.{length-map}
