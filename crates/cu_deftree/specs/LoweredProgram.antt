@@ -10,12 +10,12 @@ use Rattle.cu_deftree.specs.Rows.{numbers, row_of_rule}
 
 -- ---- functions
 
--- A function with rules gets one, over variables from 0 on, whose right side is the tree of its rules; what is built in stays.
+-- A function with rules gets one, over variables from 1 on, whose right side is the tree of its rules; what is built in stays.
 pub data FunctionLowers (program : Program) (function : Function) : Function → Type 0 where
   external : (operation : Primitive) (lowered : Function) → function.body ≡ External operation → lowered ≡ function
       → FunctionLowers program function lowered
   by_tree : (rules : List Rule) (params : List ℕ) (t : Term) (lowered : Function) → function.body ≡ Rules rules
-      → params ≡ numbers 0 function.arity → Tree program params function.arity (map (row_of_rule params) rules) t
+      → params ≡ numbers 1 function.arity → Tree program params (suc function.arity) (map (row_of_rule params) rules) t
       → lowered ≡ record { arity = function.arity; body = Rules (record { params = variables params; body = t } ∷ []) }
       → FunctionLowers program function lowered
 

@@ -15,10 +15,11 @@ use Rattle.cu_calculus.specs.Term.{Alternatives, Pattern, Term}
 abbrev pub Names : Type 0
 Names = List (ℕ × ℕ)
 
--- the variable that was bound last counts
+-- The variable that was bound last counts. What nothing binds, which a valid program doesn't have, is called 0, as nothing that
+-- a flat term binds is.
 abbrev pub name_of : Names → ℕ → ℕ
-name_of [] x = x
-name_of ((y, z) ∷ names) x = if nat_eq x y then z else name_of names x
+name_of [] x = 0
+name_of ((y, z) ∷ names) x = if nat_eq y x then z else name_of names x
 
 -- A rule or an alternative: its patterns at the positions, what the variables that stand at positions are called, and its
 -- right side.

@@ -1,10 +1,7 @@
-//! Lowering: definitional trees.
+//! Lowering: the flat program of a program, by definitional trees. The crate
+//! has the definitions, in `specs/`, and their laws; it computes nothing yet.
 #![tactic(auto)]
-ghost use Rattle.std.specs.Prelude.{◌≡◌};
-ghost use Rattle.cu_calculus.specs.Program.{Program};
-ghost use Rattle.cu_deftree.specs.LoweredProgram.{Flattens};
 
-/// A flat program has the same constructors.
-pub fn constructors_stay()
-    ensures { (program flat : Program) → Flattens program flat → flat.constructors ≡ program.constructors }
-{}
+mod laws;
+
+pub use laws::lowering_is_a_function;
