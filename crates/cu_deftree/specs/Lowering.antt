@@ -38,8 +38,8 @@ test_of equal position l =
 abbrev pub literal_case : Program → FunId → ℕ → Lit → Term → Term → Term
 literal_case program equal position l same other =
     term.Case Rigid (test_of equal position l)
-        (term.MoreAlternatives (term.Built program.special.truth term.NoPattern) same
-        (term.MoreAlternatives (term.Built program.special.falsity term.NoPattern) other term.NoAlternative))
+    (term.MoreAlternatives (term.Built program.special.truth term.NoPattern) same
+    (term.MoreAlternatives (term.Built program.special.falsity term.NoPattern) other term.NoAlternative))
 
 abbrev pub variables : List ℕ → Patterns
 variables [] = term.NoPattern
@@ -156,10 +156,10 @@ mutual
         (c : ConId) (cs : List ConId) (ls : List Lit) (t : Term) (alternatives : Alternatives)
         → n ≡ constructor_arity program c → arguments ≡ numbers next n
         → Distinguishes program mode (spliced k arguments positions) (next + n)
-            (specialize k arguments (goes_on has_variables (wants_constructor c)) rows) t
+        (specialize k arguments (goes_on has_variables (wants_constructor c)) rows) t
         → Cases program mode has_variables positions next k rows cs ls alternatives
         → Cases program mode has_variables positions next k rows (c ∷ cs) ls
-            (term.MoreAlternatives (term.Built c (variables arguments)) t alternatives)
+        (term.MoreAlternatives (term.Built c (variables arguments)) t alternatives)
     literal_of_case : (mode : Mode) (has_variables : Bool) (positions : List ℕ) (next k : ℕ) (rows : List Row) (l : Lit) (ls : List Lit)
         (t : Term) (alternatives : Alternatives)
         → Distinguishes program mode (spliced k [] positions) next (specialize k [] (goes_on has_variables (wants_literal l)) rows) t
