@@ -1,0 +1,7 @@
+//! Lowering: the flat program of a program, by definitional trees. The crate
+//! has the definitions, in `specs/`, and their laws; it computes nothing yet.
+#![tactic(auto)]
+
+mod laws;
+
+pub use laws::{least_levels_stay_levels, lowering_is_a_function};
