@@ -1,6 +1,7 @@
 //! What the declarations of modules make.
 ghost use Rattle.std.specs.Prelude.{◌≡◌};
-ghost use Rattle.cu_entities.specs.EntityMeaning.{is_constructor_in, is_function_sort, is_type_sort};
+ghost use Rattle.cu_entities.specs.EntityMeaning.{is_constructor_in, is_function_sort};
+ghost use Rattle.cu_entities.specs.EntityMeaning.{is_type_sort};
 ghost use Rattle.cu_entities.specs.EntityMeaning.{same_entities, sort_in};
 
 use cu_names::NameId;

@@ -4,7 +4,8 @@ ghost use Rattle.std.specs.List.{list_any, All};
 ghost use Rattle.cu_names.specs.Texts.{AllDiffer};
 ghost use Rattle.cu_entities.specs.Entities as meant;
 ghost use Rattle.cu_entities.specs.Entities.{distinct};
-ghost use Rattle.cu_entities.specs.EntityMeaning.{EntityIsKnown, entities_meaning, entity_meaning, identity_of};
+ghost use Rattle.cu_entities.specs.EntityMeaning.{EntityIsKnown, identity_of};
+ghost use Rattle.cu_entities.specs.EntityMeaning.{entities_meaning, entity_meaning};
 ghost use Rattle.cu_entities.specs.EntitySets.{IsSet, alike};
 
 use crate::entities::{Entity, Space};
@@ -58,7 +59,8 @@ impl EntitySet {
     pub fn add(&mut self, entity: Entity) -> Result<(), AllocError>
         ensures { (names : List (List ℕ)) (entities : List meant.Entity)
             → AllDiffer names → EntityIsKnown names entity → IsSet names entities self.old
-            → OnOk result (IsSet names (entities ++ entity_meaning names entity ∷ []) self.new) }
+            → OnOk result
+                (IsSet names (entities ++ entity_meaning names entity ∷ []) self.new) }
     {
         if self.seen.insert(Identity::of(entity))? {
             self.list.push(entity)?;
@@ -78,7 +80,8 @@ impl EntitySet {
     /// The entities, in the order in which they were first added.
     pub fn entities(&self) -> &[Entity]
         ensures entities { (names : List (List ℕ)) (entities : List meant.Entity)
-            → IsSet names entities self.now → entities_meaning names result.now ≡ distinct entities }
+            → IsSet names entities self.now
+            → entities_meaning names result.now ≡ distinct entities }
         ensures known { (names : List (List ℕ)) (entities : List meant.Entity)
             → IsSet names entities self.now → All (EntityIsKnown names) result.now }
     {
