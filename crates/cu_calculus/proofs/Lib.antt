@@ -10,6 +10,7 @@ pub mod FlatFitting
 pub mod FlatTerms
 pub mod FlatValid
 pub mod Joining
+pub mod Levels
 pub mod ListToRelation
 pub mod Lists
 pub mod Matches

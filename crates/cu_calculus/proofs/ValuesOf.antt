@@ -9,10 +9,10 @@ use Rattle.cu_calculus.specs.Gives.{AllGive, Applied, Claim, Gives, collected}
 use Rattle.cu_calculus.specs.Match.{Environment, bind, bind_all, empty}
 use Rattle.cu_calculus.specs.Program.{Program, arity_in, function_of}
 use Rattle.cu_calculus.specs.Proof.{is_claim_of}
-use Rattle.cu_calculus.specs.Shape.{are_of, is_of, takes, takes_more}
+use Rattle.cu_calculus.specs.Shape.{are_of, is_allowed, is_of, takes, takes_more}
 use Rattle.cu_calculus.specs.Term as term
 use Rattle.cu_calculus.specs.Term.{Term, Terms}
-use Rattle.cu_calculus.specs.Valid.{IsValid, also, fit_alternatives, fit_terms, fits_term, is_allowed, term_count}
+use Rattle.cu_calculus.specs.Valid.{IsValid, also, fit_alternatives, fit_terms, fits_term, term_count}
 use Rattle.cu_calculus.specs.Value as value
 use Rattle.cu_calculus.specs.Value.{Value, Values, and_then, count}
 use Rattle.cu_calculus.proofs.Fitting.{any, fits_alternative, fits_any, fits_bound, fits_rule_body}
@@ -27,10 +27,8 @@ fits_whole program h ts f =
     ((and_parts (is_allowed program h) (takes (arity_in program h) (term_count ts)) parts.0).1, parts.1)
 
 pub fits_part : (program : Program) (h : Head) (ts : Terms) → IsTrue (fits_term program any (term.Part h ts))
-    → IsTrue (takes_more (arity_in program h) (term_count ts)) × IsTrue (fit_terms program any ts)
-fits_part program h ts f =
-    let parts = and_parts (is_allowed program h && takes_more (arity_in program h) (term_count ts)) (fit_terms program any ts) f in
-    ((and_parts (is_allowed program h) (takes_more (arity_in program h) (term_count ts)) parts.0).1, parts.1)
+    → IsTrue (is_allowed program h && takes_more (arity_in program h) (term_count ts)) × IsTrue (fit_terms program any ts)
+fits_part program h ts f = and_parts (is_allowed program h && takes_more (arity_in program h) (term_count ts)) (fit_terms program any ts) f
 
 -- terms have as many values
 pub give_count : (program : Program) (claims : List Claim) (env : Environment) (ts : Terms) (us : Values) → AllGive program claims env ts us
@@ -40,16 +38,19 @@ give_count program claims env _ _ (gives.more _ t ts v vs p ps) = ap (λ n. n + 
 
 -- what a partial application of a program is
 pub partial_of : (program : Program) (h : Head) (us : Values) → IsTrue (is_of program (value.Partial h us)) → IsTrue (are_of program us)
-partial_of program h us k = (and_parts (takes_more (arity_in program h) (count us)) (are_of program us) k).1
+partial_of program h us k = (and_parts (is_allowed program h && takes_more (arity_in program h) (count us)) (are_of program us) k).1
 
 -- one argument more, where one more is missing still, and where none is
-pub extended_of : (program : Program) (h : Head) (us more : Values) (u : Value) (n : ℕ) → IsTrue (are_of program us) → IsTrue (is_of program u)
-    → arity_in program h ≡ Some n → count us + 1 < n → more ≡ and_then us u → IsTrue (is_of program (value.Partial h more))
+pub extended_of : (program : Program) (h : Head) (us more : Values) (u : Value) (n : ℕ) → IsTrue (is_of program (value.Partial h us))
+    → IsTrue (is_of program u) → arity_in program h ≡ Some n → count us + 1 < n → more ≡ and_then us u → IsTrue (is_of program (value.Partial h more))
 extended_of program h us more u n p q e l m =
+    let whole = and_parts (is_allowed program h && takes_more (arity_in program h) (count us)) (are_of program us) p in
+    let allowed = (and_parts (is_allowed program h) (takes_more (arity_in program h) (count us)) whole.0).0 in
     let counts : count more ≡ count us + 1 = ap count m ∙ and_then_count us u in
     let fewer : IsTrue (takes_more (arity_in program h) (count more)) = rw (e, counts) (lt-ltb (count us + 1) n l) in
-    let arguments : IsTrue (are_of program more) = subst (λ (x : Values). IsTrue (are_of program x)) (sym m) (and_then_of program us u p q) in
-    and_from (takes_more (arity_in program h) (count more)) (are_of program more) fewer arguments
+    let arguments : IsTrue (are_of program more) = subst (λ (x : Values). IsTrue (are_of program x)) (sym m) (and_then_of program us u whole.1 q) in
+    and_from (is_allowed program h && takes_more (arity_in program h) (count more)) (are_of program more)
+    (and_from (is_allowed program h) (takes_more (arity_in program h) (count more)) allowed fewer) arguments
 
 pub completed_of : (program : Program) (h : Head) (us all : Values) (u : Value) → IsTrue (are_of program us) → IsTrue (is_of program u)
     → arity_in program h ≡ Some (count us + 1) → all ≡ and_then us u
@@ -81,12 +82,12 @@ module _ (program : Program) (claims : List Claim) (valid : IsValid program) (cl
         applied_of h us v app whole (all_give_of env ts us ps known parts.1)
     gives_of env _ _ (gives.part _ h ts us ps) known fits =
         let parts = fits_part program h ts fits in
-        let fewer : IsTrue (takes_more (arity_in program h) (count us)) =
-        subst (λ (n : ℕ). IsTrue (takes_more (arity_in program h) n)) (give_count program claims env ts us ps) parts.0 in
-        and_from (takes_more (arity_in program h) (count us)) (are_of program us) fewer (all_give_of env ts us ps known parts.1)
+        let fewer : IsTrue (is_allowed program h && takes_more (arity_in program h) (count us)) =
+        subst (λ (n : ℕ). IsTrue (is_allowed program h && takes_more (arity_in program h) n)) (give_count program claims env ts us ps) parts.0 in
+        and_from (is_allowed program h && takes_more (arity_in program h) (count us)) (are_of program us) fewer (all_give_of env ts us ps known parts.1)
     gives_of env _ _ (gives.extended _ f a h us more u n p q e l m) known fits =
         let parts = and_parts (fits_term program any f) (fits_term program any a) fits in
-        extended_of program h us more u n (partial_of program h us (gives_of env f (value.Partial h us) p known parts.0))
+        extended_of program h us more u n (gives_of env f (value.Partial h us) p known parts.0)
         (gives_of env a u q known parts.1) e l m
     gives_of env _ _ (gives.completed _ f a h us all u v p q e m app) known fits =
         let parts = and_parts (fits_term program any f) (fits_term program any a) fits in

@@ -1,5 +1,6 @@
--- Flat programs: what definitional trees make of a program. A function has one rule, whose parameters are variables, and
--- every case distinction looks at one constructor or literal (Antoy, Definitional trees, 1992; Hanus, FlatCurry).
+-- Flat programs: what definitional trees make of a program. A function has one rule, whose parameters are different
+-- variables, and every case distinction looks at one constructor or literal (Antoy, Definitional trees, 1992; Hanus,
+-- FlatCurry).
 use Rattle.std.specs.Prelude.{Bool, true, false, not, ◌&&◌, List, [], ◌∷◌}
 use Rattle.std.specs.List.{list_all, list_any}
 use Rattle.cu_calculus.specs.Choose.{Demand, ALiteral, AConstructor, demand_of}
@@ -8,6 +9,7 @@ use Rattle.cu_calculus.specs.Match.{same_constructor}
 use Rattle.cu_calculus.specs.Program.{Body, External, Program, Rules}
 use Rattle.cu_calculus.specs.Term as term
 use Rattle.cu_calculus.specs.Term.{Alternatives, Pattern, Patterns, Term, Terms}
+use Rattle.cu_calculus.specs.Valid.{all_variables, is_linear}
 
 -- patterns that are variables
 abbrev pub are_variables : Patterns → Bool
@@ -58,7 +60,7 @@ abbrev mutual
 
 abbrev pub is_flat_body : Body → Bool
 is_flat_body (External operation) = true
-is_flat_body (Rules (rule ∷ [])) = are_variables rule.params && is_flat_term rule.body
+is_flat_body (Rules (rule ∷ [])) = are_variables rule.params && is_linear (all_variables rule.params) && is_flat_term rule.body
 is_flat_body (Rules _) = false
 
 -- a flat program

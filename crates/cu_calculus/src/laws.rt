@@ -11,7 +11,7 @@ ghost use Rattle.cu_calculus.specs.Builtin.{AllCompare, Answers, Compares};
 ghost use Rattle.cu_calculus.specs.Calls.{call_statement};
 ghost use Rattle.cu_calculus.specs.Choose.{Again, Chooses, Narrow, Row, look};
 ghost use Rattle.cu_calculus.specs.Chosen.{chosen, chosen_after, looks};
-ghost use Rattle.cu_calculus.specs.Claims.{AreTrue, Concludes, Derives, IsExact, level_of};
+ghost use Rattle.cu_calculus.specs.Claims.{AreLeastLevels, AreTrue, Concludes, Derives, DerivesAt, IsExact, level_of};
 ghost use Rattle.cu_calculus.specs.Compared.{all_compared, compared};
 ghost use Rattle.cu_calculus.specs.Gives.{Claim, Gives};
 ghost use Rattle.cu_calculus.specs.Joined.{joined, moved};
@@ -138,8 +138,12 @@ pub fn calls_have_proofs()
         → IsProved program claims (call_statement f vs v) }
     ensures concluded { (program : Program) (claims : List Claim) (f : FunId) (vs : Values) (v : Value)
         → IsProved program claims (call_statement f vs v) → Concludes program claims f vs v }
-    ensures derived { (program : Program) (levels : List ℕ) (f : FunId) (vs : Values) (v : Value) → IsValid program
-        → Derives program levels f vs v
+    ensures derived { (program : Program) (f : FunId) (vs : Values) (v : Value) → IsValid program
+        → Derives program f vs v
+        ↔ ((levels : List ℕ) × AreLeastLevels program levels × (claims : List Claim) × AreTrue program levels (level_of levels f) claims
+        × IsProved program claims (call_statement f vs v)) }
+    ensures derived_at { (program : Program) (levels : List ℕ) (f : FunId) (vs : Values) (v : Value) → IsValid program
+        → DerivesAt program levels f vs v
         ↔ ((claims : List Claim) × AreTrue program levels (level_of levels f) claims × IsProved program claims (call_statement f vs v)) }
 {}
 
@@ -169,6 +173,12 @@ pub fn cited_claims_suffice()
     ensures proofs { (program : Program) (claims others : List Claim) (proof : List Step) (checks : Checks program claims proof)
         → IsTrue (list_all (is_claim_of program) others) → AreRows (proof_cited program claims proof checks.follows) others
         → Checks program others proof }
+{}
+
+/// Least levels are unique: a program has one list of them at most.
+pub fn least_levels_are_unique()
+    ensures { (program : Program) (levels others : List ℕ) → AreLeastLevels program levels → AreLeastLevels program others
+        → levels ≡ others }
 {}
 
 /// True claims are of their program. Rows of true claims are true, two lists
