@@ -1,5 +1,5 @@
 -- Least levels are unique.
-use Rattle.std.proofs.Common.{◌≡◌, ℕ, zero, suc, ◌≤◌, List, [], ◌∷◌, length, slice_index, refl, ap₂, sym, ◌∙◌, arith}
+use Rattle.std.proofs.Common.{◌≡◌, ℕ, suc, ◌≤◌, List, [], ◌∷◌, length, slice_index, refl, ap₂, sym, ◌∙◌, arith}
 use Rattle.cu_calculus.specs.Claims.{AreLeastLevels}
 use Rattle.cu_calculus.specs.Program.{Program}
 

@@ -3,9 +3,11 @@ pub mod BelowLaws
 pub mod CallStatements
 pub mod Choices
 pub mod Choosing
+pub mod CoinValues
 pub mod Comparing
 pub mod ExactClaims
 pub mod Fitting
+pub mod FlatChoices
 pub mod FlatFitting
 pub mod FlatTerms
 pub mod FlatValid
@@ -13,11 +15,14 @@ pub mod Joining
 pub mod Levels
 pub mod ListToRelation
 pub mod Lists
+pub mod Looks
 pub mod Matches
 pub mod MoreClaims
 pub mod OfProgram
+pub mod PairwiseMatches
 pub mod RelationToList
 pub mod RisingBindings
+pub mod TakenMatches
 pub mod TrueClaims
 pub mod ValueOrder
 pub mod ValuesOf
