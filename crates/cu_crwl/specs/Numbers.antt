@@ -1,5 +1,5 @@
 -- Operations on one and two literals.
-use Rattle.std.specs.Prelude.{List, [], ◌∷◌, Option, None, Some, if◌then◌else◌, ℤ, pos}
+use Rattle.std.specs.Prelude.{List, [], ◌∷◌, Option, None, Some, pos}
 use Rattle.cu_calculus.specs.declared.Lit.{Lit}
 use Rattle.cu_calculus.specs.declared.Lit.TheVariants.{Char, Int}
 use Rattle.cu_calculus.specs.declared.builtin.Primitive.{Primitive}

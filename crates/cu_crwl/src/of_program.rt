@@ -115,9 +115,7 @@ fn cell_is_of(heads: &Heads, cell: Cell) -> bool
         Cell::LVar(_) => true,
         Cell::Lit(literal) => literal_is_of(literal),
         Cell::Con(constructor, count) => heads.takes(Head::Con(constructor), count as usize),
-        Cell::Part(head, count) => {
-            heads.allows(head) && heads.takes_more(head, count as usize)
-        }
+        Cell::Part(head, count) => { heads.allows(head) && heads.takes_more(head, count as usize) }
     }
 }
 

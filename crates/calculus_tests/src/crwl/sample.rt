@@ -2,10 +2,7 @@
 //! `keep x y = x`, `loop = loop`, `&&`, and built-in operations, over the
 //! types of truths, lists, sets' values and pairs.
 
-use cu_kernel::{
-    Body, ConId, Constructor, DataType, FunId, Function, Head, Lit, Mark, ModuleInfo, Pattern,
-    Prim, Program, ProgramParts, Rule, Special, Term, TypeTerm,
-};
+use cu_kernel::{Body, ConId, Constructor, DataType, FunId, Function, Head, Int, Lit, Mark, ModuleInfo, Pattern, Prim, Program, ProgramParts, Rule, Special, Term, TypeTerm};
 use cu_names::{NameId, Place};
 use std::alloc::{AllocError, Global};
 use std::process::Abort;
@@ -49,6 +46,18 @@ pub(crate) const LESS: FunId = FunId(11);
 pub(crate) const CHR: FunId = FunId(12);
 
 pub(crate) const FAILED: FunId = FunId(13);
+
+pub(crate) const MINUS: FunId = FunId(14);
+
+pub(crate) const TIMES: FunId = FunId(15);
+
+pub(crate) const AT_MOST: FunId = FunId(16);
+
+pub(crate) const GREATER: FunId = FunId(17);
+
+pub(crate) const AT_LEAST: FunId = FunId(18);
+
+pub(crate) const ORD: FunId = FunId(19);
 
 const NAME: NameId = NameId(0);
 
@@ -126,7 +135,7 @@ fn false_rule(alloc: Global) -> Result<Rule, AllocError> {
 }
 
 /// `coin =` a number
-fn coin_rule(alloc: Global, number: i64) -> Rule {
+fn coin_rule(alloc: Global, number: Int) -> Rule {
     rule(Vec::new(alloc), Term::Lit(Lit::Int(number)))
 }
 
@@ -200,6 +209,12 @@ fn add_operations(functions: &mut Vec<Function>) -> Result<(), AllocError> {
         (2, Prim::Less),
         (1, Prim::Chr),
         (0, Prim::Failed),
+        (2, Prim::Sub),
+        (2, Prim::Mul),
+        (2, Prim::AtMost),
+        (2, Prim::Greater),
+        (2, Prim::AtLeast),
+        (1, Prim::Ord),
     ] {
         functions.push(function(arity, Body::External(operation)))?;
     }
@@ -240,7 +255,7 @@ fn add_parts(alloc: Global, parts: &mut ProgramParts) -> Result<(), AllocError> 
     add_module(alloc, &mut parts.modules)
 }
 
-fn no_parts(alloc: Global) -> ProgramParts {
+fn no_parts(alloc: Global, values: Option<ConId>) -> ProgramParts {
     ProgramParts {
         types: Vec::new(alloc),
         functions: Vec::new(alloc),
@@ -254,14 +269,19 @@ fn no_parts(alloc: Global) -> ProgramParts {
             nil: NIL,
             cons: CONS,
             both: BOTH,
-            values: Some(VALUES),
+            values,
         },
     }
 }
 
-/// The sample program.
-pub(crate) fn sample<R: Abort>(rt: &R, alloc: Global) -> Result<Program, AllocError> {
-    let mut parts = no_parts(alloc);
+/// The sample program, with this constructor of sets' values, or without set
+/// functions.
+pub(crate) fn sample<R: Abort>(
+    rt: &R,
+    alloc: Global,
+    values: Option<ConId>,
+) -> Result<Program, AllocError> {
+    let mut parts = no_parts(alloc, values);
     add_parts(alloc, &mut parts)?;
     assert!(rt; parts.valid(alloc)?);
     Ok(Program::new(parts))

@@ -1,11 +1,11 @@
 //! `==`, `=:=` and `&`.
 
 use super::draft::{
-    Bindings, Draft, Worth, constant, constructed, expect, int, list, number, on_two, one_binding,
+    Bindings, Draft, Made, Worth, character, constant, constructed, expect, int, letter, list, number, on_two, one_binding,
     pair, pair_of, part_on_one, partial_on_one, truth, unknown, variable,
 };
 use super::sample::{AND, COIN, CONS, EQUAL, FALSE, NIL, PAIR, PLUS, TRUE, UNIFY};
-use cu_kernel::{FunId, Head};
+use cu_kernel::{FunId, Head, Int};
 use cu_values::Value;
 use std::alloc::Global;
 
@@ -13,8 +13,8 @@ use std::alloc::Global;
 fn of_pairs(
     alloc: Global,
     operation: FunId,
-    left: (i64, i64),
-    right: (i64, i64),
+    left: (Int, Int),
+    right: (Int, Int),
     verdict: bool,
 ) -> Draft {
     let mut draft = Draft::new(alloc);
@@ -59,7 +59,7 @@ fn pairs_that_differ(rt: HostRuntime) {
 }
 
 /// An operation on two lists of one number each has a value.
-fn of_lists(alloc: Global, operation: FunId, left: i64, right: i64, verdict: bool) -> Draft {
+fn of_lists(alloc: Global, operation: FunId, left: Int, right: Int, verdict: bool) -> Draft {
     let mut draft = Draft::new(alloc);
     draft.int(left);
     draft.int(right);
@@ -155,7 +155,7 @@ fn unknown_first(alloc: Global) -> Draft {
 }
 
 /// `(m, coin) == (n, coin)` has a value, where `coin` isn't known.
-fn unknown_second(alloc: Global, left: i64, right: i64, verdict: bool) -> Draft {
+fn unknown_second(alloc: Global, left: Int, right: Int, verdict: bool) -> Draft {
     let coin = Head::Fun(COIN);
     let mut draft = Draft::new(alloc);
     draft.step(&[], constant(alloc, coin), unknown(alloc));
@@ -297,4 +297,60 @@ fn a_conjunction_is_true_or_nothing(rt: HostRuntime) {
     expect(&rt, false, conjoined(alloc, true, false, true));
     expect(&rt, false, conjoined(alloc, true, false, false));
     expect(&rt, false, conjoined(alloc, false, true, true));
+}
+
+/// A literal, or the empty list.
+#[derive(Clone, Copy)]
+enum Simple {
+    Number(Int),
+    Letter(char),
+    Empty,
+}
+
+impl Simple {
+    fn term(self, alloc: Global) -> Made {
+        match self {
+            Simple::Number(n) => int(n),
+            Simple::Letter(c) => letter(c),
+            Simple::Empty => constant(alloc, Head::Con(NIL)),
+        }
+    }
+
+    fn value(self, alloc: Global) -> Worth {
+        match self {
+            Simple::Number(n) => number(alloc, n),
+            Simple::Letter(c) => character(alloc, c),
+            Simple::Empty => constructed(alloc, NIL),
+        }
+    }
+}
+
+/// `==` on two of them has a value.
+fn of_simple(alloc: Global, left: Simple, right: Simple, verdict: bool) -> Draft {
+    let mut draft = Draft::new(alloc);
+    draft.step(&[], left.term(alloc), left.value(alloc));
+    draft.step(&[], right.term(alloc), right.value(alloc));
+    let both = on_two(
+        alloc,
+        Head::Fun(EQUAL),
+        left.term(alloc),
+        right.term(alloc),
+    );
+    draft.step(&[0, 1], both, truth(alloc, verdict));
+    draft
+}
+
+#[test]
+fn literals_and_constructors_differ(rt: HostRuntime) {
+    let alloc = rt.alloc();
+    for (left, right, verdict) in [
+        (Simple::Letter('a'), Simple::Letter('a'), true),
+        (Simple::Letter('a'), Simple::Letter('b'), false),
+        (Simple::Letter('a'), Simple::Number(97), false),
+        (Simple::Number(1), Simple::Empty, false),
+        (Simple::Empty, Simple::Letter('a'), false),
+    ] {
+        expect(&rt, true, of_simple(alloc, left, right, verdict));
+        expect(&rt, false, of_simple(alloc, left, right, !verdict));
+    }
 }

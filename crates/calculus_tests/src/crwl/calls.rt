@@ -5,11 +5,11 @@ use super::draft::{
     unknown, variable,
 };
 use super::sample::{BOTH, COIN, DOUBLE, FALSE, KEEP, PLUS, TRUE};
-use cu_kernel::{ConId, Head};
+use cu_kernel::{ConId, Head, Int};
 use std::alloc::Global;
 
 /// `0` has a value.
-fn zero(alloc: Global, value: i64) -> Draft {
+fn zero(alloc: Global, value: Int) -> Draft {
     let mut draft = Draft::new(alloc);
     draft.step(&[], int(0), number(alloc, value));
     draft
@@ -17,7 +17,7 @@ fn zero(alloc: Global, value: i64) -> Draft {
 
 /// `double coin` has a value, where `coin` gives a number, and the uses of
 /// the variable give two.
-fn doubled(alloc: Global, given: i64, uses: (i64, i64), value: i64) -> Draft {
+fn doubled(alloc: Global, given: Int, uses: (Int, Int), value: Int) -> Draft {
     let coin = Head::Fun(COIN);
     let mut draft = Draft::new(alloc);
     draft.int(given);
@@ -39,7 +39,7 @@ fn doubled(alloc: Global, given: i64, uses: (i64, i64), value: i64) -> Draft {
 }
 
 /// `coin + coin` has a value, where the two calls give 0 and 1.
-fn added(alloc: Global, value: i64) -> Draft {
+fn added(alloc: Global, value: Int) -> Draft {
     let coin = Head::Fun(COIN);
     let mut draft = Draft::new(alloc);
     draft.int(0);
@@ -137,7 +137,7 @@ fn joined_with_unknown(alloc: Global) -> Draft {
 
 /// `keep 1 coin` is 1, where `coin` gives something, and the second variable
 /// stands for something.
-fn kept(alloc: Global, coin_is_known: bool, bound_to: Option<i64>) -> Draft {
+fn kept(alloc: Global, coin_is_known: bool, bound_to: Option<Int>) -> Draft {
     let coin = Head::Fun(COIN);
     let mut draft = Draft::new(alloc);
     draft.int(1);

@@ -1,15 +1,16 @@
 //! Choices and case distinctions.
 
 use super::draft::{
-    Bindings, Draft, Made, Rows, case, constant, expect, int, number, on_two, one_binding, or,
-    pair, pair_of, two_bindings, unknown, variable,
+    Bindings, Draft, Made, Rows, Worth, case, constant, constructed, expect, int, number, on_two,
+    one_binding, or, pair, pair_of, partial, two_bindings, unknown, variable,
 };
-use super::sample::{COIN, PAIR};
-use cu_kernel::{Head, Lit, Pattern, Term};
+use super::sample::{COIN, DOUBLE, FALSE, NIL, PAIR, TRUE};
+use cu_kernel::{ConId, Head, Int, Lit, Pattern, Term};
+use cu_values::Value;
 use std::alloc::{AllocError, Global};
 
 /// `1 ? 2` has a value, since a number has its own.
-fn either(alloc: Global, cited: i64, value: i64) -> Draft {
+fn either(alloc: Global, cited: Int, value: Int) -> Draft {
     let mut draft = Draft::new(alloc);
     draft.int(cited);
     draft.step(&[0], or(alloc, int(1), int(2)), number(alloc, value));
@@ -46,7 +47,7 @@ fn alias_rows(alloc: Global) -> Rows {
 
 /// `case n of { 0 -> 1; x -> 2 }` is 1 by the first alternative, or 2 by the
 /// second.
-fn of_number(alloc: Global, n: i64, by_first: bool) -> Draft {
+fn of_number(alloc: Global, n: Int, by_first: bool) -> Draft {
     let value = if by_first { 1 } else { 2 };
     let mut draft = Draft::new(alloc);
     draft.int(n);
@@ -113,7 +114,7 @@ fn case_of(alloc: Global, scrutinee: Made) -> Made {
 
 /// That case distinction over a pair of numbers has the second number as its
 /// value by the first alternative, or 7 by the second.
-fn of_pair(alloc: Global, first: i64, second: i64, by_first: bool) -> Draft {
+fn of_pair(alloc: Global, first: Int, second: Int, by_first: bool) -> Draft {
     let mut draft = Draft::new(alloc);
     draft.int(first);
     draft.int(second);
@@ -173,4 +174,98 @@ fn patterns_are_looked_at_from_the_left(rt: HostRuntime) {
     expect(&rt, true, of_pair(alloc, 3, 2, false));
     expect(&rt, false, of_pair(alloc, 3, 4, false));
     expect(&rt, false, of_unknown(alloc));
+}
+
+/// What no pattern but a variable fits.
+#[derive(Clone, Copy)]
+enum Undecided {
+    Variable,
+    Function,
+}
+
+impl Undecided {
+    fn value(self, alloc: Global) -> Worth {
+        match self {
+            Undecided::Variable => Value::variable(alloc, 7),
+            Undecided::Function => partial(alloc, Head::Fun(DOUBLE)),
+        }
+    }
+}
+
+/// `x -> 2`
+fn only_row(alloc: Global) -> Rows {
+    let row = (Pattern::Var(0), Term::Lit(Lit::Int(2)));
+    Ok(vec![in alloc; row]?)
+}
+
+/// A case distinction over the variable 1 is 2 by an alternative of the
+/// variable 0, where the variable 1 stands for something undecided.
+fn of_undecided(alloc: Global, given: Undecided, rows: Rows) -> Draft {
+    let mut draft = Draft::new(alloc);
+    draft.step_with(
+        one_binding(alloc, 1, given.value(alloc)),
+        &[],
+        variable(1),
+        given.value(alloc),
+    );
+    draft.step_with(
+        two_bindings(alloc, 0, given.value(alloc), 1, given.value(alloc)),
+        &[],
+        int(2),
+        number(alloc, 2),
+    );
+    draft.step_with(
+        one_binding(alloc, 1, given.value(alloc)),
+        &[0, 1],
+        case(alloc, variable(1), rows),
+        number(alloc, 2),
+    );
+    draft
+}
+
+#[test]
+fn what_is_undecided_stops_the_choice(rt: HostRuntime) {
+    let alloc = rt.alloc();
+    for given in [Undecided::Variable, Undecided::Function] {
+        expect(&rt, true, of_undecided(alloc, given, only_row(alloc)));
+        expect(&rt, false, of_undecided(alloc, given, number_rows(alloc)));
+    }
+}
+
+/// `True -> 1`, `x -> 2`
+fn truth_rows(alloc: Global) -> Rows {
+    let first = (
+        Pattern::Con(TRUE, Vec::new(alloc)),
+        Term::Lit(Lit::Int(1)),
+    );
+    let other = (Pattern::Var(0), Term::Lit(Lit::Int(2)));
+    Ok(vec![in alloc; first, other]?)
+}
+
+/// `case c of { True -> 1; x -> 2 }` is 2 by the second alternative.
+fn of_constant(alloc: Global, constructor: ConId) -> Draft {
+    let mut draft = Draft::new(alloc);
+    let term = constant(alloc, Head::Con(constructor));
+    draft.step(&[], term, constructed(alloc, constructor));
+    draft.step_with(
+        one_binding(alloc, 0, constructed(alloc, constructor)),
+        &[],
+        int(2),
+        number(alloc, 2),
+    );
+    let again = constant(alloc, Head::Con(constructor));
+    draft.step(
+        &[0, 1],
+        case(alloc, again, truth_rows(alloc)),
+        number(alloc, 2),
+    );
+    draft
+}
+
+#[test]
+fn a_constructor_of_another_type_takes_nothing(rt: HostRuntime) {
+    let alloc = rt.alloc();
+    expect(&rt, true, of_constant(alloc, FALSE));
+    expect(&rt, false, of_constant(alloc, TRUE));
+    expect(&rt, false, of_constant(alloc, NIL));
 }

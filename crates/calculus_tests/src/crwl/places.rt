@@ -5,8 +5,8 @@ use super::draft::{
     one_value, pair, pair_of, partial_on_one, partial_on_two, two_bindings, unknown, variable,
 };
 use super::sample::{LOOP, PAIR, PLUS};
-use crate::{Statement, conclusion};
-use cu_kernel::{Head, Lit, Term};
+use cu_crwl::{Statement, conclusion};
+use cu_kernel::{Head, Int, Lit, Term};
 use cu_values::Cell;
 use std::alloc::{AllocError, Global};
 use std::process::Abort;
@@ -46,7 +46,7 @@ fn from_places(alloc: Global, cites: &[usize]) -> Draft {
 }
 
 /// 0 is worth itself, beside a step of which it makes no use.
-fn beside_step(alloc: Global, value: i64) -> Draft {
+fn beside_step(alloc: Global, value: Int) -> Draft {
     let mut draft = Draft::new(alloc);
     draft.step(&[], int(5), number(alloc, value));
     draft.int(0);

@@ -1,11 +1,11 @@
 //! Set functions and claims.
 
 use super::draft::{
-    Draft, Worth, apply, constant, constructed, expect, int, list, list_before, number, on_one,
+    Draft, Worth, apply, constant, constructed, expect, expect_without_sets, int, list, list_before, number, on_one,
     one_binding, one_value, part, partial, two_values, unknown, variable,
 };
 use super::sample::{COIN, CONS, DOUBLE, NIL, PAIR, VALUES};
-use cu_kernel::{FunId, Head};
+use cu_kernel::{FunId, Head, Int};
 use cu_values::Value;
 use std::alloc::{AllocError, Global};
 
@@ -13,7 +13,7 @@ fn one(alloc: Global, value: Worth) -> Result<Vec<Value>, AllocError> {
     Ok(vec![in alloc; value?]?)
 }
 
-fn all_numbers(alloc: Global, numbers: &[i64]) -> Result<Vec<Value>, AllocError> {
+fn all_numbers(alloc: Global, numbers: &[Int]) -> Result<Vec<Value>, AllocError> {
     let mut values = Vec::new(alloc);
     for n in numbers {
         values.push(number(alloc, *n)?)?;
@@ -31,7 +31,7 @@ fn coins(draft: &mut Draft, alloc: Global, listed: Worth) {
 }
 
 /// So it is, where the claims say that `coin` has these values.
-fn claimed_coins(alloc: Global, numbers: &[i64], listed: Worth) -> Draft {
+fn claimed_coins(alloc: Global, numbers: &[Int], listed: Worth) -> Draft {
     let mut draft = Draft::new(alloc);
     draft.claim(COIN, Ok(Vec::new(alloc)), all_numbers(alloc, numbers));
     coins(&mut draft, alloc, listed);
@@ -77,7 +77,7 @@ fn a_set_call_is_worth_the_claimed_list_or_less(rt: HostRuntime) {
 
 /// The set call of `double` on a number is worth the list of 2, where the
 /// claims say that `double` has the value 2 on 1.
-fn doubles(alloc: Global, n: i64) -> Draft {
+fn doubles(alloc: Global, n: Int) -> Draft {
     let mut draft = Draft::new(alloc);
     draft.claim(DOUBLE, all_numbers(alloc, &[1]), all_numbers(alloc, &[2]));
     draft.int(n);
@@ -135,7 +135,7 @@ fn arguments_of_a_set_call_are_ground(rt: HostRuntime) {
 
 /// The set function of `double` in part, applied to 1, is worth the list of a
 /// number, where the claims say that `double` has the value 2 on 1.
-fn applied(alloc: Global, value: i64) -> Draft {
+fn applied(alloc: Global, value: Int) -> Draft {
     let doubles = Head::Set(DOUBLE);
     let mut draft = Draft::new(alloc);
     draft.claim(DOUBLE, all_numbers(alloc, &[1]), all_numbers(alloc, &[2]));
@@ -176,4 +176,23 @@ fn claims_speak_of_the_program(rt: HostRuntime) {
     expect(&rt, false, no_function);
     let no_value = beside_claim(alloc, COIN, constructed(alloc, PAIR));
     expect(&rt, false, no_value);
+}
+
+/// A variable that stands for a head without arguments has a value of which
+/// nothing is known.
+fn standing_for(alloc: Global, head: Head) -> Draft {
+    let mut draft = Draft::new(alloc);
+    let env = one_binding(alloc, 0, partial(alloc, head));
+    draft.step_with(env, &[], variable(0), unknown(alloc));
+    draft
+}
+
+#[test]
+fn set_functions_are_values_where_the_program_has_sets(rt: HostRuntime) {
+    let alloc = rt.alloc();
+    let function = Head::Fun(DOUBLE);
+    let set_function = Head::Set(DOUBLE);
+    expect(&rt, true, standing_for(alloc, set_function));
+    expect_without_sets(&rt, false, standing_for(alloc, set_function));
+    expect_without_sets(&rt, true, standing_for(alloc, function));
 }

@@ -5,7 +5,7 @@ use super::draft::{
     one_binding, pair, pair_of, part, part_on_one, partial, partial_on_one, unknown, variable,
 };
 use super::sample::{COIN, DOUBLE, FAILED, PAIR, PLUS};
-use cu_kernel::Head;
+use cu_kernel::{Int, Head};
 use cu_values::Value;
 use std::alloc::Global;
 
@@ -71,7 +71,7 @@ fn all_terms_are_worth_what_is_unknown(rt: HostRuntime) {
 
 /// `let x = coin in x + x` has a value, where `coin` gives a number, and the
 /// variable stands for one.
-fn locally(alloc: Global, given: i64, bound_to: i64, value: i64) -> Draft {
+fn locally(alloc: Global, given: Int, bound_to: Int, value: Int) -> Draft {
     let coin = Head::Fun(COIN);
     let plus = Head::Fun(PLUS);
     let mut draft = Draft::new(alloc);
@@ -115,7 +115,7 @@ fn freely(alloc: Global, env: Bindings) -> Draft {
 }
 
 /// `let x free in x` has a value, where x stands for 3.
-fn free_three(alloc: Global, value: i64) -> Draft {
+fn free_three(alloc: Global, value: Int) -> Draft {
     let mut draft = Draft::new(alloc);
     draft.use_of_zero(3);
     draft.step(&[0], free_in(alloc, 0, variable(0)), number(alloc, value));
@@ -160,7 +160,7 @@ fn completed(alloc: Global, head: Head, value: Worth) -> Draft {
 }
 
 /// `(+)` applied to 1 is the partial application of it to a number.
-fn extended(alloc: Global, argument: i64) -> Draft {
+fn extended(alloc: Global, argument: Int) -> Draft {
     let plus = Head::Fun(PLUS);
     let mut draft = Draft::new(alloc);
     draft.step(&[], part(alloc, plus), partial(alloc, plus));
@@ -175,7 +175,7 @@ fn extended(alloc: Global, argument: i64) -> Draft {
 
 /// The function `double`, applied to 1, has a value, where the variable of
 /// its rule stands for a number.
-fn doubled(alloc: Global, bound_to: i64, value: i64) -> Draft {
+fn doubled(alloc: Global, bound_to: Int, value: Int) -> Draft {
     let double = Head::Fun(DOUBLE);
     let mut draft = Draft::new(alloc);
     draft.step(&[], part(alloc, double), partial(alloc, double));

@@ -1,8 +1,8 @@
 //! Terms, values and steps, written one by one.
 
-use super::sample::{CONS, FALSE, NIL, PAIR, TRUE, sample};
-use crate::{Claim, Claims, Proof, Statement, Step, checks};
-use cu_kernel::{ConId, FunId, Head, Lit, Mode, Pattern, Term};
+use super::sample::{CONS, FALSE, NIL, PAIR, TRUE, VALUES, sample};
+use cu_crwl::{Claim, Claims, Proof, Statement, Step, checks};
+use cu_kernel::{ConId, FunId, Head, Int, Lit, Mode, Pattern, Term};
 use cu_values::Value;
 use std::alloc::{AllocError, Global};
 use std::process::Abort;
@@ -13,8 +13,12 @@ pub(crate) type Made = Result<Term, AllocError>;
 /// A value, if there was memory for it.
 pub(crate) type Worth = Result<Value, AllocError>;
 
-pub(crate) fn int(number: i64) -> Made {
+pub(crate) fn int(number: Int) -> Made {
     Ok(Term::Lit(Lit::Int(number)))
+}
+
+pub(crate) fn letter(character: char) -> Made {
+    Ok(Term::Lit(Lit::Char(character)))
 }
 
 pub(crate) fn variable(x: u32) -> Made {
@@ -100,7 +104,7 @@ pub(crate) fn case(alloc: Global, scrutinee: Made, rows: Rows) -> Made {
 }
 
 /// The pair of two numbers, as a term.
-pub(crate) fn pair(alloc: Global, first: i64, second: i64) -> Made {
+pub(crate) fn pair(alloc: Global, first: Int, second: Int) -> Made {
     on_two(alloc, Head::Con(PAIR), int(first), int(second))
 }
 
@@ -109,8 +113,12 @@ pub(crate) fn unknown(alloc: Global) -> Worth {
     Value::bottom(alloc)
 }
 
-pub(crate) fn number(alloc: Global, number: i64) -> Worth {
+pub(crate) fn number(alloc: Global, number: Int) -> Worth {
     Value::literal(alloc, Lit::Int(number))
+}
+
+pub(crate) fn character(alloc: Global, character: char) -> Worth {
+    Value::literal(alloc, Lit::Char(character))
 }
 
 pub(crate) fn constructed(alloc: Global, constructor: ConId) -> Worth {
@@ -147,7 +155,7 @@ pub(crate) fn pair_of(alloc: Global, first: Worth, second: Worth) -> Worth {
 }
 
 /// The list of these numbers, with what stands behind them.
-pub(crate) fn list_before(alloc: Global, numbers: &[i64], rest: Worth) -> Worth {
+pub(crate) fn list_before(alloc: Global, numbers: &[Int], rest: Worth) -> Worth {
     let mut list = rest;
     for n in numbers.iter().rev() {
         list = two_values(alloc, CONS, number(alloc, *n), list);
@@ -156,7 +164,7 @@ pub(crate) fn list_before(alloc: Global, numbers: &[i64], rest: Worth) -> Worth 
 }
 
 /// The list of these numbers.
-pub(crate) fn list(alloc: Global, numbers: &[i64]) -> Worth {
+pub(crate) fn list(alloc: Global, numbers: &[Int]) -> Worth {
     list_before(alloc, numbers, constructed(alloc, NIL))
 }
 
@@ -254,13 +262,13 @@ impl Draft {
     }
 
     /// The step that a number is worth itself.
-    pub(crate) fn int(&mut self, n: i64) {
+    pub(crate) fn int(&mut self, n: Int) {
         let alloc = self.alloc;
         self.step(&[], int(n), number(alloc, n));
     }
 
     /// The step that the variable 0, which stands for a number, is worth it.
-    pub(crate) fn use_of_zero(&mut self, n: i64) {
+    pub(crate) fn use_of_zero(&mut self, n: Int) {
         let alloc = self.alloc;
         self.step_with(
             one_binding(alloc, 0, number(alloc, n)),
@@ -271,14 +279,14 @@ impl Draft {
     }
 
     /// The step that a pair of numbers is worth itself.
-    pub(crate) fn pair(&mut self, cites: &[usize], numbers: (i64, i64)) {
+    pub(crate) fn pair(&mut self, cites: &[usize], numbers: (Int, Int)) {
         let alloc = self.alloc;
         let value = pair_of(alloc, number(alloc, numbers.0), number(alloc, numbers.1));
         self.step(cites, pair(alloc, numbers.0, numbers.1), value);
     }
 
     /// The step that a list of one number is worth itself.
-    pub(crate) fn short_list(&mut self, cites: &[usize], n: i64) {
+    pub(crate) fn short_list(&mut self, cites: &[usize], n: Int) {
         let alloc = self.alloc;
         let nil = constant(alloc, Head::Con(NIL));
         let term = on_two(alloc, Head::Con(CONS), int(n), nil);
@@ -306,15 +314,21 @@ impl Draft {
     }
 }
 
-/// What the checker says of a proof over the sample program.
-fn verdict<R: Abort>(rt: &R, draft: Draft) -> Result<bool, AllocError> {
+/// What the checker says of a proof over the sample program, which has set
+/// functions where it has a constructor of their values.
+fn verdict<R: Abort>(rt: &R, values: Option<ConId>, draft: Draft) -> Result<bool, AllocError> {
     let alloc = draft.alloc;
     let (claims, proof) = draft.finish(rt)?;
-    let program = sample(rt, alloc)?;
+    let program = sample(rt, alloc, values)?;
     checks(alloc, &program, &claims, &proof)
 }
 
 /// Expects that a proof is accepted, or that it is refused.
 pub(crate) fn expect<R: Abort>(rt: &R, accepted: bool, draft: Draft) {
-    assert_eq!(rt; verdict(rt, draft).ok(), Some(accepted));
+    assert_eq!(rt; verdict(rt, Some(VALUES), draft).ok(), Some(accepted));
+}
+
+/// Expects it where the program has no set functions.
+pub(crate) fn expect_without_sets<R: Abort>(rt: &R, accepted: bool, draft: Draft) {
+    assert_eq!(rt; verdict(rt, None, draft).ok(), Some(accepted));
 }
