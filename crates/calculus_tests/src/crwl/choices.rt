@@ -234,10 +234,7 @@ fn what_is_undecided_stops_the_choice(rt: HostRuntime) {
 
 /// `True -> 1`, `x -> 2`
 fn truth_rows(alloc: Global) -> Rows {
-    let first = (
-        Pattern::Con(TRUE, Vec::new(alloc)),
-        Term::Lit(Lit::Int(1)),
-    );
+    let first = (Pattern::Con(TRUE, Vec::new(alloc)), Term::Lit(Lit::Int(1)));
     let other = (Pattern::Var(0), Term::Lit(Lit::Int(2)));
     Ok(vec![in alloc; first, other]?)
 }

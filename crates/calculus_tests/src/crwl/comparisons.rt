@@ -1,8 +1,9 @@
 //! `==`, `=:=` and `&`.
 
 use super::draft::{
-    Bindings, Draft, Made, Worth, character, constant, constructed, expect, int, letter, list, number, on_two, one_binding,
-    pair, pair_of, part_on_one, partial_on_one, truth, unknown, variable,
+    Bindings, Draft, Made, Worth, character, constant, constructed, expect, int, letter, list,
+    number, on_two, one_binding, pair, pair_of, part_on_one, partial_on_one, truth, unknown,
+    variable,
 };
 use super::sample::{AND, COIN, CONS, EQUAL, FALSE, NIL, PAIR, PLUS, TRUE, UNIFY};
 use cu_kernel::{FunId, Head, Int};
@@ -330,12 +331,7 @@ fn of_simple(alloc: Global, left: Simple, right: Simple, verdict: bool) -> Draft
     let mut draft = Draft::new(alloc);
     draft.step(&[], left.term(alloc), left.value(alloc));
     draft.step(&[], right.term(alloc), right.value(alloc));
-    let both = on_two(
-        alloc,
-        Head::Fun(EQUAL),
-        left.term(alloc),
-        right.term(alloc),
-    );
+    let both = on_two(alloc, Head::Fun(EQUAL), left.term(alloc), right.term(alloc));
     draft.step(&[0, 1], both, truth(alloc, verdict));
     draft
 }

@@ -5,7 +5,7 @@ use super::draft::{
     one_binding, pair, pair_of, part, part_on_one, partial, partial_on_one, unknown, variable,
 };
 use super::sample::{COIN, DOUBLE, FAILED, PAIR, PLUS};
-use cu_kernel::{Int, Head};
+use cu_kernel::{Head, Int};
 use cu_values::Value;
 use std::alloc::Global;
 

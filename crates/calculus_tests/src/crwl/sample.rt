@@ -2,22 +2,25 @@
 //! `keep x y = x`, `loop = loop`, `&&`, and built-in operations, over the
 //! types of truths, lists, sets' values and pairs.
 
-use cu_kernel::{Body, ConId, Constructor, DataType, FunId, Function, Head, Int, Lit, Mark, ModuleInfo, Pattern, Prim, Program, ProgramParts, Rule, Special, Term, TypeTerm};
+use cu_kernel::{
+    Body, ConId, Constructor, DataType, FunId, Function, Head, Int, Lit, Mark, ModuleInfo, Pattern,
+    Prim, Program, ProgramParts, Rule, Special, Term, TypeTerm,
+};
 use cu_names::{NameId, Place};
 use std::alloc::{AllocError, Global};
 use std::process::Abort;
 
-pub(crate) const FALSE: ConId = ConId(0);
+pub(crate) const FALSE: ConId = ConId(17);
 
-pub(crate) const TRUE: ConId = ConId(1);
+pub(crate) const TRUE: ConId = ConId(18);
 
-pub(crate) const NIL: ConId = ConId(2);
+pub(crate) const NIL: ConId = ConId(0);
 
-pub(crate) const CONS: ConId = ConId(3);
+pub(crate) const CONS: ConId = ConId(1);
 
-pub(crate) const VALUES: ConId = ConId(4);
+pub(crate) const VALUES: ConId = ConId(19);
 
-pub(crate) const PAIR: ConId = ConId(5);
+pub(crate) const PAIR: ConId = ConId(3);
 
 pub(crate) const BOTH: FunId = FunId(0);
 
@@ -97,11 +100,28 @@ fn add_type(
     Ok(())
 }
 
-fn add_types(alloc: Global, types: &mut Vec<DataType>) -> Result<(), AllocError> {
-    add_type(types, data_type(alloc, 0, &[0, 0]))?;
+/// The types of tuples of 2 to 15 components.
+fn add_tuples(alloc: Global, types: &mut Vec<DataType>) -> Result<(), AllocError> {
+    for count in 2..16 {
+        add_type(types, data_type(alloc, count, &[count as usize]))?;
+    }
+    Ok(())
+}
+
+/// The types that every program begins with: the list, unit, tuples, `Int`
+/// and `Char`.
+fn add_first_types(alloc: Global, types: &mut Vec<DataType>) -> Result<(), AllocError> {
     add_type(types, data_type(alloc, 1, &[0, 2]))?;
-    add_type(types, data_type(alloc, 1, &[1]))?;
-    add_type(types, data_type(alloc, 2, &[2]))
+    add_type(types, data_type(alloc, 0, &[0]))?;
+    add_tuples(alloc, types)?;
+    add_type(types, data_type(alloc, 0, &[]))?;
+    add_type(types, data_type(alloc, 0, &[]))
+}
+
+fn add_types(alloc: Global, types: &mut Vec<DataType>) -> Result<(), AllocError> {
+    add_first_types(alloc, types)?;
+    add_type(types, data_type(alloc, 0, &[0, 0]))?;
+    add_type(types, data_type(alloc, 1, &[1]))
 }
 
 fn function(arity: u32, body: Body) -> Function {
@@ -283,6 +303,6 @@ pub(crate) fn sample<R: Abort>(
 ) -> Result<Program, AllocError> {
     let mut parts = no_parts(alloc, values);
     add_parts(alloc, &mut parts)?;
-    assert!(rt; parts.valid(alloc)?);
+    assert!(rt; parts.valid()?);
     Ok(Program::new(parts))
 }

@@ -1,8 +1,9 @@
 //! Set functions and claims.
 
 use super::draft::{
-    Draft, Worth, apply, constant, constructed, expect, expect_without_sets, int, list, list_before, number, on_one,
-    one_binding, one_value, part, partial, two_values, unknown, variable,
+    Draft, Worth, apply, constant, constructed, expect, expect_without_sets, int, list,
+    list_before, number, on_one, one_binding, one_value, part, partial, two_values, unknown,
+    variable,
 };
 use super::sample::{COIN, CONS, DOUBLE, NIL, PAIR, VALUES};
 use cu_kernel::{FunId, Head, Int};
