@@ -1,23 +1,16 @@
 //! Grammars and texts, worked out by hand.
-use crate::{
+use crate::tokens::tokens_of;
+use cu_lex::{Keyword, LayoutMark, Mark, ReservedOperator, Special, Token, TokenKind};
+use cu_names::{Names, Place};
+use cu_peg::{
     BadGrammar, Class, Form, Grammar, NameKind, Row, RowNumbers, Tree, each_row_decides, is_closed,
     matches, one_tree,
 };
-use cu_lex::{
-    Keyword, LayoutMark, LexFault, Mark, ReservedOperator, Special, Token, TokenKind, lex,
-};
-use cu_names::{Names, Place};
 use std::alloc::{AllocError, Global};
 use std::test::Fail;
 
 /// Lower-case names.
 const NAME: Class = Class::Unqualified(NameKind::VarId);
-
-fn tokens(alloc: Global, text: &str) -> Result<Vec<Token>, LexFault> {
-    let mut names = Names::new(alloc);
-    let module = names.intern("M")?;
-    lex(alloc, &mut names, module, text.as_bytes())
-}
 
 fn of(alloc: Global, numbers: &[u32]) -> Result<RowNumbers, AllocError> {
     Ok(RowNumbers::new(Vec::from_slice(alloc, numbers)?))
@@ -73,7 +66,7 @@ fn names_between_commas(rt: HostRuntime) -> Result<(), Fail> {
     rows.push(Row::Token(NAME))?;
     rows.push(Row::Token(Class::Mark(Mark::Comma)))?;
     let list = grammar(alloc, rows)?;
-    for (text, want) in [
+    for (text, want) in &[
         ("a", "p2;0;"),
         ("a,b,c", "p4;0;2;4;"),
         ("a,", "-"),
@@ -82,9 +75,9 @@ fn names_between_commas(rt: HostRuntime) -> Result<(), Fail> {
         ("a a", "-"),
         ("", "-"),
     ] {
-        let tokens = tokens(alloc, text)?;
+        let tokens = tokens_of(alloc, text.as_bytes())?;
         let found = tree(alloc, &list, tokens.as_slice())?;
-        assert_eq!(rt; found.as_str(), want, "{text}");
+        assert_eq!(rt; found.as_str(), *want, "{text}");
     }
     Ok(())
 }
@@ -101,15 +94,15 @@ fn repeated_and_optional_parts(rt: HostRuntime) -> Result<(), Fail> {
     rows.push(Row::AtLeastOne(6))?;
     rows.push(Row::Token(Class::Char))?;
     let parts = grammar(alloc, rows)?;
-    for (text, want) in [
+    for (text, want) in &[
         ("x 1 2 'a'", "p8;p2;0;p3;1;2;p2;3;"),
         ("'a' 'b'", "p6;p1;p1;p3;0;1;"),
         ("x 1", "-"),
         ("x x 'a'", "-"),
     ] {
-        let tokens = tokens(alloc, text)?;
+        let tokens = tokens_of(alloc, text.as_bytes())?;
         let found = tree(alloc, &parts, tokens.as_slice())?;
-        assert_eq!(rt; found.as_str(), want, "{text}");
+        assert_eq!(rt; found.as_str(), *want, "{text}");
     }
     Ok(())
 }
@@ -127,16 +120,16 @@ fn ordered_choice_and_looking_ahead(rt: HostRuntime) -> Result<(), Fail> {
     rows.push(Row::Token(Class::Int))?;
     rows.push(Row::Ahead(5))?;
     let choice = grammar(alloc, rows)?;
-    for (text, want) in [
+    for (text, want) in &[
         ("a", "c0/4;p3;0;p1;"),
         ("1 2", "c1/5;p4;0;p1;1;"),
         ("a 1", "-"),
         ("1", "-"),
         ("1 a", "-"),
     ] {
-        let tokens = tokens(alloc, text)?;
+        let tokens = tokens_of(alloc, text.as_bytes())?;
         let found = tree(alloc, &choice, tokens.as_slice())?;
-        assert_eq!(rt; found.as_str(), want, "{text}");
+        assert_eq!(rt; found.as_str(), *want, "{text}");
     }
     Ok(())
 }
@@ -147,10 +140,10 @@ fn all_tokens_are_matched(rt: HostRuntime) -> Result<(), Fail> {
     let mut rows = Vec::new(alloc);
     rows.push(Row::Token(NAME))?;
     let name = grammar(alloc, rows)?;
-    for (text, want) in [("a a", "-"), ("a", "0;"), ("", "-")] {
-        let tokens = tokens(alloc, text)?;
+    for (text, want) in &[("a a", "-"), ("a", "0;"), ("", "-")] {
+        let tokens = tokens_of(alloc, text.as_bytes())?;
         let found = tree(alloc, &name, tokens.as_slice())?;
-        assert_eq!(rt; found.as_str(), want, "{text}");
+        assert_eq!(rt; found.as_str(), *want, "{text}");
     }
     Ok(())
 }
@@ -201,8 +194,8 @@ fn bad_rows(rt: HostRuntime) -> Result<(), Fail> {
 #[test]
 fn classes(rt: HostRuntime) -> Result<(), Fail> {
     let alloc = rt.alloc();
-    let tokens = tokens(alloc, "x M.x C M.C + :+ - as 7 70 'c' \"s\" of = {")?;
-    for (class, want) in [
+    let tokens = tokens_of(alloc, b"x M.x C M.C + :+ - as 7 70 'c' \"s\" of = {")?;
+    for (class, want) in &[
         (NAME, "100000010000000"),
         (Class::Name(NameKind::VarId), "110000010000000"),
         (Class::Unqualified(NameKind::ConId), "001000000000000"),
@@ -223,7 +216,7 @@ fn classes(rt: HostRuntime) -> Result<(), Fail> {
         for token in &tokens {
             found.push(if class.has(token) { '1' } else { '0' })?;
         }
-        assert_eq!(rt; found.as_str(), want, "{class:?}");
+        assert_eq!(rt; found.as_str(), *want, "{class:?}");
     }
     Ok(())
 }
@@ -237,16 +230,16 @@ fn marks_of_the_layout(rt: HostRuntime) -> Result<(), Fail> {
         line: 1,
         column: 1,
     };
-    for (layout, mark) in [
+    for (layout, mark) in &[
         (LayoutMark::Open, Mark::OpenBrace),
         (LayoutMark::Close, Mark::CloseBrace),
         (LayoutMark::Separator, Mark::Semicolon),
     ] {
         let token = Token {
-            kind: TokenKind::Layout(layout),
+            kind: TokenKind::Layout(*layout),
             place,
         };
-        assert!(rt; Class::Mark(mark).has(&token));
+        assert!(rt; Class::Mark(*mark).has(&token));
         assert!(rt; !Class::Mark(Mark::Comma).has(&token));
     }
     Ok(())

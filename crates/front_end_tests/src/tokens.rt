@@ -1,11 +1,12 @@
 //! Tokens of texts, worked out by hand.
-use crate::{Keyword, LexFault, Mark, ReservedOperator, Token, TokenKind, lex};
+use cu_int::Int;
+use cu_lex::{Keyword, LexFault, Mark, ReservedOperator, Token, TokenKind, lex};
 use cu_names::{NameId, Names, Place};
 use std::alloc::{AllocError, Global};
 use std::process::Abort;
 
 /// The tokens of a text, whose module has the number 0.
-fn tokens_of(alloc: Global, text: &[u8]) -> Result<Vec<Token>, LexFault> {
+pub(crate) fn tokens_of(alloc: Global, text: &[u8]) -> Result<Vec<Token>, LexFault> {
     let mut names = Names::new(alloc);
     let module = names.intern("M")?;
     lex(alloc, &mut names, module, text)
@@ -45,10 +46,14 @@ fn class_of(kind: &TokenKind) -> &'static str {
 }
 
 /// Texts, and the class and the place of each of their tokens.
-const CLASSES: [(&str, &str); 20] = [
+const CLASSES: [(&str, &str); 21] = [
     ("", ""),
     ("x'--y", "VarId 1:1;"),
     ("__x1' X'", "VarId 1:1;ConId 1:7;"),
+    (
+        "__ _A _1 ___a",
+        "mark 1:1;mark 1:2;mark 1:4;ConId 1:5;mark 1:7;Int 1:8;VarId 1:10;",
+    ),
     ("A.B.x A.B.C A.+", "VarId 1:1;ConId 1:7;VarOp 1:13;"),
     ("A.of", "ConId 1:1;VarOp 1:2;keyword 1:3;"),
     ("A.= A.--", "ConId 1:1;VarOp 1:2;ConId 1:5;VarOp 1:6;"),
@@ -95,7 +100,7 @@ fn expect_classes<R: Abort>(rt: &R, alloc: Global, text: &str, want: &str) {
 #[test]
 fn classes_of_tokens(rt: HostRuntime) {
     let alloc = rt.alloc();
-    for (text, want) in CLASSES {
+    for (text, want) in &CLASSES {
         expect_classes(&rt, alloc, text, want);
     }
 }
@@ -182,24 +187,47 @@ const MARKS: [(&str, Mark); 10] = [
 #[test]
 fn every_keyword(rt: HostRuntime) {
     let alloc = rt.alloc();
-    for (text, want) in KEYWORDS {
-        assert_eq!(rt; only_keyword(alloc, text), Some(want), "{text}");
+    for (text, want) in &KEYWORDS {
+        assert_eq!(rt; only_keyword(alloc, text), Some(*want), "{text}");
     }
 }
 
 #[test]
 fn every_reserved_operator(rt: HostRuntime) {
     let alloc = rt.alloc();
-    for (text, want) in RESERVED_OPERATORS {
-        assert_eq!(rt; only_operator(alloc, text), Some(want), "{text}");
+    for (text, want) in &RESERVED_OPERATORS {
+        assert_eq!(rt; only_operator(alloc, text), Some(*want), "{text}");
     }
 }
 
 #[test]
 fn every_mark(rt: HostRuntime) {
     let alloc = rt.alloc();
-    for (text, want) in MARKS {
-        assert_eq!(rt; only_mark(alloc, text), Some(want), "{text}");
+    for (text, want) in &MARKS {
+        assert_eq!(rt; only_mark(alloc, text), Some(*want), "{text}");
+    }
+}
+
+fn only_int(alloc: Global, text: &str) -> Option<Int> {
+    match only_kind(alloc, text) {
+        Ok(Some(TokenKind::Int(number))) => Some(number),
+        _ => None,
+    }
+}
+
+/// Numbers, up to the greatest.
+const NUMBERS: [(&str, Int); 4] = [
+    ("0b101", 5),
+    ("9223372036854775808", 9_223_372_036_854_775_808),
+    ("170141183460469231731687303715884105727", Int::MAX),
+    ("0x7fffffffffffffffffffffffffffffff", Int::MAX),
+];
+
+#[test]
+fn numbers(rt: HostRuntime) {
+    let alloc = rt.alloc();
+    for (text, want) in &NUMBERS {
+        assert_eq!(rt; only_int(alloc, text), Some(*want), "{text}");
     }
 }
 
@@ -223,30 +251,33 @@ fn at(line: u32, column: u32) -> Place {
 }
 
 /// Texts, and the line and the column where no token begins.
-const BAD_TOKENS: [(&str, u32, u32); 6] = [
+const BAD_TOKENS: [(&str, u32, u32); 8] = [
     ("\"ab", 1, 1),
     ("1.5", 1, 1),
     ("x {- y", 1, 3),
     ("'ab'", 1, 1),
     ("\"a\\q\"", 1, 1),
+    ("\"\\1114112\t\"", 1, 1),
+    ("\"a\n\"", 1, 1),
     ("x\n \u{e9}", 2, 2),
 ];
 
 /// Texts, and the line and the column of a literal that is out of range.
-const LARGE_LITERALS: [(&str, u32, u32); 2] = [
+const LARGE_LITERALS: [(&str, u32, u32); 3] = [
     ("170141183460469231731687303715884105728", 1, 1),
+    ("0x80000000000000000000000000000000", 1, 1),
     ("\"a\\1114112\"", 1, 3),
 ];
 
 #[test]
 fn first_faults(rt: HostRuntime) {
     let alloc = rt.alloc();
-    for (text, line, column) in BAD_TOKENS {
-        let want = LexFault::BadToken(at(line, column));
+    for (text, line, column) in &BAD_TOKENS {
+        let want = LexFault::BadToken(at(*line, *column));
         expect_fault(&rt, alloc, text.as_bytes(), want);
     }
-    for (text, line, column) in LARGE_LITERALS {
-        let want = LexFault::LiteralRange(at(line, column));
+    for (text, line, column) in &LARGE_LITERALS {
+        let want = LexFault::LiteralRange(at(*line, *column));
         expect_fault(&rt, alloc, text.as_bytes(), want);
     }
 }

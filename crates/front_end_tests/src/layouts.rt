@@ -1,20 +1,14 @@
 //! Layouts of texts, worked out by hand.
-use crate::{TooDeep, block};
-use cu_lex::{LayoutMark, LexFault, Mark, Token, TokenKind, lex};
-use cu_names::{NameId, Names, Place};
+use crate::tokens::tokens_of;
+use cu_layout::{TooDeep, block};
+use cu_lex::{LayoutMark, Mark, Token, TokenKind};
+use cu_names::{NameId, Place};
 use std::alloc::{AllocError, Global};
 use std::test::Fail;
 
-/// The tokens of a text, whose module has the number 0.
-fn tokens_of(alloc: Global, text: &str) -> Result<Vec<Token>, LexFault> {
-    let mut names = Names::new(alloc);
-    let module = names.intern("M")?;
-    lex(alloc, &mut names, module, text.as_bytes())
-}
-
 /// The tokens of a text with its layout.
 fn laid(alloc: Global, whole: bool, text: &str) -> Result<Vec<Token>, Fail> {
-    let tokens = tokens_of(alloc, text)?;
+    let tokens = tokens_of(alloc, text.as_bytes())?;
     Ok(block(alloc, tokens, whole)?)
 }
 
@@ -52,7 +46,7 @@ fn shown_layout(alloc: Global, whole: bool, text: &str) -> Result<String, Fail> 
 }
 
 fn shown_text(alloc: Global, text: &str) -> Result<String, Fail> {
-    let tokens = tokens_of(alloc, text)?;
+    let tokens = tokens_of(alloc, text.as_bytes())?;
     Ok(shown(alloc, tokens.as_slice())?)
 }
 
@@ -232,8 +226,8 @@ const TEXTS: [(bool, &str, &str); 36] = [
 #[test]
 fn texts_with_their_layout(rt: HostRuntime) -> Result<(), Fail> {
     let alloc = rt.alloc();
-    for (whole, text, want) in TEXTS {
-        let found = shown_layout(alloc, whole, text)?;
+    for (whole, text, want) in &TEXTS {
+        let found = shown_layout(alloc, *whole, text)?;
         let wanted = shown_text(alloc, want)?;
         assert_eq!(rt; found.as_str(), wanted.as_str(), "{text}");
     }
@@ -273,11 +267,11 @@ permute (x:xs) = insert x (permute xs)
 #[test]
 fn marks_of_modules(rt: HostRuntime) -> Result<(), Fail> {
     let alloc = rt.alloc();
-    for (text, blocks, separators) in [(QUEENS, 4, 10), (PERM, 2, 3)] {
+    for (text, blocks, separators) in &[(QUEENS, 4, 10), (PERM, 2, 3)] {
         let found = laid(alloc, true, text)?;
-        assert_eq!(rt; count(found.as_slice(), LayoutMark::Open), blocks);
-        assert_eq!(rt; count(found.as_slice(), LayoutMark::Close), blocks);
-        assert_eq!(rt; count(found.as_slice(), LayoutMark::Separator), separators);
+        assert_eq!(rt; count(found.as_slice(), LayoutMark::Open), *blocks);
+        assert_eq!(rt; count(found.as_slice(), LayoutMark::Close), *blocks);
+        assert_eq!(rt; count(found.as_slice(), LayoutMark::Separator), *separators);
     }
     Ok(())
 }
@@ -293,7 +287,7 @@ fn parentheses(
     for _ in 0..count {
         text.push_str("(")?;
     }
-    let tokens = tokens_of(alloc, text.as_str())?;
+    let tokens = tokens_of(alloc, text.as_bytes())?;
     match block(alloc, tokens, whole) {
         Ok(_) => Ok(None),
         Err(fault) => Ok(Some(fault)),
