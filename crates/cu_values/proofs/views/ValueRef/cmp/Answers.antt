@@ -6,11 +6,12 @@ use Rattle.cu_values.specs.declared.cell.Cell.TheVariants.{Bottom}
 use Rattle.cu_values.specs.Cells.{arity_of}
 use Rattle.cu_values.specs.HeadsOrder.{cell_order}
 use Rattle.cu_values.proofs.OrderLemmas.{arity_room, left_from, order_beginning, order_differ_at, order_end, order_step_at}
-use Rattle.cu_values.proofs.value.Value.cmp.Goals as goal
+use Rattle.cu_values.specs.Views.{viewed}
+use Rattle.cu_values.proofs.views.ValueRef.cmp.Goals as goal
 
 pub loop-pairs-init : goal.loop-pairs-init
 loop-pairs-init c =
-    order_beginning c.args.self.now c.args.other.now _ _ _ _ c.cells-cells.ensures c.cells-others.ensures c.one-pairs.ensures.left c.one-pairs.ensures.last
+    order_beginning (viewed c.args.self) (viewed c.args.other) _ _ _ _ c.cells-cells.ensures c.cells-others.ensures c.one-pairs.ensures.left c.one-pairs.ensures.last
 
 pub returns-then-ne : goal.returns-then-ne
 returns-then-ne c =

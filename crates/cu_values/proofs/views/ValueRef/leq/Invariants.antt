@@ -2,7 +2,8 @@
 use Rattle.std.proofs.Common.{drop}
 use Rattle.cu_values.specs.Approximation.{is_below}
 use Rattle.cu_values.proofs.BelowLemmas.{Compared}
-use Rattle.cu_values.proofs.value.Value.leq.Given as goal
+use Rattle.cu_values.specs.Views.{viewed}
+use Rattle.cu_values.proofs.views.ValueRef.leq.Given as goal
 
 abbrev pub invariant-loop-cell : goal.invariant-loop-cell
-invariant-loop-cell l = Compared (drop l.cell-index l.cells) (drop l.at l.others) (is_below l.self l.other)
+invariant-loop-cell l = Compared (drop l.cell-index l.cells) (drop l.at l.others) (is_below (viewed l.self) (viewed l.other))
