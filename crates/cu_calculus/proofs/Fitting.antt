@@ -6,10 +6,10 @@ use Rattle.std.proofs.lemmas.Option.{some_pair_parts}
 use Rattle.cu_calculus.specs.declared.FunId.{FunId}
 use Rattle.cu_calculus.specs.Choose.{alternative_at}
 use Rattle.cu_calculus.specs.Program.{Body, Function, Program, Rule, Rules, arity_in, function_of}
-use Rattle.cu_calculus.specs.Shape.{takes, takes_more}
+use Rattle.cu_calculus.specs.Shape.{is_allowed, takes, takes_more}
 use Rattle.cu_calculus.specs.Term as term
 use Rattle.cu_calculus.specs.Term.{Alternatives, Pattern, Term, Terms}
-use Rattle.cu_calculus.specs.Valid.{IsValid, all_variables, also, also_all, but, fit_alternatives, fit_patterns, fit_terms, fits_body, fits_function, fits_pattern, fits_rule, fits_term, holds, is_allowed, is_arity, is_linear, pattern_count, term_count, variables_of}
+use Rattle.cu_calculus.specs.Valid.{IsValid, all_variables, also, also_all, but, fit_alternatives, fit_patterns, fit_terms, fits_body, fits_function, fits_pattern, fits_rule, fits_term, holds, is_arity, is_linear, pattern_count, term_count, variables_of}
 use Rattle.cu_calculus.proofs.Lists.{passed_at}
 
 -- what variables may be is at most what others may be

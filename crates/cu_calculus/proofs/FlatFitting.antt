@@ -15,6 +15,7 @@ use Rattle.cu_calculus.specs.Flat as flat
 use Rattle.cu_calculus.specs.FlatProgram.{all_any, alternatives_of, function_in, pattern_of, program_of, term_over, term_within, terms_of}
 use Rattle.cu_calculus.specs.Choose.{demand_of}
 use Rattle.cu_calculus.specs.Program.{Constructor, Program, arity_in, function_of}
+use Rattle.cu_calculus.specs.Shape as shape
 use Rattle.cu_calculus.specs.Shape.{takes, takes_more}
 use Rattle.cu_calculus.specs.Term.{Term}
 use Rattle.cu_calculus.specs.Valid as valid
@@ -69,7 +70,7 @@ arity_kept program (head.Fun f) = function_arity_kept program f
 arity_kept program (head.Con c) = constructor_arity_kept (slice_get program.constructors c.0)
 arity_kept program (head.Set f) = function_arity_kept program f
 
-allowed_kept : (program : Code) (h : Head) → valid.is_allowed (program_of program) h ≡ is_allowed program h
+allowed_kept : (program : Code) (h : Head) → shape.is_allowed (program_of program) h ≡ is_allowed program h
 allowed_kept program (head.Fun f) = refl
 allowed_kept program (head.Con c) = refl
 allowed_kept program (head.Set f) = refl
@@ -211,7 +212,7 @@ alternatives_fit program part t scope kept (branch ∷ branches) fit all h =
 headed_fit : (program : Code) (t : ExprId → Term) (scope : List ℕ) (h : Head) (es : List ExprId) (enough : Option ℕ → ℕ → Bool) (rest : Bool)
     → IsTrue (is_allowed program h && enough (arity_of program h) (length es) && rest)
     → IsTrue (fit_terms (program_of program) (λ y. holds y scope) (terms_of t es))
-    → IsTrue (valid.is_allowed (program_of program) h && enough (arity_in (program_of program) h) (term_count (terms_of t es))
+    → IsTrue (shape.is_allowed (program_of program) h && enough (arity_in (program_of program) h) (term_count (terms_of t es))
     && fit_terms (program_of program) (λ y. holds y scope) (terms_of t es))
 headed_fit program t scope h es enough rest fit terms =
     let head_fits = is_allowed program h && enough (arity_of program h) (length es) in

@@ -128,7 +128,10 @@ body_flat : (program : Code) (arity : ℕ) (body : code.Body) → IsTrue (fits_b
 body_flat program arity (code.External operation) h = refl
 body_flat program arity (code.Rule params e) h =
     let parts = and_parts (nat_eq (length params) arity && is_linear params) (fits (length program.expressions) program params e) h in
-    and_from (are_variables (all_any params)) (is_flat_term (term_of program e)) (any_are_variables params)
+    let linear = is_linear (all_variables (all_any params)) in
+    let different : IsTrue linear = rw (any_variables params) (and_parts (nat_eq (length params) arity) (is_linear params) parts.0).1 in
+    and_from (are_variables (all_any params) && linear) (is_flat_term (term_of program e))
+    (and_from (are_variables (all_any params)) linear (any_are_variables params) different)
     (within_flat program (length program.expressions) params e parts.1)
 
 function_flat : (program : Code) (function : code.Function) → IsTrue (fits_function program function)

@@ -5,11 +5,11 @@ use mathlib.Core.Path.{fun_ext}
 use Rattle.cu_calculus.specs.declared.Head.{Head}
 use Rattle.cu_calculus.specs.declared.Head.TheVariants as head
 use Rattle.cu_calculus.specs.Gives as gives
-use Rattle.cu_calculus.specs.Gives.{AllGive, Applied, Claim, Gives}
+use Rattle.cu_calculus.specs.Gives.{AllGive, Applied, AppliedTo, Claim, Gives}
 use Rattle.cu_calculus.specs.Match.{Environment, bind, bind_all, empty}
 use Rattle.cu_calculus.specs.Program.{Program}
 use Rattle.cu_calculus.specs.Proof as proof
-use Rattle.cu_calculus.specs.Proof.{AllFollow, AllSay, Applies, Cites, Follows, Says, Statement, Step, conclusion, env_of, statements}
+use Rattle.cu_calculus.specs.Proof.{AllFollow, AllSay, Applies, AppliesTo, Cites, Follows, Says, Statement, Step, conclusion, env_of, statements}
 use Rattle.cu_calculus.specs.Term as term
 use Rattle.cu_calculus.specs.Term.{Term, Terms}
 use Rattle.cu_calculus.specs.Value as value
@@ -81,6 +81,11 @@ module _ (program : Program) (claims : List Claim) where
   applies_applied _ us _ _ (proof.builtin f function operation _ v e b answers) g = gives.builtin f function operation us v e b answers
   applies_applied _ us _ _ (proof.collect f claim k c _ v ground e f' a s p) g = gives.collect f claim k c us v ground e f' a s p
 
+  applies_to_applied : (w u : Value) (cited : List Statement) (v : Value) → AppliesTo program claims w u cited v → AllGiven cited
+      → AppliedTo program claims w u v
+  applies_to_applied _ u _ _ (proof.extended h us more _ m l) g = gives.extended h us more u m l
+  applies_to_applied _ u _ _ (proof.completed h us all _ last v m l app) g = gives.completed h us all u v m l (applies_applied h all last v app g)
+
   follows_gives : (cited : List Statement) (env : Environment) (t : Term) (v : Value) → Follows program claims cited env t v → AllGiven cited
       → Gives program claims env t v
   follows_gives _ env _ _ (proof.bottom _ t) g = gives.bottom env t
@@ -91,18 +96,15 @@ module _ (program : Program) (claims : List Claim) where
       gives.whole env h ts us v (all_said parts env ts us say (front_given parts last split))
       (applies_applied h us last v app (back_given parts last split))
   follows_gives _ env _ _ (proof.part cited _ h ts us say) g = gives.part env h ts us (all_said cited env ts us say g)
-  follows_gives _ env _ _ (proof.extended s r _ f a h us whole u n p q e l m) g =
-      gives.extended env f a h us whole u n (said s env f (value.Partial h us) p g.0) (said r env a u q g.1.0) e l m
-  follows_gives _ env _ _ (proof.completed s r last _ f a h us all u v p q e m app) g =
-      gives.completed env f a h us all u v (said s env f (value.Partial h us) p g.0) (said r env a u q g.1.0) e m
-      (applies_applied h all last v app g.1.1)
+  follows_gives _ env _ _ (proof.applied s r last _ f a w u v p q app) g =
+      gives.applied env f a w u v (said s env f w p g.0) (said r env a u q g.1.0) (applies_to_applied w u last v app g.1.1)
   follows_gives _ env _ _ (proof.bound s r _ x a b u v p q) g =
       gives.bound env x a b u v (said s env a u p g.0) (said r (bind env x u) b v q g.1.0)
   follows_gives _ env _ _ (proof.free s _ x t u v total fits p) g = gives.free env x t u v total fits (said s (bind env x u) t v p g.0)
   follows_gives _ env _ _ (proof.left s _ a b v p) g = gives.left env a b v (said s env a v p g.0)
   follows_gives _ env _ _ (proof.right s _ a b v p) g = gives.right env a b v (said s env b v p g.0)
-  follows_gives _ env _ _ (proof.chosen s r _ mode a t alternatives k p bindings u v d c e m q) g =
-      gives.chosen env mode a t alternatives k p bindings u v (said s env a u d g.0) c e m (said r (bind_all env bindings) t v q g.1.0)
+  follows_gives _ env _ _ (proof.chosen s r _ mode a t alternatives bindings u v p selects q) g =
+      gives.chosen env mode a t alternatives bindings u v (said s env a u p g.0) selects (said r (bind_all env bindings) t v q g.1.0)
 
   one_more : (before : List Statement) (last : Statement) → EachGiven before → Given last → EachGiven (before ++ last ∷ [])
   one_more before last each h k s e = by (behind_or_last before last k s e)

@@ -3,14 +3,13 @@ use Rattle.std.proofs.Common.{◌≡◌, ℕ, zero, suc, ◌+◌, List, [], ◌�
 use Rattle.std.specs.List.{list_all}
 use Rattle.cu_calculus.specs.declared.Head.{Head}
 use Rattle.cu_calculus.specs.Gives as gives
-use Rattle.cu_calculus.specs.Gives.{AllGive, Applied, Claim, Gives}
+use Rattle.cu_calculus.specs.Gives.{AllGive, Applied, AppliedTo, Claim, Gives}
 use Rattle.cu_calculus.specs.Match.{Environment, bind, bind_all, empty}
 use Rattle.cu_calculus.specs.Program.{Program}
 use Rattle.cu_calculus.specs.Proof as proof
-use Rattle.cu_calculus.specs.Proof.{AllFollow, Applies, Checks, Follows, Statement, Step, env_of, is_claim_of}
-use Rattle.cu_calculus.specs.Rows.{AreRows, all_cited, applied_cited, applying_cited, cited, following_cited, proof_cited}
+use Rattle.cu_calculus.specs.Proof.{AllFollow, Applies, AppliesTo, Checks, Follows, Statement, Step, env_of, is_claim_of}
+use Rattle.cu_calculus.specs.Rows.{AreRows, all_cited, applied_cited, applied_to_cited, applying_cited, applying_to_cited, cited, following_cited, proof_cited}
 use Rattle.cu_calculus.specs.Term.{Term, Terms}
-use Rattle.cu_calculus.specs.Value as value
 use Rattle.cu_calculus.specs.Value.{Value, Values}
 use Rattle.cu_calculus.proofs.Lists.{all_append, get_behind, get_front}
 
@@ -53,22 +52,19 @@ module _ (program : Program) (claims : List Claim) where
         rows_both (all_cited program claims env ts us ps) (applied_cited program claims h us v app) claims (all_cited_rows env ts us ps)
         (applied_cited_rows h us v app)
     cited_rows env _ _ (gives.part _ h ts us ps) = all_cited_rows env ts us ps
-    cited_rows env _ _ (gives.extended _ f a h us more u n p q e l m) =
-        rows_both (cited program claims env f (value.Partial h us) p) (cited program claims env a u q) claims (cited_rows env f (value.Partial h us) p)
-        (cited_rows env a u q)
-    cited_rows env _ _ (gives.completed _ f a h us all u v p q e m app) =
-        let one = cited program claims env f (value.Partial h us) p in
+    cited_rows env _ _ (gives.applied _ f a w u v p q app) =
+        let one = cited program claims env f w p in
         let two = cited program claims env a u q in
-        rows_both (one ++ two) (applied_cited program claims h all v app) claims
-        (rows_both one two claims (cited_rows env f (value.Partial h us) p) (cited_rows env a u q)) (applied_cited_rows h all v app)
+        rows_both (one ++ two) (applied_to_cited program claims w u v app) claims
+        (rows_both one two claims (cited_rows env f w p) (cited_rows env a u q)) (applied_to_cited_rows w u v app)
     cited_rows env _ _ (gives.bound _ x a b u v p q) =
         rows_both (cited program claims env a u p) (cited program claims (bind env x u) b v q) claims (cited_rows env a u p)
         (cited_rows (bind env x u) b v q)
     cited_rows env _ _ (gives.free _ x t u v total fits p) = cited_rows (bind env x u) t v p
     cited_rows env _ _ (gives.left _ a b v p) = cited_rows env a v p
     cited_rows env _ _ (gives.right _ a b v p) = cited_rows env b v p
-    cited_rows env _ _ (gives.chosen _ mode a t alternatives k p bindings u v d c e m q) =
-        rows_both (cited program claims env a u d) (cited program claims (bind_all env bindings) t v q) claims (cited_rows env a u d)
+    cited_rows env _ _ (gives.chosen _ mode a t alternatives bindings u v p selects q) =
+        rows_both (cited program claims env a u p) (cited program claims (bind_all env bindings) t v q) claims (cited_rows env a u p)
         (cited_rows (bind_all env bindings) t v q)
 
     pub all_cited_rows : (env : Environment) (ts : Terms) (vs : Values) (d : AllGive program claims env ts vs)
@@ -84,6 +80,10 @@ module _ (program : Program) (claims : List Claim) where
     applied_cited_rows _ us _ (gives.builtin f function operation _ v e b answers) = rows_none claims
     applied_cited_rows _ us _ (gives.collect f claim k c _ v g e f' a s p) = rows_one claim claims k e
 
+    pub applied_to_cited_rows : (w u v : Value) (d : AppliedTo program claims w u v) → AreRows (applied_to_cited program claims w u v d) claims
+    applied_to_cited_rows _ u _ (gives.extended h us more _ m l) = rows_none claims
+    applied_to_cited_rows _ u _ (gives.completed h us all _ v m l app) = applied_cited_rows h all v app
+
   applying_cited_rows : (h : Head) (us : Values) (ss : List Statement) (v : Value) (d : Applies program claims h us ss v)
       → AreRows (applying_cited program claims h us ss v d) claims
   applying_cited_rows _ us _ _ (proof.constructed c _ v e) = rows_none claims
@@ -91,10 +91,15 @@ module _ (program : Program) (claims : List Claim) where
   applying_cited_rows _ us _ _ (proof.builtin f function operation _ v e b answers) = rows_none claims
   applying_cited_rows _ us _ _ (proof.collect f claim k c _ v g e f' a s p) = rows_one claim claims k e
 
+  applying_to_cited_rows : (w u : Value) (ss : List Statement) (v : Value) (d : AppliesTo program claims w u ss v)
+      → AreRows (applying_to_cited program claims w u ss v d) claims
+  applying_to_cited_rows _ u _ _ (proof.extended h us more _ m l) = rows_none claims
+  applying_to_cited_rows _ u _ _ (proof.completed h us all _ last v m l app) = applying_cited_rows h all last v app
+
   following_cited_rows : (ss : List Statement) (env : Environment) (t : Term) (v : Value) (d : Follows program claims ss env t v)
       → AreRows (following_cited program claims ss env t v d) claims
   following_cited_rows _ env _ _ (proof.whole ss parts last _ h ts us v e say app) = applying_cited_rows h us last v app
-  following_cited_rows _ env _ _ (proof.completed s r last _ f a h us all u v p q e m app) = applying_cited_rows h all last v app
+  following_cited_rows _ env _ _ (proof.applied s r last _ f a w u v p q app) = applying_to_cited_rows w u last v app
   following_cited_rows _ env _ _ _ = rows_none claims
 
   pub proof_cited_rows : (steps : List Step) (d : AllFollow program claims steps) → AreRows (proof_cited program claims steps d) claims
@@ -117,18 +122,13 @@ module _ (program : Program) (claims others : List Claim) where
         gives.whole env h ts us v (all_give_by_rows env ts us ps (rows_front one two others rows))
         (applied_by_rows h us v app (rows_back one two others rows))
     give_by_rows env _ _ (gives.part _ h ts us ps) rows = gives.part env h ts us (all_give_by_rows env ts us ps rows)
-    give_by_rows env _ _ (gives.extended _ f a h us more u n p q e l m) rows =
-        let one = cited program claims env f (value.Partial h us) p in
+    give_by_rows env _ _ (gives.applied _ f a w u v p q app) rows =
+        let one = cited program claims env f w p in
         let two = cited program claims env a u q in
-        gives.extended env f a h us more u n (give_by_rows env f (value.Partial h us) p (rows_front one two others rows))
-        (give_by_rows env a u q (rows_back one two others rows)) e l m
-    give_by_rows env _ _ (gives.completed _ f a h us all u v p q e m app) rows =
-        let one = cited program claims env f (value.Partial h us) p in
-        let two = cited program claims env a u q in
-        let three = applied_cited program claims h all v app in
+        let three = applied_to_cited program claims w u v app in
         let first = rows_front (one ++ two) three others rows in
-        gives.completed env f a h us all u v (give_by_rows env f (value.Partial h us) p (rows_front one two others first))
-        (give_by_rows env a u q (rows_back one two others first)) e m (applied_by_rows h all v app (rows_back (one ++ two) three others rows))
+        gives.applied env f a w u v (give_by_rows env f w p (rows_front one two others first))
+        (give_by_rows env a u q (rows_back one two others first)) (applied_to_by_rows w u v app (rows_back (one ++ two) three others rows))
     give_by_rows env _ _ (gives.bound _ x a b u v p q) rows =
         let one = cited program claims env a u p in
         let two = cited program claims (bind env x u) b v q in
@@ -137,10 +137,10 @@ module _ (program : Program) (claims others : List Claim) where
     give_by_rows env _ _ (gives.free _ x t u v total fits p) rows = gives.free env x t u v total fits (give_by_rows (bind env x u) t v p rows)
     give_by_rows env _ _ (gives.left _ a b v p) rows = gives.left env a b v (give_by_rows env a v p rows)
     give_by_rows env _ _ (gives.right _ a b v p) rows = gives.right env a b v (give_by_rows env b v p rows)
-    give_by_rows env _ _ (gives.chosen _ mode a t alternatives k p bindings u v d c e m q) rows =
-        let one = cited program claims env a u d in
+    give_by_rows env _ _ (gives.chosen _ mode a t alternatives bindings u v p selects q) rows =
+        let one = cited program claims env a u p in
         let two = cited program claims (bind_all env bindings) t v q in
-        gives.chosen env mode a t alternatives k p bindings u v (give_by_rows env a u d (rows_front one two others rows)) c e m
+        gives.chosen env mode a t alternatives bindings u v (give_by_rows env a u p (rows_front one two others rows)) selects
         (give_by_rows (bind_all env bindings) t v q (rows_back one two others rows))
 
     pub all_give_by_rows : (env : Environment) (ts : Terms) (vs : Values) (d : AllGive program claims env ts vs)
@@ -161,6 +161,11 @@ module _ (program : Program) (claims others : List Claim) where
     applied_by_rows _ us _ (gives.collect f claim k c _ v g e f' a s p) rows =
         let there = rows 0 claim refl in gives.collect f claim there.0 c us v g there.1 f' a s p
 
+    pub applied_to_by_rows : (w u v : Value) (d : AppliedTo program claims w u v) → AreRows (applied_to_cited program claims w u v d) others
+        → AppliedTo program others w u v
+    applied_to_by_rows _ u _ (gives.extended h us more _ m l) rows = gives.extended h us more u m l
+    applied_to_by_rows _ u _ (gives.completed h us all _ v m l app) rows = gives.completed h us all u v m l (applied_by_rows h all v app rows)
+
   applies_by_rows : (h : Head) (us : Values) (ss : List Statement) (v : Value) (d : Applies program claims h us ss v)
       → AreRows (applying_cited program claims h us ss v d) others → Applies program others h us ss v
   applies_by_rows _ us _ _ (proof.constructed c _ v e) rows = proof.constructed c us v e
@@ -170,6 +175,12 @@ module _ (program : Program) (claims others : List Claim) where
   applies_by_rows _ us _ _ (proof.collect f claim k c _ v g e f' a s p) rows =
       let there = rows 0 claim refl in proof.collect f claim there.0 c us v g there.1 f' a s p
 
+  applies_to_by_rows : (w u : Value) (ss : List Statement) (v : Value) (d : AppliesTo program claims w u ss v)
+      → AreRows (applying_to_cited program claims w u ss v d) others → AppliesTo program others w u ss v
+  applies_to_by_rows _ u _ _ (proof.extended h us more _ m l) rows = proof.extended h us more u m l
+  applies_to_by_rows _ u _ _ (proof.completed h us all _ last v m l app) rows =
+      proof.completed h us all u last v m l (applies_by_rows h all last v app rows)
+
   follows_by_rows : (ss : List Statement) (env : Environment) (t : Term) (v : Value) (d : Follows program claims ss env t v)
       → AreRows (following_cited program claims ss env t v d) others → Follows program others ss env t v
   follows_by_rows _ env _ _ (proof.bottom _ t) rows = proof.bottom env t
@@ -178,15 +189,14 @@ module _ (program : Program) (claims others : List Claim) where
   follows_by_rows _ env _ _ (proof.whole ss parts last _ h ts us v e say app) rows =
       proof.whole ss parts last env h ts us v e say (applies_by_rows h us last v app rows)
   follows_by_rows _ env _ _ (proof.part ss _ h ts us say) rows = proof.part ss env h ts us say
-  follows_by_rows _ env _ _ (proof.extended s r _ f a h us more u n p q e l m) rows = proof.extended s r env f a h us more u n p q e l m
-  follows_by_rows _ env _ _ (proof.completed s r last _ f a h us all u v p q e m app) rows =
-      proof.completed s r last env f a h us all u v p q e m (applies_by_rows h all last v app rows)
+  follows_by_rows _ env _ _ (proof.applied s r last _ f a w u v p q app) rows =
+      proof.applied s r last env f a w u v p q (applies_to_by_rows w u last v app rows)
   follows_by_rows _ env _ _ (proof.bound s r _ x a b u v p q) rows = proof.bound s r env x a b u v p q
   follows_by_rows _ env _ _ (proof.free s _ x t u v total fits p) rows = proof.free s env x t u v total fits p
   follows_by_rows _ env _ _ (proof.left s _ a b v p) rows = proof.left s env a b v p
   follows_by_rows _ env _ _ (proof.right s _ a b v p) rows = proof.right s env a b v p
-  follows_by_rows _ env _ _ (proof.chosen s r _ mode a t alternatives k p bindings u v d c e m q) rows =
-      proof.chosen s r env mode a t alternatives k p bindings u v d c e m q
+  follows_by_rows _ env _ _ (proof.chosen s r _ mode a t alternatives bindings u v p selects q) rows =
+      proof.chosen s r env mode a t alternatives bindings u v p selects q
 
   all_follow_by_rows : (steps : List Step) (d : AllFollow program claims steps) → AreRows (proof_cited program claims steps d) others
       → AllFollow program others steps

@@ -20,7 +20,7 @@ use Rattle.cu_int.specs.Integers.{is_integer}
 use Rattle.cu_calculus.specs.Literal.{is_scalar, same_literal}
 use Rattle.cu_calculus.specs.Match.{Bindings, Environment, all_matched, bind, bind_all, matched, same_constructor}
 use Rattle.cu_calculus.specs.Program.{Program, arity_in}
-use Rattle.cu_calculus.specs.Shape.{are_of, is_of, takes, takes_more}
+use Rattle.cu_calculus.specs.Shape.{are_of, is_allowed, is_of, takes, takes_more}
 use Rattle.cu_calculus.specs.Term as term
 use Rattle.cu_calculus.specs.Term.{Pattern, Patterns}
 use Rattle.cu_calculus.specs.Valid.{HasSpecial}
@@ -41,10 +41,10 @@ mutual
       subst (λ (n : ℕ). IsTrue (takes (arity_in program (head.Con c)) n)) (sym (same_count us vs p)) parts.0 in
       and_from (takes (arity_in program (head.Con c)) (count us)) (are_of program us) whole (all_below_of program us vs p parts.1)
   below_of program _ _ (below.partial k us vs p) h =
-      let parts = and_parts (takes_more (arity_in program k) (count vs)) (are_of program vs) h in
-      let fewer : IsTrue (takes_more (arity_in program k) (count us)) =
-      subst (λ (n : ℕ). IsTrue (takes_more (arity_in program k) n)) (sym (same_count us vs p)) parts.0 in
-      and_from (takes_more (arity_in program k) (count us)) (are_of program us) fewer (all_below_of program us vs p parts.1)
+      let parts = and_parts (is_allowed program k && takes_more (arity_in program k) (count vs)) (are_of program vs) h in
+      let fewer : IsTrue (is_allowed program k && takes_more (arity_in program k) (count us)) =
+      subst (λ (n : ℕ). IsTrue (is_allowed program k && takes_more (arity_in program k) n)) (sym (same_count us vs p)) parts.0 in
+      and_from (is_allowed program k && takes_more (arity_in program k) (count us)) (are_of program us) fewer (all_below_of program us vs p parts.1)
 
   pub all_below_of : (program : Program) (us vs : Values) → AllBelow us vs → IsTrue (are_of program vs) → IsTrue (are_of program us)
   all_below_of program _ _ below.none h = refl

@@ -6,11 +6,11 @@ use Rattle.std.proofs.lemmas.Bool.{and_from, and_parts}
 use Rattle.std.proofs.lemmas.List.{map-append}
 use Rattle.cu_calculus.specs.declared.Head.{Head}
 use Rattle.cu_calculus.specs.Gives as gives
-use Rattle.cu_calculus.specs.Gives.{AllGive, Applied, Claim, Gives}
+use Rattle.cu_calculus.specs.Gives.{AllGive, Applied, AppliedTo, Claim, Gives}
 use Rattle.cu_calculus.specs.Match.{Bindings, Environment, bind, bind_all, empty}
 use Rattle.cu_calculus.specs.Program.{Program, arity_in}
 use Rattle.cu_calculus.specs.Proof as proof
-use Rattle.cu_calculus.specs.Proof.{AllFollow, AllSay, Applies, Checks, Cites, Follows, Says, Statement, Step, are_rising, conclusion, env_of, is_claim_of, is_statement_of, statements}
+use Rattle.cu_calculus.specs.Proof.{AllFollow, AllSay, Applies, AppliesTo, Checks, Cites, Follows, Says, Statement, Step, are_rising, conclusion, env_of, is_claim_of, is_statement_of, statements}
 use Rattle.cu_calculus.specs.Shape.{are_of, is_of, takes}
 use Rattle.cu_calculus.specs.Term as term
 use Rattle.cu_calculus.specs.Term.{Term, Terms}
@@ -22,7 +22,7 @@ use Rattle.cu_calculus.proofs.Joining.{cites_front, conclusion_behind}
 use Rattle.cu_calculus.proofs.Lists.{all_append, get_last}
 use Rattle.cu_calculus.proofs.OfProgram.{all_matched_of, bindings_of, matched_of}
 use Rattle.cu_calculus.proofs.RisingBindings.{Stands, added, all_added, stands_bind, stands_bind_all, stands_empty, stands_of}
-use Rattle.cu_calculus.proofs.ValuesOf.{all_give_of, completed_of, fits_part, fits_whole, give_count, gives_of, partial_of}
+use Rattle.cu_calculus.proofs.ValuesOf.{all_give_of, fits_part, fits_whole, give_count, gives_of, more_of, partial_of}
 
 -- a statement about these bindings
 abbrev pub about : Bindings → Term → Value → Statement
@@ -146,6 +146,12 @@ module _ (program : Program) (claims : List Claim) where
     pub applies : Applies program claims h us ss v
     pub steps : Reached before ss
 
+  -- steps that reach what a functional value on one argument more needs
+  pub record MoreReached (before : List Step) (w u v : Value) : Type 0 where
+    pub ss : List Statement
+    pub applies : AppliesTo program claims w u ss v
+    pub steps : Reached before ss
+
   module _ (valid : IsValid program) (claimed : IsTrue (list_all (is_claim_of program) claims)) where
     mutual
       pub grow : (env : Environment) (t : Term) (v : Value) → Gives program claims env t v → (bindings : Bindings) → Stands program env bindings
@@ -168,33 +174,19 @@ module _ (program : Program) (claims : List Claim) where
       grow env _ _ (gives.part _ h ts us ps) bindings stands fits known before sound =
           let all = grow_all env ts us ps bindings stands (fits_part program h ts fits).1 before sound in
           grown before all.ss env bindings (term.Part h ts) (value.Partial h us) all.steps stands fits known (proof.part all.ss env h ts us all.say)
-      grow env _ _ (gives.extended _ f a h us more u n p q e l m) bindings stands fits known before sound =
+      grow env _ _ (gives.applied _ f a w u v p q app) bindings stands fits known before sound =
           let parts = and_parts (fits_term program any f) (fits_term program any a) fits in
           let values = stands_of program env bindings stands in
-          let function = gives_of program claims valid claimed env f (value.Partial h us) p values parts.0 in
+          let function = gives_of program claims valid claimed env f w p values parts.0 in
           let argument = gives_of program claims valid claimed env a u q values parts.1 in
-          let one = reached before (about bindings f (value.Partial h us)) (grow env f (value.Partial h us) p bindings stands parts.0 function before sound) in
-          let two = reached one.after (about bindings a u) (grow env a u q bindings stands parts.1 argument one.after one.sound) in
-          let s = about bindings f (value.Partial h us) in
+          let s = about bindings f w in
           let r = about bindings a u in
-          grown before (s ∷ r ∷ []) env bindings (term.Apply f a) (value.Partial h more) (reached_both before (s ∷ []) (r ∷ []) one two) stands fits known
-          (proof.extended s r env f a h us more u n (says_about program env bindings f (value.Partial h us) stands)
-          (says_about program env bindings a u stands) e l m)
-      grow env _ _ (gives.completed _ f a h us all u v p q e m app) bindings stands fits known before sound =
-          let parts = and_parts (fits_term program any f) (fits_term program any a) fits in
-          let values = stands_of program env bindings stands in
-          let function = gives_of program claims valid claimed env f (value.Partial h us) p values parts.0 in
-          let argument = gives_of program claims valid claimed env a u q values parts.1 in
-          let whole = completed_of program h us all u (partial_of program h us function) argument e m in
-          let s = about bindings f (value.Partial h us) in
-          let r = about bindings a u in
-          let one = reached before s (grow env f (value.Partial h us) p bindings stands parts.0 function before sound) in
+          let one = reached before s (grow env f w p bindings stands parts.0 function before sound) in
           let two = reached one.after r (grow env a u q bindings stands parts.1 argument one.after one.sound) in
-          let last = grow_applied h all v app whole.0 whole.1 two.after two.sound in
+          let last = grow_applied_to w u v app function argument two.after two.sound in
           grown before (s ∷ r ∷ last.ss) env bindings (term.Apply f a) v
           (reached_both before (s ∷ []) (r ∷ last.ss) one (reached_both one.after (r ∷ []) last.ss two last.steps)) stands fits known
-          (proof.completed s r last.ss env f a h us all u v (says_about program env bindings f (value.Partial h us) stands)
-          (says_about program env bindings a u stands) e m last.applies)
+          (proof.applied s r last.ss env f a w u v (says_about program env bindings f w stands) (says_about program env bindings a u stands) last.applies)
       grow env _ _ (gives.bound _ x a b u v p q) bindings stands fits known before sound =
           let parts = fits_bound program x a b fits in
           let first = gives_of program claims valid claimed env a u p (stands_of program env bindings stands) parts.0 in
@@ -222,18 +214,18 @@ module _ (program : Program) (claims : List Claim) where
           let parts = and_parts (fits_term program any a) (fits_term program any b) fits in
           grown before (s ∷ []) env bindings (term.Or a b) v (reached before s (grow env b v p bindings stands parts.1 known before sound))
           stands fits known (proof.right s env a b v (says_about program env bindings b v stands))
-      grow env _ _ (gives.chosen _ mode a t alternatives k p matches u v d c e m q) bindings stands fits known before sound =
+      grow env _ _ (gives.chosen _ mode a t alternatives matches u v p selects q) bindings stands fits known before sound =
           let parts = and_parts (fits_term program any a) (fit_alternatives program any alternatives) fits in
-          let first = gives_of program claims valid claimed env a u d (stands_of program env bindings stands) parts.0 in
-          let inner = stands_bind_all program env bindings matches stands (matched_of program p u matches m first) in
+          let first = gives_of program claims valid claimed env a u p (stands_of program env bindings stands) parts.0 in
+          let inner = stands_bind_all program env bindings matches stands (matched_of program selects.pattern u matches selects.matches first) in
           let s = about bindings a u in
           let r = about (all_added bindings matches) t v in
-          let one = reached before s (grow env a u d bindings stands parts.0 first before sound) in
+          let one = reached before s (grow env a u p bindings stands parts.0 first before sound) in
           let two =
           reached one.after r (grow (bind_all env matches) t v q (all_added bindings matches) inner
-          (fits_alternative program alternatives k p t parts.1 e) known one.after one.sound) in
+          (fits_alternative program alternatives selects.choice selects.pattern t parts.1 selects.at) known one.after one.sound) in
           grown before (s ∷ r ∷ []) env bindings (term.Case mode a alternatives) v (reached_both before (s ∷ []) (r ∷ []) one two) stands fits known
-          (proof.chosen s r env mode a t alternatives k p matches u v (says_about program env bindings a u stands) c e m
+          (proof.chosen s r env mode a t alternatives matches u v (says_about program env bindings a u stands) selects
           (says_about program (bind_all env matches) (all_added bindings matches) t v inner))
 
       pub grow_all : (env : Environment) (ts : Terms) (vs : Values) → AllGive program claims env ts vs → (bindings : Bindings)
@@ -273,6 +265,14 @@ module _ (program : Program) (claims : List Claim) where
           record { ss = []; applies = proof.builtin f function operation us v e b answers; steps = reached_none before sound }
       grow_applied _ us _ (gives.collect f claim k c _ v ground e f' a s p) whole arguments before sound =
           record { ss = []; applies = proof.collect f claim k c us v ground e f' a s p; steps = reached_none before sound }
+
+      pub grow_applied_to : (w u v : Value) → AppliedTo program claims w u v → IsTrue (is_of program w) → IsTrue (is_of program u)
+          → (before : List Step) → Sound before → MoreReached before w u v
+      grow_applied_to _ u _ (gives.extended h us more _ m l) function argument before sound =
+          record { ss = []; applies = proof.extended h us more u m l; steps = reached_none before sound }
+      grow_applied_to _ u _ (gives.completed h us all _ v m l app) function argument before sound =
+          let last = grow_applied h all v app l (more_of program us all u (partial_of program h us function) argument m) before sound in
+          record { ss = last.ss; applies = proof.completed h us all u last.ss v m l last.applies; steps = last.steps }
 
     -- a proof of a statement
     pub proved : (s : Statement) → IsTrue (is_statement_of program s) → Gives program claims (env_of s) s.term s.value

@@ -1,5 +1,5 @@
 -- A derivation stays where its value is lowered and its environment is raised.
-use Rattle.std.proofs.Common.{◌≡◌, ℕ, ◌+◌, ◌<◌, ◌⊎◌, inl, inr, List, [], ◌∷◌, Bool, true, false, if◌then◌else◌, nat_eq, Option, None, Some, refl, ap, sym, subst, ◌∙◌, ℤ, pos, negsuc, ◌+ℤ◌, ◌-ℤ◌, ◌*ℤ◌}
+use Rattle.std.proofs.Common.{◌≡◌, ℕ, ◌+◌, ◌⊎◌, inl, inr, List, [], ◌∷◌, Bool, true, false, if◌then◌else◌, nat_eq, Option, None, Some, IsTrue, refl, ap, sym, subst, ◌∙◌, ℤ, pos, negsuc, ◌+ℤ◌, ◌-ℤ◌, ◌*ℤ◌}
 use Rattle.std.specs.Prelude.{int_le, int_lt}
 use Rattle.std.specs.Ordering.{int_eq}
 use Rattle.cu_calculus.specs.declared.Lit.{Lit}
@@ -16,11 +16,12 @@ use Rattle.cu_calculus.specs.Builtin.{Answers, character, integer, on_integers, 
 use Rattle.cu_int.specs.Integers.{is_integer}
 use Rattle.cu_calculus.specs.Literal.{is_scalar}
 use Rattle.cu_calculus.specs.Gives as gives
-use Rattle.cu_calculus.specs.Gives.{AllGive, Applied, Claim, Gives, collected}
+use Rattle.cu_calculus.specs.Gives.{AllGive, Applied, AppliedTo, Claim, Gives, collected}
 use Rattle.cu_calculus.specs.Match.{Bindings, Environment, bind, bind_all, empty}
 use Rattle.cu_calculus.specs.declared.ConId.{ConId}
 use Rattle.cu_calculus.specs.declared.FunId.{FunId}
 use Rattle.cu_calculus.specs.Program.{Program, arity_in}
+use Rattle.cu_calculus.specs.Shape.{takes, takes_more}
 use Rattle.cu_calculus.specs.Term as term
 use Rattle.cu_calculus.specs.Term.{Term, Terms}
 use Rattle.cu_calculus.specs.Value as value
@@ -210,28 +211,53 @@ pub lower_part : (program : Program) (claims : List Claim) (high : Environment) 
 lower_part program claims high k ts us _ nothing give = gives.bottom high (term.Part k ts)
 lower_part program claims high k ts us _ (same ws p) give = gives.part high k ts ws (give ws p)
 
--- one argument more, on lower values
-pub lower_extended : (program : Program) (claims : List Claim) (high : Environment) (f a : Term) (k : Head) (us more : Values) (u w : Value) (n : ℕ)
-    → LowPartial k more w → arity_in program k ≡ Some n → count us + 1 < n → more ≡ and_then us u
-    → ((ws : Values) → AllBelow ws us → Gives program claims high f (value.Partial k ws)) → ((x : Value) → Below x u → Gives program claims high a x)
-    → Gives program claims high (term.Apply f a) w
-lower_extended program claims high f a k us more u _ n nothing e l m give_f give_a = gives.bottom high (term.Apply f a)
-lower_extended program claims high f a k us more u _ n (same ws p) e l m give_f give_a =
-    let parts = split us ws u (subst (λ (x : Values). AllBelow ws x) m p) in
-    let fewer : count parts.front + 1 < n = subst (λ (x : ℕ). x + 1 < n) (sym (same_count parts.front us parts.below_front)) l in
-    gives.extended high f a k parts.front ws parts.last n (give_f parts.front parts.below_front) (give_a parts.last parts.below_last) e fewer parts.is
+-- what one argument more gives, as it is needed below: nothing, or what lower values give
+pub record LowerTo (program : Program) (claims : List Claim) (w u x : Value) : Type 0 where
+  pub function : Value
+  pub argument : Value
+  pub below_function : Below function w
+  pub below_argument : Below argument u
+  pub applied : AppliedTo program claims function argument x
 
-pub lower_completed : (program : Program) (claims : List Claim) (high : Environment) (f a : Term) (k : Head) (us all : Values) (u w : Value)
-    → Lowered program claims k all w → arity_in program k ≡ Some (count us + 1) → all ≡ and_then us u
-    → ((ws : Values) → AllBelow ws us → Gives program claims high f (value.Partial k ws)) → ((x : Value) → Below x u → Gives program claims high a x)
-    → Gives program claims high (term.Apply f a) w
-lower_completed program claims high f a k us all u w (inl e) arity m give_f give_a = at_bottom program claims high (term.Apply f a) w e
-lower_completed program claims high f a k us all u w (inr found) arity m give_f give_a =
-    let parts = split us found.0 u (subst (λ (x : Values). AllBelow found.0 x) m found.1) in
-    let as_many : arity_in program k ≡ Some (count parts.front + 1) =
-    subst (λ (x : ℕ). arity_in program k ≡ Some (x + 1)) (sym (same_count parts.front us parts.below_front)) arity in
-    gives.completed high f a k parts.front found.0 parts.last w (give_f parts.front parts.below_front) (give_a parts.last parts.below_last)
-    as_many parts.is found.2
+abbrev pub LoweredTo : Program → List Claim → Value → Value → Value → Type 0
+LoweredTo program claims w u x = (x ≡ value.Bottom) ⊎ LowerTo program claims w u x
+
+pub lower_extended : (program : Program) (claims : List Claim) (k : Head) (us more : Values) (u x : Value) → LowPartial k more x
+    → more ≡ and_then us u → IsTrue (takes_more (arity_in program k) (count more)) → LoweredTo program claims (value.Partial k us) u x
+lower_extended program claims k us more u _ nothing m l = inl refl
+lower_extended program claims k us more u _ (same ws p) m l =
+    let parts = split us ws u (subst (λ (x : Values). AllBelow ws x) m p) in
+    let fewer : IsTrue (takes_more (arity_in program k) (count ws)) =
+    subst (λ (n : ℕ). IsTrue (takes_more (arity_in program k) n)) (sym (same_count ws more p)) l in
+    inr (record {
+      function = value.Partial k parts.front;
+      argument = parts.last;
+      below_function = below.partial k parts.front us parts.below_front;
+      below_argument = parts.below_last;
+      applied = gives.extended k parts.front ws parts.last parts.is fewer;
+    })
+
+pub lower_completed : (program : Program) (claims : List Claim) (k : Head) (us all : Values) (u x : Value) → Lowered program claims k all x
+    → all ≡ and_then us u → IsTrue (takes (arity_in program k) (count all)) → LoweredTo program claims (value.Partial k us) u x
+lower_completed program claims k us all u x (inl e) m l = inl e
+lower_completed program claims k us all u x (inr found) m l =
+    let parts = split us found.0 u (subst (λ (y : Values). AllBelow found.0 y) m found.1) in
+    let as_many : IsTrue (takes (arity_in program k) (count found.0)) =
+    subst (λ (n : ℕ). IsTrue (takes (arity_in program k) n)) (sym (same_count found.0 all found.1)) l in
+    inr (record {
+      function = value.Partial k parts.front;
+      argument = parts.last;
+      below_function = below.partial k parts.front us parts.below_front;
+      below_argument = parts.below_last;
+      applied = gives.completed k parts.front found.0 parts.last x parts.is as_many found.2;
+    })
+
+pub lower_applied : (program : Program) (claims : List Claim) (high : Environment) (f a : Term) (w u x : Value) → LoweredTo program claims w u x
+    → ((y : Value) → Below y w → Gives program claims high f y) → ((y : Value) → Below y u → Gives program claims high a y)
+    → Gives program claims high (term.Apply f a) x
+lower_applied program claims high f a w u x (inl e) give_f give_a = at_bottom program claims high (term.Apply f a) x e
+lower_applied program claims high f a w u x (inr low) give_f give_a =
+    gives.applied high f a low.function low.argument x (give_f low.function low.below_function) (give_a low.argument low.below_argument) low.applied
 
 pub lower_whole : (program : Program) (claims : List Claim) (high : Environment) (k : Head) (ts : Terms) (us : Values) (w : Value)
     → Lowered program claims k us w → ((ws : Values) → AllBelow ws us → AllGive program claims high ts ws)
@@ -263,14 +289,9 @@ mutual
   weaken program claims low high _ _ w (gives.part _ k ts us ps) env h =
       lower_part program claims high k ts us w (below_partial w (value.Partial k us) h k us refl)
       (λ ws below_us. all_weaken program claims low high ts us ws ps env below_us)
-  weaken program claims low high _ _ w (gives.extended _ f a k us more u n p q e l m) env h =
-      lower_extended program claims high f a k us more u w n (below_partial w (value.Partial k more) h k more refl) e l m
-      (λ ws below_us. weaken program claims low high f (value.Partial k us) (value.Partial k ws) p env (below.partial k ws us below_us))
-      (λ x below_u. weaken program claims low high a u x q env below_u)
-  weaken program claims low high _ _ w (gives.completed _ f a k us all u v p q e m app) env h =
-      lower_completed program claims high f a k us all u w (lower program claims k all v w app h) e m
-      (λ ws below_us. weaken program claims low high f (value.Partial k us) (value.Partial k ws) p env (below.partial k ws us below_us))
-      (λ x below_u. weaken program claims low high a u x q env below_u)
+  weaken program claims low high _ _ x (gives.applied _ f a w u v p q app) env h =
+      lower_applied program claims high f a w u x (lower_to program claims w u v x app h)
+      (λ y below_w. weaken program claims low high f w y p env below_w) (λ y below_u. weaken program claims low high a u y q env below_u)
   weaken program claims low high _ _ w (gives.bound _ x a b u v p q) env h =
       gives.bound high x a b u w (weaken program claims low high a u u p env (below_itself u))
       (weaken program claims (bind low x u) (bind high x u) b v w q (bind_below low high x u env) h)
@@ -278,8 +299,8 @@ mutual
       gives.free high x t u w total fits (weaken program claims (bind low x u) (bind high x u) t v w p (bind_below low high x u env) h)
   weaken program claims low high _ _ w (gives.left _ a b v p) env h = gives.left high a b w (weaken program claims low high a v w p env h)
   weaken program claims low high _ _ w (gives.right _ a b v p) env h = gives.right high a b w (weaken program claims low high b v w p env h)
-  weaken program claims low high _ _ w (gives.chosen _ mode a t alternatives k p bindings u v d c e m q) env h =
-      gives.chosen high mode a t alternatives k p bindings u w (weaken program claims low high a u u d env (below_itself u)) c e m
+  weaken program claims low high _ _ w (gives.chosen _ mode a t alternatives bindings u v p selects q) env h =
+      gives.chosen high mode a t alternatives bindings u w (weaken program claims low high a u u p env (below_itself u)) selects
       (weaken program claims (bind_all low bindings) (bind_all high bindings) t v w q (bind_all_below low high bindings env) h)
 
   pub all_weaken : (program : Program) (claims : List Claim) (low high : Environment) (ts : Terms) (vs ws : Values)
@@ -307,3 +328,10 @@ mutual
       lower_builtin program claims f us v w (gives.builtin f function operation us v e b answers) (below_answer program operation us v w answers h)
   lower program claims _ _ _ w (gives.collect f claim k c us v g e f' a s p) h =
       inr (us, all_below_themselves us, gives.collect f claim k c us w g e f' a s (below_trans w v (collected program c claim.values) h p))
+
+  pub lower_to : (program : Program) (claims : List Claim) (w u v x : Value) → AppliedTo program claims w u v → Below x v
+      → LoweredTo program claims w u x
+  lower_to program claims _ _ _ x (gives.extended k us more u m l) h =
+      lower_extended program claims k us more u x (below_partial x (value.Partial k more) h k more refl) m l
+  lower_to program claims _ _ _ x (gives.completed k us all u v m l app) h =
+      lower_completed program claims k us all u x (lower program claims k all v x app h) m l

@@ -5,7 +5,7 @@ use Rattle.std.specs.List.{list_any}
 use Rattle.cu_calculus.specs.declared.ConId.{ConId}
 use Rattle.cu_calculus.specs.declared.Lit.{Lit}
 use Rattle.cu_calculus.specs.Literal.{same_literal}
-use Rattle.cu_calculus.specs.Match.{same_constructor}
+use Rattle.cu_calculus.specs.Match.{Bindings, matched, same_constructor}
 use Rattle.cu_calculus.specs.Program.{Program, constructor_of}
 use Rattle.cu_calculus.specs.Term.{Alternatives, Any, Built, Exactly, MoreAlternatives, MorePatterns, Named, NoAlternative, NoPattern, Pattern, Patterns, Term}
 use Rattle.cu_calculus.specs.Value as value
@@ -157,3 +157,11 @@ abbrev pub alternative_at : Alternatives → ℕ → Option (Pattern × Term)
 alternative_at NoAlternative k = None
 alternative_at (MoreAlternatives p t alternatives) zero = Some (p, t)
 alternative_at (MoreAlternatives p t alternatives) (suc k) = alternative_at alternatives k
+
+-- Alternatives select a term for a value, and bind variables: the value takes the alternative, and its pattern matches.
+pub record Selects (program : Program) (alternatives : Alternatives) (u : Value) (t : Term) (bindings : Bindings) : Type 0 where
+  pub choice : ℕ
+  pub pattern : Pattern
+  pub chooses : Chooses program (rows_from 0 alternatives) (u ∷ []) choice
+  pub at : alternative_at alternatives choice ≡ Some (pattern, t)
+  pub matches : matched pattern u ≡ Some bindings

@@ -98,7 +98,13 @@ AreTrue program levels zero claims = claims ≡ []
 AreTrue program levels (suc level) claims = (k : ℕ) (claim : Claim) → slice_get claims k ≡ Option.Some claim
     → ((level_of levels claim.function ≡ level) × IsExact program (AreTrue program levels level) claim) ⊎ AreTrue program levels level (claim ∷ [])
 
--- A function has a value on argument values by claims that are true at its level. The levels are to be the least ones.
-abbrev pub Derives : Program → List ℕ → FunId → Values → Value → Type 0
-Derives program levels f vs v =
+-- A function has a value on argument values by claims that are true at its level, by these levels.
+abbrev pub DerivesAt : Program → List ℕ → FunId → Values → Value → Type 0
+DerivesAt program levels f vs v =
     (claims : List Claim) × AreTrue program levels (level_of levels f) claims × Concludes program claims f vs v
+
+-- A function has a value on argument values by the least levels.
+pub record Derives (program : Program) (f : FunId) (vs : Values) (v : Value) : Type 0 where
+  pub levels : List ℕ
+  pub least : AreLeastLevels program levels
+  pub derives : DerivesAt program levels f vs v

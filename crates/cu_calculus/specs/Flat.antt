@@ -1,6 +1,7 @@
--- Flat programs: what definitional trees make of a program. A function has one rule, whose parameters are variables, and
--- every case distinction looks at one constructor or literal (Antoy, Definitional trees, 1992; Hanus, FlatCurry).
-use Rattle.std.specs.Prelude.{Bool, true, false, not, ◌&&◌, List, [], ◌∷◌}
+-- Flat programs: what definitional trees make of a program. A function has one rule, whose parameters are different
+-- variables, and every case distinction looks at one constructor or literal (Antoy, Definitional trees, 1992; Hanus,
+-- FlatCurry).
+use Rattle.std.specs.Prelude.{Bool, true, false, not, ◌&&◌, List, [], ◌∷◌, Option, None, Some}
 use Rattle.std.specs.List.{list_all, list_any}
 use Rattle.cu_calculus.specs.Choose.{Demand, ALiteral, AConstructor, demand_of}
 use Rattle.cu_calculus.specs.Literal.{same_literal}
@@ -8,6 +9,9 @@ use Rattle.cu_calculus.specs.Match.{same_constructor}
 use Rattle.cu_calculus.specs.Program.{Body, External, Program, Rules}
 use Rattle.cu_calculus.specs.Term as term
 use Rattle.cu_calculus.specs.Term.{Alternatives, Pattern, Patterns, Term, Terms}
+use Rattle.cu_calculus.specs.Valid.{all_variables, is_linear}
+use Rattle.cu_calculus.specs.Value as value
+use Rattle.cu_calculus.specs.Value.{Value}
 
 -- patterns that are variables
 abbrev pub are_variables : Patterns → Bool
@@ -31,6 +35,12 @@ same_demand _ _ = false
 abbrev pub demands_of : Alternatives → List Demand
 demands_of term.NoAlternative = []
 demands_of (term.MoreAlternatives p t alternatives) = demand_of p ∷ demands_of alternatives
+
+-- the demand that a value meets: its literal, or its constructor
+abbrev pub met_by : Value → Option Demand
+met_by (value.Literal l) = Some (ALiteral l)
+met_by (value.Constructed c us) = Some (AConstructor c)
+met_by _ = None
 
 abbrev pub all_differ : List Demand → Bool
 all_differ [] = true
@@ -58,7 +68,7 @@ abbrev mutual
 
 abbrev pub is_flat_body : Body → Bool
 is_flat_body (External operation) = true
-is_flat_body (Rules (rule ∷ [])) = are_variables rule.params && is_flat_term rule.body
+is_flat_body (Rules (rule ∷ [])) = are_variables rule.params && is_linear (all_variables rule.params) && is_flat_term rule.body
 is_flat_body (Rules _) = false
 
 -- a flat program

@@ -2,7 +2,7 @@
 -- which this system's profile adds choices, case distinctions, built-in operations and set functions (Antoy and Hanus, Set
 -- functions for functional logic programming, 2009) as rows of their own. A free variable stands for total data, and a set
 -- function asks for ground arguments.
-use Rattle.std.specs.Prelude.{◌≡◌, ℕ, ◌+◌, ◌<◌, List, [], ◌∷◌, Some, IsTrue, slice_get}
+use Rattle.std.specs.Prelude.{◌≡◌, ℕ, List, [], ◌∷◌, Some, IsTrue, slice_get}
 use Rattle.cu_calculus.specs.declared.ConId.{ConId}
 use Rattle.cu_calculus.specs.declared.FunId.{FunId}
 use Rattle.cu_calculus.specs.declared.Head.{Head}
@@ -12,12 +12,12 @@ use Rattle.cu_calculus.specs.declared.Mode.{Mode}
 use Rattle.cu_calculus.specs.declared.builtin.Primitive.{Primitive}
 use Rattle.cu_calculus.specs.Below.{Below}
 use Rattle.cu_calculus.specs.Builtin.{Answers}
-use Rattle.cu_calculus.specs.Choose.{Chooses, alternative_at, rows_from}
-use Rattle.cu_calculus.specs.Match.{Bindings, Environment, all_matched, bind, bind_all, empty, matched}
+use Rattle.cu_calculus.specs.Choose.{Selects}
+use Rattle.cu_calculus.specs.Match.{Bindings, Environment, all_matched, bind, bind_all, empty}
 use Rattle.cu_calculus.specs.Program.{External, Function, Program, Rule, Rules, arity_in, function_of}
-use Rattle.cu_calculus.specs.Shape.{are_ground, is_of, is_total_data}
+use Rattle.cu_calculus.specs.Shape.{are_ground, is_of, is_total_data, takes, takes_more}
 use Rattle.cu_calculus.specs.Term as term
-use Rattle.cu_calculus.specs.Term.{Alternatives, Pattern, Term, Terms}
+use Rattle.cu_calculus.specs.Term.{Alternatives, Term, Terms}
 use Rattle.cu_calculus.specs.Value as value
 use Rattle.cu_calculus.specs.Value.{Value, Values, and_then, count, values_of}
 
@@ -45,21 +45,17 @@ mutual
         → Applied program claims h us v → Gives program claims env (term.Whole h ts) v
     part : (env : Environment) (h : Head) (ts : Terms) (us : Values) → AllGive program claims env ts us
         → Gives program claims env (term.Part h ts) (value.Partial h us)
-    extended : (env : Environment) (f a : Term) (h : Head) (us more : Values) (u : Value) (n : ℕ) → Gives program claims env f (value.Partial h us)
-        → Gives program claims env a u → arity_in program h ≡ Some n → count us + 1 < n → more ≡ and_then us u
-        → Gives program claims env (term.Apply f a) (value.Partial h more)
-    completed : (env : Environment) (f a : Term) (h : Head) (us all : Values) (u v : Value) → Gives program claims env f (value.Partial h us)
-        → Gives program claims env a u → arity_in program h ≡ Some (count us + 1) → all ≡ and_then us u → Applied program claims h all v
-        → Gives program claims env (term.Apply f a) v
+    applied : (env : Environment) (f a : Term) (w u v : Value) → Gives program claims env f w → Gives program claims env a u
+        → AppliedTo program claims w u v → Gives program claims env (term.Apply f a) v
     bound : (env : Environment) (x : ℕ) (a b : Term) (u v : Value) → Gives program claims env a u → Gives program claims (bind env x u) b v
         → Gives program claims env (term.Let x a b) v
     free : (env : Environment) (x : ℕ) (t : Term) (u v : Value) → IsTrue (is_total_data u) → IsTrue (is_of program u) → Gives program claims (bind env x u) t v
         → Gives program claims env (term.Free x t) v
     left : (env : Environment) (a b : Term) (v : Value) → Gives program claims env a v → Gives program claims env (term.Or a b) v
     right : (env : Environment) (a b : Term) (v : Value) → Gives program claims env b v → Gives program claims env (term.Or a b) v
-    chosen : (env : Environment) (mode : Mode) (a t : Term) (alternatives : Alternatives) (k : ℕ) (p : Pattern) (bindings : Bindings) (u v : Value)
-        → Gives program claims env a u → Chooses program (rows_from 0 alternatives) (u ∷ []) k → alternative_at alternatives k ≡ Some (p, t)
-        → matched p u ≡ Some bindings → Gives program claims (bind_all env bindings) t v → Gives program claims env (term.Case mode a alternatives) v
+    chosen : (env : Environment) (mode : Mode) (a t : Term) (alternatives : Alternatives) (bindings : Bindings) (u v : Value)
+        → Gives program claims env a u → Selects program alternatives u t bindings → Gives program claims (bind_all env bindings) t v
+        → Gives program claims env (term.Case mode a alternatives) v
 
   -- terms have values in pairs
   pub data AllGive (program : Program) (claims : List Claim) : Environment → Terms → Values → Type 0 where
@@ -79,3 +75,10 @@ mutual
     collect : (f : FunId) (claim : Claim) (k : ℕ) (c : ConId) (us : Values) (v : Value) → IsTrue (are_ground us)
         → slice_get claims k ≡ Some claim → claim.function ≡ f → claim.arguments ≡ us → program.special.values ≡ Some c
         → Below v (collected program c claim.values) → Applied program claims (head.Set f) us v
+
+  -- a functional value on one argument more has a value: its head lacks further ones, or has as many as it takes
+  pub data AppliedTo (program : Program) (claims : List Claim) : Value → Value → Value → Type 0 where
+    extended : (h : Head) (us more : Values) (u : Value) → more ≡ and_then us u → IsTrue (takes_more (arity_in program h) (count more))
+        → AppliedTo program claims (value.Partial h us) u (value.Partial h more)
+    completed : (h : Head) (us all : Values) (u v : Value) → all ≡ and_then us u → IsTrue (takes (arity_in program h) (count all))
+        → Applied program claims h all v → AppliedTo program claims (value.Partial h us) u v

@@ -6,6 +6,7 @@ pub mod Choose
 pub mod Chosen
 pub mod Claims
 pub mod Code
+pub mod Coin
 pub mod Compared
 pub mod Flat
 pub mod FlatProgram

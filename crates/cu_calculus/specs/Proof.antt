@@ -1,5 +1,5 @@
 -- Derivations as lists: each statement follows from earlier ones, which it cites in the order in which its row names them.
-use Rattle.std.specs.Prelude.{◌≡◌, ◌≢◌, ℕ, ◌+◌, ◌<◌, Bool, true, ◌&&◌, List, [], ◌∷◌, ◌++◌, Option, None, Some, IsTrue, is_some, map, nat_lt, slice_get}
+use Rattle.std.specs.Prelude.{◌≡◌, ◌≢◌, ℕ, Bool, true, ◌&&◌, List, [], ◌∷◌, ◌++◌, Option, None, Some, IsTrue, is_some, map, nat_lt, slice_get}
 use Rattle.std.specs.List.{list_all}
 use Rattle.cu_calculus.specs.declared.ConId.{ConId}
 use Rattle.cu_calculus.specs.declared.FunId.{FunId}
@@ -10,13 +10,13 @@ use Rattle.cu_calculus.specs.declared.Mode.{Mode}
 use Rattle.cu_calculus.specs.declared.builtin.Primitive.{Primitive}
 use Rattle.cu_calculus.specs.Below.{Below}
 use Rattle.cu_calculus.specs.Builtin.{Answers}
-use Rattle.cu_calculus.specs.Choose.{Chooses, alternative_at, rows_from}
+use Rattle.cu_calculus.specs.Choose.{Selects}
 use Rattle.cu_calculus.specs.Gives.{Claim, collected}
-use Rattle.cu_calculus.specs.Match.{Bindings, Environment, all_matched, bind, bind_all, empty, matched}
+use Rattle.cu_calculus.specs.Match.{Bindings, Environment, all_matched, bind, bind_all, empty}
 use Rattle.cu_calculus.specs.Program.{External, Function, Program, Rule, Rules, arity_in, function_of}
-use Rattle.cu_calculus.specs.Shape.{are_ground, are_of, is_of, is_total_data}
+use Rattle.cu_calculus.specs.Shape.{are_ground, are_of, is_of, is_total_data, takes, takes_more}
 use Rattle.cu_calculus.specs.Term as term
-use Rattle.cu_calculus.specs.Term.{Alternatives, Pattern, Term, Terms}
+use Rattle.cu_calculus.specs.Term.{Alternatives, Term, Terms}
 use Rattle.cu_calculus.specs.Valid.{fits_term}
 use Rattle.cu_calculus.specs.Value as value
 use Rattle.cu_calculus.specs.Value.{Value, Values, and_then, count}
@@ -56,6 +56,13 @@ pub data Applies (program : Program) (claims : List Claim) : Head → Values →
       → slice_get claims k ≡ Some claim → claim.function ≡ f → claim.arguments ≡ us → program.special.values ≡ Some c
       → Below v (collected program c claim.values) → Applies program claims (head.Set f) us [] v
 
+-- The same for a functional value on one argument more: none where its head lacks further ones, else what the head needs.
+pub data AppliesTo (program : Program) (claims : List Claim) : Value → Value → List Statement → Value → Type 0 where
+  extended : (h : Head) (us more : Values) (u : Value) → more ≡ and_then us u → IsTrue (takes_more (arity_in program h) (count more))
+      → AppliesTo program claims (value.Partial h us) u [] (value.Partial h more)
+  completed : (h : Head) (us all : Values) (u : Value) (last : List Statement) (v : Value) → all ≡ and_then us u
+      → IsTrue (takes (arity_in program h) (count all)) → Applies program claims h all last v → AppliesTo program claims (value.Partial h us) u last v
+
 -- The table of the calculus: a statement follows from cited ones, by a row for its form of term, or for Bottom. The cited
 -- ones stand in the order in which the row names them.
 pub data Follows (program : Program) (claims : List Claim) : List Statement → Environment → Term → Value → Type 0 where
@@ -66,21 +73,17 @@ pub data Follows (program : Program) (claims : List Claim) : List Statement → 
       → AllSay parts env ts us → Applies program claims h us last v → Follows program claims cited env (term.Whole h ts) v
   part : (cited : List Statement) (env : Environment) (h : Head) (ts : Terms) (us : Values) → AllSay cited env ts us
       → Follows program claims cited env (term.Part h ts) (value.Partial h us)
-  extended : (s r : Statement) (env : Environment) (f a : Term) (h : Head) (us more : Values) (u : Value) (n : ℕ) → Says s env f (value.Partial h us)
-      → Says r env a u → arity_in program h ≡ Some n → count us + 1 < n → more ≡ and_then us u
-      → Follows program claims (s ∷ r ∷ []) env (term.Apply f a) (value.Partial h more)
-  completed : (s r : Statement) (last : List Statement) (env : Environment) (f a : Term) (h : Head) (us all : Values) (u v : Value)
-      → Says s env f (value.Partial h us) → Says r env a u → arity_in program h ≡ Some (count us + 1) → all ≡ and_then us u
-      → Applies program claims h all last v → Follows program claims (s ∷ r ∷ last) env (term.Apply f a) v
+  applied : (s r : Statement) (last : List Statement) (env : Environment) (f a : Term) (w u v : Value) → Says s env f w → Says r env a u
+      → AppliesTo program claims w u last v → Follows program claims (s ∷ r ∷ last) env (term.Apply f a) v
   bound : (s r : Statement) (env : Environment) (x : ℕ) (a b : Term) (u v : Value) → Says s env a u → Says r (bind env x u) b v
       → Follows program claims (s ∷ r ∷ []) env (term.Let x a b) v
   free : (s : Statement) (env : Environment) (x : ℕ) (t : Term) (u v : Value) → IsTrue (is_total_data u) → IsTrue (is_of program u)
       → Says s (bind env x u) t v → Follows program claims (s ∷ []) env (term.Free x t) v
   left : (s : Statement) (env : Environment) (a b : Term) (v : Value) → Says s env a v → Follows program claims (s ∷ []) env (term.Or a b) v
   right : (s : Statement) (env : Environment) (a b : Term) (v : Value) → Says s env b v → Follows program claims (s ∷ []) env (term.Or a b) v
-  chosen : (s r : Statement) (env : Environment) (mode : Mode) (a t : Term) (alternatives : Alternatives) (k : ℕ) (p : Pattern) (bindings : Bindings)
-      (u v : Value) → Says s env a u → Chooses program (rows_from 0 alternatives) (u ∷ []) k → alternative_at alternatives k ≡ Some (p, t)
-      → matched p u ≡ Some bindings → Says r (bind_all env bindings) t v → Follows program claims (s ∷ r ∷ []) env (term.Case mode a alternatives) v
+  chosen : (s r : Statement) (env : Environment) (mode : Mode) (a t : Term) (alternatives : Alternatives) (bindings : Bindings) (u v : Value)
+      → Says s env a u → Selects program alternatives u t bindings → Says r (bind_all env bindings) t v
+      → Follows program claims (s ∷ r ∷ []) env (term.Case mode a alternatives) v
 
 -- a step: a statement, and the numbers of the statements that it cites
 pub record Step : Type 0 where

@@ -2,11 +2,11 @@
 use Rattle.std.specs.Prelude.{◌≡◌, ℕ, List, [], ◌∷◌, ◌++◌, Some, slice_get}
 use Rattle.cu_calculus.specs.declared.Head.{Head}
 use Rattle.cu_calculus.specs.Gives as gives
-use Rattle.cu_calculus.specs.Gives.{AllGive, Applied, Claim, Gives}
+use Rattle.cu_calculus.specs.Gives.{AllGive, Applied, AppliedTo, Claim, Gives}
 use Rattle.cu_calculus.specs.Match.{Environment}
 use Rattle.cu_calculus.specs.Program.{Program}
 use Rattle.cu_calculus.specs.Proof as proof
-use Rattle.cu_calculus.specs.Proof.{AllFollow, Applies, Follows, Statement, Step}
+use Rattle.cu_calculus.specs.Proof.{AllFollow, Applies, AppliesTo, Follows, Statement, Step}
 use Rattle.cu_calculus.specs.Term.{Term, Terms}
 use Rattle.cu_calculus.specs.Value.{Value, Values}
 
@@ -23,13 +23,12 @@ module _ (program : Program) (claims : List Claim) where
     cited env _ _ (gives.literal _ l) = []
     cited env _ _ (gives.whole _ h ts us v ps app) = all_cited env ts us ps ++ applied_cited h us v app
     cited env _ _ (gives.part _ h ts us ps) = all_cited env ts us ps
-    cited env _ _ (gives.extended _ f a h us more u n p q e l m) = cited env f _ p ++ cited env a u q
-    cited env _ _ (gives.completed _ f a h us all u v p q e m app) = cited env f _ p ++ cited env a u q ++ applied_cited h all v app
+    cited env _ _ (gives.applied _ f a w u v p q app) = cited env f w p ++ cited env a u q ++ applied_to_cited w u v app
     cited env _ _ (gives.bound _ x a b u v p q) = cited env a u p ++ cited _ b v q
     cited env _ _ (gives.free _ x t u v total fits p) = cited _ t v p
     cited env _ _ (gives.left _ a b v p) = cited env a v p
     cited env _ _ (gives.right _ a b v p) = cited env b v p
-    cited env _ _ (gives.chosen _ mode a t alternatives k p bindings u v d c e m q) = cited env a u d ++ cited _ t v q
+    cited env _ _ (gives.chosen _ mode a t alternatives bindings u v p selects q) = cited env a u p ++ cited _ t v q
 
     pub all_cited : (env : Environment) (ts : Terms) (vs : Values) → AllGive program claims env ts vs → List Claim
     all_cited env _ _ (gives.none _) = []
@@ -41,6 +40,10 @@ module _ (program : Program) (claims : List Claim) where
     applied_cited _ us _ (gives.builtin f function operation _ v e b answers) = []
     applied_cited _ us _ (gives.collect f claim k c _ v g e f' a s p) = claim ∷ []
 
+    pub applied_to_cited : (w u v : Value) → AppliedTo program claims w u v → List Claim
+    applied_to_cited _ u _ (gives.extended h us more _ m l) = []
+    applied_to_cited _ u _ (gives.completed h us all _ v m l app) = applied_cited h all v app
+
   -- the row that a step cites, where it is a set call
   abbrev pub applying_cited : (h : Head) (us : Values) (ss : List Statement) (v : Value) → Applies program claims h us ss v → List Claim
   applying_cited _ us _ _ (proof.constructed c _ v e) = []
@@ -48,9 +51,13 @@ module _ (program : Program) (claims : List Claim) where
   applying_cited _ us _ _ (proof.builtin f function operation _ v e b answers) = []
   applying_cited _ us _ _ (proof.collect f claim k c _ v g e f' a s p) = claim ∷ []
 
+  abbrev pub applying_to_cited : (w u : Value) (ss : List Statement) (v : Value) → AppliesTo program claims w u ss v → List Claim
+  applying_to_cited _ u _ _ (proof.extended h us more _ m l) = []
+  applying_to_cited _ u _ _ (proof.completed h us all _ last v m l app) = applying_cited h all last v app
+
   abbrev pub following_cited : (ss : List Statement) (env : Environment) (t : Term) (v : Value) → Follows program claims ss env t v → List Claim
   following_cited _ env _ _ (proof.whole cited parts last _ h ts us v e say app) = applying_cited h us last v app
-  following_cited _ env _ _ (proof.completed s r last _ f a h us all u v p q e m app) = applying_cited h all last v app
+  following_cited _ env _ _ (proof.applied s r last _ f a w u v p q app) = applying_to_cited w u last v app
   following_cited _ env _ _ _ = []
 
   -- the rows that a proof cites

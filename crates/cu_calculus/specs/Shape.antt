@@ -1,7 +1,8 @@
 -- Kinds of values: total ones have no Bottom, data have no partial application, and ground data are total data without
 -- variables.
 use Rattle.std.specs.Prelude.{ℕ, Bool, true, false, ◌&&◌, Option, None, Some, nat_eq, nat_lt}
-use Rattle.cu_calculus.specs.declared.Head.TheVariants.{Con}
+use Rattle.cu_calculus.specs.declared.Head.{Head}
+use Rattle.cu_calculus.specs.declared.Head.TheVariants as head
 use Rattle.cu_calculus.specs.Literal.{is_literal}
 use Rattle.cu_calculus.specs.Program.{Program, arity_in}
 use Rattle.cu_calculus.specs.Value as value
@@ -57,15 +58,21 @@ abbrev pub takes_more : Option ℕ → ℕ → Bool
 takes_more None n = false
 takes_more (Some arity) n = nat_lt n arity
 
+-- a set function stands only where the program has the constructor of its values
+abbrev pub is_allowed : Program → Head → Bool
+is_allowed program (head.Set f) = elim program.special.values [ Some c ↦ true | None ↦ false ]
+is_allowed program (head.Fun f) = true
+is_allowed program (head.Con c) = true
+
 -- A value is of a program where its literals are the language's, its constructors are the program's and have all their
--- arguments, and its partial applications lack some.
+-- arguments, and its partial applications are of heads that may stand in the program and lack some.
 abbrev mutual
   pub is_of : Program → Value → Bool
   is_of program value.Bottom = true
   is_of program (value.Variable x) = true
   is_of program (value.Literal l) = is_literal l
-  is_of program (value.Constructed c vs) = takes (arity_in program (Con c)) (count vs) && are_of program vs
-  is_of program (value.Partial h vs) = takes_more (arity_in program h) (count vs) && are_of program vs
+  is_of program (value.Constructed c vs) = takes (arity_in program (head.Con c)) (count vs) && are_of program vs
+  is_of program (value.Partial h vs) = is_allowed program h && takes_more (arity_in program h) (count vs) && are_of program vs
 
   pub are_of : Program → Values → Bool
   are_of program value.NoValue = true

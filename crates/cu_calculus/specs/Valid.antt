@@ -1,16 +1,15 @@
 -- Valid programs: numbers name something, calls are whole, patterns are linear, and every variable is bound.
-use Rattle.std.specs.Prelude.{◌≡◌, ◌≢◌, ℕ, ◌+◌, ◌-◌, ◌^◌, ◌<◌, Bool, true, false, not, ◌&&◌, ◌||◌, List, [], ◌∷◌, ◌++◌, None, Some, IsTrue, nat_eq, nat_lt}
+use Rattle.std.specs.Prelude.{◌≡◌, ◌≢◌, ℕ, ◌+◌, ◌-◌, ◌^◌, ◌<◌, Bool, true, not, ◌&&◌, ◌||◌, List, [], ◌∷◌, ◌++◌, Some, IsTrue, nat_eq, nat_lt}
 use Rattle.std.specs.List.{list_all, list_any}
 use Rattle.cu_calculus.specs.declared.builtin.Primitive.{Primitive}
 use Rattle.cu_calculus.specs.declared.builtin.Primitive.TheVariants as prim
 use Rattle.cu_calculus.specs.declared.builtin.Special.{Special}
 use Rattle.cu_calculus.specs.Literal.{is_literal}
 use Rattle.cu_calculus.specs.declared.ConId.{ConId}
-use Rattle.cu_calculus.specs.declared.Head.{Head}
 use Rattle.cu_calculus.specs.declared.Head.TheVariants as head
 use Rattle.cu_calculus.specs.declared.Mode.TheVariants.{Flex}
 use Rattle.cu_calculus.specs.Program.{Body, External, Function, Program, Rule, Rules, arity_in, function_of}
-use Rattle.cu_calculus.specs.Shape.{takes, takes_more}
+use Rattle.cu_calculus.specs.Shape.{is_allowed, takes, takes_more}
 use Rattle.cu_calculus.specs.Term as term
 use Rattle.cu_calculus.specs.Term.{Alternatives, Pattern, Patterns, Term, Terms}
 
@@ -53,12 +52,6 @@ abbrev mutual
   pub fit_patterns : Program → Patterns → Bool
   fit_patterns program term.NoPattern = true
   fit_patterns program (term.MorePatterns p ps) = fits_pattern program p && fit_patterns program ps
-
--- a set function stands only where the program has the constructor of its values
-abbrev pub is_allowed : Program → Head → Bool
-is_allowed program (head.Set f) = elim program.special.values [ Some c ↦ true | None ↦ false ]
-is_allowed program (head.Fun f) = true
-is_allowed program (head.Con c) = true
 
 -- what may stand where a variable is bound, and where it isn't: x, or whatever might stand there before
 abbrev pub also : ℕ → (ℕ → Bool) → ℕ → Bool

@@ -1,5 +1,5 @@
 //! Laws of the definitions.
-ghost use Rattle.std.specs.Prelude.{◌≡◌, ◌≢◌, ◌↔◌, ℕ, ◌+◌, ◌<◌, ◌≤◌, Bool, List, [], ◌∷◌, ◌++◌, Some, IsTrue, true, length, slice_get};
+ghost use Rattle.std.specs.Prelude.{◌≡◌, ◌≢◌, ◌↔◌, ℕ, ◌+◌, ◌<◌, ◌≤◌, Bool, List, [], ◌∷◌, ◌++◌, None, Some, IsTrue, true, length, slice_get};
 ghost use Rattle.std.specs.Cmp.{IsTotalOrder};
 ghost use Rattle.std.specs.List.{list_all};
 ghost use Rattle.std.specs.declared.cmp.Ordering.TheVariants.{Equal};
@@ -9,10 +9,12 @@ ghost use Rattle.cu_calculus.specs.Answered.{answered, same_value};
 ghost use Rattle.cu_calculus.specs.Below.{AllBelow, Below, BindingsBelow, EnvBelow};
 ghost use Rattle.cu_calculus.specs.Builtin.{AllCompare, Answers, Compares};
 ghost use Rattle.cu_calculus.specs.Calls.{call_statement};
-ghost use Rattle.cu_calculus.specs.Choose.{Again, Chooses, Narrow, Row, look};
+ghost use Rattle.cu_calculus.specs.Choose.{Again, Chooses, Demand, Narrow, Row, Selects, alternative_at, look, rows_from};
 ghost use Rattle.cu_calculus.specs.Chosen.{chosen, chosen_after, looks};
-ghost use Rattle.cu_calculus.specs.Claims.{AreTrue, Concludes, Derives, IsExact, level_of};
+ghost use Rattle.cu_calculus.specs.Claims.{AreLeastLevels, AreTrue, Concludes, Derives, DerivesAt, IsExact, level_of};
+ghost use Rattle.cu_calculus.specs.Coin as coin;
 ghost use Rattle.cu_calculus.specs.Compared.{all_compared, compared};
+ghost use Rattle.cu_calculus.specs.Flat.{all_differ, are_flat_alternatives, demands_of, met_by};
 ghost use Rattle.cu_calculus.specs.Gives.{Claim, Gives};
 ghost use Rattle.cu_calculus.specs.Joined.{joined, moved};
 ghost use Rattle.cu_calculus.specs.Match.{Bindings, Environment, all_matched, bind_all, matched};
@@ -22,9 +24,9 @@ ghost use Rattle.cu_calculus.specs.Proof.{Checks, Statement, Step, conclusion, i
 ghost use Rattle.cu_calculus.specs.Proved.{IsGiven, IsProved};
 ghost use Rattle.cu_calculus.specs.Rows.{AreRows, cited, proof_cited};
 ghost use Rattle.cu_calculus.specs.Shape.{is_of};
-ghost use Rattle.cu_calculus.specs.Term.{Pattern, Patterns, Term};
-ghost use Rattle.cu_calculus.specs.Valid.{IsValid, fits_term};
-ghost use Rattle.cu_calculus.specs.Value.{Value, Values, values_of};
+ghost use Rattle.cu_calculus.specs.Term.{Alternatives, Pattern, Patterns, Term};
+ghost use Rattle.cu_calculus.specs.Valid.{IsValid, fit_alternatives, fits_term};
+ghost use Rattle.cu_calculus.specs.Value.{NoValue, Value, Values, values_of};
 
 /// Approximation is a partial order.
 pub fn approximation_is_an_order()
@@ -73,6 +75,33 @@ pub fn choosing_is_a_function()
         → look program rows values ≡ Again fewer → looks fewer < looks rows }
     ensures narrow { (program : Program) (rows fewer : List Row) (values parts : List Value)
         → look program rows values ≡ Narrow fewer parts → looks fewer < looks rows }
+{}
+
+/// The alternative that a value takes matches it, where both are of the
+/// program; so it selects one term, with one list of bindings. Of the
+/// alternatives before it none matches. (One that matches need not be taken:
+/// an unknown value where an earlier alternative demands something stops the
+/// choice.)
+pub fn taken_alternatives_match()
+    ensures selects { (program : Program) (alternatives : Alternatives) (may : ℕ → Bool) (u : Value) (choice : ℕ)
+        → IsTrue (fit_alternatives program may alternatives) → IsTrue (is_of program u)
+        → Chooses program (rows_from 0 alternatives) (u ∷ []) choice
+        → (t : Term) × (bindings : Bindings) × (selects : Selects program alternatives u t bindings) × (selects.choice ≡ choice) }
+    ensures one { (program : Program) (alternatives : Alternatives) (u : Value) (t s : Term) (bindings others : Bindings)
+        → Selects program alternatives u t bindings → Selects program alternatives u s others → (t ≡ s) × (bindings ≡ others) }
+    ensures earlier { (program : Program) (alternatives : Alternatives) (u : Value) (choice earlier : ℕ) (p : Pattern) (t : Term)
+        → Chooses program (rows_from 0 alternatives) (u ∷ []) choice → earlier < choice
+        → alternative_at alternatives earlier ≡ Some (p, t) → matched p u ≡ None }
+{}
+
+/// Of the alternatives of a flat case distinction a value takes the one that
+/// demands its literal or its constructor, where there is one; a value that
+/// is neither takes none.
+pub fn flat_alternatives_meet()
+    ensures { (program : Program) (alternatives : Alternatives) (u : Value) (choice : ℕ)
+        → IsTrue (are_flat_alternatives alternatives) → IsTrue (all_differ (demands_of alternatives))
+        → Chooses program (rows_from 0 alternatives) (u ∷ []) choice
+        ↔ ((d : Demand) × (met_by u ≡ Some d) × (slice_get (demands_of alternatives) choice ≡ Some d)) }
 {}
 
 /// Comparing by `==` has at most one answer, and a function finds it.
@@ -138,8 +167,12 @@ pub fn calls_have_proofs()
         → IsProved program claims (call_statement f vs v) }
     ensures concluded { (program : Program) (claims : List Claim) (f : FunId) (vs : Values) (v : Value)
         → IsProved program claims (call_statement f vs v) → Concludes program claims f vs v }
-    ensures derived { (program : Program) (levels : List ℕ) (f : FunId) (vs : Values) (v : Value) → IsValid program
-        → Derives program levels f vs v
+    ensures derived { (program : Program) (f : FunId) (vs : Values) (v : Value) → IsValid program
+        → Derives program f vs v
+        ↔ ((levels : List ℕ) × AreLeastLevels program levels × (claims : List Claim) × AreTrue program levels (level_of levels f) claims
+        × IsProved program claims (call_statement f vs v)) }
+    ensures derived_at { (program : Program) (levels : List ℕ) (f : FunId) (vs : Values) (v : Value) → IsValid program
+        → DerivesAt program levels f vs v
         ↔ ((claims : List Claim) × AreTrue program levels (level_of levels f) claims × IsProved program claims (call_statement f vs v)) }
 {}
 
@@ -171,6 +204,12 @@ pub fn cited_claims_suffice()
         → Checks program others proof }
 {}
 
+/// Least levels are unique: a program has one list of them at most.
+pub fn least_levels_are_unique()
+    ensures { (program : Program) (levels others : List ℕ) → AreLeastLevels program levels → AreLeastLevels program others
+        → levels ≡ others }
+{}
+
 /// True claims are of their program. Rows of true claims are true, two lists
 /// of true claims are true together, and what is true at a level is true at
 /// each that is higher.
@@ -198,4 +237,16 @@ pub fn true_claims_are_exact()
         → AreTrue program levels level claims → AreTrue program levels other others
         → slice_get claims k ≡ Some claim → slice_get others m ≡ Some twin
         → claim.function ≡ twin.function → claim.arguments ≡ twin.arguments → claim.values ≡ twin.values }
+{}
+
+/// A worked example: of `coin = 0 ? 1` the claim that its values are 0 and 1
+/// is true, one that lacks a value or has another isn't, and a function that
+/// is the set function of coin has both values as its value.
+pub fn coin_is_zero_or_one()
+    ensures valid { IsValid coin.program }
+    ensures least { AreLeastLevels coin.program coin.levels }
+    ensures zero_and_one { AreTrue coin.program coin.levels 1 (coin.coin_row (coin.literal 0 ∷ coin.literal 1 ∷ []) ∷ []) }
+    ensures fewer { AreTrue coin.program coin.levels 1 (coin.coin_row (coin.literal 0 ∷ []) ∷ []) → ⊥ }
+    ensures more { AreTrue coin.program coin.levels 1 (coin.coin_row (coin.literal 0 ∷ coin.literal 1 ∷ coin.literal 2 ∷ []) ∷ []) → ⊥ }
+    ensures every { Derives coin.program coin.every NoValue coin.both_values }
 {}

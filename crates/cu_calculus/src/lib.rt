@@ -12,9 +12,11 @@ pub use cu_int::Int;
 pub use flat_laws::{expressions_are_terms, flat_code_is_a_program};
 pub use laws::{
     answering_is_a_function, approximation_is_an_order, calls_have_proofs, choices_rise,
-    choosing_is_a_function, cited_claims_suffice, claims_extend, comparing_is_a_function,
-    derivations_stay_in_the_program, derivations_weaken, forms_agree, matches_rise, proofs_join,
-    true_claims_are_exact, true_claims_combine, values_have_a_total_order,
+    choosing_is_a_function, cited_claims_suffice, claims_extend, coin_is_zero_or_one,
+    comparing_is_a_function, derivations_stay_in_the_program, derivations_weaken,
+    flat_alternatives_meet, forms_agree, least_levels_are_unique, matches_rise, proofs_join,
+    taken_alternatives_match, true_claims_are_exact, true_claims_combine,
+    values_have_a_total_order,
 };
 
 /// The operations that are built in.

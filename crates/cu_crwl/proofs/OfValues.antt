@@ -8,7 +8,7 @@ use Rattle.cu_calculus.specs.Gives.{Claim}
 use Rattle.cu_calculus.specs.Match.{Bindings}
 use Rattle.cu_calculus.specs.Proof.{are_rising, is_claim_of}
 use Rattle.cu_calculus.specs.Program.{Function, Program, arity_in, function_of}
-use Rattle.cu_calculus.specs.Shape.{are_of, is_of, takes, takes_more}
+use Rattle.cu_calculus.specs.Shape.{are_of, is_allowed, is_of, takes, takes_more}
 use Rattle.cu_calculus.specs.Literal.{is_literal}
 use Rattle.cu_calculus.specs.Value as value
 use Rattle.cu_calculus.specs.Value.{Value, Values, count, values_of}
@@ -25,7 +25,7 @@ mutual
   cells_of program (value.Variable x) = refl
   cells_of program (value.Literal l) = and_true (is_literal l)
   cells_of program (value.Constructed c vs) = ap (λ b. takes (arity_in program (head.Con c)) (count vs) && b) (all_cells_of program vs)
-  cells_of program (value.Partial h vs) = ap (λ b. takes_more (arity_in program h) (count vs) && b) (all_cells_of program vs)
+  cells_of program (value.Partial h vs) = ap (λ b. is_allowed program h && takes_more (arity_in program h) (count vs) && b) (all_cells_of program vs)
 
   pub all_cells_of : (program : Program) (vs : Values) → list_all (cell_is_of program) (spell_all vs) ≡ are_of program vs
   all_cells_of program value.NoValue = refl

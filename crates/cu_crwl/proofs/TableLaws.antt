@@ -1,5 +1,5 @@
 -- The test of the table decides the table.
-use Rattle.std.proofs.Common.{◌≡◌, ℕ, zero, suc, ◌+◌, ◌<◌, Bool, true, false, ◌&&◌, ◌||◌, List, [], ◌∷◌, ◌++◌, Option, None, Some, nat_eq, nat_lt, slice_get, take, drop, if◌then◌else◌, length, refl, ap, ap₂, sym, subst, ◌∙◌, ◌⊎◌, inl, inr, arith, eq-eqb, eqb-true, ltb-true, lt-ltb, le-ltb}
+use Rattle.std.proofs.Common.{◌≡◌, ℕ, zero, suc, Bool, true, false, ◌&&◌, ◌||◌, List, [], ◌∷◌, ◌++◌, Option, None, Some, nat_eq, nat_lt, slice_get, take, drop, if◌then◌else◌, length, refl, ap, ap₂, sym, subst, ◌∙◌, ◌⊎◌, inl, inr, arith, eq-eqb, eqb-true, le-ltb}
 use Rattle.std.specs.List.{list_any}
 use Rattle.std.proofs.Math.Seq.{drop-append_seam, take-append_seam}
 use Rattle.std.proofs.lemmas.List.{take-append-drop}
@@ -12,14 +12,14 @@ use Rattle.cu_calculus.specs.declared.Lit.{Lit}
 use Rattle.cu_calculus.specs.declared.Mode.{Mode}
 use Rattle.cu_calculus.specs.declared.builtin.Primitive.{Primitive}
 use Rattle.cu_calculus.specs.Answered.{answered, same_head, same_values}
-use Rattle.cu_calculus.specs.Choose.{Chooses, alternative_at, rows_from}
+use Rattle.cu_calculus.specs.Choose.{Chooses, Selects, alternative_at, rows_from}
 use Rattle.cu_calculus.specs.Chosen.{chosen}
 use Rattle.cu_calculus.specs.Gives.{Claim, collected}
 use Rattle.cu_calculus.specs.Match.{Bindings, all_matched, bind_all, empty, matched, same_constructor}
 use Rattle.cu_calculus.specs.Program.{Body, External, Function, Program, Rule, Rules, arity_in, function_of}
 use Rattle.cu_calculus.specs.Proof as proof
-use Rattle.cu_calculus.specs.Proof.{AllSay, Applies, Follows, Says, Statement, env_of}
-use Rattle.cu_calculus.specs.Shape.{are_ground, is_of, is_total_data}
+use Rattle.cu_calculus.specs.Proof.{AllSay, Applies, AppliesTo, Follows, Says, Statement, env_of}
+use Rattle.cu_calculus.specs.Shape.{are_ground, is_of, is_total_data, takes, takes_more}
 use Rattle.cu_calculus.specs.Term as term
 use Rattle.cu_calculus.specs.Term.{Alternatives, Pattern, Term, Terms}
 use Rattle.cu_calculus.specs.Valid.{term_count}
@@ -28,7 +28,6 @@ use Rattle.cu_calculus.specs.Value.{Value, Values, and_then, count}
 use Rattle.cu_calculus.proofs.Answering.{answered_answers, answers_answered, function_is, head_is, head_itself, literal_is, same_value_from, value_is, values_are, values_themselves}
 use Rattle.cu_calculus.proofs.Choosing.{chooses_chosen, chosen_chooses, literal_itself}
 use Rattle.cu_calculus.proofs.Comparing.{same_is, same_itself}
-use Rattle.cu_calculus.proofs.OfProgram.{and_then_count}
 use Rattle.cu_values.specs.Approximation.{is_below}
 use Rattle.cu_values.proofs.BelowLemmas.{below_from, below_to}
 use Rattle.cu_crwl.specs.Environments.{all_about, is_about, says, values_said}
@@ -229,36 +228,33 @@ module _ (program : Program) (claims : List Claim) where
       proof.whole cited parts last (bind_all empty env) h ts (values_said parts) v is (all_about_say parts env ts both.0)
       (applies_from h (values_said parts) last v both.1)
 
-  application_from : (s r : Statement) (last : List Statement) (env : Bindings) (f a : Term) (h : Head) (us : Values) (v : Value)
-      → Says s (bind_all empty env) f (value.Partial h us) → Says r (bind_all empty env) a r.value
-      → (arity : Option ℕ) → arity_in program h ≡ arity → applied_to program claims h (and_then us r.value) arity last v ≡ true
-      → Follows program claims (s ∷ r ∷ last) (bind_all empty env) (term.Apply f a) v
-  application_from s r last env f a h us v first second None is e = let never : ⊥ = cc in absurd never
-  application_from s r last env f a h us v first second (Some n) is e = by (nat_lt (count (and_then us r.value)) n) refl e
+  extension_from : (h : Head) (us : Values) (u : Value) (last : List Statement) (v : Value) (arity : Option ℕ) → arity_in program h ≡ arity
+      → applied_to program claims h (and_then us u) arity last v ≡ true → AppliesTo program claims (value.Partial h us) u last v
+  extension_from h us u last v None is e = let never : ⊥ = cc in absurd never
+  extension_from h us u last v (Some n) is e = by (nat_lt (count (and_then us u)) n) refl e
     where
-      by : (b : Bool) → nat_lt (count (and_then us r.value)) n ≡ b
-          → (if b then none_cited last && is_part h (and_then us r.value) v
-          else nat_eq (count (and_then us r.value)) n && applies program claims h (and_then us r.value) last v) ≡ true
-          → Follows program claims (s ∷ r ∷ last) (bind_all empty env) (term.Apply f a) v
+      by : (b : Bool) → nat_lt (count (and_then us u)) n ≡ b
+          → (if b then none_cited last && is_part h (and_then us u) v
+          else nat_eq (count (and_then us u)) n && applies program claims h (and_then us u) last v) ≡ true
+          → AppliesTo program claims (value.Partial h us) u last v
       by true less g =
-          let parts = and_parts (none_cited last) (is_part h (and_then us r.value) v) g in
-          let below : count us + 1 < n = omega (arith, ltb-true (count (and_then us r.value)) n less, and_then_count us r.value) in
-          subst (λ (ss : List Statement). Follows program claims (s ∷ r ∷ ss) (bind_all empty env) (term.Apply f a) v) (sym (none_is last parts.0))
-          (subst (λ (x : Value). Follows program claims (s ∷ r ∷ []) (bind_all empty env) (term.Apply f a) x)
-          (sym (part_is h (and_then us r.value) v parts.1))
-          (proof.extended s r (bind_all empty env) f a h us (and_then us r.value) r.value n first second is below refl))
+          let parts = and_parts (none_cited last) (is_part h (and_then us u) v) g in
+          let lacks : takes_more (arity_in program h) (count (and_then us u)) ≡ true =
+          ap (λ (found : Option ℕ). takes_more found (count (and_then us u))) is ∙ less in
+          subst (λ (ss : List Statement). AppliesTo program claims (value.Partial h us) u ss v) (sym (none_is last parts.0))
+          (subst (λ (x : Value). AppliesTo program claims (value.Partial h us) u [] x) (sym (part_is h (and_then us u) v parts.1))
+          (proof.extended h us (and_then us u) u refl lacks))
       by false less g =
-          let parts = and_parts (nat_eq (count (and_then us r.value)) n) (applies program claims h (and_then us r.value) last v) g in
-          let same : n ≡ count us + 1 = sym (eqb-true (count (and_then us r.value)) n parts.0) ∙ and_then_count us r.value in
-          proof.completed s r last (bind_all empty env) f a h us (and_then us r.value) r.value v first second (is ∙ ap Some same) refl
-          (applies_from h (and_then us r.value) last v parts.1)
+          let parts = and_parts (nat_eq (count (and_then us u)) n) (applies program claims h (and_then us u) last v) g in
+          let whole : takes (arity_in program h) (count (and_then us u)) ≡ true =
+          ap (λ (found : Option ℕ). takes found (count (and_then us u))) is
+          ∙ eq-eqb n (count (and_then us u)) (sym (eqb-true (count (and_then us u)) n parts.0)) in
+          proof.completed h us (and_then us u) u last v refl whole (applies_from h (and_then us u) last v parts.1)
 
-  gives_from : (s r : Statement) (last : List Statement) (env : Bindings) (f a : Term) (v u : Value)
-      → Says s (bind_all empty env) f u → Says r (bind_all empty env) a r.value
-      → application_gives program claims u r.value last v ≡ true → Follows program claims (s ∷ r ∷ last) (bind_all empty env) (term.Apply f a) v
-  gives_from s r last env f a v (value.Partial h us) first second e =
-      application_from s r last env f a h us v first second (arity_in program h) refl e
-  gives_from s r last env f a v _ first second e = let never : ⊥ = cc in absurd never
+  application_from : (w u : Value) (last : List Statement) (v : Value) → application_gives program claims w u last v ≡ true
+      → AppliesTo program claims w u last v
+  application_from (value.Partial h us) u last v e = extension_from h us u last v (arity_in program h) refl e
+  application_from _ u last v e = let never : ⊥ = cc in absurd never
 
   apply_from : (cited : List Statement) (env : Bindings) (f a : Term) (v : Value) (found : Option (Statement × Statement × List Statement))
       → first_cited cited ≡ found → apply_follows program claims found env f a v ≡ true
@@ -268,7 +264,8 @@ module _ (program : Program) (claims : List Claim) where
       let parts = and_parts (is_about found.0 [] env f && is_about found.1 [] env a) (application_gives program claims found.0.value found.1.value found.2 v) e in
       let more = and_parts (is_about found.0 [] env f) (is_about found.1 [] env a) parts.0 in
       subst (λ (ss : List Statement). Follows program claims ss (bind_all empty env) (term.Apply f a) v) (sym (first_are cited found is))
-      (gives_from found.0 found.1 found.2 env f a v found.0.value (about_says found.0 [] env f more.0) (about_says found.1 [] env a more.1) parts.1)
+      (proof.applied found.0 found.1 found.2 (bind_all empty env) f a found.0.value found.1.value v (about_says found.0 [] env f more.0)
+      (about_says found.1 [] env a more.1) (application_from found.0.value found.1.value found.2 v parts.1))
 
   let_from : (cited : List Statement) (env : Bindings) (x : ℕ) (a b : Term) (v : Value) (found : Option (Statement × Statement))
       → two_cited cited ≡ found → let_follows found env x a b v ≡ true → Follows program claims cited (bind_all empty env) (term.Let x a b) v
@@ -307,7 +304,8 @@ module _ (program : Program) (claims : List Claim) where
       → Follows program claims (s ∷ r ∷ []) (bind_all empty env) (term.Case mode a alternatives) v
   alternative_from s r env mode a t alternatives k p v first chooses at None match e = let never : ⊥ = cc in absurd never
   alternative_from s r env mode a t alternatives k p v first chooses at (Some bindings) match e =
-      proof.chosen s r (bind_all empty env) mode a t alternatives k p bindings s.value v first chooses at match (says_says r bindings env t v e)
+      let selects : Selects program alternatives s.value t bindings = record { choice = k; pattern = p; chooses = chooses; at = at; matches = match } in
+      proof.chosen s r (bind_all empty env) mode a t alternatives bindings s.value v first selects (says_says r bindings env t v e)
 
   taken_from : (s r : Statement) (env : Bindings) (mode : Mode) (a : Term) (alternatives : Alternatives) (k : ℕ) (v : Value)
       → Says s (bind_all empty env) a s.value → Chooses program (rows_from 0 alternatives) (s.value ∷ []) k
@@ -403,28 +401,40 @@ module _ (program : Program) (claims : List Claim) where
       and_from (all_about cited env ts) (is_part h (values_said cited) (value.Partial h us)) about.0
       (ap (λ (xs : Values). is_part h xs (value.Partial h us)) about.1 ∙ is_part_from h us)
 
-  less_to : (w : Values) (n : ℕ) (last : List Statement) (h : Head) (v : Value) → count w < n
-      → applied_to program claims h w (Some n) last v ≡ (none_cited last && is_part h w v)
-  less_to w n last h v less =
-      ap (λ (b : Bool). if b then none_cited last && is_part h w v else nat_eq (count w) n && applies program claims h w last v) (lt-ltb (count w) n less)
+  less_to : (w : Values) (h : Head) (arity : Option ℕ) → takes_more arity (count w) ≡ true
+      → applied_to program claims h w arity [] (value.Partial h w) ≡ true
+  less_to w h None less = let never : ⊥ = cc in absurd never
+  less_to w h (Some n) less =
+      ap (λ (b : Bool). if b then is_part h w (value.Partial h w) else nat_eq (count w) n && applies program claims h w [] (value.Partial h w)) less
+      ∙ is_part_from h w
 
-  full_to : (w : Values) (n : ℕ) (last : List Statement) (h : Head) (v : Value) → count w ≡ n
-      → applied_to program claims h w (Some n) last v ≡ (nat_eq (count w) n && applies program claims h w last v)
-  full_to w n last h v same =
+  full_to : (w : Values) (h : Head) (last : List Statement) (v : Value) (arity : Option ℕ) → takes arity (count w) ≡ true
+      → applies program claims h w last v ≡ true → applied_to program claims h w arity last v ≡ true
+  full_to w h last v None whole e = let never : ⊥ = cc in absurd never
+  full_to w h last v (Some n) whole e =
+      let size : n ≡ count w = eqb-true n (count w) whole in
       let past : nat_lt (count w) n ≡ false = le-ltb (count w) n (omega arith) in
       ap (λ (b : Bool). if b then none_cited last && is_part h w v else nat_eq (count w) n && applies program claims h w last v) past
+      ∙ and_from (nat_eq (count w) n) (applies program claims h w last v) (eq-eqb (count w) n (sym size)) e
 
-  application_to : (s r : Statement) (last : List Statement) (env : Bindings) (f a : Term) (h : Head) (us : Values) (u v : Value) (n : ℕ)
-      → Says s (bind_all empty env) f (value.Partial h us) → Says r (bind_all empty env) a u → arity_in program h ≡ Some n
-      → applied_to program claims h (and_then us u) (Some n) last v ≡ true → apply_follows program claims (Some (s, r, last)) env f a v ≡ true
-  application_to s r last env f a h us u v n first second is e =
-      let partial : s.value ≡ value.Partial h us = first.value in
-      let added : r.value ≡ u = second.value in
+  application_to : (w u : Value) (last : List Statement) (v : Value) → AppliesTo program claims w u last v
+      → application_gives program claims w u last v ≡ true
+  application_to _ _ _ _ (proof.extended h us more u added lacks) =
+      subst (λ (x : Values). applied_to program claims h x (arity_in program h) [] (value.Partial h more) ≡ true) added
+      (less_to more h (arity_in program h) lacks)
+  application_to _ _ _ _ (proof.completed h us all u last v added whole applied) =
+      subst (λ (x : Values). applied_to program claims h x (arity_in program h) last v ≡ true) added
+      (full_to all h last v (arity_in program h) whole (applies_to h all last v applied))
+
+  apply_to : (s r : Statement) (last : List Statement) (env : Bindings) (f a : Term) (w u v : Value) → Says s (bind_all empty env) f w
+      → Says r (bind_all empty env) a u → AppliesTo program claims w u last v → apply_follows program claims (Some (s, r, last)) env f a v ≡ true
+  apply_to s r last env f a w u v first second applied =
+      let function : s.value ≡ w = first.value in
+      let argument : r.value ≡ u = second.value in
       and_from (is_about s [] env f && is_about r [] env a) (application_gives program claims s.value r.value last v)
-      (and_from (is_about s [] env f) (is_about r [] env a) (says_about s [] env f (value.Partial h us) first) (says_about r [] env a u second))
-      (ap (λ (x : Value). application_gives program claims x r.value last v) partial
-      ∙ ap (λ (x : Value). applied_to program claims h (and_then us x) (arity_in program h) last v) added
-      ∙ ap (λ (arity : Option ℕ). applied_to program claims h (and_then us u) arity last v) is ∙ e)
+      (and_from (is_about s [] env f) (is_about r [] env a) (says_about s [] env f w first) (says_about r [] env a u second))
+      (ap (λ (x : Value). application_gives program claims x r.value last v) function
+      ∙ ap (λ (x : Value). application_gives program claims w x last v) argument ∙ application_to w u last v applied)
 
   let_to : (s r : Statement) (env : Bindings) (x : ℕ) (a b : Term) (u v : Value) → Says s (bind_all empty env) a u
       → Says r (bind_all (bind_all empty env) ((x, u) ∷ [])) b v → let_follows (Some (s, r)) env x a b v ≡ true
@@ -443,18 +453,17 @@ module _ (program : Program) (claims : List Claim) where
       ∙ and_from (is_total_data u && is_of program u) (says s ((x, u) ∷ []) env t v) (and_from (is_total_data u) (is_of program u) total of)
       (said s ((x, u) ∷ []) env t v h)
 
-  case_to : (s r : Statement) (env : Bindings) (a t : Term) (alternatives : Alternatives) (k : ℕ) (p : Pattern) (bindings : Bindings) (u v : Value)
-      → Says s (bind_all empty env) a u → Chooses program (rows_from 0 alternatives) (u ∷ []) k → alternative_at alternatives k ≡ Some (p, t)
-      → matched p u ≡ Some bindings → Says r (bind_all (bind_all empty env) bindings) t v
+  case_to : (s r : Statement) (env : Bindings) (a t : Term) (alternatives : Alternatives) (bindings : Bindings) (u v : Value)
+      → Says s (bind_all empty env) a u → Selects program alternatives u t bindings → Says r (bind_all (bind_all empty env) bindings) t v
       → case_follows program (Some (s, r)) env a alternatives v ≡ true
-  case_to s r env a t alternatives k p bindings u v first chooses at match second =
+  case_to s r env a t alternatives bindings u v first selects second =
       let given : s.value ≡ u = first.value in
       and_from (is_about s [] env a)
       (choice_gives r env s.value v alternatives (chosen program (rows_from 0 alternatives) (s.value ∷ []))) (says_about s [] env a u first)
       (ap (λ (w : Value). choice_gives r env w v alternatives (chosen program (rows_from 0 alternatives) (w ∷ []))) given
-      ∙ ap (choice_gives r env u v alternatives) (chooses_chosen program (rows_from 0 alternatives) (u ∷ []) k chooses)
-      ∙ ap (alternative_gives r env u v) at
-      ∙ ap (λ (found : Option Bindings). elim found [ Some bs ↦ says r bs env t v | None ↦ false ]) match ∙ said r bindings env t v second)
+      ∙ ap (choice_gives r env u v alternatives) (chooses_chosen program (rows_from 0 alternatives) (u ∷ []) selects.choice selects.chooses)
+      ∙ ap (alternative_gives r env u v) selects.at
+      ∙ ap (λ (found : Option Bindings). elim found [ Some bs ↦ says r bs env t v | None ↦ false ]) selects.matches ∙ said r bindings env t v second)
 
   pub follows_to : (cited : List Statement) (env : Bindings) (t : Term) (v : Value) → Follows program claims cited (bind_all empty env) t v
       → follows program claims cited env t v ≡ true
@@ -467,19 +476,8 @@ module _ (program : Program) (claims : List Claim) where
       (ap (λ (ss : List Statement). whole_follows program claims (take (term_count ts) ss) (drop (term_count ts) ss) env h ts v) is
       ∙ whole_to parts last env h ts us v say applied)
   follows_to cited env _ _ (proof.part _ _ h ts us say) = by_row cited env (term.Part h ts) (value.Partial h us) (part_to cited env h ts us say)
-  follows_to _ env _ _ (proof.extended s r _ f a h us more u n first second is less added) =
-      by_row (s ∷ r ∷ []) env (term.Apply f a) (value.Partial h more)
-      (application_to s r [] env f a h us u (value.Partial h more) n first second is
-      (less_to (and_then us u) n [] h (value.Partial h more) (omega (arith, less, and_then_count us u))
-      ∙ ap (λ (w : Values). is_part h w (value.Partial h more)) (sym added) ∙ is_part_from h more))
-  follows_to _ env _ v (proof.completed s r last _ f a h us all u _ first second is added applied) =
-      let size : count (and_then us u) ≡ count us + 1 = and_then_count us u in
-      by_row (s ∷ r ∷ last) env (term.Apply f a) v
-      (application_to s r last env f a h us u v (count us + 1) first second is
-      (full_to (and_then us u) (count us + 1) last h v size
-      ∙ and_from (nat_eq (count (and_then us u)) (count us + 1)) (applies program claims h (and_then us u) last v)
-      (eq-eqb (count (and_then us u)) (count us + 1) size)
-      (ap (λ (w : Values). applies program claims h w last v) (sym added) ∙ applies_to h all last v applied)))
+  follows_to _ env _ v (proof.applied s r last _ f a w u _ first second applied) =
+      by_row (s ∷ r ∷ last) env (term.Apply f a) v (apply_to s r last env f a w u v first second applied)
   follows_to _ env _ v (proof.bound s r _ x a b u _ first second) =
       by_row (s ∷ r ∷ []) env (term.Let x a b) v (let_to s r env x a b u v first second)
   follows_to _ env _ v (proof.free s _ x t u _ total of h) =
@@ -488,5 +486,5 @@ module _ (program : Program) (claims : List Claim) where
       by_row (s ∷ []) env (term.Or a b) v (or_left (says s [] env a v) (says s [] env b v) (said s [] env a v h))
   follows_to _ env _ v (proof.right s _ a b _ h) =
       by_row (s ∷ []) env (term.Or a b) v (or_right (says s [] env a v) (says s [] env b v) (said s [] env b v h))
-  follows_to _ env _ v (proof.chosen s r _ mode a t alternatives k p bindings u _ first chooses at match second) =
-      by_row (s ∷ r ∷ []) env (term.Case mode a alternatives) v (case_to s r env a t alternatives k p bindings u v first chooses at match second)
+  follows_to _ env _ v (proof.chosen s r _ mode a t alternatives bindings u _ first selects second) =
+      by_row (s ∷ r ∷ []) env (term.Case mode a alternatives) v (case_to s r env a t alternatives bindings u v first selects second)

@@ -1,18 +1,13 @@
--- Operations on one and two literals, and integers of the language.
-use Rattle.std.specs.Prelude.{List, [], ◌∷◌, Option, None, Some, if◌then◌else◌, ℤ, pos}
+-- Operations on one and two literals.
+use Rattle.std.specs.Prelude.{List, [], ◌∷◌, Option, None, Some, pos}
 use Rattle.cu_calculus.specs.declared.Lit.{Lit}
 use Rattle.cu_calculus.specs.declared.Lit.TheVariants.{Char, Int}
 use Rattle.cu_calculus.specs.declared.builtin.Primitive.{Primitive}
 use Rattle.cu_calculus.specs.declared.builtin.Primitive.TheVariants as prim
 use Rattle.cu_calculus.specs.Builtin.{character, on_integers}
-use Rattle.cu_int.specs.Integers.{is_integer}
 use Rattle.cu_calculus.specs.Program.{Program}
 use Rattle.cu_calculus.specs.Value as value
 use Rattle.cu_calculus.specs.Value.{Value}
-
--- a number, where it is an integer of the language
-abbrev pub checked : ℤ → Option ℤ
-checked n = if is_integer n then Some n else None
 
 abbrev pub two_values : List Value → Option (Value × Value)
 two_values (u ∷ v ∷ []) = Some (u, v)

@@ -2,18 +2,18 @@
 ghost use Rattle.std.specs.Prelude.{◌≡◌, ◌≢◌, ◌∷◌, [], IfOk, None, Option, Some, if◌then◌else◌, option_map, pos, true};
 ghost use Rattle.std.specs.Option.{option_and_then};
 ghost use Rattle.cu_calculus.specs.Answered.{answered, conjoined, literals_in, unified};
-ghost use Rattle.cu_int.specs.Integers.{floor_quotient, floor_rest, is_uneven};
 ghost use Rattle.cu_calculus.specs.Builtin.{character, integer, on_integers, on_literals, truth_of};
 ghost use Rattle.cu_calculus.specs.Compared.{compared};
 ghost use Rattle.cu_calculus.specs.Shape.{is_total_data};
 ghost use Rattle.cu_calculus.specs.Value as value;
 ghost use Rattle.cu_calculus.specs.Value.{values_of};
 ghost use Rattle.cu_kernel.specs.Heads.{heads_program};
-ghost use Rattle.cu_crwl.specs.Numbers.{checked, on_one, on_two, two_values};
+ghost use Rattle.cu_crwl.specs.Numbers.{on_one, on_two, two_values};
 ghost use Rattle.cu_crwl.specs.Table.{is_answer};
 
 use crate::compare::compare;
 use crate::environment::value_is;
+use cu_int::{floor_quotient, floor_rest};
 use cu_kernel::{Heads, Int, Lit, Prim};
 use cu_values::{Cell, Value};
 use std::alloc::{AllocError, Global};
@@ -297,39 +297,4 @@ fn character_of(n: Int) -> Option<char>
         Ok(code) => char::from_u32(code),
         Err(_) => None,
     }
-}
-
-/// Whether a division towards zero leaves a rest of the other sign than the
-/// divisor's.
-fn is_uneven(m: Int, n: Int) -> bool
-    requires { n ≢ pos 0 }
-    ensures { result ≡ is_uneven m n }
-{
-    let rest = m.wrapping_rem(n);
-    (rest < 0 && n >= 0) || (0 < rest && n < 0)
-}
-
-/// The quotient rounded towards minus infinity, where it is an `Int`.
-fn floor_quotient(m: Int, n: Int) -> Option<Int>
-    requires { n ≢ pos 0 }
-    ensures { result ≡ checked (floor_quotient m n) }
-{
-    let quotient = match m.checked_div(n) {
-        Some(quotient) => quotient,
-        None => return None,
-    };
-    if is_uneven(m, n) {
-        quotient.checked_sub(1)
-    } else {
-        Some(quotient)
-    }
-}
-
-/// The rest of that division. It has the divisor's sign.
-fn floor_rest(m: Int, n: Int) -> Int
-    requires { n ≢ pos 0 }
-    ensures { result ≡ floor_rest m n }
-{
-    let rest = m.wrapping_rem(n);
-    if is_uneven(m, n) { rest + n } else { rest }
 }

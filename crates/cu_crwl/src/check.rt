@@ -42,7 +42,7 @@ pub fn checks(
     if !claims_are_of(&heads, &claims.rows) {
         return Ok(false);
     }
-    if !steps_are_of(alloc, &heads, proof.steps())? {
+    if !steps_are_of(&heads, proof.steps())? {
         return Ok(false);
     }
     steps_follow(alloc, &heads, &claims.rows, proof.steps())
@@ -61,11 +61,11 @@ fn claims_are_of(heads: &Heads, claims: &[Claim]) -> bool
 }
 
 /// Whether the statements of steps are the program's.
-fn steps_are_of(alloc: Global, heads: &Heads, steps: &[Step]) -> Result<bool, AllocError>
+fn steps_are_of(heads: &Heads, steps: &[Step]) -> Result<bool, AllocError>
     ensures { IfOk result (λ yes. yes ≡ list_all (λ step. is_statement_of (heads_program heads.now) step.statement) (map step_of steps.now)) }
 {
     for step in steps {
-        if !statement_is_of(alloc, heads, &step.statement)? {
+        if !statement_is_of(heads, &step.statement)? {
             return Ok(false);
         }
     }

@@ -16,8 +16,6 @@ mod laws;
 mod matching;
 mod of_program;
 mod same;
-#[cfg(test)]
-mod tests;
 
 pub use check::{checks, conclusion};
 pub use claim::{Claim, Claims, Proof, Statement, Step};

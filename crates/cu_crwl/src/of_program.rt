@@ -12,7 +12,7 @@ use crate::apply::function;
 use crate::{Claim, Statement};
 use cu_kernel::{Head, Heads, Int, Lit};
 use cu_values::{Cell, Value};
-use std::alloc::{AllocError, Global};
+use std::alloc::AllocError;
 
 /// Whether a value is one of the program.
 pub(crate) fn is_of(heads: &Heads, value: &Value) -> bool
@@ -87,11 +87,7 @@ fn values_are_of(heads: &Heads, claim: &Claim) -> bool
 }
 
 /// Whether a statement is one of the program.
-pub(crate) fn statement_is_of(
-    alloc: Global,
-    heads: &Heads,
-    statement: &Statement,
-) -> Result<bool, AllocError>
+pub(crate) fn statement_is_of(heads: &Heads, statement: &Statement) -> Result<bool, AllocError>
     ensures { IfOk result (λ yes. yes ≡ is_statement_of (heads_program heads.now) (statement_of statement.now)) }
 {
     if !rise(&statement.env) {
@@ -100,7 +96,7 @@ pub(crate) fn statement_is_of(
     if !bindings_are_of(heads, &statement.env) {
         return Ok(false);
     }
-    if !heads.fits(alloc, &statement.term)? {
+    if !heads.fits(&statement.term)? {
         return Ok(false);
     }
     Ok(is_of(heads, &statement.value))
@@ -115,7 +111,7 @@ fn cell_is_of(heads: &Heads, cell: Cell) -> bool
         Cell::LVar(_) => true,
         Cell::Lit(literal) => literal_is_of(literal),
         Cell::Con(constructor, count) => heads.takes(Head::Con(constructor), count as usize),
-        Cell::Part(head, count) => heads.takes_more(head, count as usize),
+        Cell::Part(head, count) => { heads.allows(head) && heads.takes_more(head, count as usize) }
     }
 }
 

@@ -4,9 +4,9 @@ use Rattle.std.specs.Prelude.{◌≡◌, ℕ, ◌+◌, Bool, true, false, ◌&&�
 use Rattle.std.specs.List.{list_all}
 use Rattle.cu_calculus.specs.Literal.{is_literal}
 use Rattle.cu_calculus.specs.Program as calculus
-use Rattle.cu_calculus.specs.Shape.{takes, takes_more}
+use Rattle.cu_calculus.specs.Shape.{is_allowed, takes, takes_more}
 use Rattle.cu_calculus.specs.Term as clean
-use Rattle.cu_calculus.specs.Valid.{IsConjunction, all_variables, external_arity, holds, is_allowed, is_arity, is_linear, pattern_count, variables_of}
+use Rattle.cu_calculus.specs.Valid.{IsConjunction, all_variables, external_arity, holds, is_arity, is_linear, pattern_count, variables_of}
 use Rattle.cu_calculus.specs.declared.ConId.{ConId}
 use Rattle.cu_calculus.specs.declared.Head.TheVariants as plain
 use Rattle.cu_calculus.specs.declared.builtin.Special.{Special}

@@ -1,8 +1,7 @@
 //! What the heads of a program's terms take.
 ghost use Rattle.std.specs.Prelude.{◌≡◌, ◌++◌, IfOk, OnOk, map, option_map, slice_get};
 ghost use Rattle.cu_calculus.specs.Program.{arity_in, constructor_of};
-ghost use Rattle.cu_calculus.specs.Shape.{takes, takes_more};
-ghost use Rattle.cu_calculus.specs.Valid.{is_allowed};
+ghost use Rattle.cu_calculus.specs.Shape.{is_allowed, takes, takes_more};
 ghost use Rattle.cu_kernel.specs.Heads.{heads_program, shape_meaning};
 ghost use Rattle.cu_kernel.specs.Kernel.{constructors_from, constructors_of, program_of};
 ghost use Rattle.cu_kernel.specs.KernelOf.{constructor_meaning, kernel_of, type_meaning};

@@ -7,8 +7,6 @@ mod form;
 mod laws;
 mod layout;
 mod stack;
-#[cfg(test)]
-mod tests;
 
 pub use fault::TooDeep;
 pub use laws::{reading_is_alike, text_is_kept};

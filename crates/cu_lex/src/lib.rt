@@ -11,8 +11,6 @@ mod laws;
 mod lexer;
 mod literal;
 mod number;
-#[cfg(test)]
-mod tests;
 mod token;
 mod word;
 mod words;

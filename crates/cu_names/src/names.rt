@@ -84,38 +84,3 @@ impl Names {
         self.texts.as_slice()[id.0].as_str()
     }
 }
-
-#[cfg(test)]
-mod tests {
-    use super::*;
-    use std::test::Fail;
-
-    #[test]
-    fn equal_texts_have_one_number(rt: HostRuntime) -> Result<(), Fail> {
-        let mut names = Names::new(rt.alloc());
-        for (text, number) in [
-            ("a", 0),
-            ("bc", 1),
-            ("a", 0),
-            ("", 2),
-            ("\u{e9}", 3),
-            ("bc", 1),
-        ] {
-            assert_eq!(rt; names.intern(text)?, NameId(number), "{text}");
-        }
-        assert_eq!(rt; names.count(), 4);
-        assert_eq!(rt; names.find("b"), None);
-        assert_eq!(rt; names.find("bc"), Some(NameId(1)));
-        Ok(())
-    }
-
-    #[test]
-    fn texts_come_back(rt: HostRuntime) -> Result<(), Fail> {
-        let mut names = Names::new(rt.alloc());
-        let id = names.intern("Data.List")?;
-        names.intern("Prelude")?;
-        assert!(rt; id.0 < names.count());
-        assert_eq!(rt; names.text(id), "Data.List");
-        Ok(())
-    }
-}

@@ -13,8 +13,6 @@ mod node;
 mod reading;
 mod row;
 mod table;
-#[cfg(test)]
-mod tests;
 mod tree;
 
 pub use class::{Class, NameKind};

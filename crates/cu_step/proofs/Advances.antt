@@ -8,10 +8,9 @@ use Rattle.cu_machine.specs.Need.{Need, Done}
 use Rattle.cu_machine.specs.Validity.{ArgumentsThere, IsAcyclic}
 use Rattle.cu_step.specs.declared.need.Frame.{Frame}
 use Rattle.cu_step.specs.declared.need.Look.{Look}
-use Rattle.cu_step.specs.declared.need.Look.TheVariants as look
 use Rattle.cu_step.specs.declared.need.Needed.{Needed}
 use Rattle.cu_step.specs.Needed.{need_of}
-use Rattle.cu_step.specs.Walk.{Fits, Found, FrameFits, Goes, IsWithin, LookFits, asked, asked_of, at_once, cost, height, left, left_answer, look_need, looked, looked_at, met, outcome, so_far, with_frame}
+use Rattle.cu_step.specs.Walk.{Fits, Found, Goes, LookFits, asked, asked_of, at_once, height, left, left_answer, look_need, looked, looked_at, met, outcome, so_far, with_frame}
 use Rattle.cu_step.proofs.Frames.{fit_last}
 use Rattle.cu_step.proofs.Heights.{argument_lower, argument_there}
 use Rattle.cu_step.proofs.Leaves.{left_answers, left_goes}
@@ -98,11 +97,11 @@ next_met truth graph f frame there acyclic fits within none =
     (argument_lower graph frame.node frame.next there acyclic below (within_args graph frame within)))
     none in
     let less = next_cost graph f frame within in
-    let takes = result.takes in
     record {
       fits = result.fits;
       outcome = result.comes ∙ ap (outcome truth graph (with_frame f (further frame))) (sym shows) ∙ next_outcome truth graph f frame within;
-      cost = omega arith;
+      marked = λ marked. result.keeps (record { whole = marked.whole; inside = marked.inside });
+      cost = λ marked. (let takes = result.takes (record { whole = marked.whole; inside = marked.inside }) in omega arith);
     }
 
 pub next_answer : {E : Type 0} (truth : ConId) (graph : Graph) (f : Found) (frame : Frame) (l : Look) (r : Result (Option Needed) E) → ArgumentsThere graph → IsAcyclic graph
@@ -126,22 +125,6 @@ next_goes truth graph f pushed new frame l (Ok None) there acyclic fits within i
     subst (λ (g : Found). Goes truth graph (with_frame f frame) g) (sym (now ∙ ap (λ g. met g l) was ∙ ap (met (with_frame f (further frame))) is))
     (next_met truth graph f frame there acyclic fits within (sym (answers ∙ ap at_once is)))
 next_goes truth graph f pushed new frame l (Err e) there acyclic fits within is was answers now = tt
-
-pub look_within : (truth : ConId) (graph : Graph) (f : Found) (top : ℕ) (l : Look) → length f.whole ≡ length graph → length f.inside ≡ length graph → LookFits truth graph top l → IsWithin f l
-look_within truth graph f top (look.Free id) whole inside look = let below = look.0 in omega arith
-look_within truth graph f top (look.Node id a) whole inside look = let below = look.0 in (omega arith, omega arith)
-look_within truth graph f top look.There whole inside look = tt
-look_within truth graph f top look.Stuck whole inside look = tt
-look_within truth graph f top look.Dead whole inside look = tt
-look_within truth graph f top (look.At id) whole inside look = tt
-
-pub next_within : (truth : ConId) (graph : Graph) (f pushed : Found) (frame : Frame) (l : Look) → ArgumentsThere graph → IsAcyclic graph → Fits truth graph (with_frame f frame) Done
-    → frame.next < length (looked_at graph frame.node) → l ≡ look_at truth graph frame (argument graph frame) → pushed ≡ with_frame f (further frame) → IsWithin pushed l
-next_within truth graph f pushed frame l there acyclic fits within is was =
-    subst (λ (k : Look). IsWithin pushed k) (sym is)
-    (subst (λ (g : Found). IsWithin g (look_at truth graph frame (argument graph frame))) (sym was)
-    (look_within truth graph (with_frame f (further frame)) (height graph (argument graph frame)) (look_at truth graph frame (argument graph frame)) fits.whole_length fits.inside_length
-    (next_look_fits truth graph frame there acyclic (frame_there truth graph f frame fits) within)))
 
 -- what a list of nodes with another at its end makes of what was found
 pub pushed_found : (f : Found) (frames : List Frame) (frame : Frame) → frames ≡ f.frames ++ frame ∷ [] → record f { frames = frames } ≡ with_frame f frame

@@ -1,14 +1,12 @@
 -- Lists of nodes that are being looked at.
-use Rattle.std.proofs.Common.{◌≡◌, ℕ, zero, suc, ◌+◌, ◌<◌, ◌≤◌, Bool, true, false, ◌&&◌, ◌||◌, List, [], ◌∷◌, ◌++◌, refl, ap, ap₂, sym, ◌∙◌, length, map, take, drop, ◌-◌, nat_eq, arith, append-nil}
-use Rattle.std.specs.List.{All}
+use Rattle.std.proofs.Common.{◌≡◌, ℕ, ◌+◌, Bool, true, false, ◌&&◌, ◌||◌, List, [], ◌∷◌, ◌++◌, refl, ap, sym, ◌∙◌, map, take, drop, ◌-◌, nat_eq, arith}
 use Rattle.cu_calculus.specs.declared.ConId.{ConId}
 use Rattle.cu_machine.specs.Graph.{Graph, node_at}
 use Rattle.cu_machine.specs.Need.{Need, At, Dead, Done, Wait, before, first, unless_done}
 use Rattle.cu_machine.proofs.FirstLaws.{before_assoc, before_itself}
-use Rattle.cu_step.specs.declared.need.Ask.{Ask}
 use Rattle.cu_step.specs.declared.need.Frame.{Frame}
-use Rattle.cu_step.specs.Walk.{AllFit, Found, asked, looked_at, then_needed, FrameFits, IsBelow, IsPath, Seen, also, flagged, found, frame_cost, frames_cost, height, is_inside, is_open, marked_need, need_in, needed_by, needed_outside, outcome, regards, so_far, told}
-use Rattle.cu_step.proofs.Needs.{also_waits, begins_also, begins_before, begins_unless, none_joined, same_also, same_before, same_itself, same_told, same_unless, Same, seen_later, seen_wait, told_again}
+use Rattle.cu_step.specs.Walk.{AllFit, Found, asked, looked_at, then_needed, FrameFits, also, flagged, frame_cost, frames_cost, is_inside, is_open, marked_need, need_in, needed_by, needed_outside, outcome, regards, so_far, told}
+use Rattle.cu_step.proofs.Needs.{also_waits, begins_also, begins_before, begins_unless, none_joined, same_also, same_before, same_told, same_unless, Same, seen_later, seen_wait, told_again}
 
 abbrev flag : Frame → Frame
 flag frame = record frame { waits = true }

@@ -1,9 +1,9 @@
 -- On a graph without cycles an argument is lower than its node, and a head no higher.
-use Rattle.std.proofs.Common.{◌≡◌, ℕ, zero, suc, ◌+◌, ◌<◌, ◌≤◌, Bool, true, List, [], ◌∷◌, IsTrue, refl, ap, ap₂, sym, ◌∙◌, length, max, get_or, nat_lt, arith, ltb-true}
+use Rattle.std.proofs.Common.{◌≡◌, ℕ, zero, suc, ◌<◌, ◌≤◌, Bool, true, List, [], ◌∷◌, IsTrue, refl, ap, ap₂, length, max, get_or, nat_lt, arith, ltb-true}
 use Rattle.std.specs.List.{list_all}
 use Rattle.cu_machine.specs.declared.Kind.{Kind}
 use Rattle.cu_machine.specs.declared.Kind.TheVariants as kind
-use Rattle.cu_machine.specs.Graph.{Graph, followed, head_of, head_within, node_at}
+use Rattle.cu_machine.specs.Graph.{Graph, followed, head_within, node_at}
 use Rattle.cu_machine.specs.Validity.{ArgumentsThere, IsAcyclic, are_places}
 use Rattle.cu_machine.proofs.Fuel.{is_low, left_true, low_enough, right_true}
 use Rattle.cu_machine.proofs.Visits.{never_low}

@@ -1,28 +1,21 @@
 -- A node whose arguments were all looked at is left.
-use Rattle.std.proofs.Common.{◌≡◌, ◌≢◌, ℕ, zero, suc, ◌+◌, ◌-◌, ◌*◌, ◌<◌, ◌≤◌, Bool, true, false, not, ◌&&◌, ◌||◌, List, [], ◌∷◌, ◌++◌, Option, None, Some, refl, ap, sym, ◌∙◌, subst, length, map, take, drop, get_or, set, cond, nat_eq, arith, eq-eqb, eqb-true, get_or-set_other, get_or-set_same}
-use Rattle.std.specs.List.{filter, list_any}
-use Rattle.std.proofs.lemmas.List.{drop_all, length-set, map-append, take_all}
-use Rattle.std.proofs.lemmas.List.Folds.{list_any-append}
-use Rattle.std.proofs.Math.Seq.{drop-cons, take-suc}
+use Rattle.std.proofs.Common.{◌≡◌, ℕ, ◌+◌, ◌<◌, ◌≤◌, Bool, true, false, not, ◌&&◌, ◌||◌, List, [], ◌∷◌, ◌++◌, None, Some, refl, ap, sym, ◌∙◌, subst, length, map, nat_eq, arith, eqb-true}
+use Rattle.std.proofs.lemmas.List.{drop_all, length-set, take_all}
 use Rattle.cu_calculus.specs.declared.ConId.{ConId}
 use Rattle.cu_machine.specs.declared.Kind.{Kind}
 use Rattle.cu_machine.specs.declared.Kind.TheVariants as kind
-use Rattle.cu_machine.specs.Graph.{Graph, Node, node_at}
-use Rattle.cu_machine.specs.Need.{Need, At, Dead, Done, Wait, before, first, unless_done}
-use Rattle.cu_machine.specs.Places.{holds, joined}
-use Rattle.cu_machine.proofs.FirstLaws.{before_assoc}
+use Rattle.cu_machine.specs.Graph.{Graph, node_at}
+use Rattle.cu_machine.specs.Need.{Need, At, Done, Wait, before, first, unless_done}
 use Rattle.cu_step.specs.declared.need.Ask.{Ask}
 use Rattle.cu_step.specs.declared.need.Ask.TheVariants as ask
 use Rattle.cu_step.specs.declared.need.Frame.{Frame}
-use Rattle.cu_step.specs.declared.need.Look.{Look}
-use Rattle.cu_step.specs.declared.need.Look.TheVariants as look
 use Rattle.cu_step.specs.declared.need.Mark.{Mark}
 use Rattle.cu_step.specs.declared.need.Mark.TheVariants as mark
-use Rattle.cu_step.specs.Walk.{AllFit, Fits, Found, FrameFits, Goes, IsAbove, IsBelow, IsPath, LookFits, MarkFits, Seen, Waited, again_cost, also, asked, asked_of, at_once, cost, entered, entered_as, entered_at, flagged, frame_cost, frames_cost, fresh, height, inside_need, is_inside, is_open, left, left_answer, left_need, left_there, look_need, looked_at, mark_at, mark_of, marked_need, met, need_in, needed_by, needed_outside, outcome, regards, so_far, then_needed, told, unseen_cost, waited, waited_for, whole_need, with_frame, with_mark}
-use Rattle.cu_step.proofs.Frames.{cost_append, cost_flagged, fit_front, fit_last, fit_push, fit_waits, flagged_out, in_append, open_append, open_flagged, outcome_at, outcome_dead, outside_append, wait_out}
-use Rattle.cu_step.proofs.Needs.{before_done, first_append, known_itself, none_joined, seen_later, waited_later}
-use Rattle.cu_step.proofs.Marks.{held_append, above_front, above_push, below_lower, below_push, below_shut, known_told, mark_later, mark_shut, new_joined, new_told, or_left, path_flagged, path_front, path_push, set_cases, stuck_told}
-use Rattle.cu_step.proofs.Walks.{Met, by_fresh, cost_seen, fresh_fits, front_shut, met_known, met_wait, waits_outcome}
+use Rattle.cu_step.specs.Walk.{AllFit, Fits, Found, FrameFits, Goes, Marked, MarkFits, Seen, Waited, again_cost, also, asked, cost, entered, entered_as, frame_cost, fresh, inside_need, is_inside, is_open, left, left_answer, left_need, left_there, looked_at, mark_at, marked_need, needed_by, needed_outside, outcome, regards, so_far, then_needed, waited, whole_need, with_frame, with_mark}
+use Rattle.cu_step.proofs.Frames.{cost_append, cost_flagged, fit_front, fit_last, fit_push, open_append, outcome_at, outside_append}
+use Rattle.cu_step.proofs.Needs.{before_done}
+use Rattle.cu_step.proofs.Marks.{mark_shut, path_front, path_push, set_cases, stuck_told}
+use Rattle.cu_step.proofs.Walks.{by_fresh, cost_seen, fresh_fits, met_known, waits_outcome}
 
 -- ** What was seen of all arguments
 
@@ -82,15 +75,12 @@ not_inside false is = refl
 waits_left : (truth : ConId) (graph : Graph) (f : Found) (frame : Frame) → Fits truth graph (with_frame f frame) Done
     → Waited (so_far f) (marked_need (is_inside frame.ask) truth graph frame.node) → Fits truth graph f (marked_need (is_inside frame.ask) truth graph frame.node)
 waits_left truth graph f frame fits known = record {
-  whole_length = fits.whole_length;
-  inside_length = fits.inside_length;
   whole = λ id below. left_mark (so_far f) false f.frames frame (mark_at f.whole id) (whole_need truth graph id) id
       (λ same is. subst (λ (x : ℕ). Waited (so_far f) (whole_need truth graph x)) (eqb-true frame.node id same)
       (subst (λ (b : Bool). Waited (so_far f) (marked_need b truth graph frame.node)) (not_inside (is_inside frame.ask) is) known)) (fits.whole id below);
   inside = λ id below. left_mark (so_far f) true f.frames frame (mark_at f.inside id) (inside_need graph id) id
       (λ same is. subst (λ (x : ℕ). Waited (so_far f) (inside_need graph x)) (eqb-true frame.node id same)
       (subst (λ (b : Bool). Waited (so_far f) (marked_need b truth graph frame.node)) is known)) (fits.inside id below);
-  held = fits.held;
   none = fits.none;
   fit = fit_front truth graph (so_far f) f.frames frame Done fits.fit;
   path = (path_front graph f.frames frame fits.path).0;
@@ -130,7 +120,8 @@ goes_waiting truth graph f frame fits last waits =
       fits = met.fits;
       outcome = waits_outcome truth graph f (Wait []) [] f.ids f.inside refl (stuck_told f.waits f.ids fits.none)
           ∙ sym (last_out truth graph f frame (Wait []) (by_last truth graph frame last ∙ ap (λ b. unless_done (also b Done) (then_at truth graph frame)) waits));
-      cost = cost_left graph f frame;
+      marked = λ marked. record { whole = marked.whole; inside = marked.inside };
+      cost = λ marked. cost_left graph f frame;
     }
 
 -- ** Where none does
@@ -150,41 +141,25 @@ none_out truth graph f frame last waits =
 there_left : (truth : ConId) (graph : Graph) (f : Found) (frame : Frame) (b : Bool) → is_inside frame.ask ≡ b → Fits truth graph (with_frame f frame) Done
     → frame.node < length graph → marked_need b truth graph frame.node ≡ Done → Fits truth graph (with_mark f b frame.node mark.There) Done
 there_left truth graph f frame true is fits below there =
-    let within : frame.node < length f.inside = subst (λ (k : ℕ). frame.node < k) (sym fits.inside_length) below in
     record {
-      whole_length = fits.whole_length;
-      inside_length = length-set f.inside frame.node mark.There ∙ fits.inside_length;
       whole = λ id here. left_mark (so_far f) false f.frames frame (mark_at f.whole id) (whole_need truth graph id) id
           (λ same regarded. (let no : ⊥ = cc (not_inside (is_inside frame.ask) regarded) in absurd no)) (fits.whole id here);
-      inside = λ id here. set_cases f.inside frame.node id mark.There (λ m. MarkFits (so_far f) (is_open true id f.frames) m (inside_need graph id)) within
+      inside = λ id here. set_cases f.inside frame.node id mark.There (λ m. MarkFits (so_far f) (is_open true id f.frames) m (inside_need graph id)) tt
           (λ same. subst (λ (x : ℕ). inside_need graph x ≡ Done) (eqb-true frame.node id same) there)
           (λ differs. left_mark (so_far f) true f.frames frame (mark_at f.inside id) (inside_need graph id) id
           (λ same regarded. (let no : ⊥ = cc in absurd no)) (fits.inside id here));
-      held = λ id told_before. (
-        set_cases f.inside frame.node id mark.There (λ m. m ≡ mark.Waits) within
-            (λ same. (let no : ⊥ = clash (inside_need graph id) (id ∷ []) (subst (λ (x : ℕ). inside_need graph x ≡ Done) (eqb-true frame.node id same) there) (fits.held id told_before).1 in absurd no))
-            (λ differs. (fits.held id told_before).0),
-        (fits.held id told_before).1,
-      );
       none = fits.none;
       fit = subst (λ (n : Need). AllFit truth graph (so_far f) f.frames n) (ap (λ c. marked_need c truth graph frame.node) is ∙ there) (fit_front truth graph (so_far f) f.frames frame Done fits.fit);
       path = (path_front graph f.frames frame fits.path).0;
     }
-  where
-    clash : (n : Need) (xs : List ℕ) → n ≡ Done → n ≡ Wait xs → ⊥
-    clash n xs p q = cc
 there_left truth graph f frame false is fits below there =
-    let within : frame.node < length f.whole = subst (λ (k : ℕ). frame.node < k) (sym fits.whole_length) below in
     record {
-      whole_length = length-set f.whole frame.node mark.There ∙ fits.whole_length;
-      inside_length = fits.inside_length;
-      whole = λ id here. set_cases f.whole frame.node id mark.There (λ m. MarkFits (so_far f) (is_open false id f.frames) m (whole_need truth graph id)) within
+      whole = λ id here. set_cases f.whole frame.node id mark.There (λ m. MarkFits (so_far f) (is_open false id f.frames) m (whole_need truth graph id)) tt
           (λ same. subst (λ (x : ℕ). whole_need truth graph x ≡ Done) (eqb-true frame.node id same) there)
           (λ differs. left_mark (so_far f) false f.frames frame (mark_at f.whole id) (whole_need truth graph id) id
           (λ same regarded. (let no : ⊥ = cc in absurd no)) (fits.whole id here));
       inside = λ id here. left_mark (so_far f) true f.frames frame (mark_at f.inside id) (inside_need graph id) id
           (λ same regarded. (let no : ⊥ = cc in absurd no)) (fits.inside id here);
-      held = fits.held;
       none = fits.none;
       fit = subst (λ (n : Need). AllFit truth graph (so_far f) f.frames n) (ap (λ c. marked_need c truth graph frame.node) is ∙ there) (fit_front truth graph (so_far f) f.frames frame Done fits.fit);
       path = (path_front graph f.frames frame fits.path).0;
@@ -201,6 +176,10 @@ cost_there graph f frame false =
     let less = cost_seen graph f.whole frame.node mark.There (λ e. (let no : ⊥ = cc in no)) in
     omega arith
 
+marks_kept : (graph : Graph) (f : Found) (b : Bool) (id : ℕ) (m : Mark) → Marked graph f → Marked graph (with_mark f b id m)
+marks_kept graph f true id m marked = record { whole = marked.whole; inside = length-set f.inside id m ∙ marked.inside }
+marks_kept graph f false id m marked = record { whole = length-set f.whole id m ∙ marked.whole; inside = marked.inside }
+
 same_outcome : (truth : ConId) (graph : Graph) (f : Found) (b : Bool) (id : ℕ) (m : Mark) (n : Need) → outcome truth graph (with_mark f b id m) n ≡ outcome truth graph f n
 unfolding outcome
 same_outcome truth graph f true id m n = refl
@@ -215,7 +194,8 @@ goes_there truth graph f frame fits last waits done =
       fits = there_left truth graph f frame (is_inside frame.ask) refl fits here.there (none_waits truth graph (so_far f) frame here last waits ∙ done);
       outcome = same_outcome truth graph f (is_inside frame.ask) frame.node mark.There Done
           ∙ sym (none_out truth graph f frame last waits ∙ ap (outcome truth graph f) done);
-      cost = cost_there graph f frame (is_inside frame.ask);
+      marked = λ marked. marks_kept graph f (is_inside frame.ask) frame.node mark.There (record { whole = marked.whole; inside = marked.inside });
+      cost = λ marked. cost_there graph f frame (is_inside frame.ask);
     }
 
 again_open : (inside : Bool) (id : ℕ) (frames : List Frame) (frame : Frame) → frame.ask ≡ ask.All
@@ -251,13 +231,10 @@ goes_again truth graph f frame fits last waits is then =
     let path = path_front graph f.frames frame fits.path in
     record {
       fits = record {
-        whole_length = fits.whole_length;
-        inside_length = fits.inside_length;
         whole = λ id below. mark_shut (so_far f) (is_open false id (f.frames ++ frame ∷ [])) (is_open false id (f.frames ++ fresh frame.node ask.Ground ∷ [])) (mark_at f.whole id)
             (whole_need truth graph id) (λ shut. sym (again_open false id f.frames frame is) ∙ shut) (fits.whole id below);
         inside = λ id below. mark_shut (so_far f) (is_open true id (f.frames ++ frame ∷ [])) (is_open true id (f.frames ++ fresh frame.node ask.Ground ∷ [])) (mark_at f.inside id)
             (inside_need graph id) (λ shut. sym (again_open true id f.frames frame is) ∙ shut) (fits.inside id below);
-        held = fits.held;
         none = fits.none;
         fit = fit_push truth graph (so_far f) f.frames (fresh frame.node ask.Ground) Done
             (subst (λ (b : Bool). AllFit truth graph (so_far f) f.frames (marked_need b truth graph frame.node)) inside (fit_front truth graph (so_far f) f.frames frame Done fits.fit))
@@ -266,7 +243,8 @@ goes_again truth graph f frame fits last waits is then =
       };
       outcome = last_out truth graph f (fresh frame.node ask.Ground) (entered truth graph frame.node ask.Ground) (by_fresh truth graph frame.node ask.Ground)
           ∙ sym (none_out truth graph f frame last waits ∙ ap (outcome truth graph f) then);
-      cost = cost_again graph f frame is last;
+      marked = λ marked. record { whole = marked.whole; inside = marked.inside };
+      cost = λ marked. cost_again graph f frame is last;
     }
 
 -- ** By kinds

@@ -1,5 +1,5 @@
 -- What a look at an argument shows is what the argument needs.
-use Rattle.std.proofs.Common.{◌≡◌, ℕ, ◌<◌, ◌≤◌, Bool, true, false, List, [], ◌∷◌, if◌then◌else◌, refl, ap, sym, ◌∙◌, length, map, arith}
+use Rattle.std.proofs.Common.{◌≡◌, ℕ, ◌<◌, ◌≤◌, Bool, true, false, List, [], ◌∷◌, if◌then◌else◌, refl, ap, sym, ◌∙◌, length, map}
 use Rattle.cu_calculus.specs.declared.ConId.{ConId}
 use Rattle.cu_calculus.specs.declared.Mode.TheVariants.{Flex, Rigid}
 use Rattle.cu_calculus.specs.declared.builtin.Primitive.TheVariants as prim
@@ -7,14 +7,14 @@ use Rattle.cu_calculus.specs.Match.{same_constructor}
 use Rattle.cu_machine.specs.declared.Kind.{Kind}
 use Rattle.cu_machine.specs.declared.Kind.TheVariants as kind
 use Rattle.cu_machine.specs.Graph.{Graph, head_at, head_of, node_at}
-use Rattle.cu_machine.specs.Need.{Need, At, Dead, Done, Extent, Outermost, Throughout, Wait, before, first, free_at, free_of, free_within, need_at, need_within, operands, rest_at, side, strict, unless_done, unless_free, unless_rigid, unless_true, waiting}
+use Rattle.cu_machine.specs.Need.{Need, At, Dead, Done, Extent, Outermost, Throughout, Wait, before, first, free_at, free_of, free_within, need_at, need_within, operands, strict, unless_done, unless_free, unless_rigid, unless_true, waiting}
 use Rattle.cu_machine.specs.Validity.{ArgumentsThere, IsAcyclic}
 use Rattle.cu_machine.proofs.Tables.{free_table, need_table}
 use Rattle.cu_step.specs.declared.need.Ask.{Ask}
 use Rattle.cu_step.specs.declared.need.Ask.TheVariants as ask
 use Rattle.cu_step.specs.declared.need.Look.{Look}
 use Rattle.cu_step.specs.declared.need.Look.TheVariants as look
-use Rattle.cu_step.specs.Walk.{LookFits, asked, asked_of, entered, entered_as, height, inside_need, inside_of, is_inside, look_all, look_bound, look_first, look_head, look_inside, look_need, look_true, looked, marked_need, then_needed, whole_as, whole_need}
+use Rattle.cu_step.specs.Walk.{LookFits, asked, entered, entered_as, height, inside_need, inside_of, is_inside, look_all, look_bound, look_head, look_inside, look_need, look_true, looked, marked_need, whole_as, whole_need}
 use Rattle.cu_step.proofs.Heights.{head_lower}
 use Rattle.cu_step.proofs.Needs.{before_done, ends_at, unless_assoc, unless_nothing, unless_there, waiting_all}
 

@@ -1,26 +1,15 @@
 -- Marks, what was told, and paths.
-use Rattle.std.proofs.Common.{◌≡◌, ◌≢◌, ℕ, zero, suc, ◌+◌, ◌-◌, ◌*◌, ◌<◌, ◌≤◌, Bool, true, false, not, ◌&&◌, ◌||◌, List, [], ◌∷◌, ◌++◌, Option, None, Some, refl, ap, sym, ◌∙◌, subst, length, map, take, drop, get_or, set, cond, nat_eq, arith, eq-eqb, eqb-true, get_or-set_other, get_or-set_same}
-use Rattle.std.specs.List.{filter, list_any}
-use Rattle.std.proofs.lemmas.List.{drop_all, length-set, map-append, take_all}
-use Rattle.std.proofs.lemmas.List.Folds.{list_any-append}
-use Rattle.std.proofs.Math.Seq.{drop-cons, take-suc}
-use Rattle.cu_calculus.specs.declared.ConId.{ConId}
-use Rattle.cu_machine.specs.declared.Kind.{Kind}
-use Rattle.cu_machine.specs.declared.Kind.TheVariants as kind
-use Rattle.cu_machine.specs.Graph.{Graph, Node, node_at}
-use Rattle.cu_machine.specs.Need.{Need, At, Dead, Done, Wait, before, first, unless_done}
-use Rattle.cu_machine.specs.Places.{holds, joined}
-use Rattle.cu_machine.proofs.FirstLaws.{before_assoc}
-use Rattle.cu_step.specs.declared.need.Ask.{Ask}
-use Rattle.cu_step.specs.declared.need.Ask.TheVariants as ask
+use Rattle.std.proofs.Common.{◌≡◌, ◌≢◌, ℕ, ◌<◌, ◌≤◌, Bool, true, false, ◌&&◌, ◌||◌, List, [], ◌∷◌, ◌++◌, inl, inr, refl, ap, sym, subst, length, set, nat_eq, arith, eq-eqb, eqb-true, get_or-set_other, get_or-set_same}
+use Rattle.std.proofs.lemmas.Bool.{cases_lt}
+use Rattle.std.proofs.lemmas.List.{get_or_past, length-set}
+use Rattle.cu_machine.specs.Graph.{Graph}
+use Rattle.cu_machine.specs.Need.{Need, Done, Wait, before}
+use Rattle.cu_machine.specs.Places.{joined}
 use Rattle.cu_step.specs.declared.need.Frame.{Frame}
-use Rattle.cu_step.specs.declared.need.Look.{Look}
-use Rattle.cu_step.specs.declared.need.Look.TheVariants as look
 use Rattle.cu_step.specs.declared.need.Mark.{Mark}
 use Rattle.cu_step.specs.declared.need.Mark.TheVariants as mark
-use Rattle.cu_step.specs.Walk.{AllFit, Fits, Found, FrameFits, Goes, IsAbove, IsBelow, IsPath, LookFits, MarkFits, Seen, Waited, again_cost, also, asked, asked_of, at_once, cost, entered, entered_as, entered_at, flagged, frame_cost, frames_cost, fresh, height, inside_need, is_inside, is_open, left, left_answer, left_need, left_there, look_need, looked_at, mark_at, mark_of, marked_need, met, need_in, needed_by, needed_outside, outcome, regards, so_far, then_needed, told, unseen_cost, waited, waited_for, whole_need, with_frame, with_mark}
-use Rattle.cu_step.proofs.Frames.{cost_append, cost_flagged, fit_front, fit_last, fit_push, fit_waits, flagged_out, in_append, open_append, open_flagged, outcome_at, outcome_dead, outside_append, wait_out}
-use Rattle.cu_step.proofs.Needs.{before_done, first_append, known_itself, none_joined, seen_later, waited_later}
+use Rattle.cu_step.specs.Walk.{IsAbove, IsBelow, IsPath, MarkFits, Waited, flagged, height, is_open, mark_at, regards, told}
+use Rattle.cu_step.proofs.Needs.{none_joined, waited_later}
 
 -- ** Marks
 
@@ -39,15 +28,18 @@ mark_shut told_so_far was is mark.Unseen n closed fits = tt
 mark_shut told_so_far was is mark.There n closed fits = fits
 mark_shut told_so_far was is mark.Waits n closed fits = λ shut. fits (closed shut)
 
--- a mark that is another: at its place, and elsewhere
-pub set_cases : (marks : List Mark) (id other : ℕ) (m : Mark) (P : Mark → Type 0) → id < length marks → (nat_eq id other ≡ true → P m) → (nat_eq id other ≡ false → P (mark_at marks other))
-    → P (mark_at (set marks id m) other)
-set_cases marks id other m P below here elsewhere = go (nat_eq id other) refl
+-- a mark that is another: at its place, and elsewhere; where no marks are kept, none is seen
+pub set_cases : (marks : List Mark) (id other : ℕ) (m : Mark) (P : Mark → Type 0) → P mark.Unseen → (nat_eq id other ≡ true → P m)
+    → (nat_eq id other ≡ false → P (mark_at marks other)) → P (mark_at (set marks id m) other)
+set_cases marks id other m P none here elsewhere = go (nat_eq id other) refl
   where
     go : (b : Bool) → nat_eq id other ≡ b → P (mark_at (set marks id m) other)
     go true is =
-        let same : id ≡ other = eqb-true id other is in
-        subst (λ (x : ℕ). P (mark_at (set marks id m) x)) same (subst P (sym (get_or-set_same marks id m mark.Unseen below)) (here is))
+        subst (λ (x : ℕ). P (mark_at (set marks id m) x)) (eqb-true id other is)
+        (elim (cases_lt id (length marks)) [
+          | inl within ↦ subst P (sym (get_or-set_same marks id m mark.Unseen within)) (here is)
+          | inr past ↦ subst P (sym (get_or_past (set marks id m) id mark.Unseen (let same = length-set marks id m in omega arith))) none
+        ])
     go false is =
         let differs : other ≢ id = λ same. (let no : ⊥ = cc (eq-eqb id other (sym same)) in no) in
         subst P (sym (get_or-set_other marks id other m mark.Unseen differs)) (elsewhere is)
@@ -65,25 +57,10 @@ known_told false ids n known = let no : ⊥ = clash n known.ids known.is known.k
     clash n xs p q = cc
 known_told true ids n known = sym known.known
 
-pub new_joined : (ids : List ℕ) (id : ℕ) → holds ids id ≡ false → joined ids (id ∷ []) ≡ ids ++ id ∷ []
-new_joined ids id absent = ap (λ b. ids ++ cond (not b) (id ∷ []) []) absent
-
-pub new_told : (waits : Bool) (ids : List ℕ) (id : ℕ) → (waits ≡ false → ids ≡ []) → holds ids id ≡ false
-    → Wait (ids ++ id ∷ []) ≡ before (told waits ids) (Wait (id ∷ []))
-new_told false ids id none absent = ap (λ xs. Wait (xs ++ id ∷ [])) (none refl)
-new_told true ids id none absent = ap Wait (sym (new_joined ids id absent))
-
-or_last : (a b : Bool) → b ≡ false → (a || (b || false)) ≡ true → a ≡ true
-or_last true b none all = refl
-or_last false b none all = let no : ⊥ = cc (rw none at all) in absurd no
-
--- what was told before the last
-pub held_append : (ids : List ℕ) (id other : ℕ) → nat_eq id other ≡ false → holds (ids ++ id ∷ []) other ≡ true → holds ids other ≡ true
-held_append ids id other differs there = go (nat_eq other id) refl
-  where
-    go : (b : Bool) → nat_eq other id ≡ b → holds ids other ≡ true
-    go true is = let no : ⊥ = cc (eq-eqb id other (sym (eqb-true other id is))) in absurd no
-    go false is = or_last (holds ids other) (nat_eq other id) is (sym (list_any-append (nat_eq other) ids (id ∷ [])) ∙ there)
+-- a variable is waited for
+pub free_told : (waits : Bool) (ids : List ℕ) (id : ℕ) → (waits ≡ false → ids ≡ []) → Wait (joined ids (id ∷ [])) ≡ before (told waits ids) (Wait (id ∷ []))
+free_told false ids id none = ap (λ xs. Wait (joined xs (id ∷ []))) (none refl)
+free_told true ids id none = refl
 
 -- ** Paths
 

@@ -1,8 +1,7 @@
 -- Needs one before another, where those that wait are told in one list.
-use Rattle.std.proofs.Common.{◌≡◌, ℕ, Bool, true, false, not, List, [], ◌∷◌, ◌++◌, refl, ap, sym, ◌∙◌, map, append-nil}
-use Rattle.std.specs.List.{filter}
+use Rattle.std.proofs.Common.{◌≡◌, ℕ, Bool, true, false, List, [], ◌∷◌, ◌++◌, refl, ap, sym, ◌∙◌, map, append-nil}
 use Rattle.cu_machine.specs.Need.{Need, At, Dead, Done, Wait, all_free, before, first, unless_done, waiting}
-use Rattle.cu_machine.specs.Places.{holds, joined}
+use Rattle.cu_machine.specs.Places.{joined}
 use Rattle.cu_machine.proofs.FirstLaws.{before_again, before_assoc, before_itself}
 use Rattle.cu_step.specs.Walk.{Seen, Waited, also}
 

@@ -1,5 +1,5 @@
 -- The expressions of well-formed code nest no deeper than it has expressions.
-use Rattle.std.proofs.Common.{Bor, option_map, ◌≡◌, ℕ, zero, suc, Bool, true, false, ◌&&◌, List, [], ◌∷◌, ◌++◌, Option, Some, None, IsTrue, if◌then◌else◌, refl, sym, ap, subst, ◌∙◌, true≢false, length, map, slice_get}
+use Rattle.std.proofs.Common.{Bor, option_map, ◌≡◌, ℕ, zero, suc, Bool, true, false, ◌&&◌, List, [], ◌∷◌, ◌++◌, Option, Some, None, if◌then◌else◌, refl, sym, ap, subst, ◌∙◌, true≢false, length, slice_get}
 use Rattle.std.specs.List.{list_all}
 use Rattle.cu_calculus.specs.declared.ExprId.{ExprId}
 use Rattle.cu_calculus.specs.declared.FunId.{FunId}

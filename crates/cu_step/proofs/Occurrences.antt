@@ -1,6 +1,6 @@
 -- The occurs check looks at the arguments of each node once: a node that is met again reaches the variable only by way of a
 -- lower one, which is still to be looked at.
-use Rattle.std.proofs.Common.{◌≡◌, ◌≢◌, ℕ, zero, suc, ◌+◌, ◌<◌, ◌≤◌, Bool, true, false, not, ◌&&◌, ◌||◌, List, [], ◌∷◌, ◌++◌, refl, ap, sym, ◌∙◌, subst, length, set, replicate, reverse, nat_eq, ltb, arith, append-nil, eq-eqb, eqb-true, get_or-set_other}
+use Rattle.std.proofs.Common.{◌≡◌, ◌≢◌, ℕ, zero, suc, ◌+◌, ◌<◌, ◌≤◌, Bool, true, false, not, ◌&&◌, ◌||◌, List, [], ◌∷◌, ◌++◌, if◌then◌else◌, refl, ap, sym, ◌∙◌, subst, length, set, replicate, reverse, nat_eq, ltb, arith, append-nil, eq-eqb, eqb-true, get_or-set_other}
 use Rattle.std.specs.List.{list_all, list_any}
 use Rattle.std.proofs.lemmas.Bool.{lt-ltb, ltb-true}
 use Rattle.std.proofs.lemmas.Grind.{reverse_onto}
@@ -14,7 +14,7 @@ use Rattle.cu_machine.specs.Rewrite.{occurs_at, occurs_in}
 use Rattle.cu_machine.specs.Validity.{ArgumentsThere, IsAcyclic, are_places}
 use Rattle.cu_machine.proofs.Fuel.{both_true, left_true, right_true}
 use Rattle.cu_machine.proofs.Tables.{occurs_table}
-use Rattle.cu_step.specs.Occurring.{Looks, head_reaches, is_variable, leads_on, lower_reaches, reaches, seen_at, unseen_arguments}
+use Rattle.cu_step.specs.Occurring.{Looks, head_reaches, is_variable, left_after, marks_after, leads_on, lower_reaches, reaches, seen_at, unseen_arguments}
 use Rattle.cu_step.specs.Walk.{height, highest}
 use Rattle.cu_step.proofs.Heights.{head_lower, height_table}
 
@@ -113,10 +113,10 @@ same_any false false true n is sound found = found refl
 same_any false false false n is sound found = is
 
 pub looks_on : (graph : Graph) (v : ℕ) (ids : List ℕ) (seen after : List Bool) (rest more : List ℕ) (id : ℕ) → ArgumentsThere graph → IsAcyclic graph
-    → Looks graph v ids seen (rest ++ id ∷ []) → Taken graph v id more rest → length after ≡ length seen
+    → Looks graph v ids seen (rest ++ id ∷ []) → Taken graph v id more rest
     → ((other : ℕ) → seen_at after other ≡ true → (seen_at seen other ≡ false) → other ≡ head_of graph id)
     → Looks graph v ids after (rest ++ more)
-looks_on graph v ids seen after rest more id arguments acyclic looks taken same marked =
+looks_on graph v ids seen after rest more id arguments acyclic looks taken marked =
     let places : ((are_places (length graph) rest ≡ true) × (ltb id (length graph) ≡ true)) = all_last (λ x. ltb x (length graph)) rest id looks.there in
     let below : id < length graph = ltb-true id (length graph) places.1 in
     let lower = head_lower (length graph) graph id arguments acyclic below in
@@ -124,7 +124,6 @@ looks_on graph v ids seen after rest more id arguments acyclic looks taken same 
     let found : head_reaches graph v (head_of graph id) ≡ true → lower_reaches graph v (height graph (head_of graph id)) (rest ++ more) ≡ true = taken.found in
     record {
       there = all_both (λ x. ltb x (length graph)) rest more places.0 taken.there;
-      count = same ∙ looks.count;
       lower = λ other is so. (
           let before : seen_at seen other ≡ true → lower_reaches graph v (height graph other) (rest ++ more) ≡ true = λ was.
           any_last (λ x. reaches graph v x && ltb (height graph x) (height graph other)) rest id (looks.lower other was so)
@@ -186,24 +185,45 @@ unseen zero id = refl
 unseen (suc count) zero = refl
 unseen (suc count) (suc id) = unseen count id
 
-pub looks_begin : (graph : Graph) (v : ℕ) (ids : List ℕ) (seen left : List Bool) (pending : List ℕ) → are_places (length graph) ids ≡ true → pending ≡ ids
-    → seen ≡ left ++ replicate (length graph) false → left ≡ [] → Looks graph v ids seen pending
-looks_begin graph v ids seen left pending there is new none =
-    let all : seen ≡ replicate (length graph) false = rw (none) at new in
-    rw (is, all) (record {
-      there = there;
-      count = length-replicate (length graph) false;
-      lower = λ id seen so. (let no : ⊥ = cc (unseen (length graph) id) in absurd no);
-      comes = refl;
-    })
+-- nothing is marked, whether marks are kept or not
+pub looks_unmarked : (graph : Graph) (v : ℕ) (seen : List Bool) (pending : List ℕ) → are_places (length graph) pending ≡ true
+    → ((id : ℕ) → seen_at seen id ≡ false) → Looks graph v pending seen pending
+looks_unmarked graph v seen pending there none = record {
+  there = there;
+  lower = λ id so. (let no : ⊥ = cc (none id) in absurd no);
+  comes = refl;
+}
+
+pub looks_begin : (graph : Graph) (v : ℕ) (ids : List ℕ) (seen : List Bool) (pending : List ℕ) → are_places (length graph) ids ≡ true → pending ≡ ids
+    → seen ≡ [] → Looks graph v ids seen pending
+looks_begin graph v ids seen pending there is none =
+    rw (is) (looks_unmarked graph v seen ids there (λ id. ap (λ marks. seen_at marks id) none))
+
+-- marks are kept from now on
+pub looks_again : (graph : Graph) (v : ℕ) (ids : List ℕ) (seen after : List Bool) (pending left : List ℕ) (count : ℕ) → Looks graph v ids seen pending
+    → after ≡ replicate count false → count ≡ length graph → left ≡ pending → Looks graph v left after left
+looks_again graph v ids seen after pending left count looks new same stays =
+    subst (λ (xs : List ℕ). Looks graph v xs after xs) (sym stays)
+    (looks_unmarked graph v after pending looks.there (λ id. ap (λ marks. seen_at marks id) new ∙ unseen count id))
+
+pub marks_count : (graph : Graph) (after : List Bool) (count : ℕ) → after ≡ replicate count false → count ≡ length graph → length after ≡ length graph
+marks_count graph after count new same = ap length new ∙ length-replicate count false ∙ same
+
+pub looks_last : (graph : Graph) (v : ℕ) (ids : List ℕ) (seen : List Bool) (pending left : List ℕ) → Looks graph v ids seen pending → left ≡ pending
+    → occurs_in graph v left ≡ occurs_in graph v ids
+looks_last graph v ids seen pending left looks stays = ap (list_any (reaches graph v)) stays ∙ looks.comes
 
 taken_below : (graph : Graph) (v : ℕ) (ids : List ℕ) (seen : List Bool) (rest : List ℕ) (id : ℕ) → Looks graph v ids seen (rest ++ id ∷ []) → id < length graph
 taken_below graph v ids seen rest id looks = ltb-true id (length graph) (all_last (λ x. ltb x (length graph)) rest id looks.there).1
 
-pub head_below : (graph : Graph) (v : ℕ) (ids : List ℕ) (seen : List Bool) (pending rest : List ℕ) (id : ℕ) → ArgumentsThere graph → IsAcyclic graph
-    → pending ≡ rest ++ id ∷ [] → Looks graph v ids seen pending → head_of graph id < length graph
-head_below graph v ids seen pending rest id arguments acyclic was looks =
-    (head_lower (length graph) graph id arguments acyclic (taken_below graph v ids seen rest id (subst (λ (xs : List ℕ). Looks graph v ids seen xs) was looks))).0
+pub looked_there : (graph : Graph) (v : ℕ) (ids : List ℕ) (seen : List Bool) (pending rest : List ℕ) (id : ℕ) → pending ≡ rest ++ id ∷ []
+    → Looks graph v ids seen pending → id < length graph
+looked_there graph v ids seen pending rest id was looks =
+    taken_below graph v ids seen rest id (subst (λ (xs : List ℕ). Looks graph v ids seen xs) was looks)
+
+pub head_there : (graph : Graph) (id head : ℕ) → ArgumentsThere graph → IsAcyclic graph → id < length graph → head ≡ head_of graph id → head < length graph
+head_there graph id head arguments acyclic below is =
+    subst (λ (h : ℕ). h < length graph) (sym is) (head_lower (length graph) graph id arguments acyclic below).0
 
 pub looks_found : (graph : Graph) (v : ℕ) (ids : List ℕ) (seen : List Bool) (pending rest : List ℕ) (id : ℕ) → ArgumentsThere graph → IsAcyclic graph
     → pending ≡ rest ++ id ∷ [] → Looks graph v ids seen pending → is_variable v (head_of graph id) (node_at graph (head_of graph id)).kind ≡ true
@@ -240,7 +260,7 @@ looks_past graph v ids seen pending rest id arguments acyclic was before other o
           absurd (omega arith));
     } in
     subst (λ (xs : List ℕ). Looks graph v ids seen xs) (append-nil rest)
-    (looks_on graph v ids seen seen rest [] id arguments acyclic looks taken refl (λ x is new. (let no : ⊥ = cc in absurd no)))
+    (looks_on graph v ids seen seen rest [] id arguments acyclic looks taken (λ x is new. (let no : ⊥ = cc in absurd no)))
 
 marked_before : (seen : List Bool) (head other : ℕ) → seen_at (set seen head true) other ≡ true → seen_at seen other ≡ false → other ≡ head
 marked_before seen head other is new = go (nat_eq head other) refl
@@ -273,8 +293,28 @@ looks_into graph v ids seen after pending rest next id arguments acyclic was bef
           ∙ any_lower graph v (height graph head) args (omega arith) (sym opened ∙ so));
     } in
     rw (marks, adds)
-    (looks_on graph v ids seen (set seen head true) rest (reverse args) id arguments acyclic looks taken (length-set seen head true)
+    (looks_on graph v ids seen (set seen head true) rest (reverse args) id arguments acyclic looks taken
     (λ x is new. marked_before seen head x is new))
+
+-- whether a look leads on or not
+looks_by : (graph : Graph) (v : ℕ) (ids : List ℕ) (seen after : List Bool) (pending rest next : List ℕ) (id : ℕ) (b : Bool) → ArgumentsThere graph → IsAcyclic graph
+    → pending ≡ rest ++ id ∷ [] → Looks graph v ids seen pending → is_variable v (head_of graph id) (node_at graph (head_of graph id)).kind ≡ false
+    → leads_on (node_at graph (head_of graph id)).kind (seen_at seen (head_of graph id)) ≡ b
+    → after ≡ (if b then set seen (head_of graph id) true else seen)
+    → next ≡ (if b then rest ++ reverse (node_at graph (head_of graph id)).args else rest) → Looks graph v ids after next
+looks_by graph v ids seen after pending rest next id true arguments acyclic was before other on marks adds =
+    looks_into graph v ids seen after pending rest next id arguments acyclic was before on marks adds
+looks_by graph v ids seen after pending rest next id false arguments acyclic was before other on marks adds =
+    subst (λ (ms : List Bool). Looks graph v ids ms next) (sym marks)
+    (subst (λ (xs : List ℕ). Looks graph v ids seen xs) (sym adds) (looks_past graph v ids seen pending rest id arguments acyclic was before other on))
+
+pub looks_after : (graph : Graph) (v : ℕ) (ids : List ℕ) (seen after : List Bool) (pending rest next : List ℕ) (id : ℕ) → ArgumentsThere graph → IsAcyclic graph
+    → pending ≡ rest ++ id ∷ [] → Looks graph v ids seen pending → is_variable v (head_of graph id) (node_at graph (head_of graph id)).kind ≡ false
+    → after ≡ marks_after seen (head_of graph id) (node_at graph (head_of graph id)).kind
+    → next ≡ left_after seen rest (head_of graph id) (node_at graph (head_of graph id)) → Looks graph v ids after next
+looks_after graph v ids seen after pending rest next id arguments acyclic was before other marks adds =
+    looks_by graph v ids seen after pending rest next id (leads_on (node_at graph (head_of graph id)).kind (seen_at seen (head_of graph id))) arguments acyclic was before other
+    refl marks adds
 
 -- ** How long it takes
 
@@ -289,23 +329,31 @@ cost_marked (node ∷ graph) (false ∷ seen) (suc id) below same new =
     let rest = cost_marked graph seen id (omega arith) (omega arith) new in omega arith
 cost_marked (node ∷ graph) (true ∷ seen) (suc id) below same new = cost_marked graph seen id (omega arith) (omega arith) new
 
-pub cost_past : (graph : Graph) (seen : List Bool) (pending rest : List ℕ) (id : ℕ) → pending ≡ rest ++ id ∷ []
-    → unseen_arguments graph seen + length rest < unseen_arguments graph seen + length pending
-cost_past graph seen pending rest id was = let more = ap length was ∙ length-append rest (id ∷ []) in omega arith
+-- what a look takes, and that there is still a mark for each node
+pub record Paid (graph : Graph) (seen after : List Bool) (pending next : List ℕ) : Type 0 where
+  pub less : unseen_arguments graph after + length next < unseen_arguments graph seen + length pending
+  pub marked : length after ≡ length graph
 
-pub cost_into : (graph : Graph) (v : ℕ) (ids : List ℕ) (seen after : List Bool) (pending rest next : List ℕ) (id : ℕ) → ArgumentsThere graph → IsAcyclic graph
-    → pending ≡ rest ++ id ∷ [] → Looks graph v ids seen pending
-    → leads_on (node_at graph (head_of graph id)).kind (seen_at seen (head_of graph id)) ≡ true
-    → after ≡ set seen (head_of graph id) true → next ≡ rest ++ reverse (node_at graph (head_of graph id)).args
-    → unseen_arguments graph after + length next < unseen_arguments graph seen + length pending
-cost_into graph v ids seen after pending rest next id arguments acyclic was looks on marks adds =
-    let head = head_of graph id in
-    let args = (node_at graph (head_of graph id)).args in
-    let below = head_below graph v ids seen pending rest id arguments acyclic was looks in
-    let less : unseen_arguments graph after + (length args + 1) ≡ unseen_arguments graph seen =
-    ap (λ m. unseen_arguments graph m + (length args + 1)) marks
-    ∙ cost_marked graph seen head below looks.count (leads_unseen (node_at graph head).kind (seen_at seen head) on) in
+cost_by : (graph : Graph) (seen after : List Bool) (pending rest next : List ℕ) (id head : ℕ) (b : Bool) → head < length graph → length seen ≡ length graph
+    → pending ≡ rest ++ id ∷ [] → leads_on (node_at graph head).kind (seen_at seen head) ≡ b → after ≡ (if b then set seen head true else seen)
+    → next ≡ (if b then rest ++ reverse (node_at graph head).args else rest) → Paid graph seen after pending next
+cost_by graph seen after pending rest next id head true below count was on now left =
+    let less : unseen_arguments graph after + (length (node_at graph head).args + 1) ≡ unseen_arguments graph seen =
+    ap (λ m. unseen_arguments graph m + (length (node_at graph head).args + 1)) now
+    ∙ cost_marked graph seen head below count (leads_unseen (node_at graph head).kind (seen_at seen head) on) in
     let taken = ap length was ∙ length-append rest (id ∷ []) in
-    let added = ap length adds ∙ length-append rest (reverse args) in
-    let turned = length-reverse args in
-    omega arith
+    let added = ap length left ∙ length-append rest (reverse (node_at graph head).args) in
+    let turned = length-reverse (node_at graph head).args in
+    record { less = omega arith; marked = ap length now ∙ length-set seen head true ∙ count }
+cost_by graph seen after pending rest next id head false below count was on now left =
+    let same = ap (unseen_arguments graph) now in
+    let fewer = ap length left in
+    let taken = ap length was ∙ length-append rest (id ∷ []) in
+    record { less = omega arith; marked = ap length now ∙ count }
+
+pub cost_after : (graph : Graph) (seen after : List Bool) (pending rest next : List ℕ) (id : ℕ) → head_of graph id < length graph → length seen ≡ length graph
+    → pending ≡ rest ++ id ∷ [] → after ≡ marks_after seen (head_of graph id) (node_at graph (head_of graph id)).kind
+    → next ≡ left_after seen rest (head_of graph id) (node_at graph (head_of graph id)) → Paid graph seen after pending next
+cost_after graph seen after pending rest next id below count was marks adds =
+    cost_by graph seen after pending rest next id (head_of graph id) (leads_on (node_at graph (head_of graph id)).kind (seen_at seen (head_of graph id))) below count was
+    refl marks adds

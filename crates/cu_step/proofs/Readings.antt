@@ -16,7 +16,7 @@ use Rattle.cu_machine.specs.Validity.{ArgumentsThere, IsAcyclic, are_places}
 use Rattle.cu_machine.proofs.FirstLaws.{at_front, holds_before, holds_joined, joined_assoc, or_true}
 use Rattle.cu_machine.proofs.Fuel.{left_true, right_true}
 use Rattle.cu_machine.proofs.Tables.{spelled_table}
-use Rattle.cu_step.specs.Reading.{Met, cell_at, parts_at, with_head}
+use Rattle.cu_step.specs.Reading.{cell_at, parts_at, with_head}
 use Rattle.cu_step.specs.Written.{AllRead, Written, met_in, text}
 use Rattle.cu_step.proofs.Heights.{head_lower}
 use Rattle.cu_step.proofs.Needs.{all_pass, none_joined}
@@ -95,30 +95,26 @@ cells_head part id (kind.Lit l) args = refl
 cells_head part id kind.Free args = refl
 cells_head part id _ args = refl
 
-met_head : (met : Met) (part : ℕ → Value) (id : ℕ) (k : Kind) (args : List ℕ)
-    → joined met.variables (variables_in (spelled_at part id k args)) ≡ joined (with_head met id k).variables (variables_of_all (map part (parts_at k args)))
-met_head met part id (kind.Cons c) args = ap (joined met.variables) (variables_values (map part args))
-met_head met part id (kind.Part h) args = ap (joined met.variables) (variables_values (map part args))
+met_head : (met : List ℕ) (part : ℕ → Value) (id : ℕ) (k : Kind) (args : List ℕ)
+    → joined met (variables_in (spelled_at part id k args)) ≡ joined (with_head met id k) (variables_of_all (map part (parts_at k args)))
+met_head met part id (kind.Cons c) args = ap (joined met) (variables_values (map part args))
+met_head met part id (kind.Part h) args = ap (joined met) (variables_values (map part args))
 met_head met part id (kind.Lit l) args = refl
-met_head met part id kind.Free args = sym (none_joined (joined met.variables (id ∷ [])))
+met_head met part id kind.Free args = sym (none_joined (joined met (id ∷ [])))
 met_head met part id _ args = refl
-
-nodes_head : (met : Met) (id : ℕ) (k : Kind) → (with_head met id k).nodes ≡ met.nodes
-nodes_head met id kind.Free = refl
-nodes_head met id _ = refl
 
 holds_last : (xs : List ℕ) (id : ℕ) → holds (joined xs (id ∷ [])) id ≡ true
 holds_last xs id = holds_joined xs (id ∷ []) id ∙ ap (λ b. holds xs id || b) (at_front id []) ∙ or_true (holds xs id)
 
 -- a head's cell is the one that it has in the end
-cell_later : (met : Met) (id : ℕ) (k : Kind) (n : ℕ) (more : List ℕ)
-    → cell_at (with_head met id k).variables id k n ≡ head_cell (ordinal (joined (with_head met id k).variables more)) id k n
+cell_later : (met : List ℕ) (id : ℕ) (k : Kind) (n : ℕ) (more : List ℕ)
+    → cell_at (with_head met id k) id k n ≡ head_cell (ordinal (joined (with_head met id k) more)) id k n
 cell_later met id (kind.Cons c) n more = refl
 cell_later met id (kind.Part h) n more = refl
 cell_later met id (kind.Lit l) n more = refl
 cell_later met id kind.Free n more =
-    let now : List ℕ = joined met.variables (id ∷ []) in
-    ap cell.LVar (sym (later now (holds_last met.variables id)))
+    let now : List ℕ = joined met (id ∷ []) in
+    ap cell.LVar (sym (later now (holds_last met id)))
   where
     later : (now : List ℕ) → holds now id ≡ true → ordinal (joined now more) id ≡ ordinal now id
     later now held = ordinal_later now _ id held
@@ -132,17 +128,17 @@ parts_there n _ args there = refl
 -- ** One value
 
 -- the node that is taken next
-next_there : (graph : Graph) (id : ℕ) (variables : List ℕ) (room : ℕ) (written : List Cell) (rest : List ℕ) (limit : ℕ) (met : Met) (x : ℕ)
+next_there : (graph : Graph) (id : ℕ) (variables : List ℕ) (room : ℕ) (written : List Cell) (rest : List ℕ) (limit : ℕ) (met : List ℕ) (x : ℕ)
     → Written graph id variables room written (x ∷ rest) limit met → (x < length graph) × (are_places (length graph) rest ≡ true)
 next_there graph id variables room written rest limit met x known = (
   ltb-true x (length graph) (left_true (ltb x (length graph)) (are_places (length graph) rest) known.there),
   right_true (ltb x (length graph)) (are_places (length graph) rest) known.there,
 )
 
-written_next : (graph : Graph) (id : ℕ) (variables : List ℕ) (room : ℕ) (written : List Cell) (rest : List ℕ) (limit : ℕ) (met : Met) (x : ℕ)
+written_next : (graph : Graph) (id : ℕ) (variables : List ℕ) (room : ℕ) (written : List Cell) (rest : List ℕ) (limit : ℕ) (met : List ℕ) (x : ℕ)
     → ArgumentsThere graph → IsAcyclic graph → Written graph id variables (suc room) written (x ∷ rest) limit met
     → Written graph id variables room
-    (written ++ cell_at (with_head met (head_of graph x) (node_at graph (head_of graph x)).kind).variables (head_of graph x) (node_at graph (head_of graph x)).kind
+    (written ++ cell_at (with_head met (head_of graph x) (node_at graph (head_of graph x)).kind) (head_of graph x) (node_at graph (head_of graph x)).kind
     (length (node_at graph (head_of graph x)).args) ∷ [])
     (parts_at (node_at graph (head_of graph x)).kind (node_at graph (head_of graph x)).args ++ rest) limit
     (with_head met (head_of graph x) (node_at graph (head_of graph x)).kind)
@@ -152,25 +148,25 @@ written_next graph id variables room written rest limit met x arguments acyclic 
     let k : Kind = (node_at graph (head_of graph x)).kind in
     let args : List ℕ = (node_at graph (head_of graph x)).args in
     let parts : List ℕ = parts_at k args in
-    let after : Met = with_head met head k in
+    let after : List ℕ = with_head met head k in
     let whole : List ℕ = met_in variables graph id in
     let number : ℕ → ℕ = ordinal whole in
     let table : spelled graph x ≡ spelled_at (spelled graph) head k args = spelled_table graph x arguments (acyclic x places.0) places.0 in
     let split : map (spelled graph) (parts ++ rest) ≡ map (spelled graph) parts ++ map (spelled graph) rest = map-append (spelled graph) parts rest in
-    let joins : joined after.variables (variables_of_all (map (spelled graph) (parts ++ rest))) ≡ whole =
-    ap (λ vs. joined after.variables (variables_of_all vs)) split
-    ∙ ap (joined after.variables) (variables_append (map (spelled graph) parts) (map (spelled graph) rest))
-    ∙ sym (joined_assoc after.variables (variables_of_all (map (spelled graph) parts)) (variables_of_all (map (spelled graph) rest)))
+    let joins : joined after (variables_of_all (map (spelled graph) (parts ++ rest))) ≡ whole =
+    ap (λ vs. joined after (variables_of_all vs)) split
+    ∙ ap (joined after) (variables_append (map (spelled graph) parts) (map (spelled graph) rest))
+    ∙ sym (joined_assoc after (variables_of_all (map (spelled graph) parts)) (variables_of_all (map (spelled graph) rest)))
     ∙ ap (λ xs. joined xs (variables_of_all (map (spelled graph) rest))) (sym (met_head met (spelled graph) head k args))
-    ∙ ap (λ v. joined (joined met.variables (variables_in v)) (variables_of_all (map (spelled graph) rest))) (sym table)
-    ∙ joined_assoc met.variables (variables_in (spelled graph x)) (variables_of_all (map (spelled graph) rest))
+    ∙ ap (λ v. joined (joined met (variables_in v)) (variables_of_all (map (spelled graph) rest))) (sym table)
+    ∙ joined_assoc met (variables_in (spelled graph x)) (variables_of_all (map (spelled graph) rest))
     ∙ known.meets in
-    let ends : cell_at after.variables head k (length args) ≡ head_cell number head k (length args) =
+    let ends : cell_at after head k (length args) ≡ head_cell number head k (length args) =
     cell_later met head k (length args) (variables_of_all (map (spelled graph) (parts ++ rest)))
     ∙ ap (λ xs. head_cell (ordinal xs) head k (length args)) joins in
-    let ends_so : (written ++ cell_at after.variables head k (length args) ∷ []) ++ text number (map (spelled graph) (parts ++ rest))
+    let ends_so : (written ++ cell_at after head k (length args) ∷ []) ++ text number (map (spelled graph) (parts ++ rest))
     ≡ written ++ text number (map (spelled graph) (x ∷ rest)) =
-    append_assoc written (cell_at after.variables head k (length args) ∷ []) (text number (map (spelled graph) (parts ++ rest)))
+    append_assoc written (cell_at after head k (length args) ∷ []) (text number (map (spelled graph) (parts ++ rest)))
     ∙ ap (λ c. written ++ (c ∷ text number (map (spelled graph) (parts ++ rest)))) ends
     ∙ ap (λ vs. written ++ (head_cell number head k (length args) ∷ text number vs)) split
     ∙ ap (λ cs. written ++ (head_cell number head k (length args) ∷ cs)) (text_append number (map (spelled graph) parts) (map (spelled graph) rest))
@@ -182,23 +178,22 @@ written_next graph id variables room written rest limit met x arguments acyclic 
     record {
       there = all_both (λ y. ltb y (length graph)) parts rest
           (parts_there (length graph) k args (arguments head (head_lower (length graph) graph x arguments acyclic places.0).0)) places.1;
-      nodes = nodes_head met head k ∙ known.nodes;
       meets = joins;
       writes = ends_so ∙ known.writes;
       counts = omega arith;
     }
 
-pub head_there : (graph : Graph) (id : ℕ) (variables : List ℕ) (room : ℕ) (written : List Cell) (pending rest : List ℕ) (limit : ℕ) (met : Met) (x : ℕ)
+pub head_there : (graph : Graph) (id : ℕ) (variables : List ℕ) (room : ℕ) (written : List Cell) (pending rest : List ℕ) (limit : ℕ) (met : List ℕ) (x : ℕ)
     → ArgumentsThere graph → IsAcyclic graph → pending ≡ rest ++ x ∷ [] → Written graph id variables room written (reverse pending) limit met → head_of graph x < length graph
 head_there graph id variables room written pending rest limit met x arguments acyclic was known =
     let below = next_there graph id variables room written (reverse rest) limit met x
     (subst (λ (left : List ℕ). Written graph id variables room written left limit met) (last_first pending rest x was) known) in
     (head_lower (length graph) graph x arguments acyclic below.0).0
 
-pub written_on : (graph : Graph) (id : ℕ) (variables : List ℕ) (room less : ℕ) (written more : List Cell) (pending rest next : List ℕ) (limit : ℕ) (met after : Met) (x head : ℕ) (c : Cell)
+pub written_on : (graph : Graph) (id : ℕ) (variables : List ℕ) (room less : ℕ) (written more : List Cell) (pending rest next : List ℕ) (limit : ℕ) (met after : List ℕ) (x head : ℕ) (c : Cell)
     → ArgumentsThere graph → IsAcyclic graph → pending ≡ rest ++ x ∷ [] → head ≡ head_of graph x → room ≡ suc less
     → after ≡ with_head met head (node_at graph head).kind
-    → c ≡ cell_at after.variables head (node_at graph head).kind (length (node_at graph head).args)
+    → c ≡ cell_at after head (node_at graph head).kind (length (node_at graph head).args)
     → more ≡ written ++ c ∷ []
     → next ≡ rest ++ reverse (parts_at (node_at graph head).kind (node_at graph head).args)
     → Written graph id variables room written (reverse pending) limit met → Written graph id variables less more (reverse next) limit after
@@ -209,13 +204,13 @@ written_on graph id variables room less written more pending rest next limit met
     let k : Kind = (node_at graph head).kind in
     let args : List ℕ = (node_at graph head).args in
     let left : List ℕ = parts_at k args ++ reverse rest in
-    let at_head : Written graph id variables less (written ++ cell_at (with_head met head k).variables head k (length args) ∷ []) left limit (with_head met head k) =
+    let at_head : Written graph id variables less (written ++ cell_at (with_head met head k) head k (length args) ∷ []) left limit (with_head met head k) =
     subst (λ (h : ℕ). Written graph id variables less
-    (written ++ cell_at (with_head met h (node_at graph h).kind).variables h (node_at graph h).kind (length (node_at graph h).args) ∷ [])
+    (written ++ cell_at (with_head met h (node_at graph h).kind) h (node_at graph h).kind (length (node_at graph h).args) ∷ [])
     (parts_at (node_at graph h).kind (node_at graph h).args ++ reverse rest) limit (with_head met h (node_at graph h).kind)) (sym is)
     (written_next graph id variables less written (reverse rest) limit met x arguments acyclic before) in
-    let is_met : Written graph id variables less (written ++ cell_at after.variables head k (length args) ∷ []) left limit after =
-    subst (λ (m : Met). Written graph id variables less (written ++ cell_at m.variables head k (length args) ∷ []) left limit m) (sym joins) at_head in
+    let is_met : Written graph id variables less (written ++ cell_at after head k (length args) ∷ []) left limit after =
+    subst (λ (m : List ℕ). Written graph id variables less (written ++ cell_at m head k (length args) ∷ []) left limit m) (sym joins) at_head in
     let with_cell : Written graph id variables less (written ++ c ∷ []) left limit after =
     subst (λ (d : Cell). Written graph id variables less (written ++ d ∷ []) left limit after) (sym cell) is_met in
     let in_order : Written graph id variables less more left limit after =
@@ -223,7 +218,7 @@ written_on graph id variables room less written more pending rest next limit met
     subst (λ (xs : List ℕ). Written graph id variables less more xs limit after) (sym (added_first next rest (parts_at k args) adds)) in_order
 
 -- where more nodes are left than there is room for
-pub too_many : (graph : Graph) (id : ℕ) (variables : List ℕ) (room : ℕ) (written : List Cell) (pending rest : List ℕ) (limit : ℕ) (met : Met) (x : ℕ)
+pub too_many : (graph : Graph) (id : ℕ) (variables : List ℕ) (room : ℕ) (written : List Cell) (pending rest : List ℕ) (limit : ℕ) (met : List ℕ) (x : ℕ)
     → pending ≡ rest ++ x ∷ [] → room ≤ length rest → Written graph id variables room written (reverse pending) limit met
     → ltb limit (cells (spelled graph id)) ≡ true
 too_many graph id variables room written pending rest limit met x was full known =
@@ -235,17 +230,17 @@ too_many graph id variables room written pending rest limit met x was full known
     lt-ltb limit (cells (spelled graph id)) (omega arith)
 
 -- where nothing is left
-pub record AllWritten (graph : Graph) (id : ℕ) (variables : List ℕ) (room : ℕ) (written : List Cell) (limit : ℕ) (met : Met) : Type 0 where
+pub record AllWritten (graph : Graph) (id : ℕ) (variables : List ℕ) (room : ℕ) (written : List Cell) (limit : ℕ) (met : List ℕ) : Type 0 where
   pub fits : ltb limit (cells (spelled graph id)) ≡ false
-  pub meets : met.variables ≡ met_in variables graph id
-  pub writes : written ≡ spell (renumbered (ordinal met.variables) (spelled graph id))
+  pub meets : met ≡ met_in variables graph id
+  pub writes : written ≡ spell (renumbered (ordinal met) (spelled graph id))
   pub counts : room + cells (spelled graph id) ≡ limit
 
-pub written_all : (graph : Graph) (id : ℕ) (variables : List ℕ) (room : ℕ) (written : List Cell) (pending : List ℕ) (limit : ℕ) (met : Met)
+pub written_all : (graph : Graph) (id : ℕ) (variables : List ℕ) (room : ℕ) (written : List Cell) (pending : List ℕ) (limit : ℕ) (met : List ℕ)
     → pending ≡ [] → Written graph id variables room written (reverse pending) limit met → AllWritten graph id variables room written limit met
 written_all graph id variables room written pending limit met none known =
     let all : Written graph id variables room written [] limit met = subst (λ (left : List ℕ). Written graph id variables room written left limit met) (ap reverse none) known in
-    let joins : met.variables ≡ met_in variables graph id = sym (none_joined met.variables) ∙ all.meets in
+    let joins : met ≡ met_in variables graph id = sym (none_joined met) ∙ all.meets in
     let count : limit + 0 ≡ room + cells (spelled graph id) = all.counts in
     record {
       fits = le-ltb limit (cells (spelled graph id)) (omega arith);
@@ -309,10 +304,10 @@ map_same f g (v ∷ vs) same =
 numbers_stay : (xs more : List ℕ) (x : ℕ) → holds xs x ≡ true → ordinal (joined xs more) x ≡ ordinal xs x
 numbers_stay xs more x held = ordinal_later xs _ x held
 
-pub read_more : (graph : Graph) (limit : ℕ) (goals : List ℕ) (i : ℕ) (bindings more : List Value) (room less : ℕ) (met after : Met) (goal : ℕ) (v : Value)
+pub read_more : (graph : Graph) (limit : ℕ) (goals : List ℕ) (i : ℕ) (bindings more : List Value) (room less : ℕ) (met after : List ℕ) (goal : ℕ) (v : Value)
     → i < length goals → goal ≡ get_or goals i 0 → AllRead graph limit (take i goals) bindings room met
-    → after ≡ record { nodes = met.nodes; variables = joined met.variables (variables_in (spelled graph goal)) }
-    → v ≡ renumbered (ordinal after.variables) (spelled graph goal) → less + cells (spelled graph goal) ≡ room → more ≡ bindings ++ v ∷ []
+    → after ≡ joined met (variables_in (spelled graph goal))
+    → v ≡ renumbered (ordinal after) (spelled graph goal) → less + cells (spelled graph goal) ≡ room → more ≡ bindings ++ v ∷ []
     → AllRead graph limit (take (i + 1) goals) more less after
 read_more graph limit goals i bindings more room less met after goal v within is known joins gives shorter adds =
     let done : List Value = map (spelled graph) (take i goals) in
@@ -320,31 +315,30 @@ read_more graph limit goals i bindings more room less met after goal v within is
     ap (λ n. take n goals) (add-one i) ∙ take-suc goals i 0 within ∙ ap (λ x. take i goals ++ x ∷ []) (sym is) in
     let values : map (spelled graph) (take (i + 1) goals) ≡ done ++ spelled graph goal ∷ [] =
     ap (map (spelled graph)) longer ∙ map-append (spelled graph) (take i goals) (goal ∷ []) in
-    let now : after.variables ≡ joined met.variables (variables_in (spelled graph goal)) = ap (λ (m : Met). m.variables) joins in
-    let all : after.variables ≡ variables_of_all (done ++ spelled graph goal ∷ []) =
+    let now : after ≡ joined met (variables_in (spelled graph goal)) = joins in
+    let all : after ≡ variables_of_all (done ++ spelled graph goal ∷ []) =
     now
     ∙ ap (λ xs. joined xs (variables_in (spelled graph goal))) known.meets
     ∙ ap (joined (variables_of_all done)) (sym (none_joined (variables_in (spelled graph goal))))
     ∙ sym (variables_append done (spelled graph goal ∷ [])) in
-    let stay : map (renumbered (ordinal met.variables)) done ≡ map (renumbered (ordinal after.variables)) done =
-    map_same (ordinal met.variables) (ordinal after.variables) done
+    let stay : map (renumbered (ordinal met)) done ≡ map (renumbered (ordinal after)) done =
+    map_same (ordinal met) (ordinal after) done
     (λ x held. sym (ap (λ xs. ordinal xs x) now
-    ∙ numbers_stay met.variables (variables_in (spelled graph goal)) x (ap (λ xs. holds xs x) known.meets ∙ held))) in
+    ∙ numbers_stay met (variables_in (spelled graph goal)) x (ap (λ xs. holds xs x) known.meets ∙ held))) in
     let before = known.counts in
     let count = ap cells_of_all values ∙ cells_append done (spelled graph goal ∷ []) in
     record {
-      nodes = ap (λ (m : Met). m.nodes) joins ∙ known.nodes;
       meets = all ∙ ap variables_of_all (sym values);
       reads = adds
           ∙ ap (λ bs. bs ++ v ∷ []) (known.reads ∙ stay)
-          ∙ ap (λ u. map (renumbered (ordinal after.variables)) done ++ u ∷ []) gives
-          ∙ sym (map-append (renumbered (ordinal after.variables)) done (spelled graph goal ∷ []))
-          ∙ ap (map (renumbered (ordinal after.variables))) (sym values);
+          ∙ ap (λ u. map (renumbered (ordinal after)) done ++ u ∷ []) gives
+          ∙ sym (map-append (renumbered (ordinal after)) done (spelled graph goal ∷ []))
+          ∙ ap (map (renumbered (ordinal after))) (sym values);
       counts = omega arith;
     }
 
 -- what is too large already, whatever comes behind
-pub large_goal : (graph : Graph) (limit : ℕ) (root : ℕ) (goals : List ℕ) (i : ℕ) (bindings : List Value) (room : ℕ) (met : Met) (goal : ℕ)
+pub large_goal : (graph : Graph) (limit : ℕ) (root : ℕ) (goals : List ℕ) (i : ℕ) (bindings : List Value) (room : ℕ) (met : List ℕ) (goal : ℕ)
     → i < length goals → goal ≡ get_or goals i 0 → AllRead graph limit (take i goals) bindings room met
     → ltb room (cells (spelled graph goal)) ≡ true → ltb limit (cells_of_all (spelled_all graph root goals)) ≡ true
 large_goal graph limit root goals i bindings room met goal within is known large =
@@ -367,7 +361,7 @@ all_cells_are graph root goals =
     let count = ap cells_of_all (map-append (spelled graph) goals (root ∷ [])) ∙ cells_append (map (spelled graph) goals) (spelled graph root ∷ []) in
     omega arith
 
-pub large_root : (graph : Graph) (limit : ℕ) (root : ℕ) (goals : List ℕ) (i : ℕ) (bindings : List Value) (room : ℕ) (met : Met)
+pub large_root : (graph : Graph) (limit : ℕ) (root : ℕ) (goals : List ℕ) (i : ℕ) (bindings : List Value) (room : ℕ) (met : List ℕ)
     → length goals ≤ i → AllRead graph limit (take i goals) bindings room met
     → ltb room (cells (spelled graph root)) ≡ true → ltb limit (cells_of_all (spelled_all graph root goals)) ≡ true
 large_root graph limit root goals i bindings room met all known large =
@@ -380,25 +374,25 @@ map_both : (f : Value → Value) (g : ℕ → Value) (xs : List ℕ) → map f (
 map_both f g [] = refl
 map_both f g (x ∷ xs) = ap (λ rest. f (g x) ∷ rest) (map_both f g xs)
 
-pub read_all_of : (graph : Graph) (limit : ℕ) (root : ℕ) (goals : List ℕ) (i : ℕ) (bindings : List Value) (room less : ℕ) (met after : Met) (v : Value)
+pub read_all_of : (graph : Graph) (limit : ℕ) (root : ℕ) (goals : List ℕ) (i : ℕ) (bindings : List Value) (room less : ℕ) (met after : List ℕ) (v : Value)
     → length goals ≤ i → AllRead graph limit (take i goals) bindings room met
-    → after ≡ record { nodes = met.nodes; variables = joined met.variables (variables_in (spelled graph root)) }
-    → v ≡ renumbered (ordinal after.variables) (spelled graph root) → less + cells (spelled graph root) ≡ room
+    → after ≡ joined met (variables_in (spelled graph root))
+    → v ≡ renumbered (ordinal after) (spelled graph root) → less + cells (spelled graph root) ≡ room
     → Some (record { bindings = bindings; value = v })
     ≡ (if ltb limit (cells_of_all (spelled_all graph root goals)) then None else Some (read graph root goals))
 read_all_of graph limit root goals i bindings room less met after v all known meets reads shorter =
     let done : AllRead graph limit goals bindings room met = subst (λ (xs : List ℕ). AllRead graph limit xs bindings room met) (take_all i goals all) known in
-    let now : after.variables ≡ joined met.variables (variables_in (spelled graph root)) = ap (λ (m : Met). m.variables) meets in
-    let whole : after.variables ≡ variables_of_all (spelled_all graph root goals) =
+    let now : after ≡ joined met (variables_in (spelled graph root)) = meets in
+    let whole : after ≡ variables_of_all (spelled_all graph root goals) =
     now
     ∙ ap (λ xs. joined xs (variables_in (spelled graph root))) done.meets
     ∙ ap (joined (variables_of_all (map (spelled graph) goals))) (sym (none_joined (variables_in (spelled graph root))))
     ∙ sym (variables_append (map (spelled graph) goals) (spelled graph root ∷ []))
     ∙ ap variables_of_all (sym (map-append (spelled graph) goals (root ∷ []))) in
-    let stay : map (renumbered (ordinal met.variables)) (map (spelled graph) goals) ≡ map (renumbered (ordinal after.variables)) (map (spelled graph) goals) =
-    map_same (ordinal met.variables) (ordinal after.variables) (map (spelled graph) goals)
+    let stay : map (renumbered (ordinal met)) (map (spelled graph) goals) ≡ map (renumbered (ordinal after)) (map (spelled graph) goals) =
+    map_same (ordinal met) (ordinal after) (map (spelled graph) goals)
     (λ x held. sym (ap (λ xs. ordinal xs x) now
-    ∙ numbers_stay met.variables (variables_in (spelled graph root)) x (ap (λ xs. holds xs x) done.meets ∙ held))) in
+    ∙ numbers_stay met (variables_in (spelled graph root)) x (ap (λ xs. holds xs x) done.meets ∙ held))) in
     let binds : bindings ≡ map (λ goal. renumbered (ordinal (variables_of_all (spelled_all graph root goals))) (spelled graph goal)) goals =
     done.reads ∙ stay ∙ ap (λ xs. map (renumbered (ordinal xs)) (map (spelled graph) goals)) whole
     ∙ map_both (renumbered (ordinal (variables_of_all (spelled_all graph root goals)))) (spelled graph) goals in

@@ -1,6 +1,6 @@
 -- The next event of a state, and what its search and its limits ask for.
-use Rattle.std.proofs.Common.{◌≡◌, ℕ, ◌+◌, ◌<◌, ◌++◌, ◌||◌, Bool, true, false, not, List, [], ◌∷◌, Option, Some, None, IsTrue, slice_get, length, length-append, map, refl, sym, ap, subst, ◌∙◌, arith, lt-ltb, if◌then◌else◌, nat_lt}
-use Rattle.std.specs.List.{All, list_all, list_any}
+use Rattle.std.proofs.Common.{◌≡◌, ℕ, ◌<◌, ◌++◌, ◌||◌, Bool, true, false, not, List, [], ◌∷◌, Option, Some, None, IsTrue, slice_get, length, map, refl, sym, ap, ◌∙◌, arith, lt-ltb, if◌then◌else◌}
+use Rattle.std.specs.List.{All, list_any}
 use Rattle.std.specs.Option.{IsSome}
 use Rattle.cu_calculus.specs.Code as code
 use Rattle.cu_calculus.specs.Code.{Code, arity_of, body_of, function_arity, is_rule}
@@ -10,24 +10,20 @@ use Rattle.cu_calculus.specs.declared.FunId.{FunId}
 use Rattle.cu_calculus.specs.declared.Head.TheVariants.{Fun}
 use Rattle.cu_machine.specs.declared.Limits.{Limits}
 use Rattle.cu_machine.specs.declared.Kind.{Kind}
-use Rattle.cu_machine.specs.declared.Kind.TheVariants as kind
 use Rattle.cu_machine.specs.Build.{kind_of_call}
-use Rattle.cu_machine.specs.Graph.{Graph, Node, alone, node_at}
+use Rattle.cu_machine.specs.Graph.{Graph, node_at}
 use Rattle.cu_machine.specs.Need.{At, Throughout, need_all}
 use Rattle.cu_machine.specs.Next as next_def
 use Rattle.cu_machine.specs.Next.{Answer, Go, Next, answered, is_above, is_too_large, next, next_by, read, spelled_all, too_large, unless_one_is_large}
 use Rattle.cu_machine.specs.Sets.{IsWithoutSets, code_is_without_sets, graph_is_without_sets, is_set_kind, without}
-use Rattle.cu_machine.specs.Spell.{cells_of_all}
 use Rattle.cu_machine.specs.State.{Branch, Idle, State, free_nodes, graph_of, numbers, start_of}
 use Rattle.cu_machine.specs.Validity.{ArgumentsThere, IsAcyclic, IsValid, IsValidBranch, are_places}
 use Rattle.cu_machine.proofs.NeedPlaces.{need_at_redex}
 use Rattle.cu_machine.proofs.Successors.{all_valid, all_without, at_node}
-use Rattle.cu_step.specs.Outcome as outcome_def
-use Rattle.cu_step.specs.Outcome.{branches_of, next_of, reading_of, state_of}
+use Rattle.cu_step.specs.Outcome.{branches_of, next_of, state_of}
 use Rattle.cu_step.specs.declared.Branch as step_branch
 use Rattle.cu_step.specs.declared.Outcome as step_outcome
 use Rattle.cu_step.specs.declared.Outcome.TheVariants as outcome
-use Rattle.cu_step.specs.declared.read.Reading.{Reading}
 use Rattle.cu_step.proofs.Frees.{length_frees}
 
 -- what a state's value needs is a node, and no set function's call where there is none

@@ -1,28 +1,21 @@
 -- What one look and one departure do.
-use Rattle.std.proofs.Common.{◌≡◌, ◌≢◌, ℕ, zero, suc, ◌+◌, ◌-◌, ◌*◌, ◌<◌, ◌≤◌, Bool, true, false, not, ◌&&◌, ◌||◌, List, [], ◌∷◌, ◌++◌, Option, None, Some, refl, ap, sym, ◌∙◌, subst, length, map, take, drop, get_or, set, cond, nat_eq, arith, eq-eqb, eqb-true, get_or-set_other, get_or-set_same}
-use Rattle.std.specs.List.{filter, list_any}
-use Rattle.std.proofs.lemmas.List.{drop_all, length-set, map-append, take_all}
-use Rattle.std.proofs.lemmas.List.Folds.{list_any-append}
+use Rattle.std.proofs.Common.{◌≡◌, ℕ, suc, ◌+◌, ◌<◌, ◌≤◌, Bool, true, false, List, [], ◌∷◌, ◌++◌, None, Some, refl, ap, sym, ◌∙◌, subst, length, map, take, drop, get_or, arith}
+use Rattle.std.proofs.lemmas.List.{map-append}
 use Rattle.std.proofs.Math.Seq.{drop-cons, take-suc}
 use Rattle.cu_calculus.specs.declared.ConId.{ConId}
-use Rattle.cu_machine.specs.declared.Kind.{Kind}
-use Rattle.cu_machine.specs.declared.Kind.TheVariants as kind
-use Rattle.cu_machine.specs.Graph.{Graph, Node, node_at}
-use Rattle.cu_machine.specs.Need.{Need, At, Dead, Done, Wait, before, first, unless_done}
-use Rattle.cu_machine.specs.Places.{holds, joined}
-use Rattle.cu_machine.proofs.FirstLaws.{before_assoc}
+use Rattle.cu_machine.specs.Graph.{Graph, node_at}
+use Rattle.cu_machine.specs.Need.{Need, At, Dead, Done, before, first, unless_done}
 use Rattle.cu_step.specs.declared.need.Ask.{Ask}
-use Rattle.cu_step.specs.declared.need.Ask.TheVariants as ask
 use Rattle.cu_step.specs.declared.need.Frame.{Frame}
 use Rattle.cu_step.specs.declared.need.Look.{Look}
 use Rattle.cu_step.specs.declared.need.Look.TheVariants as look
 use Rattle.cu_step.specs.declared.need.Mark.{Mark}
 use Rattle.cu_step.specs.declared.need.Mark.TheVariants as mark
-use Rattle.cu_step.specs.Walk.{AllFit, Fits, Found, FrameFits, Goes, IsAbove, IsBelow, IsPath, LookFits, MarkFits, Seen, Waited, again_cost, also, asked, asked_of, at_once, cost, entered, entered_as, entered_at, flagged, frame_cost, frames_cost, fresh, height, inside_need, is_inside, is_open, left, left_answer, left_need, left_there, look_need, looked_at, mark_at, mark_of, marked_need, met, need_in, needed_by, needed_outside, outcome, regards, so_far, then_needed, told, unseen_cost, waited, waited_for, whole_need, with_frame, with_mark}
-use Rattle.cu_step.proofs.Frames.{cost_append, cost_flagged, fit_front, fit_last, fit_push, fit_waits, flagged_out, in_append, open_append, open_flagged, outcome_at, outcome_dead, outside_append, wait_out}
-use Rattle.cu_step.proofs.Needs.{before_done, first_append, known_itself, none_joined, seen_later, waited_later}
-use Rattle.cu_step.proofs.Marks.{held_append, above_front, above_push, below_lower, below_push, below_shut, known_told, mark_later, mark_shut, new_joined, new_told, or_left, path_flagged, path_front, path_push, set_cases, stuck_told}
-use Rattle.cu_step.proofs.Walks.{Met, met_enter, met_known, met_new, met_stuck, met_wait, mark_open, other_marks, regards_inside, regards_whole, waits_outcome}
+use Rattle.cu_step.specs.Walk.{Fits, Found, FrameFits, IsBelow, IsPath, LookFits, MarkFits, also, asked, at_once, cost, entered, entered_at, frame_cost, height, inside_need, is_inside, is_open, look_need, looked_at, mark_at, mark_of, marked_need, met, needed_by, needed_outside, outcome, so_far, then_needed, waited, whole_need, with_frame}
+use Rattle.cu_step.proofs.Frames.{cost_append, fit_front, fit_last, fit_push, open_append, outcome_at, outcome_dead, outside_append}
+use Rattle.cu_step.proofs.Needs.{before_done, first_append}
+use Rattle.cu_step.proofs.Marks.{below_lower, below_push, below_shut, mark_shut, path_front, path_push}
+use Rattle.cu_step.proofs.Walks.{Met, met_enter, met_free, met_known, met_stuck}
 
 -- ** A look is met
 
@@ -34,24 +27,12 @@ fits_as : (truth : ConId) (graph : Graph) (f : Found) (n m : Need) → n ≡ m �
 fits_as truth graph f n m same fits = subst (λ (k : Need). Fits truth graph f k) same fits
 
 met_there : (truth : ConId) (graph : Graph) (f : Found) → Fits truth graph f Done → Met truth graph f f Done
-met_there truth graph f fits = record { fits = fits; comes = refl; takes = omega arith }
+met_there truth graph f fits = record { fits = fits; comes = refl; keeps = λ marked. marked; takes = λ marked. omega arith }
 
 marks_of : (truth : ConId) (graph : Graph) (f : Found) (n : Need) (b : Bool) (id : ℕ) → Fits truth graph f n → id < length graph
     → MarkFits (so_far f) (is_open b id f.frames) (mark_of f b id) (marked_need b truth graph id)
 marks_of truth graph f n true id fits below = fits.inside id below
 marks_of truth graph f n false id fits below = fits.whole id below
-
-free_met : (truth : ConId) (graph : Graph) (f : Found) (id : ℕ) (m : Mark) → mark_at f.inside id ≡ m → Fits truth graph f (Wait (id ∷ [])) → id < length graph
-    → inside_need graph id ≡ Wait (id ∷ []) → IsBelow graph id f.frames → MarkFits (so_far f) (is_open true id f.frames) m (inside_need graph id)
-    → Met truth graph f (waited_for f id m) (Wait (id ∷ []))
-free_met truth graph f id mark.Waits is fits below needs lower marked =
-    need_is truth graph f (waited f) (Wait (id ∷ [])) (inside_need graph id) (sym needs)
-    (met_known truth graph f (inside_need graph id) (fits_as truth graph f (Wait (id ∷ [])) (inside_need graph id) (sym needs) fits)
-    (marked (below_shut graph true id f.frames lower)))
-free_met truth graph f id mark.Unseen is fits below needs lower marked =
-    met_new truth graph f id fits below needs (λ no. (let never : ⊥ = cc in never))
-free_met truth graph f id mark.There is fits below needs lower marked =
-    met_new truth graph f id fits below needs (λ no. (let never : ⊥ = cc in never))
 
 node_met : (truth : ConId) (graph : Graph) (f : Found) (id : ℕ) (a : Ask) (m : Mark) → mark_of f (is_inside a) id ≡ m → Fits truth graph f (entered truth graph id a)
     → id < length graph → marked_need (is_inside a) truth graph id ≡ entered truth graph id a → IsBelow graph id f.frames
@@ -76,7 +57,7 @@ pub look_met : (truth : ConId) (graph : Graph) (f : Found) (top : ℕ) (l : Look
 look_met truth graph f top look.There fits look lower none = met_there truth graph f fits
 look_met truth graph f top look.Stuck fits look lower none = met_stuck truth graph f fits
 look_met truth graph f top (look.Free id) fits look lower none =
-    free_met truth graph f id (mark_at f.inside id) refl fits look.0 look.1 (lower id look.2) (fits.inside id look.0)
+    met_free truth graph f id fits
 look_met truth graph f top (look.Node id a) fits look lower none =
     node_met truth graph f id a (mark_of f (is_inside a) id) refl fits look.0 look.1 (lower id look.2)
     (marks_of truth graph f (entered truth graph id a) (is_inside a) id fits look.0)
@@ -138,13 +119,10 @@ next_argument truth graph f frame fits within =
     let same : (inside : Bool) (id : ℕ) → is_open inside id (f.frames ++ further frame ∷ []) ≡ is_open inside id (f.frames ++ frame ∷ []) =
     λ inside id. open_append inside id f.frames (further frame) ∙ sym (open_append inside id f.frames frame) in
     record {
-      whole_length = fits.whole_length;
-      inside_length = fits.inside_length;
       whole = λ id below. mark_shut (so_far f) (is_open false id (f.frames ++ frame ∷ [])) (is_open false id (f.frames ++ further frame ∷ [])) (mark_at f.whole id)
           (whole_need truth graph id) (λ shut. sym (same false id) ∙ shut) (fits.whole id below);
       inside = λ id below. mark_shut (so_far f) (is_open true id (f.frames ++ frame ∷ [])) (is_open true id (f.frames ++ further frame ∷ [])) (mark_at f.inside id)
           (inside_need graph id) (λ shut. sym (same true id) ∙ shut) (fits.inside id below);
-      held = fits.held;
       none = fits.none;
       fit = fit_push truth graph (so_far f) f.frames (further frame) (asked truth graph frame.ask frame.node (get_or (looked_at graph frame.node) frame.next 0))
           (fit_front truth graph (so_far f) f.frames frame Done fits.fit) (next_fits truth graph (so_far f) frame (fit_last truth graph (so_far f) f.frames frame Done fits.fit) within);

@@ -1,7 +1,7 @@
 -- Doing the tasks one after another builds what the definition says.
-use Rattle.std.proofs.Common.{◌≡◌, ℕ, zero, suc, ◌+◌, ◌-◌, ◌<◌, ◌≤◌, Bool, true, false, ◌&&◌, List, [], ◌∷◌, Option, Some, None, ◌++◌, length, map, take, drop, reverse, slice_get, refl, sym, ap, subst, ◌∙◌, arith, append-nil, append_assoc, length-append}
+use Rattle.std.proofs.Common.{◌≡◌, ℕ, suc, ◌+◌, ◌-◌, ◌<◌, true, List, [], ◌∷◌, Option, Some, None, ◌++◌, length, map, take, drop, reverse, slice_get, refl, sym, ap, subst, ◌∙◌, arith, append-nil, append_assoc, length-append}
 use Rattle.std.specs.List.{list_all}
-use Rattle.std.proofs.lemmas.List.{length-map, length-set}
+use Rattle.std.proofs.lemmas.List.{length-set}
 use Rattle.std.proofs.lemmas.List.Folds.{list_all-append, list_all-map}
 use Rattle.cu_calculus.specs.declared.ExprId.{ExprId}
 use Rattle.cu_calculus.specs.Code as code
@@ -15,7 +15,7 @@ use Rattle.cu_step.specs.declared.build.Target.{Target}
 use Rattle.cu_step.specs.declared.build.Target.TheVariants as target
 use Rattle.cu_step.specs.declared.build.Task.{Task}
 use Rattle.cu_step.specs.declared.build.Task.TheVariants as task
-use Rattle.cu_step.specs.Inside.Building.{State, Works, all_done, all_weigh, argument, begun, bound_last, done, finished, left_by, nests, nests_within, own_weight, parts_of, performed, settled, task_nests, task_weight, tasks_of, weight, weight_within, with_free, with_node, with_value}
+use Rattle.cu_step.specs.Inside.Building.{State, Works, all_done, all_weigh, argument, begun, bound_last, done, left_by, nests, own_weight, parts_of, performed, settled, task_nests, task_weight, tasks_of, weight, weight_within, with_free, with_node, with_value}
 use Rattle.cu_step.proofs.Builds.{build_fixed, parts_nest, weight_fixed}
 
 -- ** Ends of lists

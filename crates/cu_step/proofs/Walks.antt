@@ -1,46 +1,34 @@
 -- Each step of the walk keeps what was found right, and what comes out.
-use Rattle.std.proofs.Common.{◌≡◌, ◌≢◌, ℕ, zero, suc, ◌+◌, ◌-◌, ◌*◌, ◌<◌, ◌≤◌, Bool, true, false, not, ◌&&◌, ◌||◌, List, [], ◌∷◌, ◌++◌, Option, None, Some, refl, ap, sym, ◌∙◌, subst, length, map, take, drop, get_or, set, cond, nat_eq, arith, eq-eqb, eqb-true, get_or-set_other, get_or-set_same}
-use Rattle.std.specs.List.{filter, list_any}
-use Rattle.std.proofs.lemmas.List.{drop_all, length-set, map-append, take_all}
-use Rattle.std.proofs.lemmas.List.Folds.{list_any-append}
-use Rattle.std.proofs.Math.Seq.{drop-cons, take-suc}
+use Rattle.std.proofs.Common.{◌≡◌, ℕ, zero, suc, ◌+◌, ◌*◌, ◌<◌, ◌≤◌, Bool, true, false, not, ◌&&◌, ◌||◌, List, [], ◌∷◌, ◌++◌, refl, ap, sym, ◌∙◌, subst, length, set, nat_eq, arith, eq-eqb, eqb-true}
+use Rattle.std.proofs.lemmas.List.{length-set}
 use Rattle.cu_calculus.specs.declared.ConId.{ConId}
 use Rattle.cu_machine.specs.declared.Kind.{Kind}
 use Rattle.cu_machine.specs.declared.Kind.TheVariants as kind
-use Rattle.cu_machine.specs.Graph.{Graph, Node, node_at}
-use Rattle.cu_machine.specs.Need.{Need, At, Dead, Done, Wait, before, first, unless_done}
-use Rattle.cu_machine.specs.Places.{holds, joined}
-use Rattle.cu_machine.proofs.FirstLaws.{before_assoc}
+use Rattle.cu_machine.specs.Graph.{Graph, node_at}
+use Rattle.cu_machine.specs.Need.{Need, Done, Wait, before}
+use Rattle.cu_machine.specs.Places.{joined}
 use Rattle.cu_step.specs.declared.need.Ask.{Ask}
 use Rattle.cu_step.specs.declared.need.Ask.TheVariants as ask
 use Rattle.cu_step.specs.declared.need.Frame.{Frame}
-use Rattle.cu_step.specs.declared.need.Look.{Look}
-use Rattle.cu_step.specs.declared.need.Look.TheVariants as look
 use Rattle.cu_step.specs.declared.need.Mark.{Mark}
 use Rattle.cu_step.specs.declared.need.Mark.TheVariants as mark
-use Rattle.cu_step.specs.Walk.{AllFit, Fits, Found, FrameFits, Goes, IsAbove, IsBelow, IsPath, LookFits, MarkFits, Seen, Waited, again_cost, also, asked, asked_of, at_once, cost, entered, entered_as, entered_at, flagged, frame_cost, frames_cost, fresh, height, inside_need, is_inside, is_open, left, left_answer, left_need, left_there, look_need, looked_at, mark_at, mark_of, marked_need, met, need_in, needed_by, needed_outside, outcome, regards, so_far, then_needed, told, unseen_cost, waited, waited_for, whole_need, with_frame, with_mark}
-use Rattle.cu_step.proofs.Frames.{cost_append, cost_flagged, fit_front, fit_last, fit_push, fit_waits, flagged_out, in_append, open_append, open_flagged, outcome_at, outcome_dead, outside_append, wait_out}
-use Rattle.cu_step.proofs.Needs.{before_done, first_append, known_itself, none_joined, seen_later, waited_later}
-use Rattle.cu_step.proofs.Marks.{held_append, above_front, above_push, below_lower, below_push, below_shut, known_told, mark_later, mark_shut, new_joined, new_told, or_left, path_flagged, path_front, path_push, set_cases, stuck_told}
+use Rattle.cu_step.specs.Walk.{AllFit, Fits, Found, FrameFits, Marked, IsBelow, MarkFits, Waited, again_cost, asked_of, cost, entered, flagged, frame_cost, fresh, inside_need, is_inside, is_open, looked_at, mark_at, mark_of, marked_need, needed_by, needed_outside, outcome, regards, so_far, unseen_cost, waited, waited_for, whole_need, with_frame, with_mark}
+use Rattle.cu_step.proofs.Frames.{cost_append, cost_flagged, fit_push, fit_waits, flagged_out, open_append, open_flagged, outside_append, wait_out}
+use Rattle.cu_step.proofs.Marks.{known_told, mark_later, mark_shut, free_told, or_left, path_flagged, path_push, set_cases, stuck_told}
 
 -- ** The innermost node waits
 
-pub waits_fit : (truth : ConId) (graph : Graph) (f : Found) (n : Need) (xs ids : List ℕ) (inside : List Mark) → Fits truth graph f n → n ≡ Wait xs
-    → Wait ids ≡ before (so_far f) n → length inside ≡ length graph
-    → ((id : ℕ) → id < length graph → MarkFits (Wait ids) (is_open true id f.frames) (mark_at inside id) (inside_need graph id))
-    → ((id : ℕ) → holds ids id ≡ true → (mark_at inside id ≡ mark.Waits) × (inside_need graph id ≡ Wait (id ∷ [])))
-    → Fits truth graph (record { frames = flagged f.frames; whole = f.whole; inside = inside; waits = true; ids = ids }) Done
-waits_fit truth graph f n xs ids inside fits is now count marks held = record {
-  whole_length = fits.whole_length;
-  inside_length = count;
+pub waits_fit : (truth : ConId) (graph : Graph) (f : Found) (n : Need) (xs ids : List ℕ) → Fits truth graph f n → n ≡ Wait xs → Wait ids ≡ before (so_far f) n
+    → Fits truth graph (record f { frames = flagged f.frames; waits = true; ids = ids }) Done
+waits_fit truth graph f n xs ids fits is now = record {
   whole = λ id below.
       subst (λ (a : Need). MarkFits a (is_open false id (flagged f.frames)) (mark_at f.whole id) (whole_need truth graph id)) (sym now)
       (mark_later (so_far f) n (is_open false id f.frames) (is_open false id (flagged f.frames)) (mark_at f.whole id) (whole_need truth graph id)
       (λ shut. sym (open_flagged false id f.frames) ∙ shut) (fits.whole id below));
   inside = λ id below.
-      mark_shut (Wait ids) (is_open true id f.frames) (is_open true id (flagged f.frames)) (mark_at inside id) (inside_need graph id)
-      (λ shut. sym (open_flagged true id f.frames) ∙ shut) (marks id below);
-  held = held;
+      subst (λ (a : Need). MarkFits a (is_open true id (flagged f.frames)) (mark_at f.inside id) (inside_need graph id)) (sym now)
+      (mark_later (so_far f) n (is_open true id f.frames) (is_open true id (flagged f.frames)) (mark_at f.inside id) (inside_need graph id)
+      (λ shut. sym (open_flagged true id f.frames) ∙ shut) (fits.inside id below));
   none = λ no. (let never : ⊥ = cc in absurd never);
   fit = subst (λ (a : Need). AllFit truth graph a (flagged f.frames) Done) (sym now) (fit_waits truth graph (so_far f) f.frames n xs is fits.fit);
   path = path_flagged graph f.frames fits.path;
@@ -56,19 +44,12 @@ waits_outcome truth graph f n xs ids inside is now =
     ∙ ap (λ a. before a (needed_outside truth graph f.frames (Wait []))) (ap (before (so_far f)) (sym is) ∙ sym now)
     ∙ flagged_out truth graph ids f.frames)
 
-pub same_fit : (truth : ConId) (graph : Graph) (f : Found) (n : Need) (xs : List ℕ) → Fits truth graph f n → n ≡ Wait xs → Wait f.ids ≡ before (so_far f) n
-    → Fits truth graph (waited f) Done
-same_fit truth graph f n xs fits is now =
-    waits_fit truth graph f n xs f.ids f.inside fits is now fits.inside_length
-    (λ id below. subst (λ (a : Need). MarkFits a (is_open true id f.frames) (mark_at f.inside id) (inside_need graph id)) (sym now)
-    (mark_later (so_far f) n (is_open true id f.frames) (is_open true id f.frames) (mark_at f.inside id) (inside_need graph id) (λ shut. shut) (fits.inside id below)))
-    fits.held
-
 -- what a look shows is met
 pub record Met (truth : ConId) (graph : Graph) (old new : Found) (n : Need) : Type 0 where
   pub fits : Fits truth graph new Done
   pub comes : outcome truth graph new Done ≡ outcome truth graph old n
-  pub takes : cost graph new ≤ cost graph old
+  pub keeps : Marked graph old → Marked graph new
+  pub takes : Marked graph old → cost graph new ≤ cost graph old
 
 cost_waits : (graph : Graph) (f : Found) → cost graph (waited f) ≤ cost graph f
 unfolding cost
@@ -77,9 +58,10 @@ cost_waits graph f = let same = cost_flagged graph f.frames in omega arith
 pub met_wait : (truth : ConId) (graph : Graph) (f : Found) (n : Need) (xs : List ℕ) → Fits truth graph f n → n ≡ Wait xs → Wait f.ids ≡ before (so_far f) n
     → Met truth graph f (waited f) n
 met_wait truth graph f n xs fits is now = record {
-  fits = same_fit truth graph f n xs fits is now;
+  fits = waits_fit truth graph f n xs f.ids fits is now;
   comes = waits_outcome truth graph f n xs f.ids f.inside is now;
-  takes = cost_waits graph f;
+  keeps = λ marked. record { whole = marked.whole; inside = marked.inside };
+  takes = λ marked. cost_waits graph f;
 }
 
 pub met_known : (truth : ConId) (graph : Graph) (f : Found) (n : Need) → Fits truth graph f n → Waited (so_far f) n → Met truth graph f (waited f) n
@@ -89,6 +71,22 @@ pub met_stuck : (truth : ConId) (graph : Graph) (f : Found) → Fits truth graph
 met_stuck truth graph f fits = met_wait truth graph f (Wait []) [] fits refl (stuck_told f.waits f.ids fits.none)
 
 -- ** A variable is waited for
+
+cost_free : (graph : Graph) (f : Found) (id : ℕ) → cost graph (waited_for f id) ≤ cost graph f
+unfolding cost
+cost_free graph f id = let same = cost_flagged graph f.frames in omega arith
+
+pub met_free : (truth : ConId) (graph : Graph) (f : Found) (id : ℕ) → Fits truth graph f (Wait (id ∷ [])) → Met truth graph f (waited_for f id) (Wait (id ∷ []))
+met_free truth graph f id fits =
+    let now : Wait (joined f.ids (id ∷ [])) ≡ before (so_far f) (Wait (id ∷ [])) = free_told f.waits f.ids id fits.none in
+    record {
+      fits = waits_fit truth graph f (Wait (id ∷ [])) (id ∷ []) (joined f.ids (id ∷ [])) fits refl now;
+      comes = waits_outcome truth graph f (Wait (id ∷ [])) (id ∷ []) (joined f.ids (id ∷ [])) f.inside refl now;
+      keeps = λ marked. record { whole = marked.whole; inside = marked.inside };
+      takes = λ marked. cost_free graph f id;
+    }
+
+-- ** A node is entered
 
 pub cost_seen : (graph : Graph) (marks : List Mark) (id : ℕ) (m : Mark) → (m ≡ mark.Unseen → ⊥) → unseen_cost graph (set marks id m) ≤ unseen_cost graph marks
 unfolding unseen_cost
@@ -106,50 +104,6 @@ cost_seen (node ∷ graph) (mark.Waits ∷ marks) zero mark.Waits seen = omega a
 cost_seen (node ∷ graph) (mark.Unseen ∷ marks) (suc id) m seen = let rest = cost_seen graph marks id m seen in omega arith
 cost_seen (node ∷ graph) (mark.There ∷ marks) (suc id) m seen = cost_seen graph marks id m seen
 cost_seen (node ∷ graph) (mark.Waits ∷ marks) (suc id) m seen = cost_seen graph marks id m seen
-
-cost_waits_for : (graph : Graph) (f : Found) (id : ℕ) → cost graph (waited (record f { ids = f.ids ++ id ∷ []; inside = set f.inside id mark.Waits })) ≤ cost graph f
-unfolding cost
-cost_waits_for graph f id =
-    let same = cost_flagged graph f.frames in
-    let less = cost_seen graph f.inside id mark.Waits (λ e. (let no : ⊥ = cc in no)) in
-    omega arith
-
-absent_unless : (b : Bool) (m : Mark) → (b ≡ true → m ≡ mark.Waits) → (m ≡ mark.Waits → ⊥) → b ≡ false
-absent_unless true m waits not = absurd (not (waits refl))
-absent_unless false m waits not = refl
-
-pub met_new : (truth : ConId) (graph : Graph) (f : Found) (id : ℕ) → Fits truth graph f (Wait (id ∷ [])) → id < length graph
-    → inside_need graph id ≡ Wait (id ∷ []) → (mark_at f.inside id ≡ mark.Waits → ⊥)
-    → Met truth graph f (waited (record f { ids = f.ids ++ id ∷ []; inside = set f.inside id mark.Waits })) (Wait (id ∷ []))
-met_new truth graph f id fits below is unmarked =
-    let n : Need = Wait (id ∷ []) in
-    let ids : List ℕ = f.ids ++ id ∷ [] in
-    let within : id < length f.inside = subst (λ (k : ℕ). id < k) (sym fits.inside_length) below in
-    let absent : holds f.ids id ≡ false = absent_unless (holds f.ids id) (mark_at f.inside id) (λ there. (fits.held id there).0) unmarked in
-    let now : Wait ids ≡ before (so_far f) n = new_told f.waits f.ids id fits.none absent in
-    record {
-      fits = waits_fit truth graph f n (id ∷ []) ids (set f.inside id mark.Waits) fits refl now (length-set f.inside id mark.Waits ∙ fits.inside_length)
-          (λ other here.
-          set_cases f.inside id other mark.Waits (λ m. MarkFits (Wait ids) (is_open true other f.frames) m (inside_need graph other)) within
-          (λ same shut. (
-          let known : before (Wait ids) n ≡ Wait ids = ap (λ a. before a n) now ∙ known_itself (so_far f) n ∙ sym now in
-          subst (λ (x : ℕ). Waited (Wait ids) (inside_need graph x)) (eqb-true id other same)
-          (record { ids = id ∷ []; is = is; known = ap (before (Wait ids)) is ∙ known })))
-          (λ differs. subst (λ (a : Need). MarkFits a (is_open true other f.frames) (mark_at f.inside other) (inside_need graph other)) (sym now)
-          (mark_later (so_far f) n (is_open true other f.frames) (is_open true other f.frames) (mark_at f.inside other) (inside_need graph other) (λ shut. shut) (fits.inside other here))))
-          (λ other there. (
-            set_cases f.inside id other mark.Waits (λ m. m ≡ mark.Waits) within (λ same. refl) (λ differs. (fits.held other (held_append f.ids id other differs there)).0),
-            elim_need other (nat_eq id other) refl there,
-          ));
-      comes = waits_outcome truth graph f n (id ∷ []) ids (set f.inside id mark.Waits) refl now;
-      takes = cost_waits_for graph f id;
-    }
-  where
-    elim_need : (other : ℕ) (b : Bool) → nat_eq id other ≡ b → holds (f.ids ++ id ∷ []) other ≡ true → inside_need graph other ≡ Wait (other ∷ [])
-    elim_need other true same there = subst (λ (x : ℕ). inside_need graph x ≡ Wait (x ∷ [])) (eqb-true id other same) is
-    elim_need other false differs there = (fits.held other (held_append f.ids id other differs there)).1
-
--- ** A node is entered
 
 waits_seen : mark.Waits ≡ mark.Unseen → ⊥
 waits_seen e = cc
@@ -212,11 +166,11 @@ pub mark_open : (told_so_far : Need) (is : Bool) (n : Need) → is ≡ true → 
 mark_open told_so_far is n opened = λ shut. (let no : ⊥ = cc in absurd no)
 
 -- marks with the one of a node that is entered
-entered_marks : (told_so_far : Need) (inside : Bool) (frames : List Frame) (id : ℕ) (a : Ask) (marks : List Mark) (n : ℕ → Need) → regards inside a ≡ true → id < length marks
+entered_marks : (told_so_far : Need) (inside : Bool) (frames : List Frame) (id : ℕ) (a : Ask) (marks : List Mark) (n : ℕ → Need) → regards inside a ≡ true
     → (other : ℕ) → MarkFits told_so_far (is_open inside other frames) (mark_at marks other) (n other)
     → MarkFits told_so_far (is_open inside other (frames ++ fresh id a ∷ [])) (mark_at (set marks id mark.Waits) other) (n other)
-entered_marks told_so_far inside frames id a marks n regarded within other fits =
-    set_cases marks id other mark.Waits (λ m. MarkFits told_so_far (is_open inside other (frames ++ fresh id a ∷ [])) m (n other)) within
+entered_marks told_so_far inside frames id a marks n regarded other fits =
+    set_cases marks id other mark.Waits (λ m. MarkFits told_so_far (is_open inside other (frames ++ fresh id a ∷ [])) m (n other)) tt
     (λ same. mark_open told_so_far (is_open inside other (frames ++ fresh id a ∷ [])) (n other)
     (subst (λ (x : ℕ). is_open inside x (frames ++ fresh id a ∷ []) ≡ true) (eqb-true id other same) (entered_open inside id a frames regarded)))
     (λ differs. mark_shut told_so_far (is_open inside other frames) (is_open inside other (frames ++ fresh id a ∷ [])) (mark_at marks other) (n other)
@@ -246,45 +200,34 @@ pub met_enter : (truth : ConId) (graph : Graph) (f : Found) (id : ℕ) (a : Ask)
     → Met truth graph f (with_frame (with_mark f b id mark.Waits) (fresh id a)) (entered truth graph id a)
 unfolding cost
 met_enter truth graph f id a true is fits below needs lower unseen =
-    let within : id < length f.inside = subst (λ (k : ℕ). id < k) (sym fits.inside_length) below in
-    let pays = cost_enters graph f.inside id below fits.inside_length unseen in
     let more = cost_append graph f.frames (fresh id a) in
     let little = cost_fresh graph id a in
     record {
       fits = record {
-        whole_length = fits.whole_length;
-        inside_length = length-set f.inside id mark.Waits ∙ fits.inside_length;
         whole = λ other here. other_marks (so_far f) false f.frames (fresh id a) (mark_at f.whole other) (whole_need truth graph other) other (fits.whole other here);
-        inside = λ other here. entered_marks (so_far f) true f.frames id a f.inside (inside_need graph) (regards_inside a is) within other (fits.inside other here);
-        held = λ other there. (
-          set_cases f.inside id other mark.Waits (λ m. m ≡ mark.Waits) within (λ same. refl) (λ differs. (fits.held other there).0),
-          (fits.held other there).1,
-        );
+        inside = λ other here. entered_marks (so_far f) true f.frames id a f.inside (inside_need graph) (regards_inside a is) other (fits.inside other here);
         none = fits.none;
         fit = fit_push truth graph (so_far f) f.frames (fresh id a) Done
             (subst (λ (n : Need). AllFit truth graph (so_far f) f.frames n) (sym needs) fits.fit) (fresh_fits truth graph (so_far f) id a below needs);
         path = path_push graph f.frames (fresh id a) fits.path lower;
       };
       comes = outcome_enters truth graph f (with_frame (with_mark f true id mark.Waits) (fresh id a)) id a refl refl;
-      takes = omega arith;
+      keeps = λ marked. record { whole = marked.whole; inside = length-set f.inside id mark.Waits ∙ marked.inside };
+      takes = λ marked. (let pays = cost_enters graph f.inside id below marked.inside unseen in omega arith);
     }
 met_enter truth graph f id a false is fits below needs lower unseen =
-    let within : id < length f.whole = subst (λ (k : ℕ). id < k) (sym fits.whole_length) below in
-    let pays = cost_enters graph f.whole id below fits.whole_length unseen in
     let more = cost_append graph f.frames (fresh id a) in
     let little = cost_fresh graph id a in
     record {
       fits = record {
-        whole_length = length-set f.whole id mark.Waits ∙ fits.whole_length;
-        inside_length = fits.inside_length;
-        whole = λ other here. entered_marks (so_far f) false f.frames id a f.whole (whole_need truth graph) (regards_whole a is) within other (fits.whole other here);
+        whole = λ other here. entered_marks (so_far f) false f.frames id a f.whole (whole_need truth graph) (regards_whole a is) other (fits.whole other here);
         inside = λ other here. other_marks (so_far f) true f.frames (fresh id a) (mark_at f.inside other) (inside_need graph other) other (fits.inside other here);
-        held = fits.held;
         none = fits.none;
         fit = fit_push truth graph (so_far f) f.frames (fresh id a) Done
             (subst (λ (n : Need). AllFit truth graph (so_far f) f.frames n) (sym needs) fits.fit) (fresh_fits truth graph (so_far f) id a below needs);
         path = path_push graph f.frames (fresh id a) fits.path lower;
       };
       comes = outcome_enters truth graph f (with_frame (with_mark f false id mark.Waits) (fresh id a)) id a refl refl;
-      takes = omega arith;
+      keeps = λ marked. record { whole = length-set f.whole id mark.Waits ∙ marked.whole; inside = marked.inside };
+      takes = λ marked. (let pays = cost_enters graph f.whole id below marked.whole unseen in omega arith);
     }

@@ -7,5 +7,5 @@ use Rattle.cu_step.specs.declared.need.Needed.TheVariants as needed
 abbrev pub need_of : Needed → Need
 need_of needed.Done = need.Done
 need_of needed.Dead = need.Dead
-need_of (needed.Wait ids) = need.Wait ids.items
+need_of (needed.Wait ids) = need.Wait ids.keys
 need_of (needed.At id) = need.At id

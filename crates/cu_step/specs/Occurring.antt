@@ -1,9 +1,9 @@
 -- What the occurs check knows at each moment.
-use Rattle.std.specs.Prelude.{◌≡◌, ℕ, ◌+◌, Bool, true, false, not, ◌&&◌, List, ◌∷◌, length, nat_eq, nat_lt, slice_index_or}
+use Rattle.std.specs.Prelude.{◌≡◌, ℕ, ◌+◌, Bool, true, false, not, ◌&&◌, List, ◌∷◌, ◌++◌, if◌then◌else◌, length, nat_eq, nat_lt, reverse, slice_index_or, slice_set}
 use Rattle.std.specs.List.{list_any}
 use Rattle.cu_machine.specs.declared.Kind.{Kind}
 use Rattle.cu_machine.specs.declared.Kind.TheVariants as kind
-use Rattle.cu_machine.specs.Graph.{Graph, node_at}
+use Rattle.cu_machine.specs.Graph.{Graph, Node, node_at}
 use Rattle.cu_machine.specs.Rewrite.{occurs_at, occurs_within}
 use Rattle.cu_machine.specs.Validity.{are_places}
 use Rattle.cu_step.specs.Walk.{height}
@@ -30,14 +30,21 @@ head_reaches graph v id = occurs_at (reaches graph v) v id (node_at graph id).ki
 abbrev pub lower_reaches : Graph → ℕ → ℕ → List ℕ → Bool
 lower_reaches graph v top ids = list_any (λ id. reaches graph v id && nat_lt (height graph id) top) ids
 
+-- nothing was seen where no marks are kept
 abbrev pub seen_at : List Bool → ℕ → Bool
 seen_at seen id = slice_index_or seen id false
+
+-- what a look at a head that isn't the variable leaves: the marks, and the nodes that are still to be looked at
+abbrev pub marks_after : List Bool → ℕ → Kind → List Bool
+marks_after seen id k = if leads_on k (seen_at seen id) then slice_set seen id true else seen
+
+abbrev pub left_after : List Bool → List ℕ → ℕ → Node → List ℕ
+left_after seen left id node = if leads_on node.kind (seen_at seen id) then left ++ reverse node.args else left
 
 -- A node that was seen reaches the variable by way of a lower one that is still to be looked at, if at all; and whether one of
 -- those reaches it is whether one of the first did.
 pub record Looks (graph : Graph) (v : ℕ) (ids : List ℕ) (seen : List Bool) (left : List ℕ) : Type 0 where
   pub there : are_places (length graph) left ≡ true
-  pub count : length seen ≡ length graph
   pub lower : (id : ℕ) → seen_at seen id ≡ true → head_reaches graph v id ≡ true → lower_reaches graph v (height graph id) left ≡ true
   pub comes : list_any (reaches graph v) left ≡ list_any (reaches graph v) ids
 

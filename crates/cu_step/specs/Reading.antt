@@ -1,5 +1,6 @@
--- What a node adds to a value that is read: a cell, a variable that is met, and the nodes of which more cells come.
-use Rattle.std.specs.Prelude.{◌≡◌, ℕ, List, [], ◌∷◌, slice_index_or}
+-- What a node adds to a value that is read: a cell, a variable that is met, and the nodes of which more cells come. The
+-- variables that were met are listed in their order.
+use Rattle.std.specs.Prelude.{ℕ, List, [], ◌∷◌}
 use Rattle.cu_machine.specs.declared.Kind.{Kind}
 use Rattle.cu_machine.specs.declared.Kind.TheVariants as kind
 use Rattle.cu_machine.specs.Places.{joined}
@@ -7,21 +8,12 @@ use Rattle.cu_machine.specs.Spell.{ordinal}
 use Rattle.cu_values.specs.declared.cell.Cell.{Cell}
 use Rattle.cu_values.specs.declared.cell.Cell.TheVariants as cell
 
--- so many nodes, and the variables among them that were met, in order
-pub record Met : Type 0 where
-  pub nodes : ℕ
-  pub variables : List ℕ
-
--- the numbers in a table are those of the variables that were met
-abbrev pub IsNumbered : List ℕ → List ℕ → Type 0
-IsNumbered numbers variables = (id : ℕ) → slice_index_or numbers id 0 ≡ ordinal variables id
-
 -- a variable is met
-abbrev pub with_variable : Met → ℕ → Met
-with_variable met id = record met { variables = joined met.variables (id ∷ []) }
+abbrev pub with_variable : List ℕ → ℕ → List ℕ
+with_variable met id = joined met (id ∷ [])
 
 -- a head is met
-abbrev pub with_head : Met → ℕ → Kind → Met
+abbrev pub with_head : List ℕ → ℕ → Kind → List ℕ
 with_head met id kind.Free = with_variable met id
 with_head met id _ = met
 

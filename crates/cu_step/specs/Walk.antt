@@ -1,15 +1,15 @@
 -- What the walk for a node's need stands for at each moment, and when what it holds is right.
-use Rattle.std.specs.Prelude.{◌≡◌, ℕ, zero, suc, ◌+◌, ◌*◌, ◌-◌, ◌<◌, ◌≤◌, Bool, true, false, not, ◌&&◌, ◌||◌, Option, None, Some, List, [], ◌∷◌, ◌++◌, length, map, max, if◌then◌else◌, nat_eq, slice_index_or, slice_set, take, drop}
+use Rattle.std.specs.Prelude.{◌≡◌, ℕ, zero, suc, ◌+◌, ◌*◌, ◌-◌, ◌<◌, ◌≤◌, Bool, true, false, not, ◌&&◌, ◌||◌, Option, None, Some, List, [], ◌∷◌, ◌++◌, length, map, max, if◌then◌else◌, nat_eq, slice_index_or, slice_set, take, drop, replicate}
 use Rattle.cu_calculus.specs.declared.ConId.{ConId}
 use Rattle.cu_calculus.specs.declared.Mode.TheVariants.{Flex, Rigid}
 use Rattle.cu_calculus.specs.declared.builtin.Primitive.TheVariants as prim
 use Rattle.cu_calculus.specs.Match.{same_constructor}
 use Rattle.cu_machine.specs.declared.Kind.{Kind}
 use Rattle.cu_machine.specs.declared.Kind.TheVariants as kind
-use Rattle.cu_machine.specs.Graph.{Graph, Node, node_at}
+use Rattle.cu_machine.specs.Graph.{Graph, node_at}
 use Rattle.cu_machine.specs.Need as need
 use Rattle.cu_machine.specs.Need.{Extent, Outermost, Throughout, Need, before, first, free_at, free_within, need_at, need_within, rest_at, side, strict, unless_done, waiting}
-use Rattle.cu_machine.specs.Places.{holds}
+use Rattle.cu_machine.specs.Places.{joined}
 use Rattle.cu_step.specs.declared.need.Ask.{Ask}
 use Rattle.cu_step.specs.declared.need.Ask.TheVariants as ask
 use Rattle.cu_step.specs.declared.need.Frame.{Frame}
@@ -197,18 +197,15 @@ pub record Found : Type 0 where
   pub ids : List ℕ
 
 abbrev pub found : Walk → Found
-found walk = record { frames = walk.frames.items; whole = walk.whole.items; inside = walk.inside.items; waits = walk.waits; ids = walk.ids.items }
+found walk = record { frames = walk.frames.items; whole = walk.whole.items; inside = walk.inside.items; waits = walk.waits; ids = walk.ids.keys }
 
 abbrev pub so_far : Found → Need
 so_far f = told f.waits f.ids
 
 -- It is right, where the argument that the innermost node looks at needs this.
 pub record Fits (truth : ConId) (graph : Graph) (f : Found) (n : Need) : Type 0 where
-  pub whole_length : length f.whole ≡ length graph
-  pub inside_length : length f.inside ≡ length graph
   pub whole : (id : ℕ) → id < length graph → MarkFits (so_far f) (is_open false id f.frames) (mark_at f.whole id) (whole_need truth graph id)
   pub inside : (id : ℕ) → id < length graph → MarkFits (so_far f) (is_open true id f.frames) (mark_at f.inside id) (inside_need graph id)
-  pub held : (id : ℕ) → holds f.ids id ≡ true → (mark_at f.inside id ≡ mark.Waits) × (inside_need graph id ≡ need.Wait (id ∷ []))
   pub none : f.waits ≡ false → f.ids ≡ []
   pub fit : AllFit truth graph (so_far f) f.frames n
   pub path : IsPath graph f.frames
@@ -228,9 +225,8 @@ flagged (frame ∷ other ∷ frames) = frame ∷ flagged (other ∷ frames)
 abbrev pub waited : Found → Found
 waited f = record f { waits = true; frames = flagged f.frames }
 
-abbrev pub waited_for : Found → ℕ → Mark → Found
-waited_for f id mark.Waits = waited f
-waited_for f id _ = waited (record f { ids = f.ids ++ id ∷ []; inside = slice_set f.inside id mark.Waits })
+abbrev pub waited_for : Found → ℕ → Found
+waited_for f id = waited (record f { ids = joined f.ids (id ∷ []) })
 
 abbrev pub with_frame : Found → Frame → Found
 with_frame f frame = record f { frames = f.frames ++ frame ∷ [] }
@@ -253,7 +249,7 @@ entered_at f id a mark.Unseen = with_frame (with_mark f (is_inside a) id mark.Wa
 
 abbrev pub met : Found → Look → Found
 met f look.Stuck = waited f
-met f (look.Free id) = waited_for f id (mark_at f.inside id)
+met f (look.Free id) = waited_for f id
 met f (look.Node id a) = entered_at f id a (mark_of f (is_inside a) id)
 met f _ = f
 
@@ -284,6 +280,10 @@ abbrev pub left_answer : Frame → Kind → Bool → Option Need
 left_answer frame k true = None
 left_answer frame k false = left_need frame.node k frame.ask
 
+-- marks are kept from now on
+abbrev pub unseen_all : Found → ℕ → Found
+unseen_all f count = record f { whole = replicate count mark.Unseen; inside = replicate count mark.Unseen }
+
 -- ** What fits a look
 
 abbrev pub LookFits : ConId → Graph → ℕ → Look → Type 0
@@ -291,11 +291,6 @@ LookFits truth graph top (look.Free id) = (id < length graph) × (inside_need gr
 LookFits truth graph top (look.Node id a) =
     (id < length graph) × (marked_need (is_inside a) truth graph id ≡ entered truth graph id a) × (height graph id ≤ top)
 LookFits truth graph top _ = Unit {0}
-
-abbrev pub IsWithin : Found → Look → Type 0
-IsWithin f (look.Free id) = id < length f.inside
-IsWithin f (look.Node id a) = (id < length f.whole) × (id < length f.inside)
-IsWithin f _ = Unit {0}
 
 -- ** How long it takes
 
@@ -319,11 +314,17 @@ frames_cost graph (frame ∷ frames) = frame_cost graph frame + frames_cost grap
 unfoldable pub cost : Graph → Found → ℕ
 cost graph f = unseen_cost graph f.whole + unseen_cost graph f.inside + frames_cost graph f.frames
 
--- the walk goes on: what comes out stays the same
+-- there is a mark for each node
+pub record Marked (graph : Graph) (f : Found) : Type 0 where
+  pub whole : length f.whole ≡ length graph
+  pub inside : length f.inside ≡ length graph
+
+-- the walk goes on: what comes out stays the same, and where marks are kept, some of the cost is paid
 pub record Goes (truth : ConId) (graph : Graph) (old new : Found) : Type 0 where
   pub fits : Fits truth graph new need.Done
   pub outcome : outcome truth graph new need.Done ≡ outcome truth graph old need.Done
-  pub cost : cost graph new < cost graph old
+  pub marked : Marked graph old → Marked graph new
+  pub cost : Marked graph old → cost graph new < cost graph old
 
 -- ** What a look shows, by a head's kind
 

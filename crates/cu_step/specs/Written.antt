@@ -5,7 +5,6 @@ use Rattle.cu_machine.specs.Graph.{Graph}
 use Rattle.cu_machine.specs.Places.{joined}
 use Rattle.cu_machine.specs.Spell.{all_renumbered, cells, cells_of_all, ordinal, renumbered, spelled, variables_in, variables_of_all}
 use Rattle.cu_machine.specs.Validity.{are_places}
-use Rattle.cu_step.specs.Reading.{Met}
 use Rattle.cu_values.specs.declared.cell.Cell.{Cell}
 use Rattle.cu_values.specs.Cells.{spell, spell_all}
 
@@ -19,16 +18,14 @@ met_in variables graph id = joined variables (variables_in (spelled graph id))
 
 -- What was written of a node's value, and the values of the nodes that are left, are the whole, where these variables had been
 -- met. There was room for as many cells as the limit says, and there is now for so many.
-pub record Written (graph : Graph) (id : ℕ) (variables : List ℕ) (room : ℕ) (written : List Cell) (left : List ℕ) (limit : ℕ) (met : Met) : Type 0 where
+pub record Written (graph : Graph) (id : ℕ) (variables : List ℕ) (room : ℕ) (written : List Cell) (left : List ℕ) (limit : ℕ) (met : List ℕ) : Type 0 where
   pub there : are_places (length graph) left ≡ true
-  pub nodes : met.nodes ≡ length graph
-  pub meets : joined met.variables (variables_of_all (map (spelled graph) left)) ≡ met_in variables graph id
+  pub meets : joined met (variables_of_all (map (spelled graph) left)) ≡ met_in variables graph id
   pub writes : written ++ text (ordinal (met_in variables graph id)) (map (spelled graph) left) ≡ spell (renumbered (ordinal (met_in variables graph id)) (spelled graph id))
   pub counts : limit + cells_of_all (map (spelled graph) left) ≡ room + cells (spelled graph id)
 
 -- What was read of the first goal variables.
-pub record AllRead (graph : Graph) (limit : ℕ) (goals : List ℕ) (bindings : List Value) (room : ℕ) (met : Met) : Type 0 where
-  pub nodes : met.nodes ≡ length graph
-  pub meets : met.variables ≡ variables_of_all (map (spelled graph) goals)
-  pub reads : bindings ≡ map (renumbered (ordinal met.variables)) (map (spelled graph) goals)
+pub record AllRead (graph : Graph) (limit : ℕ) (goals : List ℕ) (bindings : List Value) (room : ℕ) (met : List ℕ) : Type 0 where
+  pub meets : met ≡ variables_of_all (map (spelled graph) goals)
+  pub reads : bindings ≡ map (renumbered (ordinal met)) (map (spelled graph) goals)
   pub counts : room + cells_of_all (map (spelled graph) goals) ≡ limit

@@ -127,7 +127,12 @@ struct Work {
 
 impl Work {
     /// A node without arguments is made.
-    fn make<S: Store>(&mut self, store: &mut S, kind: Kind, target: Target) -> Result<(), AllocError>
+    fn make<S: Store>(
+        &mut self,
+        store: &mut S,
+        kind: Kind,
+        target: Target,
+    ) -> Result<(), AllocError>
         requires { self.old.root < length (S.content store.old) }
         ensures state { OnOk result (state_of (S.content store.new) self.new
             ≡ with_node target (state_of (S.content store.old) self.old) (record { kind = kind; args = [] })) }

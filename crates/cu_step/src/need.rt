@@ -1,15 +1,16 @@
 //! What the value of a node needs.
-ghost use Rattle.std.specs.Prelude.{◌≡◌, ◌<◌, [], IfOk, IfSome, IfNone, OnOk, length, option_map, replicate, false};
+ghost use Rattle.std.specs.Prelude.{◌≡◌, ◌<◌, [], IfOk, IfSome, IfNone, OnOk, length, option_map, slice_set, false};
 ghost use Rattle.cu_machine.specs.Graph.{head_at, head_of, node_at};
 ghost use Rattle.cu_machine.specs.Need as need;
 ghost use Rattle.cu_machine.specs.Need.{need_all};
 ghost use Rattle.cu_machine.specs.Validity.{ArgumentsThere, IsAcyclic};
 ghost use Rattle.cu_step.specs.Needed.{need_of};
-ghost use Rattle.cu_step.specs.Walk.{Fits, Goes, IsWithin, at_once, entered_at, found, is_inside, left, left_answer, look_all, look_bound, look_first, look_head, look_inside, look_true, looked, looked_at, mark_at, mark_of, met, outcome, so_far, waited, waited_for, with_frame, with_mark};
+ghost use Rattle.cu_step.specs.Walk.{Fits, Goes, Marked, at_once, entered_at, found, is_inside, left, left_answer, look_all, look_bound, look_first, look_head, look_inside, look_true, looked, looked_at, mark_at, mark_of, met, outcome, so_far, unseen_all, waited, waited_for, with_frame, with_mark};
 
 use crate::{head, node};
 use cu_flat::{ConId, Mode, Prim};
 use cu_graph::{Kind, Store};
+use indexmap::IndexSet;
 use std::alloc::{AllocError, Global};
 
 /// What all of a node's value needs next.
@@ -20,7 +21,7 @@ pub(crate) enum Needed {
     /// It has no value.
     Dead,
     /// That one of these free variables is bound.
-    Wait(Vec<u32>),
+    Wait(IndexSet<u32>),
     /// That the node at this place is rewritten.
     At(u32),
 }
@@ -88,18 +89,25 @@ struct Walk {
     /// The nodes whose arguments are being looked at, each below the one
     /// before it.
     frames: Vec<Frame>,
-    /// What is known of each node with regard to all of its value.
+    /// What is known of each node with regard to all of its value. It is empty
+    /// as long as no marks are kept.
     whole: Vec<Mark>,
-    /// What is known of each node with regard to free variables in it.
+    /// The same with regard to free variables in it.
     inside: Vec<Mark>,
     /// Whether anything waits.
     waits: bool,
     /// The variables that are waited for, in the order in which they were met.
-    ids: Vec<u32>,
+    ids: IndexSet<u32>,
 }
 
-/// What all of a node's value needs. A node's arguments are looked at once for
-/// all of its value, and once for the free variables in it where a set function
+/// How many looks there are for each node where no node is met twice: at the
+/// node, and at the way to it, once for all of its value and once for the free
+/// variables in it.
+const LOOKS_PER_NODE: usize = 4;
+
+/// What all of a node's value needs. Marks are kept from when a node must have
+/// been met twice. From then on a node's arguments are looked at once for all
+/// of its value, and once for the free variables in it where a set function
 /// asks for them.
 pub(crate) fn find<S: Store>(
     alloc: Global,
@@ -112,17 +120,21 @@ pub(crate) fn find<S: Store>(
     requires acyclic { IsAcyclic (S.content store.now) }
     ensures { IfOk result (λ needed. need_of needed ≡ need_all truth (S.content store.now) root) }
 {
-    let mut walk = Walk::new(alloc, store.len())?;
+    let mut walk = Walk::new(alloc);
     let first = look_at(store, truth, root, Ask::All, root);
     if let Some(needed) = walk.meet(first)? {
         return Ok(needed);
     }
-    while let Some(frame) = walk.frames.pop() {
+    'unmarked: for _ in 0..LOOKS_PER_NODE * store.len() as usize {
+        let Some(frame) = walk.frames.pop() else {
+            return Ok(walk.needed());
+        };
         if let Some(needed) = walk.advance(store, truth, frame)? {
             return Ok(needed);
         }
     }
-    Ok(walk.needed())
+    walk.keep_marks(store.len())?;
+    walk.finish(store, truth)
 }
 
 /// A look at an argument of a node.
@@ -210,6 +222,25 @@ fn inside(id: u32, kind: Kind) -> Look
     }
 }
 
+/// What is known of a node.
+fn mark_at(marks: &[Mark], id: u32) -> Mark
+    ensures { result ≡ mark_at marks.now id }
+{
+    match marks.get(id as usize) {
+        Some(mark) => *mark,
+        None => Mark::Unseen,
+    }
+}
+
+/// Keeps what is known of a node, if marks are kept.
+fn put_mark(marks: &mut Vec<Mark>, id: u32, mark: Mark)
+    ensures { marks.new.items ≡ slice_set marks.old.items id mark }
+{
+    if (id as usize) < marks.len() {
+        marks[id as usize] = mark;
+    }
+}
+
 /// How many of its arguments a node asks something of.
 fn looked_at_count<S: Store>(store: &S, id: u32) -> u32
     requires { id < length (S.content store.now) }
@@ -222,26 +253,48 @@ fn looked_at_count<S: Store>(store: &S, id: u32) -> u32
 }
 
 impl Walk {
-    /// A walk over so many nodes, of which nothing is known.
-    fn new(alloc: Global, count: u32) -> Result<Walk, AllocError>
-        ensures { IfOk result (λ walk. found walk ≡ record { frames = []; whole = replicate count Mark.Unseen; inside = replicate count Mark.Unseen; waits = false; ids = [] }) }
+    /// A walk that keeps no marks, and has found nothing.
+    fn new(alloc: Global) -> Walk
+        ensures { found result ≡ record { frames = []; whole = []; inside = []; waits = false; ids = [] } }
     {
-        let mut whole = Vec::new(alloc);
-        whole.resize(count as usize, Mark::Unseen)?;
-        let mut inside = Vec::new(alloc);
-        inside.resize(count as usize, Mark::Unseen)?;
-        Ok(Walk {
+        Walk {
             frames: Vec::new(alloc),
-            whole,
-            inside,
+            whole: Vec::new(alloc),
+            inside: Vec::new(alloc),
             waits: false,
-            ids: Vec::new(alloc),
-        })
+            ids: IndexSet::new(alloc),
+        }
+    }
+
+    /// Keeps marks of so many nodes, of which nothing is known yet.
+    fn keep_marks(&mut self, count: u32) -> Result<(), AllocError>
+        ensures { OnOk result (found self.new ≡ unseen_all (found self.old) count) }
+    {
+        self.whole.clear();
+        self.whole.resize(count as usize, Mark::Unseen)?;
+        self.inside.clear();
+        self.inside.resize(count as usize, Mark::Unseen)?;
+        Ok(())
+    }
+
+    /// Looks on until it is known what is needed.
+    fn finish<S: Store>(mut self, store: &S, truth: ConId) -> Result<Needed, AllocError>
+        requires arguments { ArgumentsThere (S.content store.now) }
+        requires acyclic { IsAcyclic (S.content store.now) }
+        requires fits { Fits truth (S.content store.now) (found self) need.Done }
+        requires marked { Marked (S.content store.now) (found self) }
+        ensures { IfOk result (λ needed. need_of needed ≡ outcome truth (S.content store.now) (found self) need.Done) }
+    {
+        while let Some(frame) = self.frames.pop() {
+            if let Some(needed) = self.advance(store, truth, frame)? {
+                return Ok(needed);
+            }
+        }
+        Ok(self.needed())
     }
 
     /// Takes what a look shows to the node that asked.
     fn meet(&mut self, look: Look) -> Result<Option<Needed>, AllocError>
-        requires { IsWithin (found self.old) look }
         ensures answer { IfOk result (λ answer. option_map need_of answer ≡ at_once look) }
         ensures found { OnOk result (found self.new ≡ met (found self.old) look) }
     {
@@ -279,21 +332,16 @@ impl Walk {
     }
 
     /// The node that asked waits for a variable.
+    #[tactic(auto, using(crate::proofs::Ordinals::numberings))]
     fn wait_for(&mut self, id: u32) -> Result<(), AllocError>
-        requires { id < length self.old.inside.items }
-        ensures { OnOk result (found self.new ≡ waited_for (found self.old) id (mark_at self.old.inside.items id)) }
+        ensures { OnOk result (found self.new ≡ waited_for (found self.old) id) }
     {
-        if let Mark::Waits = self.inside[id as usize] {} else {
-            self.inside[id as usize] = Mark::Waits;
-            self.ids.push(id)?;
-        }
+        self.ids.insert(id)?;
         self.wait()
     }
 
     /// The node that asked waits if another does.
     fn enter(&mut self, id: u32, ask: Ask) -> Result<(), AllocError>
-        requires whole { id < length self.old.whole.items }
-        requires inside { id < length self.old.inside.items }
         ensures { OnOk result (found self.new ≡ entered_at (found self.old) id ask (mark_of (found self.old) (is_inside ask) id)) }
     {
         match self.mark(id, ask) {
@@ -314,25 +362,23 @@ impl Walk {
 
     /// What is known of a node with regard to what it asks.
     fn mark(&self, id: u32, ask: Ask) -> Mark
-        requires whole { id < length self.now.whole.items }
-        requires inside { id < length self.now.inside.items }
         ensures { result ≡ mark_of (found self.now) (is_inside ask) id }
     {
-        match ask {
-            Ask::Inside => self.inside[id as usize],
-            _ => self.whole[id as usize],
-        }
+        let marks = match ask {
+            Ask::Inside => self.inside.as_slice(),
+            _ => self.whole.as_slice(),
+        };
+        mark_at(marks, id)
     }
 
-    /// Keeps what is known of a node with regard to what it asks.
+    /// Keeps what is known of a node with regard to what it asks, if marks are
+    /// kept.
     fn set_mark(&mut self, id: u32, ask: Ask, mark: Mark)
-        requires whole { id < length self.old.whole.items }
-        requires inside { id < length self.old.inside.items }
         ensures { found self.new ≡ with_mark (found self.old) (is_inside ask) id mark }
     {
         match ask {
-            Ask::Inside => self.inside[id as usize] = mark,
-            _ => self.whole[id as usize] = mark,
+            Ask::Inside => put_mark(&mut self.inside, id, mark),
+            _ => put_mark(&mut self.whole, id, mark),
         }
     }
 
@@ -362,9 +408,7 @@ impl Walk {
 
     /// Leaves a node whose arguments were all looked at.
     fn leave<S: Store>(&mut self, store: &S, frame: Frame) -> Result<Option<Needed>, AllocError>
-        requires store { frame.node < length (S.content store.now) }
-        requires whole { frame.node < length self.old.whole.items }
-        requires inside { frame.node < length self.old.inside.items }
+        requires { frame.node < length (S.content store.now) }
         ensures answer { IfOk result (λ answer. option_map need_of answer ≡ left_answer frame (node_at (S.content store.now) frame.node).kind frame.waits) }
         ensures found { OnOk result (found self.new ≡ left (found self.old) frame (node_at (S.content store.now) frame.node).kind frame.waits) }
     {

@@ -52,7 +52,7 @@ pub(crate) fn read<S: Store>(
         else Some (read (S.content store.now) root goals.now))) }
 {
     let mut reader = Reader {
-        numbering: Numbering::new(alloc, store.len())?,
+        numbering: Numbering::new(alloc),
         room: limit,
     };
     let mut bindings = Vec::with_capacity(alloc, goals.len())?;
@@ -77,14 +77,13 @@ impl Reader {
         id: u32,
     ) -> Result<Option<Value>, AllocError>
         requires id { id < length (S.content store.now) }
-        requires nodes { self.old.numbering.nodes ≡ length (S.content store.now) }
         requires arguments { ArgumentsThere (S.content store.now) }
         requires acyclic { IsAcyclic (S.content store.now) }
         ensures value { IfOk result (λ value. value
             ≡ (if nat_lt self.old.room (cells (spelled (S.content store.now) id)) then None
-            else Some (renumbered (ordinal self.new.numbering.variables) (spelled (S.content store.now) id)))) }
+            else Some (renumbered (ordinal self.new.numbering.variables.keys) (spelled (S.content store.now) id)))) }
         ensures met { IfOk result (λ value. IfSome value (λ _.
-            self.new.numbering ≡ record { nodes = self.old.numbering.nodes; variables = joined self.old.numbering.variables (variables_in (spelled (S.content store.now) id)) })) }
+            self.new.numbering.variables.keys ≡ joined self.old.numbering.variables.keys (variables_in (spelled (S.content store.now) id)))) }
         ensures room { IfOk result (λ value. IfSome value (λ _.
             self.new.room + cells (spelled (S.content store.now) id) ≡ self.old.room)) }
     {
@@ -106,10 +105,9 @@ impl Reader {
 /// The first cell of the value of a head.
 fn cell_at<S: Store>(store: &S, id: u32, numbering: &mut Numbering) -> Result<Cell, AllocError>
     requires id { id < length (S.content store.now) }
-    requires nodes { numbering.old.nodes ≡ length (S.content store.now) }
-    ensures cell { IfOk result (λ cell. cell ≡ cell_at numbering.new.variables id
+    ensures cell { IfOk result (λ cell. cell ≡ cell_at numbering.new.variables.keys id
         (node_at (S.content store.now) id).kind (length (node_at (S.content store.now) id).args)) }
-    ensures met { OnOk result (numbering.new ≡ with_head numbering.old id (node_at (S.content store.now) id).kind) }
+    ensures met { OnOk result (numbering.new.variables.keys ≡ with_head numbering.old.variables.keys id (node_at (S.content store.now) id).kind) }
 {
     match store.kind(id) {
         Kind::Cons(c) => Ok(Cell::Con(c, store.arity(id))),

@@ -99,9 +99,7 @@ impl Parts {
         ensures { self.new ≡ (self.old.0, self.old.1 ++ expr_meaning [] expr ∷ []) }
     {
         let kept = Vec::new(self.alloc);
-        self.entries
-            .push(Entry { expr, kept })
-            .expect(rt, "memory");
+        self.entries.push(Entry { expr, kept }).expect(rt, "memory");
     }
 
     pub(crate) fn variable<R: Abort>(&mut self, rt: &R, x: u32)
@@ -181,9 +179,7 @@ impl Parts {
     {
         let kept = Vec::from_slice(self.alloc, kept).expect(rt, "memory");
         let expr = Expr::Case(mode, scrutinee, branches);
-        self.entries
-            .push(Entry { expr, kept })
-            .expect(rt, "memory");
+        self.entries.push(Entry { expr, kept }).expect(rt, "memory");
     }
 
     pub(crate) fn function<R: Abort>(&mut self, rt: &R, arity: u32, params: &[u32], body: ExprId)

@@ -62,7 +62,7 @@ fn place_in(ids: &[u32], id: u32) -> Option<usize>
 }
 
 /// A number that fits. A larger one is out of memory.
-fn to_u32(n: usize) -> Result<u32, AllocError>
+pub(crate) fn to_u32(n: usize) -> Result<u32, AllocError>
     ensures { IfOk result (λ number. number ≡ n) }
 {
     match u32::try_from(n) {
@@ -72,7 +72,7 @@ fn to_u32(n: usize) -> Result<u32, AllocError>
 }
 
 /// The next number. Where there is none, memory has run out.
-fn following(n: u32) -> Result<u32, AllocError>
+pub(crate) fn following(n: u32) -> Result<u32, AllocError>
     ensures { IfOk result (λ next. next ≡ n + 1) }
 {
     match n.checked_add(1) {

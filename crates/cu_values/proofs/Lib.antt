@@ -9,4 +9,5 @@ pub mod ShapeLemmas
 pub mod StackLemmas
 pub mod StepLemmas
 pub mod StringLemmas
+pub mod ViewLemmas
 pub mod WriteLemmas

@@ -10,3 +10,4 @@ pub mod ProgramLabels
 pub mod Shapes
 pub mod Spelling
 pub mod Tasks
+pub mod Views

@@ -1,4 +1,5 @@
 -- What stands at the head of a value, and its arguments.
+use Rattle.std.specs.Prelude.{Option, None, Some}
 use Rattle.cu_calculus.specs.Value as value
 use Rattle.cu_calculus.specs.Value.{Value, Values, count}
 use Rattle.cu_values.specs.declared.cell.Cell.{Cell}
@@ -17,3 +18,8 @@ arguments_of (value.Variable x) = value.NoValue
 arguments_of (value.Literal l) = value.NoValue
 arguments_of (value.Constructed c vs) = vs
 arguments_of (value.Partial h vs) = vs
+
+-- the first of some values, and those behind it
+abbrev pub split : Values → Option (Value × Values)
+split value.NoValue = None
+split (value.MoreValues v vs) = Some (v, vs)

@@ -12,8 +12,11 @@ mod shape;
 mod string;
 mod task;
 mod value;
+mod view;
+mod views;
 mod walk;
 
 pub use cell::Cell;
 pub use display::{Workspace, show};
 pub use value::Value;
+pub use views::{ValueRef, ValuesRef};

@@ -8,9 +8,9 @@ ghost use Rattle.cu_calculus.specs.Value.{list_of, values_of};
 ghost use Rattle.cu_values.specs.Approximation.{is_below};
 ghost use Rattle.cu_values.specs.Cells.{read, spell, spell_all, IsOneSpelled};
 ghost use Rattle.cu_values.specs.Parts.{arguments_of, head_of};
+ghost use Rattle.cu_values.specs.Views.{viewed};
 
-use crate::cell::{Cell, compare};
-use crate::walk::{Pairs, end_of};
+use crate::{Cell, ValueRef};
 use cu_calculus::{ConId, Head, Lit};
 use std::alloc::{AllocError, Global};
 use std::cmp::Ordering;
@@ -114,27 +114,32 @@ impl Value {
         self.cells.as_slice()
     }
 
+    /// The value where it stands, to be read.
+    pub fn view(&self) -> ValueRef<'_>
+        ensures { viewed result ≡ self.now }
+    {
+        ValueRef::spelled(self.cells())
+    }
+
     /// The first cell: what the value is, and how many arguments it has.
     pub fn head(&self) -> Cell
         ensures { result ≡ head_of self.now }
     {
-        self.cells()[0]
+        self.view().head()
     }
 
-    /// The arguments of a constructor or a partial application, from left to
-    /// right; other values have none.
+    /// Copies of the arguments of a constructor or a partial application, from
+    /// left to right; other values have none. [`Value::view`] reads them where
+    /// they stand. The one error is want of memory.
     pub fn arguments(&self) -> Result<Vec<Value>, AllocError>
         ensures { IfOk result (λ vs. vs.items ≡ list_of (arguments_of self.now)) }
     {
         let alloc = *self.cells.allocator();
-        let cells = self.cells();
         let mut arguments = Vec::new(alloc);
-        let mut at = 1;
-        while at < cells.len() {
-            let end = end_of(cells, at);
-            let argument = Vec::from_slice(alloc, &cells[at..end])?;
-            arguments.push(Value::spelled(argument))?;
-            at = end;
+        let mut left = self.view().arguments();
+        while let Some((argument, others)) = left.split_first() {
+            arguments.push(argument.copied(alloc)?)?;
+            left = others;
         }
         Ok(arguments)
     }
@@ -143,14 +148,14 @@ impl Value {
     pub fn is_total(&self) -> bool
         ensures { result ≡ is_total self.now }
     {
-        self.cells().iter().all(|cell| cell.is_known())
+        self.view().is_total()
     }
 
     /// Whether the value has no partial application in it.
     pub fn is_data(&self) -> bool
         ensures { result ≡ is_data self.now }
     {
-        self.cells().iter().all(|cell| cell.is_data())
+        self.view().is_data()
     }
 
     /// Whether the value is ground data: built of constructors and literals
@@ -158,7 +163,7 @@ impl Value {
     pub fn is_ground_data(&self) -> bool
         ensures { result ≡ is_ground self.now }
     {
-        self.cells().iter().all(|cell| cell.is_ground())
+        self.view().is_ground_data()
     }
 
     /// Whether this value approximates another: it says less, and nothing
@@ -167,20 +172,7 @@ impl Value {
         ensures relation { IsTrue result ↔ Below self.now other.now }
         ensures test { result ≡ is_below self.now other.now }
     {
-        let cells = self.cells();
-        let others = other.cells();
-        let mut at = 0;
-        for cell in cells {
-            if *cell == Cell::Bottom {
-                at = end_of(others, at);
-                continue;
-            }
-            if others[at] != *cell {
-                return false;
-            }
-            at += 1;
-        }
-        true
+        self.view().leq(other.view())
     }
 
     /// The order of values: Bottom, variables, partial applications, integers,
@@ -188,19 +180,7 @@ impl Value {
     pub fn cmp(&self, other: &Value) -> Ordering
         ensures { result ≡ value_order self.now other.now }
     {
-        let cells = self.cells();
-        let others = other.cells();
-        let mut pairs = Pairs::one();
-        let mut i = 0;
-        while pairs.left > 0 {
-            let order = compare(cells[i], others[i]);
-            if order != Ordering::Equal {
-                return order;
-            }
-            pairs = pairs.after(cells[i].arity(), others[i].arity());
-            i += 1;
-        }
-        pairs.last
+        self.view().cmp(other.view())
     }
 }
 

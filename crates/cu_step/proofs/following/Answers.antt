@@ -1,7 +1,7 @@
 -- The branches of the graphs, unless one of them is too large.
-use Rattle.std.proofs.Common.{◌≡◌, ℕ, Bool, true, false, List, ap, length, map, subst, sym, ◌∙◌}
+use Rattle.std.proofs.Common.{ap, length, map, sym, ◌∙◌}
 use Rattle.std.specs.List.{list_any}
-use Rattle.cu_machine.specs.Next.{Go, Next, Stops, is_above, moved, too_large}
+use Rattle.cu_machine.specs.Next.{is_above, moved}
 use Rattle.cu_machine.specs.Rewrite.{Move}
 use Rattle.cu_step.specs.Moved.{move_of}
 use Rattle.cu_step.specs.Outcome.{state_of}

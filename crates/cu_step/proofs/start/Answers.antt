@@ -1,6 +1,5 @@
 -- What was pushed is the state in which the goal begins.
-use Rattle.std.proofs.Common.{◌≡◌, ◌++◌, ◌∷◌, [], List, ℕ, ap, subst, sym, ◌∙◌}
-use Rattle.cu_machine.specs.Graph.{Graph}
+use Rattle.std.proofs.Common.{◌++◌, ◌∷◌, [], List, ℕ, ap, subst, sym, ◌∙◌}
 use Rattle.cu_machine.specs.Sets.{IsWithoutSets}
 use Rattle.cu_machine.specs.State.{State}
 use Rattle.cu_machine.specs.Validity.{IsValid}

@@ -1,11 +1,8 @@
 -- A branch that is too large stops; any other is valid, and goes on by what its value needs.
-use Rattle.std.proofs.Common.{◌≡◌, IfOk, List, ℕ, ap, length, subst, sym, ◌∙◌}
-use Rattle.cu_machine.specs.Graph.{Graph}
+use Rattle.std.proofs.Common.{List, ℕ, ap, length, sym, ◌∙◌}
 use Rattle.cu_machine.specs.Need.{need_all}
-use Rattle.cu_machine.specs.Next.{next, next_by}
-use Rattle.cu_machine.specs.State.{Branch, Idle}
+use Rattle.cu_machine.specs.Next.{next_by}
 use Rattle.cu_machine.specs.Validity.{are_places}
-use Rattle.cu_step.specs.Outcome.{next_of, state_of}
 use Rattle.cu_step.proofs.Builds.{if_ok}
 use Rattle.cu_step.proofs.StepLemmas.{follow_valid, follow_without, next_large, next_small, valid_acyclic, valid_arguments, valid_goals, valid_root}
 use Rattle.cu_step.proofs.step.Goals as goal

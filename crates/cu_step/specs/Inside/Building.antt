@@ -1,12 +1,12 @@
 -- What is left to do while an expression is built, and what that comes to.
-use Rattle.std.specs.Prelude.{◌≡◌, ℕ, zero, suc, ◌+◌, ◌-◌, ◌<◌, Bool, true, false, List, [], ◌∷◌, ◌++◌, Option, None, Some, length, map, take, drop, slice_get, slice_set}
+use Rattle.std.specs.Prelude.{◌≡◌, ℕ, zero, suc, ◌+◌, ◌-◌, ◌<◌, Bool, true, false, List, [], ◌∷◌, ◌++◌, Option, None, Some, length, map, take, drop, slice_get}
 use Rattle.std.specs.List.{list_all}
 use Rattle.cu_calculus.specs.declared.ExprId.{ExprId}
 use Rattle.cu_calculus.specs.Code as code
 use Rattle.cu_calculus.specs.Code.{Branch, Code, Expr, expr_of}
 use Rattle.cu_machine.specs.declared.Kind.{Kind}
 use Rattle.cu_machine.specs.declared.Kind.TheVariants as kind
-use Rattle.cu_machine.specs.Build.{Built, Scope, build, build_variable, kind_of_whole, place_in, place_of, pushed, written}
+use Rattle.cu_machine.specs.Build.{Built, Scope, build, kind_of_whole, place_in, place_of, pushed, written}
 use Rattle.cu_machine.specs.Graph.{Graph, Node, alone, put, renaming, stuck}
 use Rattle.cu_step.specs.declared.build.Target.{Target}
 use Rattle.cu_step.specs.declared.build.Target.TheVariants as target

@@ -1,5 +1,5 @@
 -- The variable's last binding among those that are left counts, and else the last one that was met.
-use Rattle.std.proofs.Common.{◌≡◌, Option, None, Some, drop}
+use Rattle.std.proofs.Common.{◌≡◌, drop}
 use Rattle.cu_machine.specs.Build.{place_in}
 use Rattle.cu_step.proofs.Builds.{later}
 use Rattle.cu_step.proofs.build.place_in.Given as goal

@@ -1,5 +1,5 @@
 -- A task more, or the end.
-use Rattle.std.proofs.Common.{◌≡◌, [], ◌∷◌, ◌++◌, ap, refl, reverse, vec_len}
+use Rattle.std.proofs.Common.{◌≡◌, [], ap, reverse, vec_len}
 use Rattle.cu_step.specs.Inside.Building.{State, left_by, state_of}
 use Rattle.cu_step.specs.declared.build.Target.TheVariants as target
 use Rattle.cu_step.specs.declared.build.Task.TheVariants as task

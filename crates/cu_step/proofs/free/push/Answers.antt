@@ -1,5 +1,4 @@
 -- One more free variable, and its place.
-use Rattle.std.proofs.Common.{refl}
 use Rattle.cu_step.proofs.Frees.{push_more}
 use Rattle.cu_step.proofs.free.push.Goals as goal
 

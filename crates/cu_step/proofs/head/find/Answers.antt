@@ -1,5 +1,4 @@
-use Rattle.std.proofs.Common.{◌≡◌, ◌∙◌, ◌+◌, ◌-◌, suc, sym, arith, refl}
-use Rattle.cu_machine.specs.Graph.{head_of, head_within}
+use Rattle.std.proofs.Common.{◌∙◌, ◌+◌, ◌-◌, sym, arith}
 use Rattle.cu_step.proofs.Heads.{at_head, no_visits, one_further}
 use Rattle.cu_step.proofs.head.find.Goals as goal
 

@@ -1,56 +1,54 @@
-use Rattle.std.proofs.Common.{rules, ◌≡◌, ◌<◌, ◌++◌, ℕ, true, false, ap, sym, subst, ◌∙◌, arith, length, reverse, slice_set}
-use borrow.Author.Tests.{tests}
-use Rattle.cu_machine.specs.Graph.{head_of, node_at}
-use Rattle.cu_step.specs.Occurring.{is_variable, leads_on, seen_at}
-use Rattle.cu_step.proofs.Occurrences.{cost_into, head_below, looks_found, looks_into, looks_past}
+-- A look, or the end, or marks from then on.
+use Rattle.std.proofs.Common.{◌≡◌, sym, ◌∙◌, vec_len}
+use Rattle.cu_machine.specs.Rewrite.{occurs_in}
+use Rattle.cu_step.proofs.Builds.{if_ok}
+use Rattle.cu_step.proofs.Occurrences.{looked_there, looks_after, looks_again, looks_begin, looks_found, looks_last, looks_none, marks_count}
+use Rattle.cu_step.proofs.Reversals.{none_taken}
 use Rattle.cu_step.proofs.occurs.occurs.Goals as goal
 
-pub returns-then-is_variable : goal.returns-then-is_variable
-returns-then-is_variable g c =
-    let graph = g.S.Store.content c.args.store.now in
-    looks_found graph c.args.variable c.args.ids.now c.loop-id.seen.items c.loop-id.pending.items c.pop.new.self.items c.in-Some.id c.requires.arguments c.requires.acyclic
-    c.in-Some.ensures.items c.loop-id.invariant
-    (subst (λ (h : ℕ). is_variable c.args.variable h (node_at graph h).kind ≡ true) c.find-head.ensures (sym c.is_variable.ensures ∙ c.if-is_variable.true))
+pub unmarked-init : goal.unmarked-init
+unmarked-init g c =
+    looks_begin (g.S.Store.content c.args.store.now) c.args.variable c.args.ids.now c.new.result.items c.in_ok-from_slice.field-0.items c.requires.ids
+    c.in_ok-from_slice.ensures.items c.new.ensures.items
 
-pub leads_on-requires-after_bounds : goal.leads_on-requires-after_bounds
-leads_on-requires-after_bounds g c κs within =
-    let graph = g.S.Store.content c.args.store.now in
-    let below : head_of graph c.in-Some.id < length graph =
-    head_below graph c.args.variable c.args.ids.now c.loop-id.seen.items c.loop-id.pending.items c.pop.new.self.items c.in-Some.id c.requires.arguments c.requires.acyclic
-    c.in-Some.ensures.items c.loop-id.invariant in
-    let head = c.find-head.ensures in
-    let count = c.loop-id.invariant.count in
-    let same = ap length c.as_slice.ensures.value in
-    omega arith
+pub returns-in_default : goal.returns-in_default
+returns-in_default g c =
+    looks_none (g.S.Store.content c.args.store.now) c.args.variable c.args.ids.now c.unmarked.search.seen.items c.unmarked.search.pending.items
+    (none_taken c.unmarked.search.pending.items c.pop.new.self.items (vec_len c.unmarked.search.pending) c.in_default.ensures.cases.0 c.in_default.ensures.rest
+    c.in_default.ensures.items)
+    c.unmarked.invariant
 
-pub loop-id-preserved-then-not-leads_on : goal.loop-id-preserved-then-not-leads_on
-loop-id-preserved-then-not-leads_on g c =
-    let graph = g.S.Store.content c.args.store.now in
-    let no : c.leads_on.result ≡ false = search (rules, tests) in
-    looks_past graph c.args.variable c.args.ids.now c.loop-id.seen.items c.loop-id.pending.items c.pop.new.self.items c.in-Some.id c.requires.arguments c.requires.acyclic
-    c.in-Some.ensures.items c.loop-id.invariant
-    (subst (λ (h : ℕ). is_variable c.args.variable h (node_at graph h).kind ≡ false) c.find-head.ensures (sym c.is_variable.ensures ∙ c.if-is_variable.false))
-    (subst (λ (h : ℕ). leads_on (node_at graph h).kind (seen_at c.loop-id.seen.items h) ≡ false) c.find-head.ensures
-    (ap (λ xs. leads_on (node_at graph c.find-head.result).kind (seen_at xs c.find-head.result)) (sym c.as_slice.ensures.value) ∙ sym c.leads_on.ensures ∙ no))
+pub look-requires-clause-id : goal.look-requires-clause-id
+look-requires-clause-id g c κs within =
+    looked_there (g.S.Store.content c.args.store.now) c.args.variable c.args.ids.now c.unmarked.search.seen.items c.unmarked.search.pending.items c.pop.new.self.items
+    c.in-Some.id c.in-Some.ensures.items c.unmarked.invariant
 
-pub loop-id-smaller : goal.loop-id-smaller
-loop-id-smaller g c =
-    let graph = g.S.Store.content c.args.store.now in
-    let yes : c.leads_on.result ≡ true = search (rules, tests) in
-    cost_into graph c.args.variable c.args.ids.now c.loop-id.seen.items _ c.loop-id.pending.items c.pop.new.self.items c.push_args.new.pending.items c.in-Some.id
-    c.requires.arguments c.requires.acyclic c.in-Some.ensures.items c.loop-id.invariant
-    (subst (λ (h : ℕ). leads_on (node_at graph h).kind (seen_at c.loop-id.seen.items h) ≡ true) c.find-head.ensures
-    (ap (λ xs. leads_on (node_at graph c.find-head.result).kind (seen_at xs c.find-head.result)) (sym c.as_slice.ensures.value) ∙ sym c.leads_on.ensures ∙ yes))
-    (ap (λ h. slice_set c.loop-id.seen.items h true) c.find-head.ensures)
-    (c.in_ok-push_args.ensures ∙ ap (λ h. c.pop.new.self.items ++ reverse (node_at graph h).args) c.find-head.ensures)
+pub returns-then-found : goal.returns-then-found
+returns-then-found g c =
+    looks_found (g.S.Store.content c.args.store.now) c.args.variable c.args.ids.now c.unmarked.search.seen.items c.unmarked.search.pending.items c.pop.new.self.items
+    c.in-Some.id c.requires.arguments c.requires.acyclic c.in-Some.ensures.items c.unmarked.invariant (sym c.in_ok-found.ensures.found ∙ c.if-found.true)
 
-pub loop-id-preserved : goal.loop-id-preserved
-loop-id-preserved g c =
+pub unmarked-preserved : goal.unmarked-preserved
+unmarked-preserved g c =
+    looks_after (g.S.Store.content c.args.store.now) c.args.variable c.args.ids.now c.unmarked.search.seen.items c.look.new.self.seen.items
+    c.unmarked.search.pending.items c.pop.new.self.items c.look.new.self.pending.items c.in-Some.id c.requires.arguments c.requires.acyclic c.in-Some.ensures.items
+    c.unmarked.invariant (sym c.in_ok-found.ensures.found ∙ c.if-found.false) (c.in_ok-found.ensures.seen c.if-found.false) (c.in_ok-found.ensures.pending c.if-found.false)
+
+pub finish-requires-clause-looks : goal.finish-requires-clause-looks
+finish-requires-clause-looks g c κs within =
+    looks_again (g.S.Store.content c.args.store.now) c.args.variable c.args.ids.now c.unmarked.search.seen.items c.keep_marks.new.self.seen.items
+    c.unmarked.search.pending.items c.keep_marks.new.self.pending.items c.len.result c.unmarked.invariant c.in_ok-keep_marks.ensures.seen c.len.ensures
+    c.keep_marks.ensures.pending
+
+pub finish-requires-clause-marked : goal.finish-requires-clause-marked
+finish-requires-clause-marked g c κs within =
+    marks_count (g.S.Store.content c.args.store.now) c.keep_marks.new.self.seen.items c.len.result c.in_ok-keep_marks.ensures.seen c.len.ensures
+
+pub returns : goal.returns
+returns g c =
     let graph = g.S.Store.content c.args.store.now in
-    let yes : c.leads_on.result ≡ true = search (rules, tests) in
-    looks_into graph c.args.variable c.args.ids.now c.loop-id.seen.items _ c.loop-id.pending.items c.pop.new.self.items c.push_args.new.pending.items c.in-Some.id
-    c.requires.arguments c.requires.acyclic c.in-Some.ensures.items c.loop-id.invariant
-    (subst (λ (h : ℕ). leads_on (node_at graph h).kind (seen_at c.loop-id.seen.items h) ≡ true) c.find-head.ensures
-    (ap (λ xs. leads_on (node_at graph c.find-head.result).kind (seen_at xs c.find-head.result)) (sym c.as_slice.ensures.value) ∙ sym c.leads_on.ensures ∙ yes))
-    (ap (λ h. slice_set c.loop-id.seen.items h true) c.find-head.ensures)
-    (c.in_ok-push_args.ensures ∙ ap (λ h. c.pop.new.self.items ++ reverse (node_at graph h).args) c.find-head.ensures)
+    if_ok c.finish.result (λ yes. yes ≡ occurs_in graph c.args.variable c.keep_marks.new.self.pending.items) (λ yes. yes ≡ occurs_in graph c.args.variable c.args.ids.now)
+    (λ yes is.
+    is ∙ looks_last graph c.args.variable c.args.ids.now c.unmarked.search.seen.items c.unmarked.search.pending.items c.keep_marks.new.self.pending.items
+    c.unmarked.invariant c.keep_marks.ensures.pending)
+    c.finish.ensures

@@ -1,5 +1,5 @@
 -- One node more is taken from the right.
-use Rattle.std.proofs.Common.{arith, ◌-◌, length}
+use Rattle.std.proofs.Common.{arith}
 use Rattle.cu_step.proofs.Joints.{joins_more}
 use Rattle.cu_step.proofs.pairs.join.Goals as goal
 

@@ -14,9 +14,9 @@ returns-in_default g c =
     let test = c.loop-goal-test.true in
     let within : c.loop-goal.goal-index < length c.args.goals.now = omega arith in
     none_if (nat_lt c.args.limit (cells_of_all (spelled_all graph c.args.root goals))) (read graph c.args.root goals)
-    (large_goal graph c.args.limit c.args.root goals c.loop-goal.goal-index c.loop-goal.bindings.items c.loop-goal.reader.room c.loop-goal.reader.numbering at within refl
+    (large_goal graph c.args.limit c.args.root goals c.loop-goal.goal-index c.loop-goal.bindings.items c.loop-goal.reader.room c.loop-goal.reader.numbering.variables.keys at within refl
     c.loop-goal.invariant
-    (large_if (nat_lt c.loop-goal.reader.room (cells (spelled graph at))) (renumbered (ordinal c.value.new.self.numbering.variables) (spelled graph at)) c.in_ok-binding.field-0
+    (large_if (nat_lt c.loop-goal.reader.room (cells (spelled graph at))) (renumbered (ordinal c.value.new.self.numbering.variables.keys) (spelled graph at)) c.in_ok-binding.field-0
     c.in_default.is c.in_ok-binding.ensures.value))
 
 pub loop-goal-preserved : goal.loop-goal-preserved
@@ -27,11 +27,10 @@ loop-goal-preserved g c =
     let test = c.loop-goal-test.true in
     let within : c.loop-goal.goal-index < length c.args.goals.now = omega arith in
     read_more graph c.args.limit goals c.loop-goal.goal-index c.loop-goal.bindings.items c.push.new.self.items c.loop-goal.reader.room c.value.new.self.room
-    c.loop-goal.reader.numbering c.value.new.self.numbering at c.in-Some.binding within refl c.loop-goal.invariant
-    (if_some (c.value.new.self.numbering
-    ≡ record { nodes = c.loop-goal.reader.numbering.nodes; variables = joined c.loop-goal.reader.numbering.variables (variables_in (spelled graph at)) })
+    c.loop-goal.reader.numbering.variables.keys c.value.new.self.numbering.variables.keys at c.in-Some.binding within refl c.loop-goal.invariant
+    (if_some (c.value.new.self.numbering.variables.keys ≡ joined c.loop-goal.reader.numbering.variables.keys (variables_in (spelled graph at)))
     c.in_ok-binding.field-0 c.in-Some.binding c.in-Some.is c.in_ok-binding.ensures.met)
-    (fits_if (nat_lt c.loop-goal.reader.room (cells (spelled graph at))) (renumbered (ordinal c.value.new.self.numbering.variables) (spelled graph at)) c.in-Some.binding
+    (fits_if (nat_lt c.loop-goal.reader.room (cells (spelled graph at))) (renumbered (ordinal c.value.new.self.numbering.variables.keys) (spelled graph at)) c.in-Some.binding
     c.in_ok-binding.field-0 c.in-Some.is c.in_ok-binding.ensures.value)
     (if_some (c.value.new.self.room + cells (spelled graph at) ≡ c.loop-goal.reader.room) c.in_ok-binding.field-0 c.in-Some.binding c.in-Some.is c.in_ok-binding.ensures.room)
     c.in_ok-push.ensures.items
@@ -43,9 +42,9 @@ returns-in_default-2 g c =
     let test = c.loop-goal-test.false in
     let all : length c.args.goals.now ≤ c.loop-goal.goal-index = omega arith in
     none_if (nat_lt c.args.limit (cells_of_all (spelled_all graph c.args.root goals))) (read graph c.args.root goals)
-    (large_root graph c.args.limit c.args.root goals c.loop-goal.goal-index c.loop-goal.bindings.items c.loop-goal.reader.room c.loop-goal.reader.numbering all
+    (large_root graph c.args.limit c.args.root goals c.loop-goal.goal-index c.loop-goal.bindings.items c.loop-goal.reader.room c.loop-goal.reader.numbering.variables.keys all
     c.loop-goal.invariant
-    (large_if (nat_lt c.loop-goal.reader.room (cells (spelled graph c.args.root))) (renumbered (ordinal c.value-2.new.self.numbering.variables) (spelled graph c.args.root))
+    (large_if (nat_lt c.loop-goal.reader.room (cells (spelled graph c.args.root))) (renumbered (ordinal c.value-2.new.self.numbering.variables.keys) (spelled graph c.args.root))
     c.in_ok-value.field-0 c.in_default-2.is c.in_ok-value.ensures.value))
 
 pub returns : goal.returns
@@ -55,11 +54,10 @@ returns g c =
     let test = c.loop-goal-test.false in
     let all : length c.args.goals.now ≤ c.loop-goal.goal-index = omega arith in
     read_all_of graph c.args.limit c.args.root goals c.loop-goal.goal-index c.loop-goal.bindings.items c.loop-goal.reader.room c.value-2.new.self.room
-    c.loop-goal.reader.numbering c.value-2.new.self.numbering c.in-Some-2.value all c.loop-goal.invariant
-    (if_some (c.value-2.new.self.numbering
-    ≡ record { nodes = c.loop-goal.reader.numbering.nodes; variables = joined c.loop-goal.reader.numbering.variables (variables_in (spelled graph c.args.root)) })
+    c.loop-goal.reader.numbering.variables.keys c.value-2.new.self.numbering.variables.keys c.in-Some-2.value all c.loop-goal.invariant
+    (if_some (c.value-2.new.self.numbering.variables.keys ≡ joined c.loop-goal.reader.numbering.variables.keys (variables_in (spelled graph c.args.root)))
     c.in_ok-value.field-0 c.in-Some-2.value c.in-Some-2.is c.in_ok-value.ensures.met)
-    (fits_if (nat_lt c.loop-goal.reader.room (cells (spelled graph c.args.root))) (renumbered (ordinal c.value-2.new.self.numbering.variables) (spelled graph c.args.root))
+    (fits_if (nat_lt c.loop-goal.reader.room (cells (spelled graph c.args.root))) (renumbered (ordinal c.value-2.new.self.numbering.variables.keys) (spelled graph c.args.root))
     c.in-Some-2.value c.in_ok-value.field-0 c.in-Some-2.is c.in_ok-value.ensures.value)
     (if_some (c.value-2.new.self.room + cells (spelled graph c.args.root) ≡ c.loop-goal.reader.room) c.in_ok-value.field-0 c.in-Some-2.value c.in-Some-2.is
     c.in_ok-value.ensures.room)

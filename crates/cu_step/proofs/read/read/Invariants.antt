@@ -5,4 +5,4 @@ use Rattle.cu_step.proofs.read.read.Given as goal
 
 abbrev pub invariant-loop-goal : goal.invariant-loop-goal
 invariant-loop-goal g l =
-    AllRead (g.S.Store.content l.store) l.limit (take l.goal-index l.goals) l.bindings.items l.reader.room l.reader.numbering
+    AllRead (g.S.Store.content l.store) l.limit (take l.goal-index l.goals) l.bindings.items l.reader.room l.reader.numbering.variables.keys

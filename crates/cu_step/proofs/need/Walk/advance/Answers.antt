@@ -1,28 +1,14 @@
-use Rattle.std.proofs.Common.{◌≡◌, ◌<◌, ◌≤◌, ◌+◌, length, arith, ap, ◌∙◌, get_or}
-use Rattle.cu_machine.specs.Graph.{head_at, head_of, node_at}
-use Rattle.cu_step.specs.declared.need.Look.{Look}
-use Rattle.cu_step.specs.Walk.{Found, found, looked, looked_at, with_frame}
-use Rattle.cu_step.proofs.Advances.{argument, frame_next, further, look_at, frame_there, leave_answer, leave_goes, next_answer, next_goes, next_within, pushed_found, within_args}
+use Rattle.std.proofs.Common.{◌≡◌, ◌<◌, length, arith, ap, ◌∙◌}
+use Rattle.cu_step.specs.Walk.{Found, found, looked_at, with_frame}
+use Rattle.cu_step.proofs.Advances.{argument, frame_next, further, look_at, frame_there, leave_answer, leave_goes, next_answer, next_goes, pushed_found, within_args}
 use Rattle.cu_step.proofs.need.Walk.advance.Goals as goal
 
 pub looked_at_count-requires-after_bounds : goal.looked_at_count-requires-after_bounds
 looked_at_count-requires-after_bounds g c κs within =
     frame_there c.args.truth (g.S.Store.content c.args.store.now) (found c.args.self.now) c.args.frame c.requires.fits
 
-pub leave-requires-clause-store : goal.leave-requires-clause-store
-leave-requires-clause-store g c κs within = frame_there c.args.truth (g.S.Store.content c.args.store.now) (found c.args.self.now) c.args.frame c.requires.fits
-
-pub leave-requires-clause-whole : goal.leave-requires-clause-whole
-leave-requires-clause-whole g c κs within =
-    let below = frame_there c.args.truth (g.S.Store.content c.args.store.now) (found c.args.self.now) c.args.frame c.requires.fits in
-    let same = c.requires.fits.whole_length in
-    omega arith
-
-pub leave-requires-clause-inside : goal.leave-requires-clause-inside
-leave-requires-clause-inside g c κs within =
-    let below = frame_there c.args.truth (g.S.Store.content c.args.store.now) (found c.args.self.now) c.args.frame c.requires.fits in
-    let same = c.requires.fits.inside_length in
-    omega arith
+pub leave-requires-after_bounds : goal.leave-requires-after_bounds
+leave-requires-after_bounds g c κs within = frame_there c.args.truth (g.S.Store.content c.args.store.now) (found c.args.self.now) c.args.frame c.requires.fits
 
 pub returns-then-frame-looked_at_count-clause-answer : goal.returns-then-frame-looked_at_count-clause-answer
 returns-then-frame-looked_at_count-clause-answer g c =
@@ -53,20 +39,6 @@ overflow_add-frame g c =
     let differs = c.if-frame-looked_at_count.false in
     let fits = c.looked_at_count.type_inv in
     omega arith
-
-pub meet-requires : goal.meet-requires
-meet-requires g c =
-    let most = frame_next c.args.truth (g.S.Store.content c.args.store.now) (found c.args.self.now) c.args.frame c.requires.fits in
-    let count = c.looked_at_count.ensures in
-    let differs = c.if-frame-looked_at_count.false in
-    let within : c.args.frame.next < length (looked_at (g.S.Store.content c.args.store.now) c.args.frame.node) = omega arith in
-    let looks : c.look_at.result ≡ look_at c.args.truth (g.S.Store.content c.args.store.now) c.args.frame (argument (g.S.Store.content c.args.store.now) c.args.frame) =
-    c.look_at.ensures ∙ ap (look_at c.args.truth (g.S.Store.content c.args.store.now) c.args.frame) c.arg-arg.ensures in
-    let pushes : Found = record (found c.args.self.now) { frames = c.push.new.self.items } in
-    let pushed : pushes ≡ with_frame (found c.args.self.now) (further c.args.frame) =
-    pushed_found (found c.args.self.now) c.push.new.self.items (further c.args.frame) c.in_ok-push.ensures.items in
-    next_within c.args.truth (g.S.Store.content c.args.store.now) (found c.args.self.now) pushes c.args.frame c.look_at.result c.requires.arguments c.requires.acyclic
-    c.requires.fits within looks pushed
 
 pub returns-clause-answer : goal.returns-clause-answer
 returns-clause-answer g c =

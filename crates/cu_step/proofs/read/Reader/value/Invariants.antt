@@ -5,7 +5,7 @@ use Rattle.cu_step.proofs.read.Reader.value.Given as goal
 
 abbrev pub invariant-loop-id : goal.invariant-loop-id
 invariant-loop-id g l =
-    Written (g.S.Store.content l.store) l.id l.fn.self.numbering.variables l.self.room l.cells.items (reverse l.pending.items) l.fn.self.room l.self.numbering
+    Written (g.S.Store.content l.store) l.id l.fn.self.numbering.variables.keys l.self.room l.cells.items (reverse l.pending.items) l.fn.self.room l.self.numbering.variables.keys
 
 abbrev pub decreases-loop-id : goal.decreases-loop-id
 decreases-loop-id g l = l.self.room

@@ -1,16 +1,12 @@
--- What was read, and the values that the rest spells, are all the arguments.
-use Rattle.std.proofs.Common.{◌≡◌, ◌++◌, ◌≤◌, ◌-◌, drop, length}
-use Rattle.cu_calculus.specs.Value.{list_of}
-use Rattle.cu_values.specs.Cells.{read_all, IsSpelled}
+-- The arguments that were copied, and those that are left, are all.
+use Rattle.std.proofs.Common.{◌≡◌, ◌++◌}
+use Rattle.cu_calculus.specs.Value.{count, list_of}
 use Rattle.cu_values.specs.Parts.{arguments_of}
+use Rattle.cu_values.specs.Views.{all_viewed}
 use Rattle.cu_values.proofs.value.Value.arguments.Given as goal
 
-abbrev pub invariant-loop-at : goal.invariant-loop-at
-invariant-loop-at l = record {
-  within : l.at ≤ length l.cells;
-  spelled : IsSpelled (drop l.at l.cells);
-  read : l.arguments.items ++ list_of (read_all (drop l.at l.cells)) ≡ list_of (arguments_of l.self);
-}
+abbrev pub invariant-loop-argument : goal.invariant-loop-argument
+invariant-loop-argument l = l.arguments.items ++ list_of (all_viewed l.left) ≡ list_of (arguments_of l.self)
 
-abbrev pub decreases-loop-at : goal.decreases-loop-at
-decreases-loop-at l = length l.cells - l.at
+abbrev pub decreases-loop-argument : goal.decreases-loop-argument
+decreases-loop-argument l = count (all_viewed l.left)

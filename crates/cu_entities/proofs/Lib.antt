@@ -1,0 +1,5 @@
+pub mod DistinctLemmas
+pub mod KeyLemmas
+pub mod NameLemmas
+pub mod SetLemmas
+pub mod TableLemmas

@@ -1,9 +1,0 @@
-use Rattle.cu_values.specs.declared.cell.Cell.TheVariants.{Bottom}
-use Rattle.cu_values.proofs.ArgumentLemmas.{first_cell, some_cells}
-use Rattle.cu_values.proofs.value.Value.head.Goals as goal
-
-pub bounds-cells-0 : goal.bounds-cells-0
-bounds-cells-0 c = some_cells c.args.self.now c.cells.result.now c.cells.ensures
-
-pub returns : goal.returns
-returns c = first_cell c.args.self.now c.cells.result.now Bottom c.cells.ensures

@@ -1,0 +1,12 @@
+//! Tests of the front end, from the characters of a text to syntax and
+//! grouping.
+#![tactic(auto)]
+
+#[cfg(test)]
+mod layouts;
+#[cfg(test)]
+mod names;
+#[cfg(test)]
+mod tables;
+#[cfg(test)]
+mod tokens;
