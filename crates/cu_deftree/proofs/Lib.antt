@@ -1,2 +1,4 @@
 pub mod Levels
+pub mod Meets
 pub mod OneTree
+pub mod Opening
