@@ -1,3 +1,4 @@
+use Rattle.cu_deftree.proofs.Suits.{kept}
 use Rattle.cu_deftree.proofs.Opening.{known_all}
 use Rattle.cu_deftree.proofs.Meets.{others_stay, bound_agrees, all_matched_binds, matched_fits, all_shape_matched}
 use Rattle.cu_deftree.proofs.Levels.{levels_kept, operations_lowest}
