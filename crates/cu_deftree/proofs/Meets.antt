@@ -103,7 +103,7 @@ agrees_parts : (env : Environment) (one two : Bindings) → Agrees env (one ++ t
 agrees_parts env [] two h = (tt, h)
 agrees_parts env ((x, v) ∷ one) two h = let rest = agrees_parts env one two h.1 in ((h.0, rest.0), rest.1)
 
-literal_fits : (l : Lit) (v : Value) (b : Bindings) → matched (term.Exactly l) v ≡ Some b → v ≡ value.Literal l
+pub literal_fits : (l : Lit) (v : Value) (b : Bindings) → matched (term.Exactly l) v ≡ Some b → v ≡ value.Literal l
 literal_fits l value.Bottom b e = let no : ⊥ = cc in absurd no
 literal_fits l (value.Variable x) b e = let no : ⊥ = cc in absurd no
 literal_fits l (value.Constructed c vs) b e = let no : ⊥ = cc in absurd no
@@ -153,7 +153,7 @@ bound_append : (one two : Bindings) → bound_in (one ++ two) ≡ bound_in one +
 bound_append [] two = refl
 bound_append ((x, v) ∷ one) two = ap (λ xs. x ∷ xs) (bound_append one two)
 
-literal_binds : (l : Lit) (v : Value) (b : Bindings) → matched (term.Exactly l) v ≡ Some b → bound_in b ≡ []
+pub literal_binds : (l : Lit) (v : Value) (b : Bindings) → matched (term.Exactly l) v ≡ Some b → bound_in b ≡ []
 literal_binds l value.Bottom b e = let no : ⊥ = cc in absurd no
 literal_binds l (value.Variable x) b e = let no : ⊥ = cc in absurd no
 literal_binds l (value.Constructed c vs) b e = let no : ⊥ = cc in absurd no

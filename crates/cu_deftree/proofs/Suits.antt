@@ -68,7 +68,7 @@ opens_any (term.Any y) v n args e l = record {
     meet_any E (suc m) [] h = absurd (omega arith)
     meet_any E (suc m) (w ∷ vs) h = (tt, meet_any E m vs (omega arith))
 
-patterns_count : (ps : Patterns) → length (list_patterns ps) ≡ pattern_count ps
+pub patterns_count : (ps : Patterns) → length (list_patterns ps) ≡ pattern_count ps
 patterns_count term.NoPattern = refl
 patterns_count (term.MorePatterns p ps) = ap suc (patterns_count ps) ∙ sym (add-one (pattern_count ps))
 
@@ -88,13 +88,13 @@ built_count program c (term.Built d ps) n e f a =
     let count : constructor_arity program d ≡ pattern_count ps = takes_arity (constructor_of program d) (pattern_count ps) whole in
     patterns_count ps ∙ sym count ∙ ap (constructor_arity program) (sym (same_is c d e)) ∙ sym a
 
-from_list : (ps : Patterns) (us : Values) → AllMeet None (list_patterns ps) (list_of us) → AllFit None ps us
+pub from_list : (ps : Patterns) (us : Values) → AllMeet None (list_patterns ps) (list_of us) → AllFit None ps us
 from_list term.NoPattern value.NoValue h = refl
 from_list term.NoPattern (value.MoreValues u us) h = absurd h
 from_list (term.MorePatterns p ps) value.NoValue h = absurd h
 from_list (term.MorePatterns p ps) (value.MoreValues u us) h = (u, us, refl, shape_fits p u h.0, from_list ps us h.1)
 
-to_list : (env : Option Environment) (ps : Patterns) (us : Values) → AllFit env ps us → AllMeet env (list_patterns ps) (list_of us)
+pub to_list : (env : Option Environment) (ps : Patterns) (us : Values) → AllFit env ps us → AllMeet env (list_patterns ps) (list_of us)
 to_list env term.NoPattern us h = subst (λ (x : Values). AllMeet env [] (list_of x)) (sym h) tt
 to_list env (term.MorePatterns p ps) us h =
     subst (λ (x : Values). AllMeet env (p ∷ list_patterns ps) (list_of x)) (sym h.2) (fits_meets env p h.0 h.3, to_list env ps h.1 h.4)
@@ -207,7 +207,7 @@ all_put test zero mid (x ∷ xs) h e = all_append test mid xs h (and_parts (test
 all_put test (suc k) mid (x ∷ xs) h e =
     let parts = and_parts (test x) (list_all test xs) e in and_from (test x) (list_all test (put k mid xs)) parts.0 (all_put test k mid xs h parts.1)
 
-listed_fit : (program : Program) (ps : Patterns) → IsTrue (fit_patterns program ps) → IsTrue (list_all (fits_pattern program) (list_patterns ps))
+pub listed_fit : (program : Program) (ps : Patterns) → IsTrue (fit_patterns program ps) → IsTrue (list_all (fits_pattern program) (list_patterns ps))
 listed_fit program term.NoPattern h = refl
 listed_fit program (term.MorePatterns p ps) h =
     let parts = and_parts (fits_pattern program p) (fit_patterns program ps) h in

@@ -1,3 +1,5 @@
+use Rattle.cu_deftree.proofs.Sound.{concludes_back}
+use Rattle.cu_deftree.proofs.Back.{tree_back}
 use Rattle.cu_deftree.proofs.Suits.{kept}
 use Rattle.cu_deftree.proofs.Opening.{known_all}
 use Rattle.cu_deftree.proofs.Meets.{others_stay, bound_agrees, all_matched_binds, matched_fits, all_shape_matched}
