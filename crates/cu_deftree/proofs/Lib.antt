@@ -1,3 +1,4 @@
+pub mod Alternatives
 pub mod Back
 pub mod Levels
 pub mod Meets

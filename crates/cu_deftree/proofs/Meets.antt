@@ -1,6 +1,5 @@
 -- Patterns that match values, where their variables may be asked to stand for what they match, in any order.
-use Rattle.std.proofs.Common.{◌≡◌, ℕ, zero, suc, ◌+◌, Bool, true, false, not, ◌&&◌, ◌||◌, List, [], ◌∷◌, ◌++◌, if◌then◌else◌, length, map, nat_eq, Option, None, Some, option_map, slice_get, IsTrue, refl, ap, ap₂, sym, ◌∙◌, subst, arith, eq-eqb, eqb-true, true≢false}
-use Rattle.std.specs.List.{list_any}
+use Rattle.std.proofs.Common.{◌≡◌, ℕ, Bool, true, false, not, List, [], ◌∷◌, ◌++◌, if◌then◌else◌, nat_eq, Option, None, Some, option_map, IsTrue, refl, ap, ap₂, sym, ◌∙◌, subst, eq-eqb, eqb-true, true≢false}
 use Rattle.std.proofs.lemmas.Bool.{and_parts, or_parts}
 use Rattle.cu_calculus.specs.declared.ConId.{ConId}
 use Rattle.cu_calculus.specs.declared.Lit.{Lit}

@@ -1,24 +1,14 @@
 -- Rows over the arguments of what stands at a position: what they match, and what their variables are called.
-use Rattle.std.proofs.Common.{◌≡◌, ℕ, zero, suc, ◌+◌, ◌<◌, ◌≤◌, ◌⊎◌, inl, inr, Bool, true, false, not, ◌&&◌, ◌||◌, List, [], ◌∷◌, ◌++◌, if◌then◌else◌, length, map, filter, take, drop, replicate, nat_eq, Option, None, Some, slice_get, IsTrue, refl, ap, ap₂, sym, ◌∙◌, subst, arith, add-one, append_assoc, true≢false, eq-eqb, eqb-true}
-use Rattle.std.specs.List.{list_all, list_any}
-use Rattle.std.proofs.lemmas.Bool.{and_from, and_parts, or_from, or_parts}
-use Rattle.cu_calculus.specs.declared.ConId.{ConId}
-use Rattle.cu_calculus.specs.declared.Head.TheVariants as head
-use Rattle.cu_calculus.specs.declared.Lit.{Lit}
-use Rattle.cu_calculus.specs.Choose.{ALiteral, AConstructor, Demand, Nothing, arguments_of, demand_of, list_patterns, spliced, wants_constructor, wants_literal, wants_nothing}
-use Rattle.cu_calculus.specs.Literal.{same_literal}
-use Rattle.cu_calculus.specs.Match.{Environment, same_constructor}
-use Rattle.cu_calculus.specs.Program.{Constructor, Program, arity_in, constructor_of}
-use Rattle.cu_calculus.specs.Shape.{takes}
+use Rattle.std.proofs.Common.{◌≡◌, ℕ, zero, suc, ◌<◌, ◌≤◌, ◌⊎◌, inl, inr, Bool, true, false, List, [], ◌∷◌, ◌++◌, if◌then◌else◌, length, take, drop, nat_eq, Option, Some, slice_get, refl, ap, sym, ◌∙◌, subst, arith, add-one, append_assoc, true≢false, eq-eqb, eqb-true}
+use Rattle.std.proofs.lemmas.Bool.{or_from, or_parts}
+use Rattle.cu_calculus.specs.Choose.{list_patterns, spliced}
+use Rattle.cu_calculus.specs.Match.{Environment}
 use Rattle.cu_calculus.specs.Term as term
 use Rattle.cu_calculus.specs.Term.{Pattern, Patterns, Term}
-use Rattle.cu_calculus.specs.Valid.{all_variables, fit_patterns, fits_pattern, holds, pattern_count, variables_of}
-use Rattle.cu_calculus.specs.Value as value
-use Rattle.cu_calculus.specs.Value.{Value, Values, count, list_of}
-use Rattle.cu_calculus.proofs.Answering.{literal_is}
-use Rattle.cu_calculus.proofs.Comparing.{same_is}
-use Rattle.cu_deftree.specs.Rows.{Names, Row, argument_names, constructor_arity, name_of, names_at, names_at_all, specialized}
-use Rattle.cu_deftree.proofs.Meets.{AllFit, AllMeet, Fits, Meets, Stands, fits_meets, shape_fits}
+use Rattle.cu_calculus.specs.Valid.{all_variables, holds, variables_of}
+use Rattle.cu_calculus.specs.Value.{Value, Values, list_of}
+use Rattle.cu_deftree.specs.Rows.{Names, argument_names, name_of, names_at, names_at_all}
+use Rattle.cu_deftree.proofs.Meets.{AllFit, AllMeet, Fits, Meets}
 
 -- ---- in place of one element
 

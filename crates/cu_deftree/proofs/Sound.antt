@@ -1,7 +1,7 @@
 -- What the flat program concludes, the program concludes.
-use Rattle.std.proofs.Common.{◌≡◌, ◌≢◌, ℕ, zero, suc, ◌+◌, ◌<◌, ◌≤◌, ◌⊎◌, inl, inr, Bool, true, false, not, ◌&&◌, List, [], ◌∷◌, ◌++◌, length, map, nat_eq, Option, None, Some, option_map, slice_get, IsTrue, IsFalse, refl, ap, ap₂, sym, ◌∙◌, subst, arith, append-nil, eqb-true, ℤ}
+use Rattle.std.proofs.Common.{◌≡◌, ◌≢◌, ℕ, zero, suc, ◌+◌, ◌⊎◌, inl, inr, Bool, true, false, ◌&&◌, List, [], ◌∷◌, ◌++◌, length, map, nat_eq, Option, None, Some, option_map, slice_get, IsTrue, refl, ap, ap₂, sym, ◌∙◌, subst, arith, append-nil, eqb-true, ℤ}
 use Rattle.std.specs.List.{list_all}
-use Rattle.std.proofs.lemmas.Bool.{and_from, and_parts}
+use Rattle.std.proofs.lemmas.Bool.{and_parts}
 use Rattle.cu_calculus.specs.declared.ConId.{ConId}
 use Rattle.cu_calculus.specs.declared.FunId.{FunId}
 use Rattle.cu_calculus.specs.declared.Head.{Head}
@@ -21,11 +21,11 @@ use Rattle.cu_calculus.specs.Claims.{Concludes, arguments_env, variables_from}
 use Rattle.cu_calculus.specs.Gives as gives
 use Rattle.cu_calculus.specs.Gives.{AllGive, Applied, Claim, Gives, collected, listed}
 use Rattle.cu_calculus.specs.Match.{Bindings, Environment, all_matched, bind, bind_all, empty, matched}
-use Rattle.cu_calculus.specs.Program.{Body, Constructor, External, Function, Program, Rule, Rules, arity_in, constructor_of, function_of}
+use Rattle.cu_calculus.specs.Program.{Body, Constructor, External, Function, Program, Rule, Rules, arity_in, function_of}
 use Rattle.cu_calculus.specs.Shape.{are_of, is_of, takes, takes_more}
 use Rattle.cu_calculus.specs.Term as term
 use Rattle.cu_calculus.specs.Term.{Alternatives, Pattern, Patterns, Term, Terms}
-use Rattle.cu_calculus.specs.Valid.{IsValid, all_variables, fit_patterns, fits_body, fits_function, fits_pattern, fits_rule, fits_term, holds, is_arity, is_linear, pattern_count}
+use Rattle.cu_calculus.specs.Valid.{IsValid, all_variables, fit_patterns, fits_body, fits_function, fits_rule, fits_term, holds, is_arity, is_linear, pattern_count}
 use Rattle.cu_calculus.specs.Value as value
 use Rattle.cu_calculus.specs.Value.{Value, Values, and_then, count, list_of}
 use Rattle.cu_calculus.proofs.BelowLaws.{below_itself, below_trans}
@@ -37,13 +37,13 @@ use Rattle.cu_deftree.specs.Lowering.{Tree, is_variable, variables}
 use Rattle.cu_deftree.specs.LoweredProgram as lowered
 use Rattle.cu_deftree.specs.LoweredProgram.{Flattens, FunctionLowers}
 use Rattle.cu_deftree.specs.Rows.{Names, Row, name_of, names_at_all, numbers, row_of_rule}
-use Rattle.cu_deftree.proofs.Back.{FoundIn, Ready, high_not_held, numbers_count, numbers_linear, numbers_low, tree_back, variables_are, variables_at}
+use Rattle.cu_deftree.proofs.Back.{FoundIn, high_not_held, numbers_count, numbers_linear, numbers_low, tree_back, variables_are, variables_at}
 use Rattle.cu_deftree.proofs.Levels.{stands_too}
-use Rattle.cu_deftree.proofs.Meets.{AllFit, AllMeet, all_matched_binds, all_matched_fits, all_shape_matched, bound_agrees, bound_in, others_stay}
-use Rattle.cu_deftree.proofs.Opening.{AllLow, At, Known, Low, inner_all, known_all, low_names_at_all}
+use Rattle.cu_deftree.proofs.Meets.{all_matched_binds, all_matched_fits, all_shape_matched, bound_agrees, bound_in, others_stay}
+use Rattle.cu_deftree.proofs.Opening.{AllLow, At, Known, Low, known_all, low_names_at_all}
 use Rattle.cu_deftree.proofs.Shows as shows
 use Rattle.cu_deftree.proofs.Shows.{AllShow, Shows}
-use Rattle.cu_deftree.proofs.Suits.{NamesOf, RowFits, RowsFit, Suits, from_list, listed_fit, patterns_count, to_list}
+use Rattle.cu_deftree.proofs.Suits.{RowFits, RowsFit, Suits, from_list, listed_fit, patterns_count, to_list}
 
 -- ---- built-in operations know a program by its built-in entities
 
@@ -307,7 +307,7 @@ module _ (program flat : Program) (claims : List Claim) (flattens : Flattens pro
       let at = variables_at (bind_all empty bindings) xs us fit in
       let rules_fit = all_fit f function rules e b in
       rule_applies program claims f function rules xs bindings us v e b is rules_fit m at
-      (tree_back program claims xs (suc function.arity) (map (row_of_rule xs) rules) t tree (bind_all empty bindings) (list_of us) v some
+      (tree_back program claims valid.special.ordered xs (suc function.arity) (map (row_of_rule xs) rules) t tree (bind_all empty bindings) (list_of us) v some
       (record {
         at = at;
         low = subst (λ (ys : List ℕ). AllLow (suc function.arity) ys) (sym is) (numbers_low 1 (suc function.arity) function.arity (omega arith));

@@ -1,6 +1,6 @@
 -- A row suits values where its patterns have their shape and its right side has a value; it does where the row over the arguments
 -- of one of them does.
-use Rattle.std.proofs.Common.{◌≡◌, ℕ, zero, suc, ◌+◌, ◌<◌, ◌≤◌, ◌⊎◌, inl, inr, Bool, true, false, ◌&&◌, List, [], ◌∷◌, ◌++◌, cond, filter, length, map, nat_eq, replicate, Option, None, Some, option_map, slice_get, IsTrue, refl, ap, ap₂, sym, ◌∙◌, subst, arith, add-one, eq-eqb, eqb-true, le_refl}
+use Rattle.std.proofs.Common.{◌≡◌, ℕ, zero, suc, ◌+◌, ◌≤◌, inl, inr, Bool, true, false, List, [], ◌∷◌, ◌++◌, cond, filter, length, map, replicate, Option, None, Some, option_map, slice_get, IsTrue, refl, ap, sym, ◌∙◌, subst, arith, add-one, eqb-true}
 use Rattle.std.specs.List.{list_all}
 use Rattle.std.proofs.lemmas.Bool.{and_from, and_parts}
 use Rattle.cu_calculus.specs.declared.ConId.{ConId}
@@ -8,20 +8,19 @@ use Rattle.cu_calculus.specs.declared.Head.TheVariants as head
 use Rattle.cu_calculus.specs.declared.Lit.{Lit}
 use Rattle.cu_calculus.specs.Choose.{Demand, Nothing, arguments_of, demand_of, list_patterns, spliced, wants_constructor, wants_literal, wants_nothing}
 use Rattle.cu_calculus.specs.Gives.{Claim, Gives}
-use Rattle.cu_calculus.specs.Literal.{same_literal}
-use Rattle.cu_calculus.specs.Match.{Environment, same_constructor}
+use Rattle.cu_calculus.specs.Match.{Environment}
 use Rattle.cu_calculus.specs.Program.{Constructor, Program, arity_in, constructor_of}
 use Rattle.cu_calculus.specs.Shape.{takes}
 use Rattle.cu_calculus.specs.Term as term
 use Rattle.cu_calculus.specs.Term.{Pattern, Patterns, Term}
-use Rattle.cu_calculus.specs.Valid.{all_variables, fit_patterns, fits_pattern, fits_term, holds, pattern_count}
+use Rattle.cu_calculus.specs.Valid.{fit_patterns, fits_pattern, fits_term, holds, pattern_count}
 use Rattle.cu_calculus.specs.Value as value
 use Rattle.cu_calculus.specs.Value.{Value, Values, list_of}
 use Rattle.cu_calculus.proofs.Answering.{literal_is}
 use Rattle.cu_calculus.proofs.Comparing.{same_is}
 use Rattle.cu_calculus.proofs.Fitting.{any}
 use Rattle.cu_deftree.specs.Rows.{Names, Row, argument_names, constructor_arity, demand_at, name_of, specialize, specialized}
-use Rattle.cu_deftree.proofs.Meets.{AllFit, AllMeet, Fits, Meets, Stands, fits_meets, shape_fits}
+use Rattle.cu_deftree.proofs.Meets.{AllFit, AllMeet, Meets, fits_meets, shape_fits}
 use Rattle.cu_deftree.proofs.Opening.{AllLow, At, Known, Low, SameBelow, inner, inner_all, inner_put, known_all, low_argument_names, meet_at, meet_back, meet_put, put, spliced_put}
 
 -- ---- what stands at a position, and its arguments
@@ -270,9 +269,11 @@ specialize_fits program positions next more k position new test (row ∷ rows) l
     by true t rest =
         let there = there_too row.patterns positions k position h.0.many e in
         let wanted : test (demand_of there.0) ≡ true = ap test (sym (demand_is k row there.0 there.1)) ∙ t in
-        let count = many there.0 wanted (pattern_fits program row.patterns k there.0 h.0.known there.1) in
-        (subst (λ (r : Row). RowFits program (put k new positions) more r) (sym (specialized_is k new there.0 row there.1))
-        (opened_fits program positions next more k new there.0 row l low there.1 count h.0), rest)
+        let count = many there.0 wanted (pattern_fits program row.patterns k there.0 h.0.known there.1) in (
+          subst (λ (r : Row). RowFits program (put k new positions) more r) (sym (specialized_is k new there.0 row there.1))
+              (opened_fits program positions next more k new there.0 row l low there.1 count h.0),
+          rest,
+        )
 
 pub filter_fits : (program : Program) (positions : List ℕ) (next : ℕ) (test : Row → Bool) (rows : List Row) → RowsFit program positions next rows
     → RowsFit program positions next (filter test rows)
