@@ -421,8 +421,14 @@ alternative_gives program claims names position alternatives E env a v mode fits
     let linear : IsTrue (is_linear (bound_in matches.0)) = ap is_linear binds ∙ at.linear in
     let fit = matched_fits inside p w matches.0 matches.1 (bound_agrees E matches.0 linear) in
     let number : found.twin.choice ≡ found.place = at.choice ∙ none_more found.place in
-    gives.chosen E mode a at.t alternatives found.place p matches.0 w v given
-    (subst (λ (k : ℕ). Chooses program (rows_from 0 alternatives) (w ∷ []) k) number found.chosen) at.there matches.1
+    gives.chosen E mode a at.t alternatives matches.0 w v given
+    (record {
+      choice = found.place;
+      pattern = p;
+      chooses = subst (λ (k : ℕ). Chooses program (rows_from 0 alternatives) (w ∷ []) k) number found.chosen;
+      at = at.there;
+      matches = matches.1;
+    })
     (suits.gives inside (fits_meets (Some inside) p w fit, tt)
     (λ x h. alternative_names E env names position p matches.0 x same binds
     (known_at inside env position p w names x fit refl (holds_append x (inner p) [] h).0)))

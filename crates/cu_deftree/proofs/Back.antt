@@ -461,14 +461,10 @@ module _ (program : Program) (claims : List Claim) (ordered : program.special.fa
     lowers_back _ _ _ _ (lowering.part names next h ts us p) E env v same low fits (shows.part _ _ _ ws q) =
         gives.part E h ts ws (all_lower_back names next ts us p E env ws same low (fits_part program h ts fits).1 q)
     lowers_back _ _ _ _ (lowering.applied names next f a g b p q) E env v same low fits (shows.bottom _ _) = gives.bottom E (term.Apply f a)
-    lowers_back _ _ _ _ (lowering.applied names next f a g b p q) E env v same low fits (shows.extended _ _ _ h us more w n r s e l m) =
+    lowers_back _ _ _ _ (lowering.applied names next f a g b p q) E env v same low fits (shows.applied _ _ _ w u _ r s called) =
         let parts = and_parts (fits_term program any f) (fits_term program any a) fits in
-        gives.extended E f a h us more w n (lowers_back names next f g p E env (value.Partial h us) same low parts.0 r)
-        (lowers_back names next a b q E env w same low parts.1 s) e l m
-    lowers_back _ _ _ _ (lowering.applied names next f a g b p q) E env v same low fits (shows.completed _ _ _ h us all w _ r s e m called) =
-        let parts = and_parts (fits_term program any f) (fits_term program any a) fits in
-        gives.completed E f a h us all w v (lowers_back names next f g p E env (value.Partial h us) same low parts.0 r)
-        (lowers_back names next a b q E env w same low parts.1 s) e m called
+        gives.applied E f a w u v (lowers_back names next f g p E env w same low parts.0 r) (lowers_back names next a b q E env u same low parts.1 s)
+        called
     lowers_back _ _ _ _ (lowering.bound names next x a b c d p q) E env v same low fits (shows.bottom _ _) = gives.bottom E (term.Let x a b)
     lowers_back _ _ _ _ (lowering.bound names next x a b c d p q) E env v same low fits (shows.bound _ _ _ _ w _ r s) =
         let parts = fits_bound program x a b fits in

@@ -1,14 +1,14 @@
 -- Derivations of flat terms whose calls are those of the source program, and whose case distinctions on a variable look at all
 -- that it stands for.
-use Rattle.std.proofs.Common.{◌≡◌, ℕ, ◌+◌, ◌<◌, List, Some, IsTrue, IsFalse}
+use Rattle.std.proofs.Common.{◌≡◌, ℕ, List, Some, IsTrue, IsFalse}
 use Rattle.cu_calculus.specs.declared.Head.{Head}
 use Rattle.cu_calculus.specs.declared.Lit.{Lit}
 use Rattle.cu_calculus.specs.declared.Mode.{Mode}
 use Rattle.cu_calculus.specs.Below.{Below}
 use Rattle.cu_calculus.specs.Choose.{alternative_at}
-use Rattle.cu_calculus.specs.Gives.{Applied, Claim}
+use Rattle.cu_calculus.specs.Gives.{Applied, AppliedTo, Claim}
 use Rattle.cu_calculus.specs.Match.{Bindings, Environment, bind, bind_all, matched}
-use Rattle.cu_calculus.specs.Program.{Program, arity_in}
+use Rattle.cu_calculus.specs.Program.{Program}
 use Rattle.cu_calculus.specs.Shape.{is_of, is_total_data}
 use Rattle.cu_calculus.specs.Term as term
 use Rattle.cu_calculus.specs.Term.{Alternatives, Pattern, Term, Terms}
@@ -25,12 +25,8 @@ mutual
         → Applied program claims h us v → Shows program claims env (term.Whole h ts) v
     part : (env : Environment) (h : Head) (ts : Terms) (us : Values) → AllShow program claims env ts us
         → Shows program claims env (term.Part h ts) (value.Partial h us)
-    extended : (env : Environment) (f a : Term) (h : Head) (us more : Values) (u : Value) (n : ℕ) → Shows program claims env f (value.Partial h us)
-        → Shows program claims env a u → arity_in program h ≡ Some n → count us + 1 < n → more ≡ and_then us u
-        → Shows program claims env (term.Apply f a) (value.Partial h more)
-    completed : (env : Environment) (f a : Term) (h : Head) (us all : Values) (u v : Value) → Shows program claims env f (value.Partial h us)
-        → Shows program claims env a u → arity_in program h ≡ Some (count us + 1) → all ≡ and_then us u → Applied program claims h all v
-        → Shows program claims env (term.Apply f a) v
+    applied : (env : Environment) (f a : Term) (w u v : Value) → Shows program claims env f w → Shows program claims env a u
+        → AppliedTo program claims w u v → Shows program claims env (term.Apply f a) v
     bound : (env : Environment) (x : ℕ) (a b : Term) (u v : Value) → Shows program claims env a u → Shows program claims (bind env x u) b v
         → Shows program claims env (term.Let x a b) v
     free : (env : Environment) (x : ℕ) (t : Term) (u v : Value) → IsTrue (is_total_data u) → IsTrue (is_of program u)

@@ -19,15 +19,15 @@ use Rattle.cu_calculus.specs.Builtin.{Answers, on_integers, on_literals, truth_o
 use Rattle.cu_calculus.specs.Choose.{alternative_at, list_patterns}
 use Rattle.cu_calculus.specs.Claims.{Concludes, arguments_env, variables_from}
 use Rattle.cu_calculus.specs.Gives as gives
-use Rattle.cu_calculus.specs.Gives.{AllGive, Applied, Claim, Gives, collected, listed}
+use Rattle.cu_calculus.specs.Gives.{AllGive, Applied, AppliedTo, Claim, Gives, collected, listed}
 use Rattle.cu_calculus.specs.Match.{Bindings, Environment, all_matched, bind, bind_all, empty, matched}
 use Rattle.cu_calculus.specs.Program.{Body, Constructor, External, Function, Program, Rule, Rules, arity_in, function_of}
-use Rattle.cu_calculus.specs.Shape.{are_of, is_of, takes, takes_more}
+use Rattle.cu_calculus.specs.Shape.{are_of, is_allowed, is_of, takes, takes_more}
 use Rattle.cu_calculus.specs.Term as term
 use Rattle.cu_calculus.specs.Term.{Alternatives, Pattern, Patterns, Term, Terms}
 use Rattle.cu_calculus.specs.Valid.{IsValid, all_variables, fit_patterns, fits_body, fits_function, fits_rule, fits_term, holds, is_arity, is_linear, pattern_count}
 use Rattle.cu_calculus.specs.Value as value
-use Rattle.cu_calculus.specs.Value.{Value, Values, and_then, count, list_of}
+use Rattle.cu_calculus.specs.Value.{Value, Values, count, list_of}
 use Rattle.cu_calculus.proofs.BelowLaws.{below_itself, below_trans}
 use Rattle.cu_calculus.proofs.Fitting.{any, fits_any}
 use Rattle.cu_calculus.proofs.Lists.{passed_at}
@@ -96,13 +96,12 @@ variable_below flat claims env _ _ (gives.variable _ y v p) x e =
 variable_below flat claims env _ _ (gives.literal _ l) x e = let no : ⊥ = cc in absurd no
 variable_below flat claims env _ _ (gives.whole _ h ts us v p q) x e = let no : ⊥ = cc in absurd no
 variable_below flat claims env _ _ (gives.part _ h ts us p) x e = let no : ⊥ = cc in absurd no
-variable_below flat claims env _ _ (gives.extended _ f a h us more u n p q r l m) x e = let no : ⊥ = cc in absurd no
-variable_below flat claims env _ _ (gives.completed _ f a h us all u v p q r m s) x e = let no : ⊥ = cc in absurd no
+variable_below flat claims env _ _ (gives.applied _ f a w u v p q r) x e = let no : ⊥ = cc in absurd no
 variable_below flat claims env _ _ (gives.bound _ y a b u v p q) x e = let no : ⊥ = cc in absurd no
 variable_below flat claims env _ _ (gives.free _ y t u v p q r) x e = let no : ⊥ = cc in absurd no
 variable_below flat claims env _ _ (gives.left _ a b v p) x e = let no : ⊥ = cc in absurd no
 variable_below flat claims env _ _ (gives.right _ a b v p) x e = let no : ⊥ = cc in absurd no
-variable_below flat claims env _ _ (gives.chosen _ mode a t alternatives k p bindings u v d c f m q) x e = let no : ⊥ = cc in absurd no
+variable_below flat claims env _ _ (gives.chosen _ mode a t alternatives bindings u v d selects q) x e = let no : ⊥ = cc in absurd no
 
 chosen_shows : (program : Program) (claims : List Claim) (env high : Environment) (mode : Mode) (a t : Term) (alternatives : Alternatives) (k : ℕ)
     (p : Pattern) (bindings : Bindings) (u v : Value) → EnvBelow env high → is_variable a ≡ false → Shows program claims high a u
@@ -275,6 +274,11 @@ module _ (program flat : Program) (claims : List Claim) (flattens : Flattens pro
   arity_same (head.Con c) =
       ap (λ (cs : List Constructor). option_map (λ constructor. constructor.arity) (slice_get cs c.0)) flattens.constructors
 
+  allowed_same : (h : Head) → is_allowed flat h ≡ is_allowed program h
+  allowed_same (head.Fun f) = refl
+  allowed_same (head.Con c) = refl
+  allowed_same (head.Set f) = ap (λ (s : Special). elim s.values [ Some c ↦ true | None ↦ false ]) flattens.special
+
   mutual
     of_same : (u : Value) → is_of flat u ≡ is_of program u
     of_same value.Bottom = refl
@@ -282,7 +286,8 @@ module _ (program flat : Program) (claims : List Claim) (flattens : Flattens pro
     of_same (value.Literal l) = refl
     of_same (value.Constructed c us) =
         ap₂ (λ (n : Option ℕ) (b : Bool). takes n (count us) && b) (arity_same (head.Con c)) (all_of_same us)
-    of_same (value.Partial h us) = ap₂ (λ (n : Option ℕ) (b : Bool). takes_more n (count us) && b) (arity_same h) (all_of_same us)
+    of_same (value.Partial h us) =
+        ap₂ (λ (a b : Bool). a && b) (ap₂ (λ (a : Bool) (n : Option ℕ). a && takes_more n (count us)) (allowed_same h) (arity_same h)) (all_of_same us)
 
     all_of_same : (us : Values) → are_of flat us ≡ are_of program us
     all_of_same value.NoValue = refl
@@ -362,14 +367,13 @@ module _ (program flat : Program) (claims : List Claim) (flattens : Flattens pro
       by (inl e) = subst (λ (x : Value). Shows program claims high (term.Whole h ts) x) (sym e) (shows.bottom high (term.Whole h ts))
       by (inr some) = shows.whole high h ts us v ps (called some)
 
-  completed_shows : (high : Environment) (f a : Term) (h : Head) (us all : Values) (u v : Value) → Shows program claims high f (value.Partial h us)
-      → Shows program claims high a u → arity_in program h ≡ Some (count us + 1) → all ≡ and_then us u
-      → (v ≢ value.Bottom → Applied program claims h all v) → Shows program claims high (term.Apply f a) v
-  completed_shows high f a h us all u v p q e m called = by (bottom_or v)
+  applied_shows : (high : Environment) (f a : Term) (w u v : Value) → Shows program claims high f w → Shows program claims high a u
+      → (v ≢ value.Bottom → AppliedTo program claims w u v) → Shows program claims high (term.Apply f a) v
+  applied_shows high f a w u v p q called = by (bottom_or v)
     where
       by : (v ≡ value.Bottom) ⊎ (v ≢ value.Bottom) → Shows program claims high (term.Apply f a) v
       by (inl same) = subst (λ (x : Value). Shows program claims high (term.Apply f a) x) (sym same) (shows.bottom high (term.Apply f a))
-      by (inr some) = shows.completed high f a h us all u v p q e m (called some)
+      by (inr some) = shows.applied high f a w u v p q (called some)
 
   mutual
     to_shows : (env : Environment) (t : Term) (v : Value) → Gives flat claims env t v → (high : Environment) → EnvBelow env high
@@ -380,21 +384,17 @@ module _ (program flat : Program) (claims : List Claim) (flattens : Flattens pro
     to_shows env _ _ (gives.whole _ k ts us v ps app) high h =
         whole_shows high k ts us v (all_to_shows env ts us ps high h) (to_applied k us v app)
     to_shows env _ _ (gives.part _ k ts us ps) high h = shows.part high k ts us (all_to_shows env ts us ps high h)
-    to_shows env _ _ (gives.extended _ f a k us more u n p q e l m) high h =
-        shows.extended high f a k us more u n (to_shows env f (value.Partial k us) p high h) (to_shows env a u q high h)
-        (sym (arity_same k) ∙ e) l m
-    to_shows env _ _ (gives.completed _ f a k us all u v p q e m app) high h =
-        completed_shows high f a k us all u v (to_shows env f (value.Partial k us) p high h) (to_shows env a u q high h)
-        (sym (arity_same k) ∙ e) m (to_applied k all v app)
+    to_shows env _ _ (gives.applied _ f a w u v p q app) high h =
+        applied_shows high f a w u v (to_shows env f w p high h) (to_shows env a u q high h) (to_applied_to w u v app)
     to_shows env _ _ (gives.bound _ x a b u v p q) high h =
         shows.bound high x a b u v (to_shows env a u p high h) (to_shows (bind env x u) b v q (bind high x u) (bind_below env high x u h))
     to_shows env _ _ (gives.free _ x t u v total known p) high h =
         shows.free high x t u v total (sym (of_same u) ∙ known) (to_shows (bind env x u) t v p (bind high x u) (bind_below env high x u h))
     to_shows env _ _ (gives.left _ a b v p) high h = shows.left high a b v (to_shows env a v p high h)
     to_shows env _ _ (gives.right _ a b v p) high h = shows.right high a b v (to_shows env b v p high h)
-    to_shows env _ _ (gives.chosen _ mode a t alternatives k p bindings u v d c e m q) high h =
-        case_shows program claims env high mode a t alternatives k p bindings u v h (variable_below flat claims env a u d) (to_shows env a u d high h) e m
-        (λ more i. to_shows (bind_all env bindings) t v q more i)
+    to_shows env _ _ (gives.chosen _ mode a t alternatives bindings u v d selects q) high h =
+        case_shows program claims env high mode a t alternatives selects.choice selects.pattern bindings u v h (variable_below flat claims env a u d)
+        (to_shows env a u d high h) selects.at selects.matches (λ more i. to_shows (bind_all env bindings) t v q more i)
 
     all_to_shows : (env : Environment) (ts : Terms) (vs : Values) → AllGive flat claims env ts vs → (high : Environment) → EnvBelow env high
         → AllShow program claims high ts vs
@@ -411,6 +411,12 @@ module _ (program flat : Program) (claims : List Claim) (flattens : Flattens pro
     to_applied _ us _ (gives.collect f claim k c _ v ground e f' a s p) some =
         gives.collect f claim k c us v ground e f' a (ap (λ (x : Special). x.values) (sym flattens.special) ∙ s)
         (subst (λ (w : Value). Below v w) (collected_same flat program flattens.special c claim.values) p)
+
+    to_applied_to : (w u v : Value) → AppliedTo flat claims w u v → v ≢ value.Bottom → AppliedTo program claims w u v
+    to_applied_to _ u _ (gives.extended h us more _ m l) some =
+        gives.extended h us more u m (ap (λ (n : Option ℕ). takes_more n (count more)) (sym (arity_same h)) ∙ l)
+    to_applied_to _ u _ (gives.completed h us all _ v m l app) some =
+        gives.completed h us all u v m (ap (λ (n : Option ℕ). takes n (count all)) (sym (arity_same h)) ∙ l) (to_applied h all v app some)
 
   variables_give : (env : Environment) (x n : ℕ) (us : Values) → AllGive flat claims env (variables_from x n) us
       → AllGive program claims env (variables_from x n) us
