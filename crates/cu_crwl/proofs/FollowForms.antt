@@ -1,10 +1,10 @@
 -- The rows of the table over what the checker found.
-use Rattle.std.proofs.Common.{◌≡◌, ◌≢◌, ℕ, zero, suc, ◌<◌, ◌≤◌, Bool, false, ◌&&◌, List, [], ◌∷◌, ◌++◌, Option, None, Some, if◌then◌else◌, nat_eq, length, get_or, arith, refl, ap, ap₂, sym, ◌∙◌, eq-eqb, ne_eqb, le-ltb, lt-ltb}
+use Rattle.std.proofs.Common.{◌≡◌, ℕ, zero, suc, ◌<◌, ◌≤◌, false, List, [], ◌∷◌, ◌++◌, Option, None, Some, length, get_or, arith, refl, ap, ap₂, sym, ◌∙◌}
 use Rattle.cu_calculus.specs.declared.Head.{Head}
 use Rattle.cu_calculus.specs.Choose.{alternative_at}
 use Rattle.cu_calculus.specs.Gives.{Claim}
 use Rattle.cu_calculus.specs.Match.{Bindings, matched}
-use Rattle.cu_calculus.specs.Program.{Program, arity_in}
+use Rattle.cu_calculus.specs.Program.{Program}
 use Rattle.cu_calculus.specs.Proof.{Statement}
 use Rattle.cu_calculus.specs.Valid.{term_count}
 use Rattle.cu_calculus.specs.Value as value
@@ -15,43 +15,12 @@ use Rattle.cu_kernel.specs.declared.term.Term.{Term}
 use Rattle.cu_values.specs.Parts.{arguments_of, head_of}
 use Rattle.cu_values.specs.declared.cell.Cell.TheVariants as cell
 use Rattle.cu_crwl.specs.Environments.{says}
-use Rattle.cu_crwl.specs.Table.{alternative_gives, application_gives, applied_to, applies, is_part, none_cited}
+use Rattle.cu_crwl.specs.Table.{alternative_gives, application_gives, applied_to}
 use Rattle.cu_crwl.proofs.MatchLoops.{values_back}
 
 pub count_is : (vs : List Value) → count (values_of vs) ≡ length vs
 count_is [] = refl
 count_is (v ∷ vs) = omega (arith, count_is vs)
-
-pub applied_less : (program : Program) (claims : List Claim) (h : Head) (vs : List Value) (n : ℕ) (arity : Option ℕ) (last : List Statement) (v : Value) (b : Bool)
-    → Some n ≡ arity → length vs < n → none_cited last ≡ b
-    → applied_to program claims h (values_of vs) arity last v ≡ (b && is_part h (values_of vs) v)
-applied_less program claims h vs n arity last v b is less cited =
-    ap (λ (a : Option ℕ). applied_to program claims h (values_of vs) a last v) (sym is)
-    ∙ ap (λ (t : Bool). if t then none_cited last && is_part h (values_of vs) v else nat_eq (count (values_of vs)) n && applies program claims h (values_of vs) last v)
-    (lt-ltb (count (values_of vs)) n (omega (arith, count_is vs, less)))
-    ∙ ap (λ (t : Bool). t && is_part h (values_of vs) v) cited
-
-applied_past : (program : Program) (claims : List Claim) (h : Head) (vs : List Value) (n : ℕ) (arity : Option ℕ) (last : List Statement) (v : Value)
-    → Some n ≡ arity → n ≤ length vs
-    → applied_to program claims h (values_of vs) arity last v ≡ (nat_eq (count (values_of vs)) n && applies program claims h (values_of vs) last v)
-applied_past program claims h vs n arity last v is past =
-    ap (λ (a : Option ℕ). applied_to program claims h (values_of vs) a last v) (sym is)
-    ∙ ap (λ (t : Bool). if t then none_cited last && is_part h (values_of vs) v else nat_eq (count (values_of vs)) n && applies program claims h (values_of vs) last v)
-    (le-ltb (count (values_of vs)) n (omega (arith, count_is vs, past)))
-
-pub applied_full : (program : Program) (claims : List Claim) (h : Head) (vs : List Value) (n : ℕ) (arity : Option ℕ) (last : List Statement) (v : Value)
-    → Some n ≡ arity → length vs ≡ n
-    → applied_to program claims h (values_of vs) arity last v ≡ applies program claims h (values_of vs) last v
-applied_full program claims h vs n arity last v is same =
-    applied_past program claims h vs n arity last v is (omega arith)
-    ∙ ap (λ (t : Bool). t && applies program claims h (values_of vs) last v) (eq-eqb (count (values_of vs)) n (omega (arith, count_is vs, same)))
-
-pub applied_more : (program : Program) (claims : List Claim) (h : Head) (vs : List Value) (n : ℕ) (arity : Option ℕ) (last : List Statement) (v : Value)
-    → Some n ≡ arity → n ≤ length vs → length vs ≢ n → applied_to program claims h (values_of vs) arity last v ≡ false
-applied_more program claims h vs n arity last v is past differ =
-    applied_past program claims h vs n arity last v is past
-    ∙ ap (λ (t : Bool). t && applies program claims h (values_of vs) last v)
-    (ne_eqb (count (values_of vs)) n (λ e. differ (omega (arith, count_is vs, e))))
 
 pub one_more : (vs : List Value) (u : Value) → values_of (vs ++ u ∷ []) ≡ and_then (values_of vs) u
 one_more [] u = refl
@@ -59,12 +28,12 @@ one_more (v ∷ vs) u = ap (value.MoreValues v) (one_more vs u)
 
 pub application_form : (program : Program) (claims : List Claim) (f u v : Value) (h : Head) (n : ℕ) (args new : List Value) (last : List Statement)
     → cell.Part h n ≡ head_of f → args ≡ list_of (arguments_of f) → new ≡ args ++ u ∷ []
-    → application_gives program claims f u last v ≡ applied_to program claims h (values_of new) (arity_in program h) last v
+    → application_gives program claims f u last v ≡ applied_to program claims h (values_of new) last v
 application_form program claims (value.Partial k us) u v h n args new last head arguments added =
     let same : k ≡ h = cc in
     let values : values_of new ≡ and_then us u =
     ap values_of added ∙ one_more args u ∙ ap (λ (xs : Values). and_then xs u) (ap values_of arguments ∙ values_back us) in
-    ap₂ (λ (x : Head) (ys : Values). applied_to program claims x ys (arity_in program x) last v) same (sym values)
+    ap₂ (λ (x : Head) (ys : Values). applied_to program claims x ys last v) same (sym values)
 application_form program claims value.Bottom u v h n args new last head arguments added = let never : ⊥ = cc in absurd never
 application_form program claims (value.Variable x) u v h n args new last head arguments added = let never : ⊥ = cc in absurd never
 application_form program claims (value.Literal l) u v h n args new last head arguments added = let never : ⊥ = cc in absurd never

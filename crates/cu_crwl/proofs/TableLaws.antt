@@ -1,5 +1,5 @@
 -- The test of the table decides the table.
-use Rattle.std.proofs.Common.{◌≡◌, ℕ, zero, suc, Bool, true, false, ◌&&◌, ◌||◌, List, [], ◌∷◌, ◌++◌, Option, None, Some, nat_eq, nat_lt, slice_get, take, drop, if◌then◌else◌, length, refl, ap, ap₂, sym, subst, ◌∙◌, ◌⊎◌, inl, inr, arith, eq-eqb, eqb-true, le-ltb}
+use Rattle.std.proofs.Common.{◌≡◌, ℕ, zero, suc, Bool, true, false, ◌&&◌, ◌||◌, List, [], ◌∷◌, ◌++◌, Option, None, Some, nat_eq, slice_get, take, drop, if◌then◌else◌, length, refl, ap, ap₂, sym, subst, ◌∙◌, ◌⊎◌, inl, inr, arith, eq-eqb, eqb-true, le-ltb}
 use Rattle.std.specs.List.{list_any}
 use Rattle.std.proofs.Math.Seq.{drop-append_seam, take-append_seam}
 use Rattle.std.proofs.lemmas.List.{take-append-drop}
@@ -228,32 +228,28 @@ module _ (program : Program) (claims : List Claim) where
       proof.whole cited parts last (bind_all empty env) h ts (values_said parts) v is (all_about_say parts env ts both.0)
       (applies_from h (values_said parts) last v both.1)
 
-  extension_from : (h : Head) (us : Values) (u : Value) (last : List Statement) (v : Value) (arity : Option ℕ) → arity_in program h ≡ arity
-      → applied_to program claims h (and_then us u) arity last v ≡ true → AppliesTo program claims (value.Partial h us) u last v
-  extension_from h us u last v None is e = let never : ⊥ = cc in absurd never
-  extension_from h us u last v (Some n) is e = by (nat_lt (count (and_then us u)) n) refl e
+  extension_from : (h : Head) (us : Values) (u : Value) (last : List Statement) (v : Value)
+      → applied_to program claims h (and_then us u) last v ≡ true → AppliesTo program claims (value.Partial h us) u last v
+  extension_from h us u last v e = by (takes_more (arity_in program h) (count more)) refl e
     where
-      by : (b : Bool) → nat_lt (count (and_then us u)) n ≡ b
-          → (if b then none_cited last && is_part h (and_then us u) v
-          else nat_eq (count (and_then us u)) n && applies program claims h (and_then us u) last v) ≡ true
+      more : Values
+      more = and_then us u
+
+      by : (b : Bool) → takes_more (arity_in program h) (count more) ≡ b
+          → (if b then none_cited last && is_part h more v else takes (arity_in program h) (count more) && applies program claims h more last v) ≡ true
           → AppliesTo program claims (value.Partial h us) u last v
-      by true less g =
-          let parts = and_parts (none_cited last) (is_part h (and_then us u) v) g in
-          let lacks : takes_more (arity_in program h) (count (and_then us u)) ≡ true =
-          ap (λ (found : Option ℕ). takes_more found (count (and_then us u))) is ∙ less in
+      by true lacks g =
+          let parts = and_parts (none_cited last) (is_part h more v) g in
           subst (λ (ss : List Statement). AppliesTo program claims (value.Partial h us) u ss v) (sym (none_is last parts.0))
-          (subst (λ (x : Value). AppliesTo program claims (value.Partial h us) u [] x) (sym (part_is h (and_then us u) v parts.1))
-          (proof.extended h us (and_then us u) u refl lacks))
-      by false less g =
-          let parts = and_parts (nat_eq (count (and_then us u)) n) (applies program claims h (and_then us u) last v) g in
-          let whole : takes (arity_in program h) (count (and_then us u)) ≡ true =
-          ap (λ (found : Option ℕ). takes found (count (and_then us u))) is
-          ∙ eq-eqb n (count (and_then us u)) (sym (eqb-true (count (and_then us u)) n parts.0)) in
-          proof.completed h us (and_then us u) u last v refl whole (applies_from h (and_then us u) last v parts.1)
+          (subst (λ (x : Value). AppliesTo program claims (value.Partial h us) u [] x) (sym (part_is h more v parts.1))
+          (proof.extended h us more u refl lacks))
+      by false full g =
+          let parts = and_parts (takes (arity_in program h) (count more)) (applies program claims h more last v) g in
+          proof.completed h us more u last v refl parts.0 (applies_from h more last v parts.1)
 
   application_from : (w u : Value) (last : List Statement) (v : Value) → application_gives program claims w u last v ≡ true
       → AppliesTo program claims w u last v
-  application_from (value.Partial h us) u last v e = extension_from h us u last v (arity_in program h) refl e
+  application_from (value.Partial h us) u last v e = extension_from h us u last v e
   application_from _ u last v e = let never : ⊥ = cc in absurd never
 
   apply_from : (cited : List Statement) (env : Bindings) (f a : Term) (v : Value) (found : Option (Statement × Statement × List Statement))
@@ -401,30 +397,30 @@ module _ (program : Program) (claims : List Claim) where
       and_from (all_about cited env ts) (is_part h (values_said cited) (value.Partial h us)) about.0
       (ap (λ (xs : Values). is_part h xs (value.Partial h us)) about.1 ∙ is_part_from h us)
 
-  less_to : (w : Values) (h : Head) (arity : Option ℕ) → takes_more arity (count w) ≡ true
-      → applied_to program claims h w arity [] (value.Partial h w) ≡ true
-  less_to w h None less = let never : ⊥ = cc in absurd never
-  less_to w h (Some n) less =
-      ap (λ (b : Bool). if b then is_part h w (value.Partial h w) else nat_eq (count w) n && applies program claims h w [] (value.Partial h w)) less
+  less_to : (w : Values) (h : Head) → takes_more (arity_in program h) (count w) ≡ true
+      → applied_to program claims h w [] (value.Partial h w) ≡ true
+  less_to w h lacks =
+      ap (λ (b : Bool). if b then is_part h w (value.Partial h w)
+      else takes (arity_in program h) (count w) && applies program claims h w [] (value.Partial h w)) lacks
       ∙ is_part_from h w
 
-  full_to : (w : Values) (h : Head) (last : List Statement) (v : Value) (arity : Option ℕ) → takes arity (count w) ≡ true
-      → applies program claims h w last v ≡ true → applied_to program claims h w arity last v ≡ true
-  full_to w h last v None whole e = let never : ⊥ = cc in absurd never
-  full_to w h last v (Some n) whole e =
-      let size : n ≡ count w = eqb-true n (count w) whole in
-      let past : nat_lt (count w) n ≡ false = le-ltb (count w) n (omega arith) in
-      ap (λ (b : Bool). if b then none_cited last && is_part h w v else nat_eq (count w) n && applies program claims h w last v) past
-      ∙ and_from (nat_eq (count w) n) (applies program claims h w last v) (eq-eqb (count w) n (sym size)) e
+  not_both : (arity : Option ℕ) (n : ℕ) → takes arity n ≡ true → takes_more arity n ≡ false
+  not_both None n whole = refl
+  not_both (Some k) n whole = let size : k ≡ n = eqb-true k n whole in le-ltb n k (omega arith)
+
+  full_to : (w : Values) (h : Head) (last : List Statement) (v : Value) → takes (arity_in program h) (count w) ≡ true
+      → applies program claims h w last v ≡ true → applied_to program claims h w last v ≡ true
+  full_to w h last v whole e =
+      ap (λ (b : Bool). if b then none_cited last && is_part h w v else takes (arity_in program h) (count w) && applies program claims h w last v)
+      (not_both (arity_in program h) (count w) whole)
+      ∙ and_from (takes (arity_in program h) (count w)) (applies program claims h w last v) whole e
 
   application_to : (w u : Value) (last : List Statement) (v : Value) → AppliesTo program claims w u last v
       → application_gives program claims w u last v ≡ true
   application_to _ _ _ _ (proof.extended h us more u added lacks) =
-      subst (λ (x : Values). applied_to program claims h x (arity_in program h) [] (value.Partial h more) ≡ true) added
-      (less_to more h (arity_in program h) lacks)
+      subst (λ (x : Values). applied_to program claims h x [] (value.Partial h more) ≡ true) added (less_to more h lacks)
   application_to _ _ _ _ (proof.completed h us all u last v added whole applied) =
-      subst (λ (x : Values). applied_to program claims h x (arity_in program h) last v ≡ true) added
-      (full_to all h last v (arity_in program h) whole (applies_to h all last v applied))
+      subst (λ (x : Values). applied_to program claims h x last v ≡ true) added (full_to all h last v whole (applies_to h all last v applied))
 
   apply_to : (s r : Statement) (last : List Statement) (env : Bindings) (f a : Term) (w u v : Value) → Says s (bind_all empty env) f w
       → Says r (bind_all empty env) a u → AppliesTo program claims w u last v → apply_follows program claims (Some (s, r, last)) env f a v ≡ true

@@ -1,6 +1,6 @@
 -- The table of the calculus as a test of a statement against the statements that it cites. That it decides the table is the
 -- crate's law.
-use Rattle.std.specs.Prelude.{ℕ, Bool, true, false, ◌&&◌, ◌||◌, List, [], ◌∷◌, Option, None, Some, if◌then◌else◌, nat_eq, nat_lt, take, drop}
+use Rattle.std.specs.Prelude.{ℕ, Bool, true, false, ◌&&◌, ◌||◌, List, [], ◌∷◌, Option, None, Some, if◌then◌else◌, nat_eq, take, drop}
 use Rattle.std.specs.List.{list_any}
 use Rattle.cu_calculus.specs.declared.ConId.{ConId}
 use Rattle.cu_calculus.specs.declared.FunId.{FunId}
@@ -15,7 +15,7 @@ use Rattle.cu_calculus.specs.Literal.{same_literal}
 use Rattle.cu_calculus.specs.Match.{Bindings, all_matched, bind_all, empty, matched, same_constructor}
 use Rattle.cu_calculus.specs.Program.{Body, External, Program, Rule, Rules, arity_in, function_of}
 use Rattle.cu_calculus.specs.Proof.{Statement}
-use Rattle.cu_calculus.specs.Shape.{are_ground, is_of, is_total_data}
+use Rattle.cu_calculus.specs.Shape.{are_ground, is_of, is_total_data, takes, takes_more}
 use Rattle.cu_calculus.specs.Term as term
 use Rattle.cu_calculus.specs.Term.{Alternatives, Pattern, Term, Terms}
 use Rattle.cu_calculus.specs.Valid.{term_count}
@@ -93,14 +93,14 @@ applies program claims (head.Fun f) us last v =
 applies program claims (head.Set f) us last v =
     (none_cited last && are_ground us) && claims_give program program.special.values claims f us v
 
--- a partial application of values that were there, and one more
-abbrev pub applied_to : Program → List Claim → Head → Values → Option ℕ → List Statement → Value → Bool
-applied_to program claims h us None last v = false
-applied_to program claims h us (Some n) last v =
-    if nat_lt (count us) n then none_cited last && is_part h us v else nat_eq (count us) n && applies program claims h us last v
+-- a head on the values of a partial application and one more: it lacks further ones, or has as many as it takes
+abbrev pub applied_to : Program → List Claim → Head → Values → List Statement → Value → Bool
+applied_to program claims h us last v =
+    if takes_more (arity_in program h) (count us) then none_cited last && is_part h us v
+    else takes (arity_in program h) (count us) && applies program claims h us last v
 
 abbrev pub application_gives : Program → List Claim → Value → Value → List Statement → Value → Bool
-application_gives program claims (value.Partial h us) u last v = applied_to program claims h (and_then us u) (arity_in program h) last v
+application_gives program claims (value.Partial h us) u last v = applied_to program claims h (and_then us u) last v
 application_gives program claims _ u last v = false
 
 abbrev pub apply_follows : Program → List Claim → Option (Statement × Statement × List Statement) → Bindings → Term → Term → Value → Bool

@@ -3,7 +3,6 @@ ghost use Rattle.std.specs.Prelude.{◌≡◌, ◌+◌, ◌++◌, ◌∷◌, [],
 ghost use Rattle.cu_calculus.specs.Chosen as calculus;
 ghost use Rattle.cu_calculus.specs.Choose.{rows_from};
 ghost use Rattle.cu_calculus.specs.Match.{bind_all, empty};
-ghost use Rattle.cu_calculus.specs.Program.{arity_in};
 ghost use Rattle.cu_calculus.specs.Value as value;
 ghost use Rattle.cu_calculus.specs.Value.{values_of};
 ghost use Rattle.cu_values.specs.Approximation.{is_below};
@@ -77,6 +76,7 @@ pub(crate) fn part_follows(
 }
 
 /// A partial application on one value more.
+#[tactic(auto, using(crate::proofs::FollowForms::count_is))]
 fn applied_to(
     alloc: Global,
     heads: &Heads,
@@ -87,24 +87,18 @@ fn applied_to(
     value: &Value,
 ) -> Result<bool, AllocError>
     ensures { IfOk result (λ yes. yes
-        ≡ applied_to (heads_program heads.now) (map claim_of claims.now) head (values_of values.now) (arity_in (heads_program heads.now) head)
-        (statements_at last.now) value.now) }
+        ≡ applied_to (heads_program heads.now) (map claim_of claims.now) head (values_of values.now) (statements_at last.now) value.now) }
 {
-    match heads.arity(head) {
-        Some(arity) => {
-            if values.len() < arity {
-                if none(last) {
-                    is_applied(head, values, value)
-                } else {
-                    Ok(false)
-                }
-            } else if values.len() == arity {
-                applies(alloc, heads, claims, head, values, last, value)
-            } else {
-                Ok(false)
-            }
+    if heads.takes_more(head, values.len()) {
+        if none(last) {
+            is_applied(head, values, value)
+        } else {
+            Ok(false)
         }
-        None => Ok(false),
+    } else if heads.takes(head, values.len()) {
+        applies(alloc, heads, claims, head, values, last, value)
+    } else {
+        Ok(false)
     }
 }
 

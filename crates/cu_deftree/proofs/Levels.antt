@@ -196,7 +196,7 @@ function_allowed program levels level function _ h (lowered.by_tree rules xs t l
     (allowed_append levels level (mentions t) [] (tree_allowed program levels level h xs (suc function.arity) (map (row_of_rule xs) rules) t p rows) tt)
 
 -- what stands at a place of a list of the same length
-stands_too : (xs ys : List Function) (k : ℕ) (x : Function) → length xs ≡ length ys → slice_get xs k ≡ Some x
+pub stands_too : (xs ys : List Function) (k : ℕ) (x : Function) → length xs ≡ length ys → slice_get xs k ≡ Some x
     → (y : Function) × (slice_get ys k ≡ Some y)
 stands_too [] ys k x e h = let no : ⊥ = cc in absurd no
 stands_too (z ∷ xs) [] k x e h = absurd (omega arith)

@@ -1,7 +1,11 @@
 //! Laws of the definitions.
-ghost use Rattle.std.specs.Prelude.{◌≡◌, ℕ, List};
-ghost use Rattle.cu_calculus.specs.Claims.{AreLeastLevels, AreLevels};
+ghost use Rattle.std.specs.Prelude.{◌≡◌, ◌≢◌, ℕ, List};
+ghost use Rattle.cu_calculus.specs.declared.FunId.{FunId};
+ghost use Rattle.cu_calculus.specs.Claims.{AreLeastLevels, AreLevels, Concludes};
+ghost use Rattle.cu_calculus.specs.Gives.{Claim};
 ghost use Rattle.cu_calculus.specs.Program.{Program};
+ghost use Rattle.cu_calculus.specs.Valid.{IsValid};
+ghost use Rattle.cu_calculus.specs.Value.{Bottom, Value, Values};
 ghost use Rattle.cu_deftree.specs.LoweredProgram.{Flattens};
 
 /// A program has at most one flat program.
@@ -13,4 +17,13 @@ pub fn lowering_is_a_function()
 pub fn least_levels_stay_levels()
     ensures { (program flat : Program) (levels : List ℕ) → Flattens program flat → AreLeastLevels program levels
         → AreLevels flat levels }
+{}
+
+/// Lowering adds nothing: what a function of the flat program of a valid
+/// program concludes over claims, the program concludes over them too. (A
+/// call of the flat program may have Bottom, the value that says nothing,
+/// where no rule of the program matches.)
+pub fn lowering_is_sound()
+    ensures { (program flat : Program) (claims : List Claim) (f : FunId) (vs : Values) (v : Value) → IsValid program
+        → Flattens program flat → v ≢ Bottom → Concludes flat claims f vs v → Concludes program claims f vs v }
 {}

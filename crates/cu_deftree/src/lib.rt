@@ -4,4 +4,4 @@
 
 mod laws;
 
-pub use laws::{least_levels_stay_levels, lowering_is_a_function};
+pub use laws::{least_levels_stay_levels, lowering_is_a_function, lowering_is_sound};

@@ -5,6 +5,8 @@ pub mod FillLemmas
 pub mod FoundedRows
 pub mod OneTree
 pub mod OverLemmas
+pub mod PlaceLemmas
+pub mod TableLemmas
 pub mod ReadLemmas
 pub mod RowLemmas
 pub mod Takes

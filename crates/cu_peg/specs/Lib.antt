@@ -8,6 +8,7 @@ pub mod Law
 pub mod Matches
 pub mod Order
 pub mod Parse
+pub mod Places
 pub mod Result
 pub mod Spelling
 pub mod WellFormed

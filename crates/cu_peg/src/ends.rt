@@ -22,7 +22,7 @@ pub fn row_end(
 ) -> Option<End>
     requires { left ≤ length tokens.now }
     ensures { (names : List (List ℕ)) → result
-        ≡ row_end (λ c. has_at (map (lexeme_of names) tokens.now) c (length tokens.now - left)) (end_at table.now) row.now number left }
+        ≡ row_end (λ c. has_at (map (lexeme_of names) tokens.now) c (length tokens.now - left)) (end_at table.now.columns) row.now number left }
 {
     match row {
         Row::Token(class) => {
@@ -89,7 +89,7 @@ fn joined(end: End, others: Option<End>) -> End
 
 /// The end of a row behind a separator.
 fn behind(separator: u32, number: usize, table: &Table, left: usize) -> Option<End>
-    ensures { result ≡ option_and_then (λ between. end_at table.now number between.left) (end_at table.now separator left) }
+    ensures { result ≡ option_and_then (λ between. end_at table.now.columns number between.left) (end_at table.now.columns separator left) }
 {
     let between = table.end(separator as usize, left)?;
     table.end(number, between.left)
@@ -97,7 +97,7 @@ fn behind(separator: u32, number: usize, table: &Table, left: usize) -> Option<E
 
 /// The end of parts one after another.
 fn sequence_end(parts: &[u32], table: &Table, left: usize) -> Option<End>
-    ensures { result ≡ sequence_end (end_at table.now) parts.now (alone left) }
+    ensures { result ≡ sequence_end (end_at table.now.columns) parts.now (alone left) }
 {
     let mut end = alone(left);
     for part in parts {
@@ -109,7 +109,7 @@ fn sequence_end(parts: &[u32], table: &Table, left: usize) -> Option<End>
 
 /// The end of the first part that matches.
 fn choice_end(parts: &[u32], table: &Table, left: usize) -> Option<End>
-    ensures { result ≡ choice_end (end_at table.now) parts.now left }
+    ensures { result ≡ choice_end (end_at table.now.columns) parts.now left }
 {
     for part in parts {
         if let Some(end) = table.end(*part as usize, left) {
@@ -128,16 +128,18 @@ pub fn add_place(
     table: &mut Table,
 ) -> Result<(), AllocError>
     requires rows { IsGrammar rows.now order.now }
-    requires place { length table.old ≤ length tokens.now }
-    requires right { (names : List (List ℕ)) → IsRight rows.now (has_at (map (lexeme_of names) tokens.now)) (length tokens.now) table.old }
-    ensures long { OnOk result (length table.new ≡ length table.old + 1) }
-    ensures right { (names : List (List ℕ)) → OnOk result (IsRight rows.now (has_at (map (lexeme_of names) tokens.now)) (length tokens.now) table.new) }
+    requires wide { table.old.width ≡ length rows.now }
+    requires place { length table.old.columns ≤ length tokens.now }
+    requires right { (names : List (List ℕ)) → IsRight rows.now (has_at (map (lexeme_of names) tokens.now)) (length tokens.now) table.old.columns }
+    ensures wide { OnOk result (table.new.width ≡ length rows.now) }
+    ensures long { OnOk result (length table.new.columns ≡ length table.old.columns + 1) }
+    ensures right { (names : List (List ℕ)) → OnOk result (IsRight rows.now (has_at (map (lexeme_of names) tokens.now)) (length tokens.now) table.new.columns) }
 {
     let left = table.len();
-    table.add_column(alloc, rows.len())?;
+    table.add_column(alloc)?;
     for row in order {
         let end = row_end(&rows[*row], *row, table, tokens, left);
-        table.set(*row, left, end);
+        table.set(*row, end);
     }
     Ok(())
 }

@@ -94,17 +94,29 @@ impl Grammar {
 
     /// The ends of all rows at all places of a list of tokens.
     pub(crate) fn ends(&self, alloc: Global, tokens: &[Token]) -> Result<Table, AllocError>
-        ensures long { IfOk result (λ table. length table ≡ length tokens.now + 1) }
-        ensures right { (names : List (List ℕ)) → IfOk result (IsRight self.now (has_at (map (lexeme_of names) tokens.now)) (length tokens.now)) }
+        ensures long { IfOk result (λ table. length table.columns ≡ length tokens.now + 1) }
+        ensures right { (names : List (List ℕ)) → IfOk result (λ table. IsRight self.now (has_at (map (lexeme_of names) tokens.now)) (length tokens.now) table.columns) }
     {
         let rows = self.rows.as_slice();
         let order = self.order.as_slice();
-        let mut table = Table::new(alloc);
+        let certain = certain_rows(alloc, rows)?;
+        let mut table = Table::new(alloc, certain);
         'places: while table.len() <= tokens.len() {
             add_place(alloc, rows, order, tokens, &mut table)?;
         }
         Ok(table)
     }
+}
+
+/// Which rows match everywhere, taking nothing where their parts don't match.
+fn certain_rows(alloc: Global, rows: &[Row]) -> Result<Vec<bool>, AllocError>
+    ensures { IfOk result (λ certain. length certain.items ≡ length rows.now) }
+{
+    let mut certain = Vec::new(alloc);
+    for row in rows {
+        certain.push(matches!(row, Row::Optional(_) | Row::Many(_)))?;
+    }
+    Ok(certain)
 }
 
 /// Whether each number that a row names is a row's.

@@ -10,6 +10,7 @@ mod grammar;
 mod laws;
 mod matching;
 mod node;
+mod places;
 mod reading;
 mod row;
 mod table;

@@ -29,7 +29,7 @@ pub struct Cursor {
 
 /// The number of the first alternative that matches.
 fn first_alternative(parts: &[u32], table: &Table, left: usize) -> Option<usize>
-    ensures { result ≡ first_alternative (end_at table.now) parts.now left }
+    ensures { result ≡ first_alternative (end_at table.now.columns) parts.now left }
 {
     for (number, part) in parts.iter().enumerate() {
         if table.end(*part as usize, left).is_some() {
@@ -41,7 +41,7 @@ fn first_alternative(parts: &[u32], table: &Table, left: usize) -> Option<usize>
 
 /// The parts of a row where some tokens are left, if it has any.
 fn first_parts(row: &Row, number: usize, table: &Table, left: usize) -> Option<Cursor>
-    ensures { result ≡ first_parts (end_at table.now) row.now number left }
+    ensures { result ≡ first_parts (end_at table.now.columns) row.now number left }
 {
     let first = Cursor {
         row: number,
@@ -94,7 +94,7 @@ fn number_at(parts: &[u32], part: usize) -> Option<usize>
 /// The parts behind the first of some parts, which leaves some tokens, if
 /// there are any.
 fn next_parts(row: &Row, parts: Cursor, table: &Table, left: usize) -> Option<Cursor>
-    ensures { result ≡ next_parts (end_at table.now) row.now parts left }
+    ensures { result ≡ next_parts (end_at table.now.columns) row.now parts left }
 {
     match row {
         Row::Sequence(numbers) => {
@@ -120,7 +120,7 @@ fn next_parts(row: &Row, parts: Cursor, table: &Table, left: usize) -> Option<Cu
 
 /// The parts that a row has again, where its part matches.
 fn again(row: usize, part: u32, table: &Table, left: usize) -> Option<Cursor>
-    ensures { result ≡ (if is_some (end_at table.now part left) then Some (cursor row 0 left) else None) }
+    ensures { result ≡ (if is_some (end_at table.now.columns part left) then Some (cursor row 0 left) else None) }
 {
     if table.end(part as usize, left).is_some() {
         return Some(Cursor { row, part: 0, left });
@@ -131,7 +131,7 @@ fn again(row: usize, part: u32, table: &Table, left: usize) -> Option<Cursor>
 /// What the node of a row is, where some of the tokens are left.
 fn form_of(row: &Row, table: &Table, tokens: usize, left: usize) -> Form
     requires { left ≤ tokens }
-    ensures { result ≡ form_of (end_at table.now) row.now tokens left }
+    ensures { result ≡ form_of (end_at table.now.columns) row.now tokens left }
 {
     match row {
         Row::Token(_) => Form::Leaf(tokens - left),
@@ -155,7 +155,7 @@ fn push_parts(pending: &mut Vec<Cursor>, parts: Option<Cursor>) -> Result<(), Al
 /// The row of the first of some parts, and the parts behind it, if there are
 /// any.
 fn next_part(rows: &[Row], table: &Table, parts: Cursor) -> Option<(usize, Option<Cursor>)>
-    ensures { (e : Row) → slice_get rows.now parts.row ≡ Some e → result ≡ next_part (end_at table.now) e parts }
+    ensures { (e : Row) → slice_get rows.now parts.row ≡ Some e → result ≡ next_part (end_at table.now.columns) e parts }
 {
     let row = rows.get(parts.row)?;
     let part = part_at(row, parts.part)?;
@@ -176,8 +176,8 @@ fn visit(
 ) -> Result<(), AllocError>
     requires row { number < length rows.now }
     requires left { left ≤ tokens }
-    ensures nodes { (e : Row) → slice_get rows.now number ≡ Some e → OnOk result (nodes.new.items ≡ nodes.old.items ++ node_of (end_at table.now) e number tokens left ∷ []) }
-    ensures parts { (e : Row) → slice_get rows.now number ≡ Some e → OnOk result (pending.new.items ≡ pending.old.items ++ option_to_list (first_parts (end_at table.now) e number left)) }
+    ensures nodes { (e : Row) → slice_get rows.now number ≡ Some e → OnOk result (nodes.new.items ≡ nodes.old.items ++ node_of (end_at table.now.columns) e number tokens left ∷ []) }
+    ensures parts { (e : Row) → slice_get rows.now number ≡ Some e → OnOk result (pending.new.items ≡ pending.old.items ++ option_to_list (first_parts (end_at table.now.columns) e number left)) }
 {
     let row = &rows[number];
     let form = form_of(row, table, tokens, left);
@@ -198,10 +198,10 @@ pub fn read(
     start: usize,
     end: End,
 ) -> Result<Vec<Node>, AllocError>
-    requires right { (names : List (List ℕ)) → IsRight rows.now (has_at (map (lexeme_of names) tokens.now)) (length tokens.now) table.now }
-    requires long { length table.now ≡ length tokens.now + 1 }
+    requires right { (names : List (List ℕ)) → IsRight rows.now (has_at (map (lexeme_of names) tokens.now)) (length tokens.now) table.now.columns }
+    requires long { length table.now.columns ≡ length tokens.now + 1 }
     requires start { start < length rows.now }
-    requires end { end_at table.now start (length tokens.now) ≡ Some end }
+    requires end { end_at table.now.columns start (length tokens.now) ≡ Some end }
     requires all { end.left ≡ 0 }
     requires few { end.nodes < 2 ^ 64 - 1 }
     ensures { (names : List (List ℕ)) (tree : ParseTree ℕ) → HasTree rows.now (has_at (map (lexeme_of names) tokens.now)) start (last (length tokens.now) (length tokens.now)) tree

@@ -7,10 +7,11 @@ use Rattle.cu_peg.proofs.ends.add_place.Given as goal
 
 abbrev pub invariant-loop-row : goal.invariant-loop-row
 invariant-loop-row l = record {
-  long : length l.table ≡ l.left + 1;
-  wide : length (get_or l.table l.left []) ≡ length l.rows;
+  as_wide : l.table.width ≡ length l.rows;
+  long : length l.table.columns ≡ l.left + 1;
+  wide : length (get_or l.table.columns l.left []) ≡ length l.rows;
   before : (names : List (List ℕ)) (k r : ℕ) → k < l.left → r < length l.rows
-      → IsEnd l.rows (has_at (map (lexeme_of names) l.tokens)) (length l.tokens) r k (end_at l.table r k);
+      → IsEnd l.rows (has_at (map (lexeme_of names) l.tokens)) (length l.tokens) r k (end_at l.table.columns r k);
   here : (names : List (List ℕ)) (r : ℕ) → Contains (take l.row-index l.order) r
-      → IsEnd l.rows (has_at (map (lexeme_of names) l.tokens)) (length l.tokens) r l.left (end_at l.table r l.left);
+      → IsEnd l.rows (has_at (map (lexeme_of names) l.tokens)) (length l.tokens) r l.left (end_at l.table.columns r l.left);
 }

@@ -30,17 +30,17 @@ module _ (rows : List Row) (text : List Lexeme) (n : ℕ) (as_long : length text
 
 pub returns-in-None-clause-none : goal.returns-in-None-clause-none
 returns-in-None-clause-none c = λ names.
-    no_end c.args.grammar.now (map (lexeme_of names) c.args.tokens.now) (length c.args.tokens.now) (length-map c.args.tokens.now (lexeme_of names)) c.in_ok-table.table
+    no_end c.args.grammar.now (map (lexeme_of names) c.args.tokens.now) (length c.args.tokens.now) (length-map c.args.tokens.now (lexeme_of names)) c.in_ok-table.table.columns
     (c.in_ok-table.ensures.right names) c.in_ok-table.ensures.long c.args.start c.requires (sym c.end.ensures ∙ c.in-None.is)
 
 pub returns-then-end-gt0-clause-none : goal.returns-then-end-gt0-clause-none
 returns-then-end-gt0-clause-none c = λ names.
-    some_left c.args.grammar.now (map (lexeme_of names) c.args.tokens.now) (length c.args.tokens.now) (length-map c.args.tokens.now (lexeme_of names)) c.in_ok-table.table
+    some_left c.args.grammar.now (map (lexeme_of names) c.args.tokens.now) (length c.args.tokens.now) (length-map c.args.tokens.now (lexeme_of names)) c.in_ok-table.table.columns
     (c.in_ok-table.ensures.right names) c.in_ok-table.ensures.long c.args.start c.requires c.in-Some.end (sym c.end.ensures ∙ c.in-Some.is) c.if-end-gt0.true
 
 pub read-requires-clause-right : goal.read-requires-clause-right
 read-requires-clause-right c = λ names.
-    subst (λ (rows : List Row). IsRight rows (has_at (map (lexeme_of names) c.args.tokens.now)) (length c.args.tokens.now) c.in_ok-table.table) (sym c.rows.ensures.rows)
+    subst (λ (rows : List Row). IsRight rows (has_at (map (lexeme_of names) c.args.tokens.now)) (length c.args.tokens.now) c.in_ok-table.table.columns) (sym c.rows.ensures.rows)
     (c.in_ok-table.ensures.right names)
 
 -- reading nodes that a tree spells
@@ -51,7 +51,7 @@ pub new-requires : goal.new-requires
 new-requires c =
     let rows = c.rows.ensures.rows in
     let n = length c.args.tokens.now in
-    let whole = whole_tree c.args.grammar.now (has_at (map (lexeme_of []) c.args.tokens.now)) n c.in_ok-table.table (c.in_ok-table.ensures.right []) c.in_ok-table.ensures.long
+    let whole = whole_tree c.args.grammar.now (has_at (map (lexeme_of []) c.args.tokens.now)) n c.in_ok-table.table.columns (c.in_ok-table.ensures.right []) c.in_ok-table.ensures.long
     c.args.start c.in-Some.end c.requires (sym c.end.ensures ∙ c.in-Some.is) (omega (arith, c.if-end-gt0.false)) in
     spelled_again c.in_ok-nodes.nodes.items whole.tree
     (c.in_ok-nodes.ensures [] whole.tree (subst (λ (rows : List Row). Matches rows (has_at (map (lexeme_of []) c.args.tokens.now)) c.args.start (last n n) [] whole.tree) (sym rows) whole.matched))
@@ -60,7 +60,7 @@ pub returns-clause-tree : goal.returns-clause-tree
 returns-clause-tree c = λ names.
     let rows = c.rows.ensures.rows in
     let n = length c.args.tokens.now in
-    let whole = whole_tree c.args.grammar.now (has_at (map (lexeme_of names) c.args.tokens.now)) n c.in_ok-table.table (c.in_ok-table.ensures.right names) c.in_ok-table.ensures.long
+    let whole = whole_tree c.args.grammar.now (has_at (map (lexeme_of names) c.args.tokens.now)) n c.in_ok-table.table.columns (c.in_ok-table.ensures.right names) c.in_ok-table.ensures.long
     c.args.start c.in-Some.end c.requires (sym c.end.ensures ∙ c.in-Some.is) (omega (arith, c.if-end-gt0.false)) in
     let nodes = c.in_ok-nodes.ensures names whole.tree
     (subst (λ (rows : List Row). Matches rows (has_at (map (lexeme_of names) c.args.tokens.now)) c.args.start (last n n) [] whole.tree) (sym rows) whole.matched) in

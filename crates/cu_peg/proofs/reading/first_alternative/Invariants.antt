@@ -6,4 +6,4 @@ use Rattle.cu_peg.proofs.reading.first_alternative.Given as goal
 
 abbrev pub invariant-loop-number : goal.invariant-loop-number
 invariant-loop-number l =
-    first_alternative (end_at l.table) l.parts l.left ≡ option_map (λ n. l.number + n) (first_alternative (end_at l.table) (drop l.number l.parts) l.left)
+    first_alternative (end_at l.table.columns) l.parts l.left ≡ option_map (λ n. l.number + n) (first_alternative (end_at l.table.columns) (drop l.number l.parts) l.left)

@@ -9,9 +9,9 @@ use Rattle.cu_peg.proofs.reading.read.Given as goal
 
 abbrev pub invariant-loop-parts : goal.invariant-loop-parts
 invariant-loop-parts l =
-    (names : List (List ℕ)) (right : IsRight l.rows (has_at (map (lexeme_of names) l.tokens)) (length l.tokens) l.table) (long : length l.table ≡ length l.tokens + 1) (tree : ParseTree ℕ)
+    (names : List (List ℕ)) (right : IsRight l.rows (has_at (map (lexeme_of names) l.tokens)) (length l.tokens) l.table.columns) (long : length l.table.columns ≡ length l.tokens + 1) (tree : ParseTree ℕ)
     → HasTree l.rows (has_at (map (lexeme_of names) l.tokens)) l.start (last (length l.tokens) (length l.tokens)) tree
-    → Reading l.rows (has_at (map (lexeme_of names) l.tokens)) (length l.tokens) l.table right long l.nodes.items l.pending.items tree
+    → Reading l.rows (has_at (map (lexeme_of names) l.tokens)) (length l.tokens) l.table.columns right long l.nodes.items l.pending.items tree
 
 abbrev pub decreases-loop-parts : goal.decreases-loop-parts
 decreases-loop-parts l = l.fn.end.nodes - length l.nodes.items

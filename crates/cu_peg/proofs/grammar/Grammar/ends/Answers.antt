@@ -7,5 +7,5 @@ use Rattle.cu_peg.proofs.grammar.Grammar.ends.Goals as goal
 
 pub returns-clause-right : goal.returns-clause-right
 returns-clause-right c = λ names.
-    subst (λ (rows : List Row). IsRight rows (has_at (map (lexeme_of names) c.args.tokens.now)) (length c.args.tokens.now) c.places.table)
+    subst (λ (rows : List Row). IsRight rows (has_at (map (lexeme_of names) c.args.tokens.now)) (length c.args.tokens.now) c.places.table.columns)
     (c.as_slice-rows.ensures.value ∙ c.self.view_is) (c.places.invariant.right names)

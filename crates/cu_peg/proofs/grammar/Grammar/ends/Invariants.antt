@@ -1,4 +1,4 @@
-use Rattle.std.proofs.Common.{◌≤◌, ◌+◌, ◌-◌, ℕ, List, length, map}
+use Rattle.std.proofs.Common.{◌≡◌, ◌≤◌, ◌+◌, ◌-◌, ℕ, List, length, map}
 use Rattle.cu_lex.specs.Reading.{lexeme_of}
 use Rattle.cu_peg.specs.Ends.{IsRight}
 use Rattle.cu_peg.specs.Result.{has_at}
@@ -6,9 +6,10 @@ use Rattle.cu_peg.proofs.grammar.Grammar.ends.Given as goal
 
 abbrev pub invariant-places : goal.invariant-places
 invariant-places l = record {
-  long : length l.table ≤ length l.tokens + 1;
-  right : (names : List (List ℕ)) → IsRight l.rows (has_at (map (lexeme_of names) l.tokens)) (length l.tokens) l.table;
+  wide : l.table.width ≡ length l.rows;
+  long : length l.table.columns ≤ length l.tokens + 1;
+  right : (names : List (List ℕ)) → IsRight l.rows (has_at (map (lexeme_of names) l.tokens)) (length l.tokens) l.table.columns;
 }
 
 abbrev pub decreases-places : goal.decreases-places
-decreases-places l = length l.tokens + 1 - length l.table
+decreases-places l = length l.tokens + 1 - length l.table.columns
