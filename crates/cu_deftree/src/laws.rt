@@ -1,7 +1,8 @@
 //! Laws of the definitions.
-ghost use Rattle.std.specs.Prelude.{◌≡◌, ◌≢◌, ℕ, List};
+ghost use Rattle.std.specs.Prelude.{◌≡◌, ◌≢◌, ℕ, List, IsTrue};
 ghost use Rattle.cu_calculus.specs.declared.FunId.{FunId};
 ghost use Rattle.cu_calculus.specs.Claims.{AreLeastLevels, AreLevels, Concludes};
+ghost use Rattle.cu_calculus.specs.Flat.{is_flat};
 ghost use Rattle.cu_calculus.specs.Gives.{Claim};
 ghost use Rattle.cu_calculus.specs.Program.{Program};
 ghost use Rattle.cu_calculus.specs.Valid.{IsValid};
@@ -26,4 +27,9 @@ pub fn least_levels_stay_levels()
 pub fn lowering_is_sound()
     ensures { (program flat : Program) (claims : List Claim) (f : FunId) (vs : Values) (v : Value) → IsValid program
         → Flattens program flat → v ≢ Bottom → Concludes flat claims f vs v → Concludes program claims f vs v }
+{}
+
+/// What lowering gives of a valid program is flat.
+pub fn lowered_programs_are_flat()
+    ensures { (program flat : Program) → IsValid program → Flattens program flat → IsTrue (is_flat flat) }
 {}

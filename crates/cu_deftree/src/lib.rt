@@ -4,4 +4,6 @@
 
 mod laws;
 
-pub use laws::{least_levels_stay_levels, lowering_is_a_function, lowering_is_sound};
+pub use laws::{
+    least_levels_stay_levels, lowered_programs_are_flat, lowering_is_a_function, lowering_is_sound,
+};
