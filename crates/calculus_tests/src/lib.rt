@@ -4,3 +4,19 @@
 
 #[cfg(test)]
 mod crwl;
+#[cfg(test)]
+mod displays;
+#[cfg(test)]
+mod kernel_build;
+#[cfg(test)]
+mod kernel_joining;
+#[cfg(test)]
+mod kernel_programs;
+#[cfg(test)]
+mod kernel_sample;
+#[cfg(test)]
+mod kernel_terms;
+#[cfg(test)]
+mod kernel_types;
+#[cfg(test)]
+mod values;
