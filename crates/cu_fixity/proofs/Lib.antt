@@ -3,6 +3,7 @@ pub mod FixityLemmas
 pub mod HeadLemmas
 pub mod Levels
 pub mod OneTree
+pub mod OwnerLemmas
 pub mod PartLemmas
 pub mod RangeLemmas
 pub mod Relabel

@@ -2,6 +2,7 @@ pub mod Fixities
 pub mod Grouping
 pub mod Laws
 pub mod Operators
+pub mod Owners
 pub mod Parts
 pub mod Pieces
 pub mod Ranges

@@ -1,9 +1,9 @@
 //! The fixities of operators.
-ghost use Rattle.std.specs.Prelude.{◌≡◌, OnErr, OnOk};
+ghost use Rattle.std.specs.Prelude.{◌≡◌, Contains, OnErr, OnOk, Some, codes, slice_get};
 ghost use Rattle.cu_fixity.specs.Fixities.{Declares, built_in, fixity_in};
 
 use crate::{Fixity, Side, UNDECLARED};
-use cu_names::NameId;
+use cu_names::{NameId, Names};
 use indexmap::IndexMap;
 use std::alloc::{AllocError, Global};
 use std::marker::Model;
@@ -32,15 +32,19 @@ impl Model for Fixities {
 }
 
 impl Fixities {
-    /// The fixities where none is declared. `cons` is the number of the text
-    /// `:`, and the caller sees to that.
-    pub fn new(alloc: Global, cons: NameId) -> Fixities
-        ensures colon { result.colon ≡ cons }
-        ensures fixities { (operator : NameId) → fixity_in result operator ≡ built_in cons operator }
+    /// The fixities where none is declared, of operators whose texts are in a
+    /// table of names. The table has the text `:`.
+    pub fn new(alloc: Global, names: &Names) -> Fixities
+        requires { Contains names.now (codes ":") }
+        ensures colon { slice_get names.now result.colon.0 ≡ Some (codes ":") }
+        ensures fixities { (operator : NameId) → fixity_in result operator ≡ built_in result.colon operator }
     {
-        Fixities {
-            cons,
-            declared: IndexMap::new(alloc),
+        match names.find(":") {
+            Some(cons) => Fixities {
+                cons,
+                declared: IndexMap::new(alloc),
+            },
+            None => unreachable!(),
         }
     }
 

@@ -8,8 +8,6 @@ mod laws;
 mod part;
 mod piece;
 mod resolving;
-#[cfg(test)]
-mod tests;
 mod tree;
 
 pub use cu_syntax::Side;

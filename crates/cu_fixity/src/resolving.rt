@@ -1,11 +1,16 @@
 //! Grouping of expressions and patterns as they are written.
 ghost use Rattle.std.specs.Prelude.{◌≡◌, ◌<◌, ◌++◌, ℕ, IfErr, IfOk, List, OnOk, Some, length, map};
 ghost use Rattle.std.specs.List.{All};
+ghost use denote.Param.Weighed.{most};
+ghost use Rattle.cu_names.specs.declared.names.NameId.{NameId};
 ghost use Rattle.cu_syntax.specs.Expressions.{items_meaning};
+ghost use Rattle.cu_syntax.specs.Owners.{ExpressionIsOf, ItemsAreOf, PatItemsAreOf, PatternIsOf};
 ghost use Rattle.cu_syntax.specs.Patterns.{pat_items_meaning};
+ghost use Rattle.cu_syntax.specs.Smaller.{expression_size, items_size, pat_items_size, pattern_size};
 ghost use Rattle.cu_syntax.specs.Syntax.{Name};
 ghost use Rattle.cu_fixity.specs.Grouping.{HasNoTree};
 ghost use Rattle.cu_fixity.specs.Operators.{IsGrouped, expression_items, fixity_with, pattern_items};
+ghost use Rattle.cu_fixity.specs.Owners.{PartIsOf, part_size};
 ghost use Rattle.cu_fixity.specs.Parts.{HasNone, IsOrder, operand_parts, piece_of, taken, written_parts, written_pattern};
 ghost use Rattle.cu_fixity.specs.Ranges.{number};
 ghost use Rattle.cu_fixity.specs.Resolving.{Clashes, HaveFixities, constructors_of, expression_parts, operators_of, pattern_parts};
@@ -65,6 +70,9 @@ pub fn resolve<'t>(
         → IfOk result (λ found. IsGrouped (fixity_with fixity) (expression_items (items_meaning names items.now)) (expression_parts names found.parts.items)) }
     ensures clash { (names : List (List ℕ)) (fixity : Name → Fixity) → HaveFixities names fixity table.now (operators_of items.now)
         → IfErr result (Clashes items.now.place (HasNoTree (fixity_with fixity) (expression_items (items_meaning names items.now)))) }
+    ensures owned { (owner : NameId) (names : List (List ℕ)) → ItemsAreOf owner names items.now
+        → IfOk result (λ found. All (PartIsOf ExpressionIsOf owner names) found.parts.items) }
+    ensures smaller { IfOk result (λ found. most (part_size expression_size) found.parts.items < items_size items.now) }
 {
     let written = expression_parts(alloc, items)?;
     let parts = grouped(alloc, written.as_slice(), table, items.place)?;
@@ -85,6 +93,9 @@ pub fn resolve_pattern<'t>(
         → IfOk result (λ found. IsGrouped (fixity_with fixity) (pattern_items (pat_items_meaning names items.now)) (pattern_parts names found.parts.items)) }
     ensures clash { (names : List (List ℕ)) (fixity : Name → Fixity) → HaveFixities names fixity table.now (constructors_of items.now)
         → IfErr result (Clashes items.now.place (HasNoTree (fixity_with fixity) (pattern_items (pat_items_meaning names items.now)))) }
+    ensures owned { (owner : NameId) (names : List (List ℕ)) → PatItemsAreOf owner names items.now
+        → IfOk result (λ found. All (PartIsOf PatternIsOf owner names) found.parts.items) }
+    ensures smaller { IfOk result (λ found. most (part_size pattern_size) found.parts.items < pat_items_size items.now) }
 {
     let written = pattern_parts(alloc, items)?;
     let parts = grouped(alloc, written.as_slice(), table, items.place)?;

@@ -21,7 +21,7 @@ use Rattle.cu_syntax.specs.ExpressionMeaning.{expression_at, expression_meaning,
 use Rattle.cu_syntax.specs.Expressions.{alternatives_in, alternatives_meaning, is_bare_expression, qualifier_meaning, qualifiers_in, qualifiers_meaning, with_alternative}
 use Rattle.cu_syntax.specs.Fits.{fits}
 use Rattle.cu_syntax.specs.Forms.{is_qualifier}
-use Rattle.cu_syntax.specs.Patterns.{pattern_meaning, pattern_place, pattern_tree, patterns_meaning}
+use Rattle.cu_syntax.specs.Patterns.{pattern_meaning, pattern_tree, patterns_meaning}
 use Rattle.cu_syntax.specs.Reading.{Tree, Trees, alternatives_of, applied, arguments_in, block_of, case_word, count_in, expression_as, expression_choice, maybe_expression, name_of, place, qualifier_as, qualifiers_of, right_side, where_block}
 use Rattle.cu_syntax.specs.SubtreeMeaning.{tree_of}
 use Rattle.cu_syntax.specs.Subtrees.{Takes, is_single, part_of, trees_from}
@@ -97,16 +97,16 @@ case_is names s tree word list subject at w x found e h a f c q l t p r =
     ∙ sym (ap (λ t. expression_as symbol.CaseExp (Parts (MoreTrees (part_of tree 0) (MoreTrees (part_of tree 1) (MoreTrees (part_of tree 2) (MoreTrees (part_of tree 3) (MoreTrees t (MoreTrees (part_of tree 5) NoTree)))))))) four)
     ∙ sym (ap (expression_as symbol.CaseExp) m.is)
 
-pub alternative_is : (names : List (List ℕ)) (s : Symbol) (tree : Tree) (first body local : Subtree) (p : Pattern) (r : RightSide) (rest : Trees) → s ≡ symbol.Alt → fits s tree ≡ true
-    → p.tree ≡ first → first.symbol ≡ symbol.Pat → tree_of names first ≡ part_of tree 0 → r.body ≡ body → body.symbol ≡ symbol.AltBody → tree_of names body ≡ part_of tree 1
+pub alternative_is : (names : List (List ℕ)) (s : Symbol) (tree : Tree) (first body local : Subtree) (at : Position) (p : Pattern) (r : RightSide) (rest : Trees) → s ≡ symbol.Alt → fits s tree ≡ true
+    → at ≡ place tree → p.tree ≡ first → first.symbol ≡ symbol.Pat → tree_of names first ≡ part_of tree 0 → r.body ≡ body → body.symbol ≡ symbol.AltBody → tree_of names body ≡ part_of tree 1
     → r.local ≡ local → tree_of names local ≡ part_of tree 2
-    → alternatives_of (MoreTrees (Parts (only tree)) rest) ≡ syntax.MoreAlternatives (pattern_place names p) (pattern_meaning names p) (right_meaning names r) (alternatives_of rest)
-alternative_is names s tree first body local p r rest e h q k t b l u c v =
+    → alternatives_of (MoreTrees (Parts (only tree)) rest) ≡ syntax.MoreAlternatives at (pattern_meaning names p) (right_meaning names r) (alternatives_of rest)
+alternative_is names s tree first body local at p r rest e h a q k t b l u c v =
     let m = form s symbol.Alt symbol.Pat (symbol.AltBody ∷ symbol.OptionalWhere ∷ []) tree e h refl refl in
     let right : right_meaning names r ≡ right_side symbol.AltBody (part_of tree 1) (where_block (part_of tree 2)) =
     ap₂ (λ (x y : Subtree). right_side x.symbol (tree_of names x) (where_block (tree_of names y))) b c ∙ ap₃ right_side l u (ap where_block v) in
     ap (λ t. alternatives_of (MoreTrees (Parts (only t)) rest)) m.is
-    ∙ sym (ap₃ (λ x y z. syntax.MoreAlternatives x y z (alternatives_of rest)) (ap place (ap (tree_of names) q ∙ t)) (pattern_is names p first symbol.Pat (part_of tree 0) q k t) right)
+    ∙ sym (ap₃ (λ x y z. syntax.MoreAlternatives x y z (alternatives_of rest)) (a ∙ m.at) (pattern_is names p first symbol.Pat (part_of tree 0) q k t) right)
 
 pub alternatives_folded : (names : List (List ℕ)) (found : List Alternative) → folded (with_alternative names) found syntax.NoAlternative ≡ alternatives_meaning names found
 alternatives_folded names [] = refl

@@ -1,10 +1,12 @@
 pub mod Accepted
 pub mod Beginnings
 pub mod DeclarationLemmas
+pub mod EmptyText
 pub mod ExpressionForms
 pub mod ExpressionParts
 pub mod FitLemmas
 pub mod FitsLaw
+pub mod FormedLemmas
 pub mod ItemLemmas
 pub mod LeafLemmas
 pub mod ModuleLemmas
@@ -14,10 +16,13 @@ pub mod OneReading
 pub mod OwnerLemmas
 pub mod PartLemmas
 pub mod PatternForms
+pub mod PatternPlaces
 pub mod PlaceLemmas
+pub mod PlacesRise
 pub mod RepeatLemmas
 pub mod RowLemmas
 pub mod ShapeLemmas
+pub mod SizeLemmas
 pub mod SplitLemmas
 pub mod SymbolLemmas
 pub mod TokenLaw

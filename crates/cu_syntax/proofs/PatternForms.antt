@@ -20,7 +20,7 @@ use Rattle.cu_syntax.specs.SubtreeMeaning.{tree_of}
 use Rattle.cu_syntax.specs.Subtrees.{Takes, has_token, is_empty, is_single, part_of, trees_from}
 use Rattle.cu_syntax.specs.Syntax as syntax
 use Rattle.cu_syntax.specs.Table.{Many}
-use Rattle.cu_syntax.proofs.ShapeLemmas.{Each, among_rest, each_at, empty_tree, first_place, fits_as, never, parted, sequence_parts, taken, takes_as, trees_in, with_token}
+use Rattle.cu_syntax.proofs.ShapeLemmas.{Each, among_all, among_rest, each_at, empty_tree, first_place, fits_as, never, parted, sequence_parts, taken, takes_as, trees_in}
 use Rattle.cu_syntax.proofs.ViewLemmas.{folded}
 use Rattle.std.proofs.lemmas.Bool.{and_parts}
 
@@ -93,7 +93,7 @@ a_pattern_taken s tree chosen inner e h t =
 
 -- patterns with operators between them
 
-pat_with : (tree : Tree) (further : Trees) → fits symbol.Pat tree ≡ true → part_of tree 1 ≡ Parts further
+pub pat_with : (tree : Tree) (further : Trees) → fits symbol.Pat tree ≡ true → part_of tree 1 ≡ Parts further
     → pattern_of tree ≡ with_operators (place (part_of tree 0)) (pattern_choice symbol.ConPat (part_of tree 0)) (pattern_rest further)
 pat_with tree further h e =
     ap pattern_of (sequence_parts symbol.Pat (symbol.ConPat ∷ symbol.FurtherConPats ∷ []) tree refl h)
@@ -113,7 +113,7 @@ one_item : (tree : Tree) (rest : Trees) → fits symbol.FurtherConPat tree ≡ t
 one_item tree rest h =
     ap (λ t. pattern_rest (MoreTrees t rest)) (sequence_parts symbol.FurtherConPat (symbol.ConOp ∷ symbol.ConPat ∷ []) tree refl h)
 
-some_item : (trees : Trees) → have_parts (Many symbol.FurtherConPat) trees ≡ true → is_empty (Parts trees) ≡ false → pattern_rest trees ≡ syntax.NoConstructor → ⊥
+pub some_item : (trees : Trees) → have_parts (Many symbol.FurtherConPat) trees ≡ true → is_empty (Parts trees) ≡ false → pattern_rest trees ≡ syntax.NoConstructor → ⊥
 some_item NoTree h some e = true≢false some
 some_item (MoreTrees tree trees) h some e =
     let both = and_parts (fits symbol.FurtherConPat tree) (have_parts (Many symbol.FurtherConPat) trees) h in
@@ -121,7 +121,7 @@ some_item (MoreTrees tree trees) h some e =
     sym e ∙ one_item tree trees both.0 in
     cc
 
-with_some : (at : Position) (p : syntax.Pattern) (rest : syntax.PatternRest) → (rest ≡ syntax.NoConstructor → ⊥) → with_operators at p rest ≡ syntax.PatternOperators at p rest
+pub with_some : (at : Position) (p : syntax.Pattern) (rest : syntax.PatternRest) → (rest ≡ syntax.NoConstructor → ⊥) → with_operators at p rest ≡ syntax.PatternOperators at p rest
 with_some at p syntax.NoConstructor some = absurd (some refl)
 with_some at p (syntax.ThenConstructor operator operand rest) some = refl
 
@@ -158,7 +158,7 @@ rest_folded names (item ∷ items) = ap (with_item names item) (rest_folded name
 
 -- a tuple of patterns, by its parts
 
-tuple_with : (tree : Tree) (components : Trees) → fits symbol.TuplePat tree ≡ true → part_of tree 2 ≡ Parts components
+pub tuple_with : (tree : Tree) (components : Trees) → fits symbol.TuplePat tree ≡ true → part_of tree 2 ≡ Parts components
     → pattern_as symbol.TuplePat tree ≡ pattern_tuple (place (part_of tree 0)) (patterns_of components)
 tuple_with tree components h e =
     ap (pattern_as symbol.TuplePat) (sequence_parts symbol.TuplePat (symbol.OpenParen ∷ symbol.NoSixteenPats ∷ symbol.PatList ∷ symbol.CloseParen ∷ []) tree refl h)
@@ -191,8 +191,8 @@ nodes =
     symbol.Pat ∷ symbol.NegativePat ∷ symbol.ConApplication ∷ symbol.AliasPat ∷ symbol.VarId ∷ symbol.Underscore ∷ symbol.Literal ∷ symbol.QCon ∷ symbol.Unit ∷
     symbol.TuplePat ∷ symbol.ListPat ∷ []
 
-pub pattern_has_token : (s : Symbol) → is_pattern s ≡ true → has_token s ≡ true
-pattern_has_token s h = with_token (symbol.ConPat ∷ symbol.APat ∷ []) nodes s refl refl h
+pub pattern_node_has_token : (s : Symbol) → is_pattern_node s ≡ true → has_token s ≡ true
+pattern_node_has_token s h = among_all has_token nodes s refl h
 
 -- lists of patterns
 

@@ -23,7 +23,7 @@ use Rattle.cu_syntax.proofs.ShapeLemmas.{first_place, first_place_of, form, neve
 use Rattle.cu_syntax.proofs.TokenLaw.{token_there}
 
 -- what a sequence stands for has the place of its first part
-stands_first : (at : Tree → Position) (s p : Symbol) (parts : List Symbol) (tree : Tree) → table_rule s ≡ Sequence (p ∷ parts) → has_token p ≡ true → fits s tree ≡ true
+pub stands_first : (at : Tree → Position) (s p : Symbol) (parts : List Symbol) (tree : Tree) → table_rule s ≡ Sequence (p ∷ parts) → has_token p ≡ true → fits s tree ≡ true
     → place (part_of tree 0) ≡ at (Parts (spread (p ∷ parts) 0 tree)) → place tree ≡ at tree
 stands_first at s p parts tree r k h e = let m = form s s p parts tree refl h r k in m.at ∙ e ∙ sym (ap at m.is)
 

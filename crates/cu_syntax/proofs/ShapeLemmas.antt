@@ -191,15 +191,6 @@ fits_as s t tree e h = sym (ap (λ a. fits a tree) e) ∙ h
 pub takes_as : (s t : Symbol) (tree : Tree) (chosen : Symbol) (inner : Tree) → s ≡ t → Takes s tree chosen inner → Takes t tree chosen inner
 takes_as s t tree chosen inner e h = subst (λ (a : Symbol). Takes a tree chosen inner) e h
 
--- a symbol of a list has a token if each of the list has
-pub with_token : (first others : List Symbol) (s : Symbol) → list_all has_token first ≡ true → list_all has_token others ≡ true → (is_among first s || is_among others s) ≡ true
-    → has_token s ≡ true
-with_token first others s f o h =
-    elim (or_cases (is_among first s) (is_among others s) h) [
-      | inl e ↦ among_all has_token first s f e
-      | inr e ↦ among_all has_token others s o e
-    ]
-
 -- A tree of a sequence is that of its parts, and begins where the first of them begins.
 pub record Form (s p : Symbol) (parts : List Symbol) (tree : Tree) : Type 0 where
   pub is : tree ≡ Parts (spread (p ∷ parts) 0 tree)

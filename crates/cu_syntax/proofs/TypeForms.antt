@@ -16,8 +16,8 @@ use Rattle.cu_syntax.specs.declared.subtree.Subtree.{Subtree}
 use Rattle.cu_syntax.specs.SubtreeMeaning.{tree_of}
 use Rattle.cu_syntax.specs.Subtrees.{Takes, has_token, is_single, part_of, trees_from}
 use Rattle.cu_syntax.specs.Syntax as syntax
-use Rattle.cu_syntax.specs.Types.{function_type, is_bare_type, type_at, type_meaning, type_place, type_tree, types_meaning}
-use Rattle.cu_syntax.proofs.ShapeLemmas.{Each, among_rest, each_at, first_place, fits_as, never, sequence_parts, taken, takes_as, with_token}
+use Rattle.cu_syntax.specs.Types.{function_type, is_bare_type, parameter_place, type_at, type_meaning, type_tree, types_meaning}
+use Rattle.cu_syntax.proofs.ShapeLemmas.{Each, among_all, among_rest, each_at, first_place, fits_as, never, sequence_parts, taken, takes_as}
 
 -- a type as the alternative of another one
 as_a_type : (tree : Tree) → type_as symbol.AType tree ≡ type_at symbol.AType tree
@@ -63,7 +63,7 @@ tuple_is : (tree : Tree) → fits symbol.TupleType tree ≡ true
     → tree ≡ Parts (MoreTrees (part_of tree 0) (MoreTrees (part_of tree 1) (MoreTrees (part_of tree 2) (MoreTrees (part_of tree 3) NoTree))))
 tuple_is tree h = sequence_parts symbol.TupleType (symbol.OpenParen ∷ symbol.NoSixteenTypes ∷ symbol.TypeList ∷ symbol.CloseParen ∷ []) tree refl h
 
-tuple_with : (tree : Tree) (components : Trees) → fits symbol.TupleType tree ≡ true → part_of tree 2 ≡ Parts components
+pub tuple_with : (tree : Tree) (components : Trees) → fits symbol.TupleType tree ≡ true → part_of tree 2 ≡ Parts components
     → type_as symbol.TupleType tree ≡ type_tuple (place (part_of tree 0)) (types_of components)
 tuple_with tree components h e =
     ap (type_as symbol.TupleType) (tuple_is tree h)
@@ -99,8 +99,8 @@ other_bare _ tree e t = refl
 abbrev pub nodes : List Symbol
 nodes = symbol.TypeExp ∷ symbol.TypeApplication ∷ symbol.QConId ∷ symbol.VarId ∷ symbol.Unit ∷ symbol.TupleType ∷ symbol.ListType ∷ []
 
-pub type_has_token : (s : Symbol) → is_type s ≡ true → has_token s ≡ true
-type_has_token s h = with_token (symbol.BType ∷ symbol.AType ∷ []) nodes s refl refl h
+pub type_node_has_token : (s : Symbol) → is_type_node s ≡ true → has_token s ≡ true
+type_node_has_token s h = among_all has_token nodes s refl h
 
 -- forms
 
@@ -148,7 +148,7 @@ arrows_are names (t ∷ u ∷ types) result h =
 
 pub function_is : (names : List (List ℕ)) (tree : Tree) (all types further : List TypeTerm) (first result : TypeTerm) → tree ≡ Parts (trees_from (map (type_tree names) all))
     → All (HasSymbol symbol.BType) all → all ≡ types ++ result ∷ [] → types ≡ first ∷ further
-    → syntax.Arrow (type_place names first) (type_meaning names first) (function_type names further (type_meaning names result)) ≡ type_of tree
+    → syntax.Arrow (parameter_place names first) (type_meaning names first) (function_type names further (type_meaning names result)) ≡ type_of tree
 function_is names tree all types further first result t h e f =
     sym (ap (λ ts. function_type names ts (type_meaning names result)) f) ∙ arrows_are names types result (subst (All (HasSymbol symbol.BType)) e h)
     ∙ ap (λ ts. arrows (trees_from (map (type_tree names) ts))) (sym e) ∙ sym (ap type_of t)

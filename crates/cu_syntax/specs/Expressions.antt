@@ -19,7 +19,7 @@ use Rattle.cu_syntax.specs.declared.symbol.Symbol.TheVariants as symbol
 use Rattle.cu_syntax.specs.Declarations.{declarations_meaning, right_meaning}
 use Rattle.cu_syntax.specs.ExpressionMeaning.{expression_meaning, expressions_meaning}
 use Rattle.cu_syntax.specs.Names.{literal_meaning, name_meaning}
-use Rattle.cu_syntax.specs.Patterns.{pattern_meaning, pattern_place, patterns_meaning}
+use Rattle.cu_syntax.specs.Patterns.{pattern_meaning, patterns_meaning}
 use Rattle.cu_syntax.specs.Reading.{Tree, alternatives_of, operator_rest, qualifiers_of}
 use Rattle.cu_syntax.specs.Subtrees.{is_empty, is_single, part_of}
 use Rattle.cu_syntax.specs.Syntax as syntax
@@ -56,7 +56,7 @@ items_meaning names items =
 
 -- an alternative before others
 abbrev pub with_alternative : List (List ℕ) → Alternative → syntax.Alternatives → syntax.Alternatives
-with_alternative names a rest = syntax.MoreAlternatives (pattern_place names a.pattern) (pattern_meaning names a.pattern) (right_meaning names a.right) rest
+with_alternative names a rest = syntax.MoreAlternatives (position_of a.place) (pattern_meaning names a.pattern) (right_meaning names a.right) rest
 
 abbrev pub alternatives_meaning : List (List ℕ) → List Alternative → syntax.Alternatives
 alternatives_meaning names [] = syntax.NoAlternative

@@ -3,6 +3,7 @@ pub mod Declarations
 pub mod ExpressionMeaning
 pub mod Expressions
 pub mod Fits
+pub mod Formed
 pub mod Forms
 pub mod ItemSymbols
 pub mod Items
@@ -15,6 +16,8 @@ pub mod Parsing
 pub mod Patterns
 pub mod Reading
 pub mod Scanning
+pub mod Sizes
+pub mod Smaller
 pub mod SubtreeMeaning
 pub mod Subtrees
 pub mod Syntax

@@ -129,7 +129,7 @@ abbrev pub ItemsAreOf : NameId → List (List ℕ) → Items → Type 0
 ItemsAreOf owner names i = PlaceIsOf owner i.place × IfSome i.minus (PlaceIsOf owner) × ExpressionIsOf owner names i.first × All (OperatorItemIsOf owner names) i.rest.items
 
 abbrev pub AlternativeIsOf : NameId → List (List ℕ) → Alternative → Type 0
-AlternativeIsOf owner names a = PatternIsOf owner names a.pattern × RightSideIsOf owner names a.right
+AlternativeIsOf owner names a = PlaceIsOf owner a.place × PatternIsOf owner names a.pattern × RightSideIsOf owner names a.right
 
 abbrev pub EnumerationIsOf : NameId → List (List ℕ) → Enumeration → Type 0
 EnumerationIsOf owner names e = ExpressionIsOf owner names e.first × IfSome e.second (ExpressionIsOf owner names) × IfSome e.last (ExpressionIsOf owner names)

@@ -1,7 +1,6 @@
 -- What patterns of the trees stand for, under a table of names.
 use Rattle.std.specs.Prelude.{ℕ, Bool, true, List, [], ◌∷◌, map, not}
 use Rattle.std.proofs.Math.IntN.{neg_ℤ}
-use Rattle.cu_lex.specs.Located.{Position}
 use Rattle.cu_lex.specs.Reading.{position_of}
 use Rattle.cu_peg.specs.Parse.{Parts}
 use Rattle.cu_syntax.specs.declared.patterns.ConstructorItem.{ConstructorItem}
@@ -12,7 +11,7 @@ use Rattle.cu_syntax.specs.declared.patterns.PatternNode.TheVariants as node
 use Rattle.cu_syntax.specs.declared.symbol.Symbol.{Symbol}
 use Rattle.cu_syntax.specs.declared.symbol.Symbol.TheVariants as symbol
 use Rattle.cu_syntax.specs.Names.{literal_meaning, name_meaning}
-use Rattle.cu_syntax.specs.Reading.{Tree, pattern_as, pattern_choice, pattern_of, pattern_rest, place}
+use Rattle.cu_syntax.specs.Reading.{Tree, pattern_as, pattern_choice, pattern_of, pattern_rest}
 use Rattle.cu_syntax.specs.SubtreeMeaning.{tree_of}
 use Rattle.cu_syntax.specs.Subtrees.{is_empty, is_single, part_of}
 use Rattle.cu_syntax.specs.Syntax as syntax
@@ -35,9 +34,6 @@ pattern_tree names p = tree_of names p.tree
 
 abbrev pub pattern_meaning : List (List ℕ) → Pattern → syntax.Pattern
 pattern_meaning names p = pattern_at p.tree.symbol (pattern_tree names p)
-
-abbrev pub pattern_place : List (List ℕ) → Pattern → Position
-pattern_place names p = place (pattern_tree names p)
 
 abbrev pub patterns_from : List syntax.Pattern → syntax.Patterns
 patterns_from [] = syntax.NoPattern

@@ -186,7 +186,25 @@ pub record Goal : Type 0 where
   pub expression : Expression
   pub free : List Name
 
--- the place of an expression's first token, inside the parentheses round it
+-- The place of a thing is that of its first token. Parentheses round the whole of it aren't its own.
+
+abbrev pub type_position : TypeTerm → Position
+type_position (TypeVariable name) = name.at
+type_position (TypeNamed name arguments) = name.at
+type_position (Arrow at parameter result) = at
+type_position (TypeTuple at components) = at
+type_position (TypeList at element) = at
+
+abbrev pub pattern_position : Pattern → Position
+pattern_position (PatternVariable name) = name.at
+pattern_position (As name inner) = name.at
+pattern_position (Wildcard at) = at
+pattern_position (PatternLiteral at found) = at
+pattern_position (Constructed at name arguments) = at
+pattern_position (PatternTuple at components) = at
+pattern_position (PatternList at elements) = at
+pattern_position (PatternOperators at first rest) = at
+
 abbrev pub expression_position : Expression → Position
 expression_position (Variable at name) = at
 expression_position (Constructor at name) = at
@@ -205,7 +223,6 @@ expression_position (ListOf at elements) = at
 expression_position (Enumeration at first second last) = at
 expression_position (Comprehension at element qualifiers) = at
 
--- the place of a declaration's first token
 abbrev pub declaration_position : Declaration → Position
 declaration_position (FreeVariables at names) = at
 declaration_position (Signature at names term) = at

@@ -32,8 +32,9 @@ type_meaning names t = type_at t.tree.symbol (tree_of names t.tree)
 abbrev pub type_tree : List (List ℕ) → TypeTerm → Tree
 type_tree names t = tree_of names t.tree
 
-abbrev pub type_place : List (List ℕ) → TypeTerm → Position
-type_place names t = place (tree_of names t.tree)
+-- the place of the first token of a parameter, which may be a parenthesis
+abbrev pub parameter_place : List (List ℕ) → TypeTerm → Position
+parameter_place names t = place (tree_of names t.tree)
 
 abbrev pub types_from : List syntax.TypeTerm → syntax.TypeTerms
 types_from [] = syntax.NoType
@@ -44,13 +45,13 @@ types_meaning names ts = types_from (map (type_meaning names) ts)
 
 abbrev pub function_type : List (List ℕ) → List TypeTerm → syntax.TypeTerm → syntax.TypeTerm
 function_type names [] result = result
-function_type names (t ∷ ts) result = syntax.Arrow (type_place names t) (type_meaning names t) (function_type names ts result)
+function_type names (t ∷ ts) result = syntax.Arrow (parameter_place names t) (type_meaning names t) (function_type names ts result)
 
 -- what a node says of its type
 abbrev pub type_node : List (List ℕ) → TypeNode → syntax.TypeTerm
 type_node names (node.Variable name) = syntax.TypeVariable (name_meaning names name)
 type_node names (node.Named name arguments) = syntax.TypeNamed (name_meaning names name) (types_meaning names arguments.items)
 type_node names (node.Function first further result) =
-    syntax.Arrow (type_place names first) (type_meaning names first) (function_type names further.items (type_meaning names result))
+    syntax.Arrow (parameter_place names first) (type_meaning names first) (function_type names further.items (type_meaning names result))
 type_node names (node.Tuple at components) = syntax.TypeTuple (position_of at) (types_meaning names components.items)
 type_node names (node.List at element) = syntax.TypeList (position_of at) (type_meaning names element)

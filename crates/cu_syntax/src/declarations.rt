@@ -71,6 +71,7 @@ impl<'t> Declaration<'t> {
     ghost use Rattle.cu_syntax.specs.Forms.{is_declaration};
     ghost use Rattle.cu_syntax.specs.Declarations.{declaration_meaning, declaration_node};
     ghost use Rattle.cu_syntax.specs.Owners.{DeclarationIsOf, DeclarationNodeIsOf, PlaceIsOf};
+    ghost use Rattle.cu_syntax.specs.Smaller.{DeclarationNodeIsBelow, declaration_size};
     ghost use Rattle.cu_syntax.specs.Syntax.{declaration_position};
 
     /// The declaration that a tree is.
@@ -97,6 +98,7 @@ impl<'t> Declaration<'t> {
     pub fn node(self, alloc: Global) -> Result<DeclarationNode<'t>, AllocError>
         ensures meaning { (names : List (List ℕ)) → IfOk result (λ node. declaration_node names node ≡ declaration_meaning names self.entry) }
         ensures owned { (owner : NameId) (names : List (List ℕ)) → DeclarationIsOf owner names self.entry → IfOk result (DeclarationNodeIsOf owner names) }
+        ensures smaller { IfOk result (DeclarationNodeIsBelow (declaration_size self.entry)) }
     {
         let tree = self.tree;
         match tree.symbol {
@@ -115,6 +117,7 @@ impl<'t> RightSide<'t> {
     ghost use Rattle.cu_syntax.specs.Forms.{is_body};
     ghost use Rattle.cu_syntax.specs.Declarations.{right_meaning, right_node};
     ghost use Rattle.cu_syntax.specs.Owners.{RightSideIsOf, RightSideNodeIsOf};
+    ghost use Rattle.cu_syntax.specs.Smaller.{RightNodeIsBelow, right_size};
     ghost use Rattle.cu_syntax.specs.declared.symbol.Symbol.TheVariants as symbol;
 
     pub(crate) fn new(body: Subtree<'t>, local: Subtree<'t>) -> RightSide<'t>
@@ -134,6 +137,7 @@ impl<'t> RightSide<'t> {
     pub fn node(self, alloc: Global) -> Result<RightSideNode<'t>, AllocError>
         ensures meaning { (names : List (List ℕ)) → IfOk result (λ node. right_node names node ≡ right_meaning names self.entry) }
         ensures owned { (owner : NameId) (names : List (List ℕ)) → RightSideIsOf owner names self.entry → IfOk result (RightSideNodeIsOf owner names) }
+        ensures smaller { IfOk result (RightNodeIsBelow (right_size self.entry)) }
     {
         let body = self.body.chosen();
         Ok(RightSideNode {

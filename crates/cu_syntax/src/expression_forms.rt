@@ -41,6 +41,37 @@ pub(crate) fn inside(tree: Subtree<'_>) -> Subtree<'_>
     inner
 }
 
+/// What an expression inside its parentheses is.
+pub(crate) fn node(alloc: Global, tree: Subtree<'_>) -> Result<ExpressionNode<'_>, AllocError>
+    requires node { is_expression_node tree.symbol ≡ true }
+    requires bare { (names : List (List ℕ)) → is_bare_expression tree.symbol (tree_of names tree) ≡ true }
+    ensures meaning { (names : List (List ℕ)) → IfOk result (λ node. expression_node names node ≡ expression_at tree.entry.symbol (tree_of names tree.entry)) }
+    ensures owned { (owner : NameId) (names : List (List ℕ)) → IsOf owner names tree.entry → IfOk result (ExpressionNodeIsOf owner names) }
+{
+    match tree.symbol {
+        Symbol::Exp => operators(alloc, tree),
+        Symbol::Lambda => lambda(alloc, tree),
+        Symbol::LetExp => let_in(alloc, tree),
+        Symbol::IfExp => Ok(condition(tree)),
+        Symbol::CaseExp => case(alloc, tree),
+        Symbol::Application => application(alloc, tree),
+        Symbol::Literal => Ok(ExpressionNode::Literal(tree.place(), tree.literal())),
+        Symbol::QVar => Ok(ExpressionNode::Variable(tree.place(), tree.name())),
+        Symbol::QCon => Ok(ExpressionNode::Constructor(tree.place(), tree.name())),
+        Symbol::Unit => Ok(ExpressionNode::Tuple(tree.place(), Vec::new(alloc))),
+        Symbol::TupleCon => Ok(tuple_constructor(tree)),
+        Symbol::RightSection => Ok(right_section(tree)),
+        Symbol::LeftSection => Ok(left_section(tree)),
+        Symbol::Tuple => tuple(alloc, tree),
+        Symbol::EmptyList => Ok(ExpressionNode::List(tree.place(), Vec::new(alloc))),
+        Symbol::FromThen => Ok(from_then(tree)),
+        Symbol::From => Ok(from(tree)),
+        Symbol::Comprehension => comprehension(alloc, tree),
+        Symbol::ListExp => list(alloc, tree),
+        _ => unreachable!(),
+    }
+}
+
 /// The expression that stands for this one, where the grammar or parentheses
 /// put something round it.
 fn wrapped(tree: Subtree<'_>) -> Option<Subtree<'_>>
@@ -82,7 +113,7 @@ fn lone_operand(tree: Subtree<'_>) -> Option<Subtree<'_>>
 }
 
 /// Operands with operators between them, or a minus before the first.
-pub(crate) fn operators(alloc: Global, tree: Subtree<'_>) -> Result<ExpressionNode<'_>, AllocError>
+fn operators(alloc: Global, tree: Subtree<'_>) -> Result<ExpressionNode<'_>, AllocError>
     requires symbol { tree.symbol ≡ symbol.Exp }
     requires more { (names : List (List ℕ)) → is_bare_expression tree.symbol (tree_of names tree) ≡ true }
     ensures meaning { (names : List (List ℕ)) → IfOk result (λ node. expression_node names node ≡ expression_of (tree_of names tree.entry)) }
@@ -131,7 +162,7 @@ fn operator_item(tree: Subtree<'_>) -> OperatorItem<'_>
     }
 }
 
-pub(crate) fn lambda(alloc: Global, tree: Subtree<'_>) -> Result<ExpressionNode<'_>, AllocError>
+fn lambda(alloc: Global, tree: Subtree<'_>) -> Result<ExpressionNode<'_>, AllocError>
     requires { tree.symbol ≡ symbol.Lambda }
     ensures meaning { (names : List (List ℕ)) → IfOk result (λ node. expression_node names node ≡ expression_as symbol.Lambda (tree_of names tree.entry)) }
     ensures owned { (owner : NameId) (names : List (List ℕ)) → IsOf owner names tree.entry → IfOk result (ExpressionNodeIsOf owner names) }
@@ -141,7 +172,7 @@ pub(crate) fn lambda(alloc: Global, tree: Subtree<'_>) -> Result<ExpressionNode<
     Ok(ExpressionNode::Lambda(tree.place(), parameters, body))
 }
 
-pub(crate) fn let_in(alloc: Global, tree: Subtree<'_>) -> Result<ExpressionNode<'_>, AllocError>
+fn let_in(alloc: Global, tree: Subtree<'_>) -> Result<ExpressionNode<'_>, AllocError>
     requires { tree.symbol ≡ symbol.LetExp }
     ensures meaning { (names : List (List ℕ)) → IfOk result (λ node. expression_node names node ≡ expression_as symbol.LetExp (tree_of names tree.entry)) }
     ensures owned { (owner : NameId) (names : List (List ℕ)) → IsOf owner names tree.entry → IfOk result (ExpressionNodeIsOf owner names) }
@@ -151,7 +182,7 @@ pub(crate) fn let_in(alloc: Global, tree: Subtree<'_>) -> Result<ExpressionNode<
     Ok(ExpressionNode::Let(tree.place(), declarations, body))
 }
 
-pub(crate) fn condition(tree: Subtree<'_>) -> ExpressionNode<'_>
+fn condition(tree: Subtree<'_>) -> ExpressionNode<'_>
     requires { tree.symbol ≡ symbol.IfExp }
     ensures meaning { (names : List (List ℕ)) → expression_node names result ≡ expression_as symbol.IfExp (tree_of names tree.entry) }
     ensures owned { (owner : NameId) (names : List (List ℕ)) → IsOf owner names tree.entry → ExpressionNodeIsOf owner names result }
@@ -162,7 +193,7 @@ pub(crate) fn condition(tree: Subtree<'_>) -> ExpressionNode<'_>
     ExpressionNode::If(tree.place(), condition, chosen, other)
 }
 
-pub(crate) fn case(alloc: Global, tree: Subtree<'_>) -> Result<ExpressionNode<'_>, AllocError>
+fn case(alloc: Global, tree: Subtree<'_>) -> Result<ExpressionNode<'_>, AllocError>
     requires { tree.symbol ≡ symbol.CaseExp }
     ensures meaning { (names : List (List ℕ)) → IfOk result (λ node. expression_node names node ≡ expression_as symbol.CaseExp (tree_of names tree.entry)) }
     ensures owned { (owner : NameId) (names : List (List ℕ)) → IsOf owner names tree.entry → IfOk result (ExpressionNodeIsOf owner names) }
@@ -209,11 +240,15 @@ fn alternative_of(tree: Subtree<'_>) -> Alternative<'_>
         tree.part(1, Symbol::AltBody),
         tree.part(2, Symbol::OptionalWhere),
     );
-    Alternative { pattern, right }
+    Alternative {
+        place: tree.place(),
+        pattern,
+        right,
+    }
 }
 
 /// An expression on arguments.
-pub(crate) fn application(
+fn application(
     alloc: Global,
     tree: Subtree<'_>,
 ) -> Result<ExpressionNode<'_>, AllocError>
@@ -227,7 +262,7 @@ pub(crate) fn application(
     Ok(ExpressionNode::Application(tree.place(), function, arguments))
 }
 
-pub(crate) fn tuple_constructor(tree: Subtree<'_>) -> ExpressionNode<'_>
+fn tuple_constructor(tree: Subtree<'_>) -> ExpressionNode<'_>
     requires { tree.symbol ≡ symbol.TupleCon }
     ensures meaning { (names : List (List ℕ)) → expression_node names result ≡ expression_as symbol.TupleCon (tree_of names tree.entry) }
     ensures owned { (owner : NameId) (names : List (List ℕ)) → IsOf owner names tree.entry → ExpressionNodeIsOf owner names result }
@@ -236,7 +271,7 @@ pub(crate) fn tuple_constructor(tree: Subtree<'_>) -> ExpressionNode<'_>
     ExpressionNode::TupleConstructor(tree.place(), commas + 1)
 }
 
-pub(crate) fn right_section(tree: Subtree<'_>) -> ExpressionNode<'_>
+fn right_section(tree: Subtree<'_>) -> ExpressionNode<'_>
     requires { tree.symbol ≡ symbol.RightSection }
     ensures meaning { (names : List (List ℕ)) → expression_node names result ≡ expression_as symbol.RightSection (tree_of names tree.entry) }
     ensures owned { (owner : NameId) (names : List (List ℕ)) → IsOf owner names tree.entry → ExpressionNodeIsOf owner names result }
@@ -246,7 +281,7 @@ pub(crate) fn right_section(tree: Subtree<'_>) -> ExpressionNode<'_>
     ExpressionNode::RightSection(tree.place(), operator, operand)
 }
 
-pub(crate) fn left_section(tree: Subtree<'_>) -> ExpressionNode<'_>
+fn left_section(tree: Subtree<'_>) -> ExpressionNode<'_>
     requires { tree.symbol ≡ symbol.LeftSection }
     ensures meaning { (names : List (List ℕ)) → expression_node names result ≡ expression_as symbol.LeftSection (tree_of names tree.entry) }
     ensures owned { (owner : NameId) (names : List (List ℕ)) → IsOf owner names tree.entry → ExpressionNodeIsOf owner names result }
@@ -257,7 +292,7 @@ pub(crate) fn left_section(tree: Subtree<'_>) -> ExpressionNode<'_>
 }
 
 /// The components of a tuple, of which there are two or more.
-pub(crate) fn tuple(alloc: Global, tree: Subtree<'_>) -> Result<ExpressionNode<'_>, AllocError>
+fn tuple(alloc: Global, tree: Subtree<'_>) -> Result<ExpressionNode<'_>, AllocError>
     requires symbol { tree.symbol ≡ symbol.Tuple }
     requires more { (names : List (List ℕ)) → is_bare_expression tree.symbol (tree_of names tree) ≡ true }
     ensures meaning { (names : List (List ℕ)) → IfOk result (λ node. expression_node names node ≡ expression_as symbol.Tuple (tree_of names tree.entry)) }
@@ -267,7 +302,7 @@ pub(crate) fn tuple(alloc: Global, tree: Subtree<'_>) -> Result<ExpressionNode<'
     Ok(ExpressionNode::Tuple(tree.place(), components))
 }
 
-pub(crate) fn from_then(tree: Subtree<'_>) -> ExpressionNode<'_>
+fn from_then(tree: Subtree<'_>) -> ExpressionNode<'_>
     requires { tree.symbol ≡ symbol.FromThen }
     ensures meaning { (names : List (List ℕ)) → expression_node names result ≡ expression_as symbol.FromThen (tree_of names tree.entry) }
     ensures owned { (owner : NameId) (names : List (List ℕ)) → IsOf owner names tree.entry → ExpressionNodeIsOf owner names result }
@@ -285,7 +320,7 @@ pub(crate) fn from_then(tree: Subtree<'_>) -> ExpressionNode<'_>
     )
 }
 
-pub(crate) fn from(tree: Subtree<'_>) -> ExpressionNode<'_>
+fn from(tree: Subtree<'_>) -> ExpressionNode<'_>
     requires { tree.symbol ≡ symbol.From }
     ensures meaning { (names : List (List ℕ)) → expression_node names result ≡ expression_as symbol.From (tree_of names tree.entry) }
     ensures owned { (owner : NameId) (names : List (List ℕ)) → IsOf owner names tree.entry → ExpressionNodeIsOf owner names result }
@@ -311,7 +346,7 @@ fn maybe(tree: Subtree<'_>) -> Option<Expression<'_>>
     Some(Expression::new(expression))
 }
 
-pub(crate) fn comprehension(
+fn comprehension(
     alloc: Global,
     tree: Subtree<'_>,
 ) -> Result<ExpressionNode<'_>, AllocError>
@@ -357,7 +392,7 @@ fn qualifier_of(alloc: Global, tree: Subtree<'_>) -> Result<Qualifier<'_>, Alloc
     }
 }
 
-pub(crate) fn list(alloc: Global, tree: Subtree<'_>) -> Result<ExpressionNode<'_>, AllocError>
+fn list(alloc: Global, tree: Subtree<'_>) -> Result<ExpressionNode<'_>, AllocError>
     requires { tree.symbol ≡ symbol.ListExp }
     ensures meaning { (names : List (List ℕ)) → IfOk result (λ node. expression_node names node ≡ expression_as symbol.ListExp (tree_of names tree.entry)) }
     ensures owned { (owner : NameId) (names : List (List ℕ)) → IsOf owner names tree.entry → IfOk result (ExpressionNodeIsOf owner names) }

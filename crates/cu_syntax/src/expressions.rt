@@ -3,10 +3,10 @@ ghost use Rattle.std.specs.Prelude.{◌≡◌, true};
 ghost use Rattle.cu_syntax.specs.Forms.{is_expression};
 
 use crate::declarations::{Declaration, RightSide};
+use crate::expression_forms::{inside, node};
 use crate::patterns::Pattern;
 use crate::subtree::Subtree;
-use crate::symbol::Symbol;
-use crate::{Literal, Name, expression_forms as forms};
+use crate::{Literal, Name};
 use cu_names::Place;
 use std::alloc::{AllocError, Global};
 
@@ -73,6 +73,7 @@ pub enum CaseWord {
 /// An alternative of a case distinction.
 #[derive(Clone, Copy, Debug)]
 pub struct Alternative<'t> {
+    pub place: Place,
     pub pattern: Pattern<'t>,
     pub right: RightSide<'t>,
 }
@@ -98,9 +99,11 @@ impl<'t> Expression<'t> {
     ghost use Rattle.std.specs.Prelude.{◌≡◌, ℕ, List, IfOk, true};
     ghost use Rattle.cu_lex.specs.Reading.{position_of};
     ghost use Rattle.cu_names.specs.declared.names.NameId.{NameId};
+    ghost use Rattle.cu_syntax.specs.Formed.{ExpressionNodeIsFormed};
     ghost use Rattle.cu_syntax.specs.Forms.{is_expression};
     ghost use Rattle.cu_syntax.specs.ExpressionMeaning.{expression_meaning};
     ghost use Rattle.cu_syntax.specs.Owners.{ExpressionIsOf, ExpressionNodeIsOf, PlaceIsOf};
+    ghost use Rattle.cu_syntax.specs.Smaller.{ExpressionNodeIsBelow, expression_size};
     ghost use Rattle.cu_syntax.specs.Syntax.{expression_position};
     ghost use Rattle.cu_syntax.specs.Expressions.{expression_node};
 
@@ -117,7 +120,7 @@ impl<'t> Expression<'t> {
         ensures position { (names : List (List ℕ)) → position_of result ≡ expression_position (expression_meaning names self.entry) }
         ensures owned { (owner : NameId) (names : List (List ℕ)) → ExpressionIsOf owner names self.entry → PlaceIsOf owner result }
     {
-        forms::inside(self.tree).place()
+        inside(self.tree).place()
     }
 
     /// What it is. Parentheses round one expression leave no node.
@@ -128,29 +131,9 @@ impl<'t> Expression<'t> {
     pub fn node(self, alloc: Global) -> Result<ExpressionNode<'t>, AllocError>
         ensures meaning { (names : List (List ℕ)) → IfOk result (λ node. expression_node names node ≡ expression_meaning names self.entry) }
         ensures owned { (owner : NameId) (names : List (List ℕ)) → ExpressionIsOf owner names self.entry → IfOk result (ExpressionNodeIsOf owner names) }
+        ensures smaller { IfOk result (ExpressionNodeIsBelow (expression_size self.entry)) }
+        ensures formed { IfOk result ExpressionNodeIsFormed }
     {
-        let tree = forms::inside(self.tree);
-        match tree.symbol {
-            Symbol::Exp => forms::operators(alloc, tree),
-            Symbol::Lambda => forms::lambda(alloc, tree),
-            Symbol::LetExp => forms::let_in(alloc, tree),
-            Symbol::IfExp => Ok(forms::condition(tree)),
-            Symbol::CaseExp => forms::case(alloc, tree),
-            Symbol::Application => forms::application(alloc, tree),
-            Symbol::Literal => Ok(ExpressionNode::Literal(tree.place(), tree.literal())),
-            Symbol::QVar => Ok(ExpressionNode::Variable(tree.place(), tree.name())),
-            Symbol::QCon => Ok(ExpressionNode::Constructor(tree.place(), tree.name())),
-            Symbol::Unit => Ok(ExpressionNode::Tuple(tree.place(), Vec::new(alloc))),
-            Symbol::TupleCon => Ok(forms::tuple_constructor(tree)),
-            Symbol::RightSection => Ok(forms::right_section(tree)),
-            Symbol::LeftSection => Ok(forms::left_section(tree)),
-            Symbol::Tuple => forms::tuple(alloc, tree),
-            Symbol::EmptyList => Ok(ExpressionNode::List(tree.place(), Vec::new(alloc))),
-            Symbol::FromThen => Ok(forms::from_then(tree)),
-            Symbol::From => Ok(forms::from(tree)),
-            Symbol::Comprehension => forms::comprehension(alloc, tree),
-            Symbol::ListExp => forms::list(alloc, tree),
-            _ => unreachable!(),
-        }
+        node(alloc, inside(self.tree))
     }
 }

@@ -23,13 +23,9 @@ mod rules;
 mod scanning;
 mod subtree;
 mod symbol;
-#[cfg(test)]
-mod tests;
 mod text;
 mod type_forms;
 mod types;
-#[cfg(test)]
-mod view_tests;
 
 pub use declarations::{Body, Declaration, DeclarationNode, Guard, RightSide, RightSideNode};
 pub use expressions::{
@@ -39,7 +35,7 @@ pub use fault::ParseFault;
 pub use items::{
     ConstructorDeclaration, Constructors, Entity, Export, Import, ImportList, ItemNode, Side,
 };
-pub use laws::one_reading;
+pub use laws::{one_reading, places_rise};
 pub use name::{Literal, ModuleName, Name};
 pub use parsing::{parse_goal, parse_module};
 pub use patterns::{ConstructorItem, PatItems, Pattern, PatternNode};

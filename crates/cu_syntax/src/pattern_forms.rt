@@ -58,8 +58,35 @@ fn wrapped(tree: Subtree<'_>) -> Option<Subtree<'_>>
     }
 }
 
+/// What a pattern inside its parentheses is.
+pub(crate) fn node(alloc: Global, tree: Subtree<'_>) -> Result<PatternNode<'_>, AllocError>
+    requires node { is_pattern_node tree.symbol ≡ true }
+    requires bare { (names : List (List ℕ)) → is_bare_pattern tree.symbol (tree_of names tree) ≡ true }
+    ensures meaning { (names : List (List ℕ)) → IfOk result (λ node. pattern_node names node ≡ pattern_at tree.entry.symbol (tree_of names tree.entry)) }
+    ensures owned { (owner : NameId) (names : List (List ℕ)) → IsOf owner names tree.entry → IfOk result (PatternNodeIsOf owner names) }
+{
+    match tree.symbol {
+        Symbol::Pat => operators(alloc, tree),
+        Symbol::NegativePat => Ok(negative(tree)),
+        Symbol::ConApplication => application(alloc, tree),
+        Symbol::AliasPat => Ok(alias(tree)),
+        Symbol::VarId => Ok(PatternNode::Variable(tree.name())),
+        Symbol::Underscore => Ok(PatternNode::Wildcard(tree.place())),
+        Symbol::Literal => Ok(literal(tree)),
+        Symbol::QCon => Ok(PatternNode::Constructed(
+            tree.place(),
+            tree.name(),
+            Vec::new(alloc),
+        )),
+        Symbol::Unit => Ok(PatternNode::Tuple(tree.place(), Vec::new(alloc))),
+        Symbol::TuplePat => tuple(alloc, tree),
+        Symbol::ListPat => list(alloc, tree),
+        _ => unreachable!(),
+    }
+}
+
 /// Patterns with constructor operators between them.
-pub(crate) fn operators(alloc: Global, tree: Subtree<'_>) -> Result<PatternNode<'_>, AllocError>
+fn operators(alloc: Global, tree: Subtree<'_>) -> Result<PatternNode<'_>, AllocError>
     requires symbol { tree.symbol ≡ symbol.Pat }
     requires more { (names : List (List ℕ)) → is_bare_pattern tree.symbol (tree_of names tree) ≡ true }
     ensures meaning { (names : List (List ℕ)) → IfOk result (λ node. pattern_node names node ≡ pattern_of (tree_of names tree.entry)) }
@@ -99,7 +126,7 @@ fn constructor_item(tree: Subtree<'_>) -> ConstructorItem<'_>
 }
 
 /// A number behind a minus.
-pub(crate) fn negative(tree: Subtree<'_>) -> PatternNode<'_>
+fn negative(tree: Subtree<'_>) -> PatternNode<'_>
     requires { tree.symbol ≡ symbol.NegativePat }
     ensures meaning { (names : List (List ℕ)) → pattern_node names result ≡ pattern_as symbol.NegativePat (tree_of names tree.entry) }
     ensures owned { (owner : NameId) (names : List (List ℕ)) → IsOf owner names tree.entry → PatternNodeIsOf owner names result }
@@ -108,7 +135,7 @@ pub(crate) fn negative(tree: Subtree<'_>) -> PatternNode<'_>
 }
 
 /// A constructor on its arguments.
-pub(crate) fn application(alloc: Global, tree: Subtree<'_>) -> Result<PatternNode<'_>, AllocError>
+fn application(alloc: Global, tree: Subtree<'_>) -> Result<PatternNode<'_>, AllocError>
     requires { tree.symbol ≡ symbol.ConApplication }
     ensures meaning { (names : List (List ℕ)) → IfOk result (λ node. pattern_node names node ≡ pattern_as symbol.ConApplication (tree_of names tree.entry)) }
     ensures owned { (owner : NameId) (names : List (List ℕ)) → IsOf owner names tree.entry → IfOk result (PatternNodeIsOf owner names) }
@@ -119,7 +146,7 @@ pub(crate) fn application(alloc: Global, tree: Subtree<'_>) -> Result<PatternNod
 }
 
 /// A variable, and the pattern that it stands for.
-pub(crate) fn alias(tree: Subtree<'_>) -> PatternNode<'_>
+fn alias(tree: Subtree<'_>) -> PatternNode<'_>
     requires { tree.symbol ≡ symbol.AliasPat }
     ensures meaning { (names : List (List ℕ)) → pattern_node names result ≡ pattern_as symbol.AliasPat (tree_of names tree.entry) }
     ensures owned { (owner : NameId) (names : List (List ℕ)) → IsOf owner names tree.entry → PatternNodeIsOf owner names result }
@@ -128,7 +155,7 @@ pub(crate) fn alias(tree: Subtree<'_>) -> PatternNode<'_>
     PatternNode::Alias(name, Pattern::new(tree.part(2, Symbol::APat)))
 }
 
-pub(crate) fn literal(tree: Subtree<'_>) -> PatternNode<'_>
+fn literal(tree: Subtree<'_>) -> PatternNode<'_>
     requires { tree.symbol ≡ symbol.Literal }
     ensures meaning { (names : List (List ℕ)) → pattern_node names result ≡ pattern_as symbol.Literal (tree_of names tree.entry) }
     ensures owned { (owner : NameId) (names : List (List ℕ)) → IsOf owner names tree.entry → PatternNodeIsOf owner names result }
@@ -137,7 +164,7 @@ pub(crate) fn literal(tree: Subtree<'_>) -> PatternNode<'_>
 }
 
 /// The components of a tuple, of which there are two or more.
-pub(crate) fn tuple(alloc: Global, tree: Subtree<'_>) -> Result<PatternNode<'_>, AllocError>
+fn tuple(alloc: Global, tree: Subtree<'_>) -> Result<PatternNode<'_>, AllocError>
     requires symbol { tree.symbol ≡ symbol.TuplePat }
     requires more { (names : List (List ℕ)) → is_bare_pattern tree.symbol (tree_of names tree) ≡ true }
     ensures meaning { (names : List (List ℕ)) → IfOk result (λ node. pattern_node names node ≡ pattern_as symbol.TuplePat (tree_of names tree.entry)) }
@@ -147,7 +174,7 @@ pub(crate) fn tuple(alloc: Global, tree: Subtree<'_>) -> Result<PatternNode<'_>,
     Ok(PatternNode::Tuple(tree.place(), components))
 }
 
-pub(crate) fn list(alloc: Global, tree: Subtree<'_>) -> Result<PatternNode<'_>, AllocError>
+fn list(alloc: Global, tree: Subtree<'_>) -> Result<PatternNode<'_>, AllocError>
     requires { tree.symbol ≡ symbol.ListPat }
     ensures meaning { (names : List (List ℕ)) → IfOk result (λ node. pattern_node names node ≡ pattern_as symbol.ListPat (tree_of names tree.entry)) }
     ensures owned { (owner : NameId) (names : List (List ℕ)) → IsOf owner names tree.entry → IfOk result (PatternNodeIsOf owner names) }

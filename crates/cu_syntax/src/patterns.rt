@@ -2,9 +2,8 @@
 ghost use Rattle.std.specs.Prelude.{◌≡◌, true};
 ghost use Rattle.cu_syntax.specs.Forms.{is_pattern};
 
-use crate::pattern_forms::{alias, application, inside, list, literal, negative, operators, tuple};
+use crate::pattern_forms::{inside, node};
 use crate::subtree::Subtree;
-use crate::symbol::Symbol;
 use crate::{Literal, Name};
 use cu_names::Place;
 use std::alloc::{AllocError, Global};
@@ -54,9 +53,12 @@ impl<'t> Pattern<'t> {
     ghost use Rattle.std.specs.Prelude.{◌≡◌, ℕ, List, IfOk, true};
     ghost use Rattle.cu_lex.specs.Reading.{position_of};
     ghost use Rattle.cu_names.specs.declared.names.NameId.{NameId};
+    ghost use Rattle.cu_syntax.specs.Formed.{PatternNodeIsFormed};
     ghost use Rattle.cu_syntax.specs.Forms.{is_pattern};
     ghost use Rattle.cu_syntax.specs.Owners.{PatternIsOf, PatternNodeIsOf, PlaceIsOf};
-    ghost use Rattle.cu_syntax.specs.Patterns.{pattern_meaning, pattern_node, pattern_place};
+    ghost use Rattle.cu_syntax.specs.Patterns.{pattern_meaning, pattern_node};
+    ghost use Rattle.cu_syntax.specs.Smaller.{PatternNodeIsBelow, pattern_size};
+    ghost use Rattle.cu_syntax.specs.Syntax.{pattern_position};
 
     /// The pattern that a tree is.
     pub(crate) fn new(tree: Subtree<'t>) -> Pattern<'t>
@@ -66,12 +68,12 @@ impl<'t> Pattern<'t> {
         Pattern { tree }
     }
 
-    /// The place of its first token, which may be a parenthesis round it.
+    /// The place of its first token, inside the parentheses round it.
     pub fn place(self) -> Place
-        ensures position { (names : List (List ℕ)) → position_of result ≡ pattern_place names self.entry }
+        ensures position { (names : List (List ℕ)) → position_of result ≡ pattern_position (pattern_meaning names self.entry) }
         ensures owned { (owner : NameId) (names : List (List ℕ)) → PatternIsOf owner names self.entry → PlaceIsOf owner result }
     {
-        self.tree.place()
+        inside(self.tree).place()
     }
 
     /// What it is. Parentheses round one pattern leave no node.
@@ -82,25 +84,9 @@ impl<'t> Pattern<'t> {
     pub fn node(self, alloc: Global) -> Result<PatternNode<'t>, AllocError>
         ensures meaning { (names : List (List ℕ)) → IfOk result (λ node. pattern_node names node ≡ pattern_meaning names self.entry) }
         ensures owned { (owner : NameId) (names : List (List ℕ)) → PatternIsOf owner names self.entry → IfOk result (PatternNodeIsOf owner names) }
+        ensures smaller { IfOk result (PatternNodeIsBelow (pattern_size self.entry)) }
+        ensures formed { IfOk result PatternNodeIsFormed }
     {
-        let tree = inside(self.tree);
-        match tree.symbol {
-            Symbol::Pat => operators(alloc, tree),
-            Symbol::NegativePat => Ok(negative(tree)),
-            Symbol::ConApplication => application(alloc, tree),
-            Symbol::AliasPat => Ok(alias(tree)),
-            Symbol::VarId => Ok(PatternNode::Variable(tree.name())),
-            Symbol::Underscore => Ok(PatternNode::Wildcard(tree.place())),
-            Symbol::Literal => Ok(literal(tree)),
-            Symbol::QCon => Ok(PatternNode::Constructed(
-                tree.place(),
-                tree.name(),
-                Vec::new(alloc),
-            )),
-            Symbol::Unit => Ok(PatternNode::Tuple(tree.place(), Vec::new(alloc))),
-            Symbol::TuplePat => tuple(alloc, tree),
-            Symbol::ListPat => list(alloc, tree),
-            _ => unreachable!(),
-        }
+        node(alloc, inside(self.tree))
     }
 }

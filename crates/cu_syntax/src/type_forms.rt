@@ -52,8 +52,27 @@ pub(crate) fn wrapped(tree: Subtree<'_>) -> Option<Subtree<'_>>
     }
 }
 
+/// What a type inside its parentheses is.
+pub(crate) fn node(alloc: Global, tree: Subtree<'_>) -> Result<TypeNode<'_>, AllocError>
+    requires node { is_type_node tree.symbol ≡ true }
+    requires bare { (names : List (List ℕ)) → is_bare_type tree.symbol (tree_of names tree) ≡ true }
+    ensures meaning { (names : List (List ℕ)) → IfOk result (λ node. type_node names node ≡ type_at tree.entry.symbol (tree_of names tree.entry)) }
+    ensures owned { (owner : NameId) (names : List (List ℕ)) → IsOf owner names tree.entry → IfOk result (TypeNodeIsOf owner names) }
+{
+    match tree.symbol {
+        Symbol::TypeExp => function(alloc, tree),
+        Symbol::TypeApplication => application(alloc, tree),
+        Symbol::QConId => Ok(TypeNode::Named(tree.name(), Vec::new(alloc))),
+        Symbol::VarId => Ok(TypeNode::Variable(tree.name())),
+        Symbol::Unit => Ok(TypeNode::Tuple(tree.place(), Vec::new(alloc))),
+        Symbol::TupleType => tuple(alloc, tree),
+        Symbol::ListType => Ok(list(tree)),
+        _ => unreachable!(),
+    }
+}
+
 /// Function types, of two types or more.
-pub(crate) fn function(alloc: Global, tree: Subtree<'_>) -> Result<TypeNode<'_>, AllocError>
+fn function(alloc: Global, tree: Subtree<'_>) -> Result<TypeNode<'_>, AllocError>
     requires symbol { tree.symbol ≡ symbol.TypeExp }
     requires more { (names : List (List ℕ)) → is_bare_type tree.symbol (tree_of names tree) ≡ true }
     ensures meaning { (names : List (List ℕ)) → IfOk result (λ node. type_node names node ≡ type_of (tree_of names tree.entry)) }
@@ -70,7 +89,7 @@ pub(crate) fn function(alloc: Global, tree: Subtree<'_>) -> Result<TypeNode<'_>,
 }
 
 /// A type constructor on its arguments.
-pub(crate) fn application(alloc: Global, tree: Subtree<'_>) -> Result<TypeNode<'_>, AllocError>
+fn application(alloc: Global, tree: Subtree<'_>) -> Result<TypeNode<'_>, AllocError>
     requires { tree.symbol ≡ symbol.TypeApplication }
     ensures meaning { (names : List (List ℕ)) → IfOk result (λ node. type_node names node ≡ type_as symbol.TypeApplication (tree_of names tree.entry)) }
     ensures owned { (owner : NameId) (names : List (List ℕ)) → IsOf owner names tree.entry → IfOk result (TypeNodeIsOf owner names) }
@@ -81,7 +100,7 @@ pub(crate) fn application(alloc: Global, tree: Subtree<'_>) -> Result<TypeNode<'
 }
 
 /// The components of a tuple, of which there are two or more.
-pub(crate) fn tuple(alloc: Global, tree: Subtree<'_>) -> Result<TypeNode<'_>, AllocError>
+fn tuple(alloc: Global, tree: Subtree<'_>) -> Result<TypeNode<'_>, AllocError>
     requires symbol { tree.symbol ≡ symbol.TupleType }
     requires more { (names : List (List ℕ)) → is_bare_type tree.symbol (tree_of names tree) ≡ true }
     ensures meaning { (names : List (List ℕ)) → IfOk result (λ node. type_node names node ≡ type_as symbol.TupleType (tree_of names tree.entry)) }
@@ -91,7 +110,7 @@ pub(crate) fn tuple(alloc: Global, tree: Subtree<'_>) -> Result<TypeNode<'_>, Al
     Ok(TypeNode::Tuple(tree.place(), components))
 }
 
-pub(crate) fn list(tree: Subtree<'_>) -> TypeNode<'_>
+fn list(tree: Subtree<'_>) -> TypeNode<'_>
     requires { tree.symbol ≡ symbol.ListType }
     ensures meaning { (names : List (List ℕ)) → type_node names result ≡ type_as symbol.ListType (tree_of names tree.entry) }
     ensures owned { (owner : NameId) (names : List (List ℕ)) → IsOf owner names tree.entry → TypeNodeIsOf owner names result }

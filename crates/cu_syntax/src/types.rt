@@ -4,8 +4,7 @@ ghost use Rattle.cu_syntax.specs.Forms.{is_type};
 
 use crate::Name;
 use crate::subtree::Subtree;
-use crate::symbol::Symbol;
-use crate::type_forms::{application, function, inside, list, tuple};
+use crate::type_forms::{inside, node};
 use cu_names::Place;
 use std::alloc::{AllocError, Global};
 
@@ -34,9 +33,12 @@ impl<'t> TypeTerm<'t> {
     ghost use Rattle.std.specs.Prelude.{◌≡◌, ℕ, List, IfOk, true};
     ghost use Rattle.cu_lex.specs.Reading.{position_of};
     ghost use Rattle.cu_names.specs.declared.names.NameId.{NameId};
+    ghost use Rattle.cu_syntax.specs.Formed.{TypeNodeIsFormed};
     ghost use Rattle.cu_syntax.specs.Forms.{is_type};
     ghost use Rattle.cu_syntax.specs.Owners.{PlaceIsOf, TypeIsOf, TypeNodeIsOf};
-    ghost use Rattle.cu_syntax.specs.Types.{type_meaning, type_node, type_place};
+    ghost use Rattle.cu_syntax.specs.Smaller.{TypeNodeIsBelow, type_size};
+    ghost use Rattle.cu_syntax.specs.Syntax.{type_position};
+    ghost use Rattle.cu_syntax.specs.Types.{type_meaning, type_node};
 
     /// The type that a tree is.
     pub(crate) fn new(tree: Subtree<'t>) -> TypeTerm<'t>
@@ -46,12 +48,12 @@ impl<'t> TypeTerm<'t> {
         TypeTerm { tree }
     }
 
-    /// The place of its first token, which may be a parenthesis round it.
+    /// The place of its first token, inside the parentheses round it.
     pub fn place(self) -> Place
-        ensures position { (names : List (List ℕ)) → position_of result ≡ type_place names self.entry }
+        ensures position { (names : List (List ℕ)) → position_of result ≡ type_position (type_meaning names self.entry) }
         ensures owned { (owner : NameId) (names : List (List ℕ)) → TypeIsOf owner names self.entry → PlaceIsOf owner result }
     {
-        self.tree.place()
+        inside(self.tree).place()
     }
 
     /// What it is. Parentheses round one type leave no node.
@@ -62,17 +64,9 @@ impl<'t> TypeTerm<'t> {
     pub fn node(self, alloc: Global) -> Result<TypeNode<'t>, AllocError>
         ensures meaning { (names : List (List ℕ)) → IfOk result (λ node. type_node names node ≡ type_meaning names self.entry) }
         ensures owned { (owner : NameId) (names : List (List ℕ)) → TypeIsOf owner names self.entry → IfOk result (TypeNodeIsOf owner names) }
+        ensures smaller { IfOk result (TypeNodeIsBelow (type_size self.entry)) }
+        ensures formed { IfOk result TypeNodeIsFormed }
     {
-        let tree = inside(self.tree);
-        match tree.symbol {
-            Symbol::TypeExp => function(alloc, tree),
-            Symbol::TypeApplication => application(alloc, tree),
-            Symbol::QConId => Ok(TypeNode::Named(tree.name(), Vec::new(alloc))),
-            Symbol::VarId => Ok(TypeNode::Variable(tree.name())),
-            Symbol::Unit => Ok(TypeNode::Tuple(tree.place(), Vec::new(alloc))),
-            Symbol::TupleType => tuple(alloc, tree),
-            Symbol::ListType => Ok(list(tree)),
-            _ => unreachable!(),
-        }
+        node(alloc, inside(self.tree))
     }
 }

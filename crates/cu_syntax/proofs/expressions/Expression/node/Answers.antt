@@ -1,126 +1,33 @@
--- What is inside is one of the forms, and means the same.
-use Rattle.std.proofs.Common.{ap, sym, ◌∙◌}
-use Rattle.cu_syntax.specs.declared.symbol.Symbol.TheVariants as symbol
+-- What is inside means the same, and what it tells is smaller.
+use Rattle.std.proofs.Common.{[]}
 use Rattle.cu_syntax.specs.ExpressionMeaning.{expression_at, expression_meaning}
 use Rattle.cu_syntax.specs.Expressions.{expression_node}
-use Rattle.cu_syntax.specs.Reading.{expression_as, expression_of}
+use Rattle.cu_syntax.specs.Formed.{ExpressionNodeIsFormed}
+use Rattle.cu_syntax.specs.Sizes.{size_of_expression}
+use Rattle.cu_syntax.specs.Smaller.{ExpressionNodeIsBelow, expression_size}
 use Rattle.cu_syntax.specs.SubtreeMeaning.{tree_of}
-use Rattle.cu_syntax.specs.Owners.{ExpressionIsOf}
-use Rattle.cu_syntax.proofs.ExpressionForms.{nodes}
-use Rattle.cu_syntax.proofs.ShapeLemmas.{not_among}
+use Rattle.cu_syntax.proofs.FormedLemmas.{formed_expression_node, is_formed_expression, ok_formed, expression_formed}
+use Rattle.cu_syntax.proofs.SizeLemmas.{ok_below, expression_below}
 use Rattle.cu_syntax.proofs.ViewLemmas.{ok_as}
-use Rattle.cu_syntax.proofs.OwnerLemmas.{none_yet}
 use Rattle.cu_syntax.proofs.expressions.Expression.node.Goals as goal
 
-pub unreachable-requires : goal.unreachable-requires
-unreachable-requires c =
-    let other = c.in_default in
-    not_among c.inside-tree.result.symbol nodes
-    (other.not-Exp, (other.not-Lambda, (other.not-LetExp, (other.not-IfExp, (other.not-CaseExp, (other.not-Application, (other.not-Literal, (other.not-QVar, (other.not-QCon, (other.not-Unit, (other.not-TupleCon, (other.not-RightSection, (other.not-LeftSection, (other.not-Tuple, (other.not-EmptyList, (other.not-FromThen, (other.not-From, (other.not-Comprehension, (other.not-ListExp, tt))))))))))))))))))) c.inside-tree.ensures.node
+pub returns-clause-meaning : goal.returns-clause-meaning
+returns-clause-meaning c = λ names.
+    let inner = c.inside.result in
+    ok_as (expression_node names) c.node.result (expression_at inner.symbol (tree_of names inner)) (expression_meaning names c.args.self) (c.node.ensures.meaning names) (c.inside.ensures.same names)
 
-pub returns-in-Exp-clause-meaning : goal.returns-in-Exp-clause-meaning
-returns-in-Exp-clause-meaning c = λ names.
-    let inner = tree_of names c.inside-tree.result in
-    ok_as (expression_node names) c.operators.result (expression_of inner) (expression_meaning names c.args.self) (c.operators.ensures.meaning names)
-    (sym (ap (λ a. expression_at a inner) c.in-Exp.is) ∙ c.inside-tree.ensures.same names)
+pub returns-clause-owned : goal.returns-clause-owned
+returns-clause-owned c = λ owner names whole. c.node.ensures.owned owner names (c.inside.ensures.owned owner names whole)
 
-pub returns-in-Lambda-clause-meaning : goal.returns-in-Lambda-clause-meaning
-returns-in-Lambda-clause-meaning c = λ names.
-    let inner = tree_of names c.inside-tree.result in
-    ok_as (expression_node names) c.lambda.result (expression_as symbol.Lambda inner) (expression_meaning names c.args.self) (c.lambda.ensures.meaning names)
-    (sym (ap (λ a. expression_at a inner) c.in-Lambda.is) ∙ c.inside-tree.ensures.same names)
+pub returns-clause-smaller : goal.returns-clause-smaller
+unfolding expression_size
+returns-clause-smaller c =
+    let inner = c.inside.result in
+    ok_below (expression_node []) size_of_expression ExpressionNodeIsBelow c.node.result (expression_meaning [] c.args.self) expression_below
+    (ok_as (expression_node []) c.node.result (expression_at inner.symbol (tree_of [] inner)) (expression_meaning [] c.args.self) (c.node.ensures.meaning []) (c.inside.ensures.same []))
 
-pub returns-in-LetExp-clause-meaning : goal.returns-in-LetExp-clause-meaning
-returns-in-LetExp-clause-meaning c = λ names.
-    let inner = tree_of names c.inside-tree.result in
-    ok_as (expression_node names) c.let_in.result (expression_as symbol.LetExp inner) (expression_meaning names c.args.self) (c.let_in.ensures.meaning names)
-    (sym (ap (λ a. expression_at a inner) c.in-LetExp.is) ∙ c.inside-tree.ensures.same names)
-
-pub returns-in-CaseExp-clause-meaning : goal.returns-in-CaseExp-clause-meaning
-returns-in-CaseExp-clause-meaning c = λ names.
-    let inner = tree_of names c.inside-tree.result in
-    ok_as (expression_node names) c.case.result (expression_as symbol.CaseExp inner) (expression_meaning names c.args.self) (c.case.ensures.meaning names)
-    (sym (ap (λ a. expression_at a inner) c.in-CaseExp.is) ∙ c.inside-tree.ensures.same names)
-
-pub returns-in-Application-clause-meaning : goal.returns-in-Application-clause-meaning
-returns-in-Application-clause-meaning c = λ names.
-    let inner = tree_of names c.inside-tree.result in
-    ok_as (expression_node names) c.application.result (expression_as symbol.Application inner) (expression_meaning names c.args.self) (c.application.ensures.meaning names)
-    (sym (ap (λ a. expression_at a inner) c.in-Application.is) ∙ c.inside-tree.ensures.same names)
-
-pub returns-in-Tuple-clause-meaning : goal.returns-in-Tuple-clause-meaning
-returns-in-Tuple-clause-meaning c = λ names.
-    let inner = tree_of names c.inside-tree.result in
-    ok_as (expression_node names) c.tuple.result (expression_as symbol.Tuple inner) (expression_meaning names c.args.self) (c.tuple.ensures.meaning names)
-    (sym (ap (λ a. expression_at a inner) c.in-Tuple.is) ∙ c.inside-tree.ensures.same names)
-
-pub returns-in-Comprehension-clause-meaning : goal.returns-in-Comprehension-clause-meaning
-returns-in-Comprehension-clause-meaning c = λ names.
-    let inner = tree_of names c.inside-tree.result in
-    ok_as (expression_node names) c.comprehension.result (expression_as symbol.Comprehension inner) (expression_meaning names c.args.self) (c.comprehension.ensures.meaning names)
-    (sym (ap (λ a. expression_at a inner) c.in-Comprehension.is) ∙ c.inside-tree.ensures.same names)
-
-pub returns-in-ListExp-clause-meaning : goal.returns-in-ListExp-clause-meaning
-returns-in-ListExp-clause-meaning c = λ names.
-    let inner = tree_of names c.inside-tree.result in
-    ok_as (expression_node names) c.list.result (expression_as symbol.ListExp inner) (expression_meaning names c.args.self) (c.list.ensures.meaning names)
-    (sym (ap (λ a. expression_at a inner) c.in-ListExp.is) ∙ c.inside-tree.ensures.same names)
-
-pub returns-in-Exp-clause-owned : goal.returns-in-Exp-clause-owned
-returns-in-Exp-clause-owned c = λ owner names whole. c.operators.ensures.owned owner names (c.inside-tree.ensures.owned owner names whole)
-
-pub returns-in-Lambda-clause-owned : goal.returns-in-Lambda-clause-owned
-returns-in-Lambda-clause-owned c = λ owner names whole. c.lambda.ensures.owned owner names (c.inside-tree.ensures.owned owner names whole)
-
-pub returns-in-LetExp-clause-owned : goal.returns-in-LetExp-clause-owned
-returns-in-LetExp-clause-owned c = λ owner names whole. c.let_in.ensures.owned owner names (c.inside-tree.ensures.owned owner names whole)
-
-pub returns-in-IfExp-clause-owned : goal.returns-in-IfExp-clause-owned
-returns-in-IfExp-clause-owned c = λ owner names whole. c.condition.ensures.owned owner names (c.inside-tree.ensures.owned owner names whole)
-
-pub returns-in-CaseExp-clause-owned : goal.returns-in-CaseExp-clause-owned
-returns-in-CaseExp-clause-owned c = λ owner names whole. c.case.ensures.owned owner names (c.inside-tree.ensures.owned owner names whole)
-
-pub returns-in-Application-clause-owned : goal.returns-in-Application-clause-owned
-returns-in-Application-clause-owned c = λ owner names whole. c.application.ensures.owned owner names (c.inside-tree.ensures.owned owner names whole)
-
-pub returns-in-TupleCon-clause-owned : goal.returns-in-TupleCon-clause-owned
-returns-in-TupleCon-clause-owned c = λ owner names whole. c.tuple_constructor.ensures.owned owner names (c.inside-tree.ensures.owned owner names whole)
-
-pub returns-in-RightSection-clause-owned : goal.returns-in-RightSection-clause-owned
-returns-in-RightSection-clause-owned c = λ owner names whole. c.right_section.ensures.owned owner names (c.inside-tree.ensures.owned owner names whole)
-
-pub returns-in-LeftSection-clause-owned : goal.returns-in-LeftSection-clause-owned
-returns-in-LeftSection-clause-owned c = λ owner names whole. c.left_section.ensures.owned owner names (c.inside-tree.ensures.owned owner names whole)
-
-pub returns-in-Tuple-clause-owned : goal.returns-in-Tuple-clause-owned
-returns-in-Tuple-clause-owned c = λ owner names whole. c.tuple.ensures.owned owner names (c.inside-tree.ensures.owned owner names whole)
-
-pub returns-in-FromThen-clause-owned : goal.returns-in-FromThen-clause-owned
-returns-in-FromThen-clause-owned c = λ owner names whole. c.from_then.ensures.owned owner names (c.inside-tree.ensures.owned owner names whole)
-
-pub returns-in-From-clause-owned : goal.returns-in-From-clause-owned
-returns-in-From-clause-owned c = λ owner names whole. c.from.ensures.owned owner names (c.inside-tree.ensures.owned owner names whole)
-
-pub returns-in-Comprehension-clause-owned : goal.returns-in-Comprehension-clause-owned
-returns-in-Comprehension-clause-owned c = λ owner names whole. c.comprehension.ensures.owned owner names (c.inside-tree.ensures.owned owner names whole)
-
-pub returns-in-ListExp-clause-owned : goal.returns-in-ListExp-clause-owned
-returns-in-ListExp-clause-owned c = λ owner names whole. c.list.ensures.owned owner names (c.inside-tree.ensures.owned owner names whole)
-
-pub returns-in-Literal-clause-owned : goal.returns-in-Literal-clause-owned
-returns-in-Literal-clause-owned c = λ owner names whole.
-    let inner = c.inside-tree.ensures.owned owner names whole in
-    (c.place.ensures.owned owner names inner, c.literal.ensures.natural owner names inner)
-
-pub returns-in-QVar-clause-owned : goal.returns-in-QVar-clause-owned
-returns-in-QVar-clause-owned c = λ owner names whole. (c.place-in-QVar.ensures.owned owner names (c.inside-tree.ensures.owned owner names whole), c.name.ensures.owned owner names (c.inside-tree.ensures.owned owner names whole))
-
-pub returns-in-QCon-clause-owned : goal.returns-in-QCon-clause-owned
-returns-in-QCon-clause-owned c = λ owner names whole. (c.place-in-QCon.ensures.owned owner names (c.inside-tree.ensures.owned owner names whole), c.name-in-QCon.ensures.owned owner names (c.inside-tree.ensures.owned owner names whole))
-
-pub returns-in-Unit-clause-owned : goal.returns-in-Unit-clause-owned
-returns-in-Unit-clause-owned c = λ owner names whole. (c.place-in-Unit.ensures.owned owner names (c.inside-tree.ensures.owned owner names whole), none_yet (ExpressionIsOf owner names) c.new.result.items c.new.ensures.items)
-
-pub returns-in-EmptyList-clause-owned : goal.returns-in-EmptyList-clause-owned
-returns-in-EmptyList-clause-owned c = λ owner names whole. (c.place-in-EmptyList.ensures.owned owner names (c.inside-tree.ensures.owned owner names whole), none_yet (ExpressionIsOf owner names) c.new-in-EmptyList.result.items c.new-in-EmptyList.ensures.items)
+pub returns-clause-formed : goal.returns-clause-formed
+returns-clause-formed c =
+    let inner = c.inside.result in
+    ok_formed (expression_node []) is_formed_expression ExpressionNodeIsFormed c.node.result (expression_at inner.symbol (tree_of [] inner)) formed_expression_node
+    (expression_formed inner.symbol (tree_of [] inner) c.inside.ensures.node (inner.fits []) (c.inside.ensures.bare [])) (c.node.ensures.meaning [])

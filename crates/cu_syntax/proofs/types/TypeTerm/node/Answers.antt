@@ -1,51 +1,32 @@
--- What is inside is one of the forms, and the same type.
-use Rattle.std.proofs.Common.{ap, sym, ◌∙◌}
-use Rattle.cu_syntax.specs.declared.symbol.Symbol.TheVariants as symbol
-use Rattle.cu_syntax.specs.Reading.{type_as, type_of}
-use Rattle.cu_syntax.specs.SubtreeMeaning.{tree_of}
+-- What is inside means the same, and what it tells is smaller.
+use Rattle.std.proofs.Common.{[]}
 use Rattle.cu_syntax.specs.Types.{type_at, type_meaning, type_node}
-use Rattle.cu_syntax.specs.Owners.{TypeIsOf}
-use Rattle.cu_syntax.proofs.ShapeLemmas.{not_among}
-use Rattle.cu_syntax.proofs.TypeForms.{nodes}
+use Rattle.cu_syntax.specs.Formed.{TypeNodeIsFormed}
+use Rattle.cu_syntax.specs.Sizes.{size_of_type}
+use Rattle.cu_syntax.specs.Smaller.{TypeNodeIsBelow, type_size}
+use Rattle.cu_syntax.specs.SubtreeMeaning.{tree_of}
+use Rattle.cu_syntax.proofs.FormedLemmas.{formed_type_node, is_formed_type, ok_formed, type_formed}
+use Rattle.cu_syntax.proofs.SizeLemmas.{ok_below, type_below}
 use Rattle.cu_syntax.proofs.ViewLemmas.{ok_as}
-use Rattle.cu_syntax.proofs.OwnerLemmas.{none_yet}
 use Rattle.cu_syntax.proofs.types.TypeTerm.node.Goals as goal
 
-pub unreachable-requires : goal.unreachable-requires
-unreachable-requires c =
-    let no = c.in_default in
-    not_among c.inside-tree.result.symbol nodes
-    (no.not-TypeExp, (no.not-TypeApplication, (no.not-QConId, (no.not-VarId, (no.not-Unit, (no.not-TupleType, (no.not-ListType, tt))))))) c.inside-tree.ensures.node
+pub returns-clause-meaning : goal.returns-clause-meaning
+returns-clause-meaning c = λ names.
+    let inner = c.inside.result in
+    ok_as (type_node names) c.node.result (type_at inner.symbol (tree_of names inner)) (type_meaning names c.args.self) (c.node.ensures.meaning names) (c.inside.ensures.same names)
 
-pub returns-in-TypeExp-clause-meaning : goal.returns-in-TypeExp-clause-meaning
-returns-in-TypeExp-clause-meaning c = λ names.
-    let inner = tree_of names c.inside-tree.result in
-    ok_as (type_node names) c.function.result (type_of inner) (type_meaning names c.args.self) (c.function.ensures.meaning names)
-    (sym (ap (λ a. type_at a inner) c.in-TypeExp.is) ∙ c.inside-tree.ensures.same names)
+pub returns-clause-owned : goal.returns-clause-owned
+returns-clause-owned c = λ owner names whole. c.node.ensures.owned owner names (c.inside.ensures.owned owner names whole)
 
-pub returns-in-TypeApplication-clause-meaning : goal.returns-in-TypeApplication-clause-meaning
-returns-in-TypeApplication-clause-meaning c = λ names.
-    let inner = tree_of names c.inside-tree.result in
-    ok_as (type_node names) c.application.result (type_as symbol.TypeApplication inner) (type_meaning names c.args.self) (c.application.ensures.meaning names)
-    (sym (ap (λ a. type_at a inner) c.in-TypeApplication.is) ∙ c.inside-tree.ensures.same names)
+pub returns-clause-smaller : goal.returns-clause-smaller
+unfolding type_size
+returns-clause-smaller c =
+    let inner = c.inside.result in
+    ok_below (type_node []) size_of_type TypeNodeIsBelow c.node.result (type_meaning [] c.args.self) type_below
+    (ok_as (type_node []) c.node.result (type_at inner.symbol (tree_of [] inner)) (type_meaning [] c.args.self) (c.node.ensures.meaning []) (c.inside.ensures.same []))
 
-pub returns-in-TypeExp-clause-owned : goal.returns-in-TypeExp-clause-owned
-returns-in-TypeExp-clause-owned c = λ owner names whole. c.function.ensures.owned owner names (c.inside-tree.ensures.owned owner names whole)
-
-pub returns-in-TypeApplication-clause-owned : goal.returns-in-TypeApplication-clause-owned
-returns-in-TypeApplication-clause-owned c = λ owner names whole. c.application.ensures.owned owner names (c.inside-tree.ensures.owned owner names whole)
-
-pub returns-in-QConId-clause-owned : goal.returns-in-QConId-clause-owned
-returns-in-QConId-clause-owned c = λ owner names whole. (c.name.ensures.owned owner names (c.inside-tree.ensures.owned owner names whole), none_yet (TypeIsOf owner names) c.new.result.items c.new.ensures.items)
-
-pub returns-in-VarId-clause-owned : goal.returns-in-VarId-clause-owned
-returns-in-VarId-clause-owned c = λ owner names whole. c.name-in-VarId.ensures.owned owner names (c.inside-tree.ensures.owned owner names whole)
-
-pub returns-in-Unit-clause-owned : goal.returns-in-Unit-clause-owned
-returns-in-Unit-clause-owned c = λ owner names whole. (c.place.ensures.owned owner names (c.inside-tree.ensures.owned owner names whole), none_yet (TypeIsOf owner names) c.new-in-Unit.result.items c.new-in-Unit.ensures.items)
-
-pub returns-in-TupleType-clause-owned : goal.returns-in-TupleType-clause-owned
-returns-in-TupleType-clause-owned c = λ owner names whole. c.tuple.ensures.owned owner names (c.inside-tree.ensures.owned owner names whole)
-
-pub returns-in-ListType-clause-owned : goal.returns-in-ListType-clause-owned
-returns-in-ListType-clause-owned c = λ owner names whole. c.list.ensures.owned owner names (c.inside-tree.ensures.owned owner names whole)
+pub returns-clause-formed : goal.returns-clause-formed
+returns-clause-formed c =
+    let inner = c.inside.result in
+    ok_formed (type_node []) is_formed_type TypeNodeIsFormed c.node.result (type_at inner.symbol (tree_of [] inner)) formed_type_node
+    (type_formed inner.symbol (tree_of [] inner) c.inside.ensures.node (inner.fits []) (c.inside.ensures.bare [])) (c.node.ensures.meaning [])

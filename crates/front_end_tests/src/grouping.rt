@@ -1,5 +1,5 @@
 //! Expressions, grouped by hand.
-use crate::{
+use cu_fixity::{
     Cell, Fixities, Fixity, FixityClash, Part, Piece, Side, UNDECLARED, group, one_tree, resolve,
     resolve_pattern,
 };
@@ -225,7 +225,8 @@ type Outcome = Result<Vec<u32>, FixityClash>;
 /// The fixities of `+`, `-`, `*` and `==`, and of a `-` of another module,
 /// which is grouped to the right.
 fn declared(alloc: Global, names: &mut Names) -> Option<Fixities> {
-    let mut table = Fixities::new(alloc, names.intern(":").ok()?);
+    names.intern(":").ok()?;
+    let mut table = Fixities::new(alloc, names);
     for (operator, side, level) in [
         ("+", Side::Left, 6),
         ("-", Side::Left, 6),

@@ -2,13 +2,13 @@
 //! stands on one line of the text, so that a column says which token is meant.
 mod line;
 
-use crate::{
-    DeclarationNode, Expression, ExpressionNode, GoalText, Module, Name, PatternNode, TypeNode,
-    parse_goal, parse_module,
-};
 use cu_layout::block;
 use cu_lex::{Token, lex};
 use cu_names::{NameId, Names, Place};
+use cu_syntax::{
+    DeclarationNode, Expression, ExpressionNode, GoalText, Module, Name, PatternNode, TypeNode,
+    parse_goal, parse_module,
+};
 use line::{Tell, Told};
 use std::alloc::Global;
 use std::process::Abort;
@@ -183,9 +183,9 @@ fn lists<R: Abort>(rt: &R, alloc: Global) {
 fn patterns<R: Abort>(rt: &R, alloc: Global) {
     let part = Part::Pattern;
     expect(rt, alloc, part, "x : y : zs", "operators 1 1 3 5 7 9");
-    expect(rt, alloc, part, "xs@(x : _)", "alias 1 4");
+    expect(rt, alloc, part, "xs@(x : _)", "alias 1 5");
     expect(rt, alloc, part, "- 17", "negative 1 17");
-    expect(rt, alloc, part, "C x (D y)", "constructed 1 1 3 5");
+    expect(rt, alloc, part, "C x (D y)", "constructed 1 1 3 6");
     expect(rt, alloc, part, "(C)", "constructed 2 2");
     expect(rt, alloc, part, "x", "variable 1");
     expect(rt, alloc, part, "_", "wildcard 1");
@@ -196,7 +196,7 @@ fn types<R: Abort>(rt: &R, alloc: Global) {
     let part = Part::Type;
     let function = "a -> [b] -> Maybe (a, b)";
     expect(rt, alloc, part, function, "function 1 6 to 13");
-    expect(rt, alloc, part, "(a -> b) -> c", "function 1 to 13");
+    expect(rt, alloc, part, "(a -> b) -> c", "function 2 to 13");
     expect(rt, alloc, part, "Either (a, b) c", "named 1 8 15");
     expect(rt, alloc, part, "(M.T)", "named 2");
     expect(rt, alloc, part, "(a, b)", "tuple 1 2 5");

@@ -1,11 +1,11 @@
 //! Views as lines of words and columns.
-use crate::{
+use cu_names::Place;
+use cu_syntax::{
     Alternative, Body, CaseWord, ConstructorDeclaration, ConstructorItem, Constructors,
     Declaration, DeclarationNode, Entity, Enumeration, Export, Expression, ExpressionNode, Guard,
     Header, Import, ImportList, ItemNode, Items, Literal, ModuleName, Name, OperatorItem, PatItems,
     Pattern, PatternNode, Qualifier, RightSide, RightSideNode, Side, TypeNode, TypeTerm,
 };
-use cu_names::Place;
 use std::alloc::Global;
 
 /// What a view says: its form, and the columns of its place, its names and its

@@ -2,10 +2,10 @@
 mod modules;
 mod productions;
 
-use crate::{ParseFault, one_reading, parse_goal, parse_module};
 use cu_layout::block;
 use cu_lex::{Token, lex};
 use cu_names::Names;
+use cu_syntax::{ParseFault, one_reading, parse_goal, parse_module};
 use modules::{GOALS, PERM, PRELUDE, QUEENS, SET_FUNCTIONS};
 use productions::{
     ARGUMENTS, ATOMS, BLOCKS, CASES, DATA_TYPES, EXPRESSIONS, HEADERS, IMPORTS, ITEMS, LISTS,
