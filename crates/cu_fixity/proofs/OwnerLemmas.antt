@@ -61,14 +61,14 @@ rest_owned owner names (i ∷ rest) h =
     let P = PartIsOf ExpressionIsOf owner names in
     let one = All-head (OperatorItemIsOf owner names) i rest h in
     All-cons P (part.Operator i.operator) (operand_parts i.minus i.operand ++ rest_parts rest) one.0
-    (All-append P (operand_parts i.minus i.operand) (rest_parts rest) (operand_owned owner names i.minus i.operand one.1.0 one.1.1) (rest_owned owner names rest (All-tail (OperatorItemIsOf owner names) i rest h)))
+    (All-append P (operand_parts i.minus i.operand) (rest_parts rest) (operand_owned owner names i.minus i.operand one.1 one.2) (rest_owned owner names rest (All-tail (OperatorItemIsOf owner names) i rest h)))
 
 pub owned_in_order : (owner : NameId) (names : List (List ℕ)) (items : Items) (pieces : List Piece) (written ordered : List (Part Expression)) → ItemsAreOf owner names items
     → written ≡ written_parts items → IsOrder pieces written ordered → All (PartIsOf ExpressionIsOf owner names) ordered
 owned_in_order owner names items pieces written ordered h e order =
     let P = PartIsOf ExpressionIsOf owner names in
     all_in_order P pieces written ordered
-    (subst (All P) (sym e) (All-append P (operand_parts items.minus items.first) (rest_parts items.rest.items) (operand_owned owner names items.minus items.first h.1.0 h.1.1.0) (rest_owned owner names items.rest.items h.1.1.1))) order
+    (subst (All P) (sym e) (All-append P (operand_parts items.minus items.first) (rest_parts items.rest.items) (operand_owned owner names items.minus items.first h.1 h.2) (rest_owned owner names items.rest.items h.3))) order
 
 pattern_rest_owned : (owner : NameId) (names : List (List ℕ)) (rest : List ConstructorItem) → All (ConstructorItemIsOf owner names) rest → All (PartIsOf PatternIsOf owner names) (pattern_rest rest)
 pattern_rest_owned owner names [] h = All-nil (PartIsOf PatternIsOf owner names)
@@ -83,7 +83,7 @@ pub pattern_owned_in_order : (owner : NameId) (names : List (List ℕ)) (items :
 pattern_owned_in_order owner names items pieces written ordered h e order =
     let P = PartIsOf PatternIsOf owner names in
     all_in_order P pieces written ordered
-    (subst (All P) (sym e) (All-cons P (part.Operand items.first) (pattern_rest items.rest.items) h.1.0 (pattern_rest_owned owner names items.rest.items h.1.1))) order
+    (subst (All P) (sym e) (All-cons P (part.Operand items.first) (pattern_rest items.rest.items) h.1 (pattern_rest_owned owner names items.rest.items h.2))) order
 
 -- sizes
 

@@ -35,7 +35,7 @@ abbrev at_row : (Row → Bool) → Option Row → Bool
 at_row f None = false
 at_row f (Some e) = f e
 
-abbrev fails_at : ℕ → (Class → Bool) → ℕ → Bool
+abbrev pub fails_at : ℕ → (Class → Bool) → ℕ → Bool
 fails_at zero h r = false
 fails_at (suc k) h r = at_row (row_fails (fails_at k h) h) (slice_get rows r)
 
@@ -66,7 +66,7 @@ at_sound : (text : List Lexeme) (f : ℕ → Bool) (h : Class → Bool) → ((c 
 at_sound text f h t g r None s e = absurd (true≢false (sym e))
 at_sound text f h t g r (Some e) s k = Fails.fails r e text s (row_sound text f h t g e k)
 
-fails_sound : (k : ℕ) (text : List Lexeme) (h : Class → Bool) → ((c : Class) → h c ≡ false → RowFails rows has (row.Token c) text)
+pub fails_sound : (k : ℕ) (text : List Lexeme) (h : Class → Bool) → ((c : Class) → h c ≡ false → RowFails rows has (row.Token c) text)
     → (r : ℕ) → fails_at k h r ≡ true → Fails rows has r text
 fails_sound zero text h t r e = absurd (true≢false (sym e))
 fails_sound (suc k) text h t r e = at_sound text (fails_at k h) h t (fails_sound k text h t) r (slice_get rows r) refl e

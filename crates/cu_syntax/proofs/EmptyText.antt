@@ -69,15 +69,17 @@ none_of s (x ∷ text) f e h = let k = layout_kind x.what h.0 in none_begins s (
 
 -- headers
 
-front_layout : (last : ℕ) (text : List Lexeme) → AllLayout text → AllLayout (front last text).header × ((block : List Lexeme) → (front last text).block ≡ Some block → AllLayout block)
+abbrev FrontLayout : Front → Type 0
+FrontLayout f = AllLayout f.header × ((block : List Lexeme) → f.block ≡ Some block → AllLayout block)
+
+front_step : (b : Bool) (last : ℕ) (x : Lexeme) (text : List Lexeme) (more : Front) → is_written x.what ≡ false → AllLayout text → FrontLayout more
+    → FrontLayout (if b then (record { header = []; last = last; block = Some text }) else with_header x more)
+front_step true last x text more w h m = (tt, λ block e. let same : text ≡ block = cc in subst AllLayout same h)
+front_step false last x text more w h m = ((w, m.0), m.1)
+
+front_layout : (last : ℕ) (text : List Lexeme) → AllLayout text → FrontLayout (front last text)
 front_layout last [] h = (tt, λ block e. let no : ⊥ = cc in absurd no)
-front_layout last (x ∷ text) h = step (opens x.what) (front (after last x) text) (front_layout (after last x) text h.1)
-  where
-    step : (b : Bool) (more : Front) → AllLayout more.header × ((block : List Lexeme) → more.block ≡ Some block → AllLayout block)
-        → AllLayout (if b then (record { header = []; last = after last x; block = Some text }) else with_header x more).header
-        × ((block : List Lexeme) → (if b then (record { header = []; last = after last x; block = Some text }) else with_header x more).block ≡ Some block → AllLayout block)
-    step true more i = (tt, λ block e. let same : text ≡ block = cc in subst AllLayout same h.1)
-    step false more i = ((h.0, i.0), i.1)
+front_layout last (x ∷ text) h = front_step (opens x.what) (after last x) x text (front (after last x) text) h.0 h.1 (front_layout (after last x) text h.1)
 
 no_header : (text : List Lexeme) (found : Option Header) → AllLayout text → HeaderRead text found → found ≡ None
 no_header text found h HeaderRead.no_header = refl
@@ -135,18 +137,21 @@ record IsEmpty (m : Module) : Type 0 where
   header : m.header ≡ None
   items : m.items ≡ []
 
+is_empty : (header : Option Header) (items : List Item) → header ≡ None → items ≡ [] → IsEmpty (record { header = header; items = items })
+is_empty header items h i = record { header = h; items = i }
+
+same_value : {X E : Type 0} {x y : X} (r : Result X E) → r ≡ Ok x → r ≡ Ok y → x ≡ y
+same_value r e f = cc
+
 empty_module : (text : List Lexeme) (outcome : Result Module Fault) (m : Module) → AllLayout text → ModuleRead text outcome → outcome ≡ Ok m → IsEmpty m
 empty_module text outcome m h (ModuleRead.no_block b) e = let no : ⊥ = cc in absurd no
 empty_module text outcome m h (ModuleRead.wrong_header some none) e = let no : ⊥ = cc in absurd no
 empty_module text outcome m h (ModuleRead.wrong_item block found fault b header items) e = let no : ⊥ = cc in absurd no
 empty_module text outcome m h (ModuleRead.right block found items b header read) e =
-    let is : record { header = found; items = items } ≡ m = cc in
     let f = front_layout 1 text h in
     let inside : AllLayout block = f.1 block b in
-    subst IsEmpty is (record {
-      header = no_header (front 1 text).header found f.0 header;
-      items = no_items true (parts (front 1 text).last block) (Ok items) items (split_layout 0 (front 1 text).last block inside) read refl;
-    })
+    subst IsEmpty (same_value outcome refl e) (is_empty found items (no_header (front 1 text).header found f.0 header)
+    (no_items true (parts (front 1 text).last block) (Ok items) items (split_layout 0 (front 1 text).last block inside) read refl))
 
 -- tokens of the lexer's
 
@@ -194,6 +199,6 @@ owned_module owner names tokens header items are owned read = by (without_layout
     by : (written : List Token) → without_layout tokens ≡ written → IfSome header (HeaderIsOf owner names) × All (ItemIsOf owner names) items
     by (t ∷ written) e = owned (are (λ none. let no : ⊥ = cc in absurd no))
     by [] e =
-        let found = record { header = option_map (header_meaning names) header; items = items_meaning names items } in
+        let found : Module = record { header = option_map (header_meaning names) header; items = items_meaning names items } in
         let empty = empty_module (map (lexeme_of names) tokens) (Ok found) found (all_layout names tokens e) read refl in
         nothing_owned owner names header items (none_of_map (header_meaning names) header empty.header) (nil_of_map (item_meaning names) items empty.items)

@@ -1,6 +1,7 @@
 pub mod Accepted
 pub mod Beginnings
 pub mod DeclarationLemmas
+pub mod Elements
 pub mod EmptyText
 pub mod ExpressionForms
 pub mod ExpressionParts

@@ -5,7 +5,7 @@ use Rattle.std.proofs.Common.{Bor, ap, arith, subst, sym, true≢false, ◌∙�
 use Rattle.std.proofs.lemmas.Bool.{and_parts, ltb-true}
 use Rattle.std.proofs.lemmas.Int.{to_z-of_z}
 use Rattle.std.proofs.lemmas.Option.{slice_get-get_or}
-use mir.Syntax.{w64}
+use mir.Syntax.{w128}
 use mir.Val.{SFits, of_z, to_z}
 use Rattle.cu_lex.specs.declared.characters.Characters.{Characters}
 use Rattle.cu_lex.specs.declared.token.Token.{Token}
@@ -274,5 +274,5 @@ digit_at : (P : ℤ → Type 0) (z : ℤ) → is_digit z ≡ true → ((n : ℕ)
 digit_at P (pos n) d h = h n (ltb-true n 10 d)
 digit_at P (negsuc n) d h = never d
 
-pub digit_case : (P : ℤ → Type 0) (z : ℤ) → SFits w64 z → is_digit z ≡ true → ((n : ℕ) → n < 10 → P (pos n)) → P (to_z w64 (of_z w64 z))
-digit_case P z fits d h = subst P (sym (to_z-of_z w64 z fits)) (digit_at P z d h)
+pub digit_case : (P : ℤ → Type 0) (z : ℤ) → SFits w128 z → is_digit z ≡ true → ((n : ℕ) → n < 10 → P (pos n)) → P (to_z w128 (of_z w128 z))
+digit_case P z fits d h = subst P (sym (to_z-of_z w128 z fits)) (digit_at P z d h)

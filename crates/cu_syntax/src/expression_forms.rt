@@ -248,10 +248,7 @@ fn alternative_of(tree: Subtree<'_>) -> Alternative<'_>
 }
 
 /// An expression on arguments.
-fn application(
-    alloc: Global,
-    tree: Subtree<'_>,
-) -> Result<ExpressionNode<'_>, AllocError>
+fn application(alloc: Global, tree: Subtree<'_>) -> Result<ExpressionNode<'_>, AllocError>
     requires symbol { tree.symbol ≡ symbol.Application }
     requires more { (names : List (List ℕ)) → is_bare_expression tree.symbol (tree_of names tree) ≡ true }
     ensures meaning { (names : List (List ℕ)) → IfOk result (λ node. expression_node names node ≡ expression_as symbol.Application (tree_of names tree.entry)) }
@@ -346,10 +343,7 @@ fn maybe(tree: Subtree<'_>) -> Option<Expression<'_>>
     Some(Expression::new(expression))
 }
 
-fn comprehension(
-    alloc: Global,
-    tree: Subtree<'_>,
-) -> Result<ExpressionNode<'_>, AllocError>
+fn comprehension(alloc: Global, tree: Subtree<'_>) -> Result<ExpressionNode<'_>, AllocError>
     requires { tree.symbol ≡ symbol.Comprehension }
     ensures meaning { (names : List (List ℕ)) → IfOk result (λ node. expression_node names node ≡ expression_as symbol.Comprehension (tree_of names tree.entry)) }
     ensures owned { (owner : NameId) (names : List (List ℕ)) → IsOf owner names tree.entry → IfOk result (ExpressionNodeIsOf owner names) }

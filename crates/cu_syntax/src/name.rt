@@ -10,7 +10,7 @@ ghost use Rattle.cu_syntax.specs.Owners.{IsOf, LiteralIsNatural, ModuleNameIsOf,
 ghost use Rattle.cu_syntax.specs.Reading.{digit_of, literal_of, module_name, name_of, name_token, place, spelling};
 ghost use Rattle.cu_syntax.specs.SubtreeMeaning.{tree_of};
 ghost use Rattle.cu_syntax.specs.Subtrees.{has_token, is_leaf};
-ghost use Rattle.cu_syntax.specs.Syntax.{Int};
+ghost use Rattle.cu_syntax.specs.Syntax as syntax;
 ghost use Rattle.cu_syntax.specs.Table.{rule_of};
 ghost use Rattle.cu_syntax.specs.declared.symbol.Symbol.TheVariants as symbol;
 
@@ -18,6 +18,7 @@ use crate::rows::rule;
 use crate::rule::Rule;
 use crate::subtree::Subtree;
 use crate::symbol::Symbol;
+use cu_int::Int;
 use cu_lex::{Characters, Name as Spelling, Token, TokenKind};
 use cu_names::{NameId, Place};
 
@@ -43,7 +44,7 @@ pub struct ModuleName {
 
 #[derive(Clone, Copy, Debug)]
 pub enum Literal<'t> {
-    Int(i64),
+    Int(Int),
     Char(char),
     String(&'t Characters),
 }
@@ -99,9 +100,9 @@ impl<'t> Subtree<'t> {
         }
     }
 
-    pub(crate) fn number(self) -> i64
+    pub(crate) fn number(self) -> Int
         requires { self.symbol ≡ symbol.Int }
-        ensures meaning { (names : List (List ℕ)) → literal_of (tree_of names self.entry) ≡ Int result }
+        ensures meaning { (names : List (List ℕ)) → literal_of (tree_of names self.entry) ≡ syntax.Int result }
         ensures natural { (owner : NameId) (names : List (List ℕ)) → IsOf owner names self.entry → IsNonNegative result }
     {
         match &self.token().kind {

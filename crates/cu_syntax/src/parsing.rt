@@ -1,6 +1,7 @@
 //! Parsing of modules and goals.
 ghost use Rattle.std.specs.Prelude.{◌≡◌, ◌<◌, ℕ, Bool, [], false, true, IfErr, IfNone, IfOk, IfSome, List, length, map, Ok, Err, OnOk};
 ghost use Rattle.std.specs.List.{All};
+ghost use Rattle.cu_layout.specs.Laws.{AreOf};
 ghost use Rattle.cu_lex.specs.Reading.{IsTokenOf, lexeme_of};
 ghost use Rattle.cu_names.specs.declared.names.NameId.{NameId};
 ghost use Rattle.cu_syntax.specs.Answer.{Adds, FoundHeader, FoundPart, IsNoItem, NoHeader, Tells, goal_meaning, item_meaning, items_meaning, module_meaning, part_with, tree_of};
@@ -52,7 +53,7 @@ pub fn parse_goal(alloc: Global, tokens: &[Token]) -> Result<GoalText, ParseFaul
 pub fn parse_module(alloc: Global, tokens: &[Token]) -> Result<Module, ParseFault>
     ensures syntax { (names : List (List ℕ)) → IfOk result (λ found. ModuleRead (map (lexeme_of names) tokens.now) (Ok (module_meaning names found))) }
     ensures fault { (names : List (List ℕ)) → IfErr result (Tells (λ fault. ModuleRead (map (lexeme_of names) tokens.now) (Err fault))) }
-    ensures owned { (owner : NameId) (names : List (List ℕ)) → All (IsTokenOf owner names) tokens.now → IfOk result (ModuleIsOf owner names) }
+    ensures owned { (owner : NameId) (names : List (List ℕ)) → AreOf owner names tokens.now → IfOk result (ModuleIsOf owner names) }
 {
     let opening = match first_open(tokens) {
         Some(opening) => opening,

@@ -5,6 +5,7 @@ ghost use Rattle.cu_syntax.specs.Forms.{is_pattern};
 use crate::pattern_forms::{inside, node};
 use crate::subtree::Subtree;
 use crate::{Literal, Name};
+use cu_int::Int;
 use cu_names::Place;
 use std::alloc::{AllocError, Global};
 
@@ -24,7 +25,7 @@ pub enum PatternNode<'t> {
     Wildcard(Place),
     Literal(Place, Literal<'t>),
     /// A number behind a minus.
-    Negative(Place, i64),
+    Negative(Place, Int),
     /// A constructor on its arguments, or alone.
     Constructed(Place, Name, Vec<Pattern<'t>>),
     /// The components; unit has none.

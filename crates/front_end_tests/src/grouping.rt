@@ -14,208 +14,48 @@ const LEFT_6: Piece = Piece::Operator(Fixity {
     level: 6,
 });
 
-const LEFT_7: Piece = Piece::Operator(Fixity {
-    side: Side::Left,
-    level: 7,
-});
-
-const RIGHT_5: Piece = Piece::Operator(Fixity {
-    side: Side::Right,
-    level: 5,
-});
-
-const RIGHT_6: Piece = Piece::Operator(Fixity {
-    side: Side::Right,
-    level: 6,
-});
-
-const NEITHER_4: Piece = Piece::Operator(Fixity {
-    side: Side::Neither,
-    level: 4,
-});
-
-const OPERAND: Piece = Piece::Operand;
-
-const MINUS: Piece = Piece::Minus;
+/// Pieces that have no tree.
+const CLASHES: [&[Piece]; 5] = [
+    &[],
+    &[Piece::Operand, Piece::Operand],
+    &[Piece::Operand, LEFT_6],
+    &[LEFT_6, Piece::Operand],
+    &[Piece::Minus, Piece::Minus, Piece::Operand],
+];
 
 /// Whether pieces have the tree of these cells.
-fn groups_as(alloc: Global, pieces: &[Piece], cells: &[Cell]) -> Result<bool, AllocError> {
-    match group(alloc, pieces)? {
-        Some(tree) => Ok(tree.cells() == cells),
-        None => Ok(false),
+fn groups_as(alloc: Global, pieces: &[Piece], expected: &[Cell]) -> bool {
+    match group(alloc, pieces) {
+        Ok(Some(tree)) => tree.cells() == expected,
+        _ => false,
     }
 }
 
-/// Whether pieces have no tree.
-fn clashes(alloc: Global, pieces: &[Piece]) -> Result<bool, AllocError> {
-    Ok(group(alloc, pieces)?.is_none())
+fn clashes(alloc: Global, pieces: &[Piece]) -> bool {
+    matches!(group(alloc, pieces), Ok(None))
 }
 
 #[test]
-fn to_the_left(rt: HostRuntime) -> Result<(), AllocError> {
-    // 1 - 2 - 3
-    let pieces = [OPERAND, LEFT_6, OPERAND, LEFT_6, OPERAND];
-    let cells = [
-        Cell::Operator(3),
-        Cell::Operator(1),
-        Cell::Operand(0),
-        Cell::Operand(2),
-        Cell::Operand(4),
-    ];
-    assert!(rt; groups_as(rt.alloc(), &pieces, &cells)?);
-    Ok(())
-}
-
-#[test]
-fn to_the_right(rt: HostRuntime) -> Result<(), AllocError> {
-    // x : y : zs
-    let pieces = [OPERAND, RIGHT_5, OPERAND, RIGHT_5, OPERAND];
-    let cells = [
-        Cell::Operator(1),
-        Cell::Operand(0),
-        Cell::Operator(3),
-        Cell::Operand(2),
-        Cell::Operand(4),
-    ];
-    assert!(rt; groups_as(rt.alloc(), &pieces, &cells)?);
-    Ok(())
-}
-
-#[test]
-fn to_neither_side(rt: HostRuntime) -> Result<(), AllocError> {
-    // 1 == 2 == 3
-    let pieces = [OPERAND, NEITHER_4, OPERAND, NEITHER_4, OPERAND];
-    assert!(rt; clashes(rt.alloc(), &pieces)?);
-    Ok(())
-}
-
-#[test]
-fn higher_on_the_right(rt: HostRuntime) -> Result<(), AllocError> {
-    // a + b * c
-    let pieces = [OPERAND, LEFT_6, OPERAND, LEFT_7, OPERAND];
-    let cells = [
-        Cell::Operator(1),
-        Cell::Operand(0),
-        Cell::Operator(3),
-        Cell::Operand(2),
-        Cell::Operand(4),
-    ];
-    assert!(rt; groups_as(rt.alloc(), &pieces, &cells)?);
-    Ok(())
-}
-
-#[test]
-fn higher_on_the_left(rt: HostRuntime) -> Result<(), AllocError> {
-    // a * b + c
-    let pieces = [OPERAND, LEFT_7, OPERAND, LEFT_6, OPERAND];
-    let cells = [
-        Cell::Operator(3),
-        Cell::Operator(1),
-        Cell::Operand(0),
-        Cell::Operand(2),
-        Cell::Operand(4),
-    ];
-    assert!(rt; groups_as(rt.alloc(), &pieces, &cells)?);
-    Ok(())
-}
-
-#[test]
-fn one_level_of_two_sides(rt: HostRuntime) -> Result<(), AllocError> {
-    let first = [OPERAND, LEFT_6, OPERAND, RIGHT_6, OPERAND];
-    assert!(rt; clashes(rt.alloc(), &first)?);
-    let second = [OPERAND, RIGHT_6, OPERAND, LEFT_6, OPERAND];
-    assert!(rt; clashes(rt.alloc(), &second)?);
-    Ok(())
-}
-
-#[test]
-fn minus_before_a_sum(rt: HostRuntime) -> Result<(), AllocError> {
-    // - a + b
-    let pieces = [MINUS, OPERAND, LEFT_6, OPERAND];
-    let cells = [
-        Cell::Operator(2),
-        Cell::Minus(0),
-        Cell::Operand(1),
-        Cell::Operand(3),
-    ];
-    assert!(rt; groups_as(rt.alloc(), &pieces, &cells)?);
-    Ok(())
-}
-
-#[test]
-fn minus_before_a_product(rt: HostRuntime) -> Result<(), AllocError> {
-    // - a * b
-    let pieces = [MINUS, OPERAND, LEFT_7, OPERAND];
-    let cells = [
-        Cell::Minus(0),
-        Cell::Operator(2),
-        Cell::Operand(1),
-        Cell::Operand(3),
-    ];
-    assert!(rt; groups_as(rt.alloc(), &pieces, &cells)?);
-    Ok(())
-}
-
-#[test]
-fn minus_behind_a_lower_operator(rt: HostRuntime) -> Result<(), AllocError> {
-    // a == - b
-    let pieces = [OPERAND, NEITHER_4, MINUS, OPERAND];
-    let cells = [
-        Cell::Operator(1),
-        Cell::Operand(0),
-        Cell::Minus(2),
-        Cell::Operand(3),
-    ];
-    assert!(rt; groups_as(rt.alloc(), &pieces, &cells)?);
-    Ok(())
-}
-
-#[test]
-fn minus_that_clashes(rt: HostRuntime) -> Result<(), AllocError> {
-    // a + - b
-    assert!(rt; clashes(rt.alloc(), &[OPERAND, LEFT_6, MINUS, OPERAND])?);
-    // a * - b
-    assert!(rt; clashes(rt.alloc(), &[OPERAND, LEFT_7, MINUS, OPERAND])?);
-    // - - a
-    assert!(rt; clashes(rt.alloc(), &[MINUS, MINUS, OPERAND])?);
-    Ok(())
-}
-
-#[test]
-fn an_operand_alone(rt: HostRuntime) -> Result<(), AllocError> {
-    assert!(rt; groups_as(rt.alloc(), &[OPERAND], &[Cell::Operand(0)])?);
-    Ok(())
-}
-
-#[test]
-fn no_expressions(rt: HostRuntime) -> Result<(), AllocError> {
-    assert!(rt; clashes(rt.alloc(), &[])?);
-    assert!(rt; clashes(rt.alloc(), &[OPERAND, OPERAND])?);
-    assert!(rt; clashes(rt.alloc(), &[OPERAND, LEFT_6])?);
-    assert!(rt; clashes(rt.alloc(), &[LEFT_6, OPERAND])?);
-    Ok(())
-}
-
-#[test]
-fn undeclared_operators(rt: HostRuntime) -> Result<(), AllocError> {
-    // a + b ! c
-    let pieces = [
-        OPERAND,
-        LEFT_6,
-        OPERAND,
-        Piece::Operator(UNDECLARED),
-        OPERAND,
-    ];
-    let cells = [
-        Cell::Operator(1),
-        Cell::Operand(0),
-        Cell::Operator(3),
-        Cell::Operand(2),
-        Cell::Operand(4),
-    ];
-    assert!(rt; groups_as(rt.alloc(), &pieces, &cells)?);
+fn pieces(rt: HostRuntime) {
+    let alloc = rt.alloc();
     one_tree::<u32, u32>();
-    Ok(())
+    // - a ! b
+    let pieces = [
+        Piece::Minus,
+        Piece::Operand,
+        Piece::Operator(UNDECLARED),
+        Piece::Operand,
+    ];
+    let cells = [
+        Cell::Minus(0),
+        Cell::Operator(2),
+        Cell::Operand(1),
+        Cell::Operand(3),
+    ];
+    assert!(rt; groups_as(alloc, &pieces, &cells));
+    for pieces in &CLASHES {
+        assert!(rt; clashes(alloc, pieces));
+    }
 }
 
 /// What a goal's text is grouped to: the columns of its parts in Polish
@@ -321,23 +161,67 @@ fn clash_column(alloc: Global, text: &str) -> Option<u32> {
     }
 }
 
+/// A goal, and the columns of its parts in Polish notation.
+struct Case {
+    text: &'static str,
+    columns: &'static [u32],
+}
+
+const TREES: [Case; 9] = [
+    Case {
+        text: "1 - 2 - 3",
+        columns: &[7, 3, 1, 5, 9],
+    },
+    Case {
+        text: "1 A.- 2 A.- 3",
+        columns: &[3, 1, 9, 7, 13],
+    },
+    Case {
+        text: "a + b ! c",
+        columns: &[3, 1, 7, 5, 9],
+    },
+    Case {
+        text: "a * b + c",
+        columns: &[7, 3, 1, 5, 9],
+    },
+    Case {
+        text: "a + (b - c)",
+        columns: &[3, 1, 6],
+    },
+    Case {
+        text: "- 1 + 2",
+        columns: &[5, 1, 3, 7],
+    },
+    Case {
+        text: "- 1 * 2",
+        columns: &[1, 5, 3, 7],
+    },
+    Case {
+        text: "a == - b",
+        columns: &[3, 1, 6, 8],
+    },
+    Case {
+        text: "\\(x : y : zs) -> x",
+        columns: &[5, 3, 9, 7, 11],
+    },
+];
+
+/// Goals that have no tree, and the columns of their clashes.
+const GOALS_THAT_CLASH: [(&str, u32); 5] = [
+    ("1 == 2 == 3", 1),
+    ("  a + - b", 3),
+    ("a * - b", 1),
+    (" - 1 - - 2", 2),
+    ("1 - 2 A.- 3", 1),
+];
+
 #[test]
 fn goals(rt: HostRuntime) {
     let alloc = rt.alloc();
-    assert!(rt; is_grouped(alloc, "1 - 2 - 3", &[7, 3, 1, 5, 9]));
-    assert!(rt; is_grouped(alloc, "1 A.- 2 A.- 3", &[3, 1, 9, 7, 13]));
-    assert!(rt; is_grouped(alloc, "a + b ! c", &[3, 1, 7, 5, 9]));
-    assert!(rt; is_grouped(alloc, "- 1 + 2", &[5, 1, 3, 7]));
-    assert!(rt; is_grouped(alloc, "- 1 * 2", &[1, 5, 3, 7]));
-    assert!(rt; is_grouped(alloc, "a == - b", &[3, 1, 6, 8]));
-    assert!(rt; is_grouped(alloc, "\\(x : y : zs) -> x", &[5, 3, 9, 7, 11]));
-}
-
-#[test]
-fn goals_that_clash(rt: HostRuntime) {
-    let alloc = rt.alloc();
-    assert_eq!(rt; clash_column(alloc, "1 == 2 == 3"), Some(1));
-    assert_eq!(rt; clash_column(alloc, "  a + - b"), Some(3));
-    assert_eq!(rt; clash_column(alloc, " - 1 - - 2"), Some(2));
-    assert_eq!(rt; clash_column(alloc, "1 - 2 A.- 3"), Some(1));
+    for case in &TREES {
+        assert!(rt; is_grouped(alloc, case.text, case.columns), "{}", case.text);
+    }
+    for (text, column) in &GOALS_THAT_CLASH {
+        assert_eq!(rt; clash_column(alloc, text), Some(*column), "{text}");
+    }
 }

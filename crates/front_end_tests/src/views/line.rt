@@ -1,4 +1,5 @@
 //! Views as lines of words and columns.
+use cu_int::Int;
 use cu_names::Place;
 use cu_syntax::{
     Alternative, Body, CaseWord, ConstructorDeclaration, ConstructorItem, Constructors,
@@ -41,7 +42,7 @@ impl Told {
         self
     }
 
-    fn number(self, number: i64) -> Told {
+    fn number(self, number: Int) -> Told {
         match format!(in self.alloc; " {number}") {
             Ok(digits) => self.word(digits.as_str()),
             Err(_) => self,
@@ -78,7 +79,7 @@ impl Told {
 
 impl Tell for Place {
     fn tell(&self, told: Told) -> Told {
-        told.number(self.column as i64)
+        told.number(Int::from(self.column))
     }
 }
 
@@ -144,7 +145,7 @@ impl<'t> Tell for Literal<'t> {
     fn tell(&self, told: Told) -> Told {
         match self {
             Literal::Int(number) => told.word(" number").number(*number),
-            Literal::Char(character) => told.word(" character").number(*character as i64),
+            Literal::Char(character) => told.word(" character").number(Int::from(*character as u32)),
             Literal::String(characters) => told.word(" string").count(characters.len()),
         }
     }
@@ -405,7 +406,7 @@ impl<'t> Tell for ItemNode<'t> {
                 .word("fixity")
                 .and(place)
                 .and(side)
-                .number(*level as i64)
+                .number(Int::from(*level))
                 .word(" of")
                 .all(operators.as_slice()),
             ItemNode::Data(place, name, parameters, constructors) => told

@@ -16,4 +16,11 @@ returns-clause-meaning c = λ names rest.
     c.new-pattern.ensures c.part.ensures.symbol (c.part.ensures.tree names) c.new-right.ensures.body c.part-2.ensures.symbol (c.part-2.ensures.tree names) c.new-right.ensures.local (c.part-3.ensures.tree names)
 
 pub returns-clause-owned : goal.returns-clause-owned
-returns-clause-owned c = λ owner names whole. (c.place.ensures.owned owner names whole, (same_part owner names c.part.result c.new-pattern.result.tree c.new-pattern.ensures (c.part.ensures.owned owner names whole), (same_part owner names c.part-2.result c.new-right.result.body c.new-right.ensures.body (c.part-2.ensures.owned owner names whole), same_part owner names c.part-3.result c.new-right.result.local c.new-right.ensures.local (c.part-3.ensures.owned owner names whole))))
+returns-clause-owned c = λ owner names whole. (
+  c.place.ensures.owned owner names whole,
+  same_part owner names c.part.result c.new-pattern.result.tree c.new-pattern.ensures (c.part.ensures.owned owner names whole),
+  (
+    same_part owner names c.part-2.result c.new-right.result.body c.new-right.ensures.body (c.part-2.ensures.owned owner names whole),
+    same_part owner names c.part-3.result c.new-right.result.local c.new-right.ensures.local (c.part-3.ensures.owned owner names whole),
+  ),
+)

@@ -3,6 +3,7 @@ use Rattle.std.proofs.lemmas.List.Elements.{All-take}
 use Rattle.cu_lex.specs.Reading.{IsTokenOf}
 use Rattle.cu_syntax.specs.Answer.{Tells, items_meaning}
 use Rattle.cu_syntax.specs.Parsing.{ModuleRead}
+use Rattle.cu_syntax.proofs.EmptyText.{owned_module}
 use Rattle.cu_syntax.proofs.ModuleLemmas.{no_block, right_module, wrong_header, wrong_item}
 use Rattle.cu_syntax.proofs.PartLemmas.{passed_on}
 use Rattle.cu_syntax.proofs.SplitLemmas.{lexemes}
@@ -29,7 +30,11 @@ returns-clause-syntax c = λ names.
     (sym (c.in-Some.ensures.number names)) (c.line_behind-last.ensures names) c.tokens_behind.ensures (c.in_ok-header.ensures.header names) (c.in_ok-items.ensures.items names)
 
 pub returns-clause-owned : goal.returns-clause-owned
-returns-clause-owned c = λ owner names whole. (
-  c.in_ok-header.ensures.owned owner names (All-take (IsTokenOf owner names) c.in-Some.opening c.args.tokens.now whole),
-  c.in_ok-items.ensures.owned owner names (all_behind (IsTokenOf owner names) c.args.tokens.now c.tokens_behind.result.now (c.in-Some.opening + 1) c.tokens_behind.ensures whole),
-)
+returns-clause-owned c = λ owner names are.
+    owned_module owner names c.args.tokens.now c.in_ok-header.header c.in_ok-items.items.items are
+    (λ whole. (
+      c.in_ok-header.ensures.owned owner names (All-take (IsTokenOf owner names) c.in-Some.opening c.args.tokens.now whole),
+      c.in_ok-items.ensures.owned owner names (all_behind (IsTokenOf owner names) c.args.tokens.now c.tokens_behind.result.now (c.in-Some.opening + 1) c.tokens_behind.ensures whole),
+    ))
+    (right_module names c.in-Some.opening c.line_behind-last.result c.args.tokens.now c.tokens_behind.result.now c.in_ok-header.header (items_meaning names c.in_ok-items.items.items)
+    (sym (c.in-Some.ensures.number names)) (c.line_behind-last.ensures names) c.tokens_behind.ensures (c.in_ok-header.ensures.header names) (c.in_ok-items.ensures.items names))

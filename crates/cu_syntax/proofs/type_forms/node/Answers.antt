@@ -29,6 +29,12 @@ returns-in-TypeApplication-clause-meaning c = λ names.
     ok_as (type_node names) c.application.result (type_as symbol.TypeApplication inner) (type_at c.args.tree.symbol inner) (c.application.ensures.meaning names)
     (sym (ap (λ a. type_at a inner) c.in-TypeApplication.is))
 
+pub returns-in-TupleType-clause-meaning : goal.returns-in-TupleType-clause-meaning
+returns-in-TupleType-clause-meaning c = λ names.
+    let inner = tree_of names c.args.tree in
+    ok_as (type_node names) c.tuple.result (type_as symbol.TupleType inner) (type_at c.args.tree.symbol inner) (c.tuple.ensures.meaning names)
+    (sym (ap (λ a. type_at a inner) c.in-TupleType.is))
+
 pub returns-in-TypeExp-clause-owned : goal.returns-in-TypeExp-clause-owned
 returns-in-TypeExp-clause-owned c = λ owner names whole. c.function.ensures.owned owner names whole
 
