@@ -1,5 +1,5 @@
 -- A module all of whose tokens layout put in has no header and no items.
-use Rattle.std.specs.Prelude.{◌≡◌, ℕ, suc, ◌+◌, Bool, true, false, ◌&&◌, List, [], ◌∷◌, Err, None, Ok, Option, Result, Some, IfSome, filter, if◌then◌else◌, map, nat_eq, refl}
+use Rattle.std.specs.Prelude.{◌≡◌, ℕ, Bool, true, false, ◌&&◌, List, [], ◌∷◌, None, Ok, Option, Result, Some, IfSome, if◌then◌else◌, map, nat_eq, refl}
 use Rattle.std.specs.List.{All}
 use Rattle.std.specs.Option.{option_map}
 use Rattle.std.proofs.Common.{ap, subst, sym, true≢false, ◌∙◌}

@@ -1,6 +1,6 @@
 -- A tree that fits its symbol stands for syntax with as many parts as the grammar asks.
-use Rattle.std.specs.Prelude.{◌≡◌, ◌<◌, ◌≤◌, ℕ, zero, suc, ◌+◌, Bool, true, false, IfOk, List, [], ◌∷◌, Err, None, Ok, Option, Result, Some, length, refl}
-use Rattle.std.proofs.Common.{ap, arith, subst, sym, true≢false, ◌∙◌}
+use Rattle.std.specs.Prelude.{◌≡◌, ◌<◌, ℕ, zero, suc, ◌+◌, Bool, true, false, IfOk, List, [], ◌∷◌, Err, None, Ok, Option, Result, Some, refl}
+use Rattle.std.proofs.Common.{ap, arith, sym, ◌∙◌}
 use Rattle.std.proofs.lemmas.Bool.{not-true}
 use Rattle.std.specs.Option.{unwrap_or}
 use Rattle.cu_lex.specs.Located.{Position}

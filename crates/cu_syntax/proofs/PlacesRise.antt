@@ -1,9 +1,8 @@
 -- The tokens of a text stand one behind another.
-use Rattle.std.specs.Prelude.{◌≡◌, ◌<◌, ℕ, zero, suc, ◌+◌, ◌*◌, ◌/◌, ◌==◌, Bool, true, false, List, [], ◌∷◌, ◌++◌, Err, None, Ok, Option, Result, Some, if◌then◌else◌, length, nat_lt, refl}
+use Rattle.std.specs.Prelude.{◌≡◌, ◌<◌, ℕ, zero, suc, ◌==◌, Bool, true, false, List, [], ◌∷◌, ◌++◌, Err, None, Ok, Option, Result, Some, if◌then◌else◌, length, nat_lt, refl}
 use Rattle.std.specs.List.{All}
-use Rattle.std.specs.Result.{result_map_both}
 use Rattle.std.specs.Str.{byte, chars, is_utf8}
-use Rattle.std.proofs.Common.{ap, arith, subst, sym, ◌∙◌}
+use Rattle.std.proofs.Common.{arith, subst, sym}
 use Rattle.std.proofs.lemmas.List.Elements.{All-cons, All-head, All-nil, All-tail}
 use mathlib.Core.Logic.{◌⊎◌, inl, inr}
 use Rattle.cu_lex.specs.Decoding.{fault_offset}

@@ -1,5 +1,5 @@
 -- What a node tells is smaller than what it is told of.
-use Rattle.std.specs.Prelude.{◌≡◌, ◌<◌, ◌≤◌, ℕ, ◌+◌, IfOk, List, [], ◌∷◌, Err, None, Ok, Option, Result, Some, refl}
+use Rattle.std.specs.Prelude.{◌≡◌, ◌<◌, ◌≤◌, ℕ, IfOk, List, [], ◌∷◌, Err, None, Ok, Option, Result, Some, refl}
 use Rattle.std.proofs.Common.{ap, arith, subst}
 use denote.Param.Weighed.{most}
 use Rattle.cu_lex.specs.Located.{Position}
@@ -11,16 +11,13 @@ use Rattle.cu_syntax.specs.declared.declarations.DeclarationNode.TheVariants as 
 use Rattle.cu_syntax.specs.declared.declarations.Guard.{Guard}
 use Rattle.cu_syntax.specs.declared.declarations.RightSide.{RightSide}
 use Rattle.cu_syntax.specs.declared.expressions.Alternative.{Alternative}
-use Rattle.cu_syntax.specs.declared.expressions.Enumeration.{Enumeration}
 use Rattle.cu_syntax.specs.declared.expressions.Expression.{Expression}
 use Rattle.cu_syntax.specs.declared.expressions.ExpressionNode.{ExpressionNode}
 use Rattle.cu_syntax.specs.declared.expressions.ExpressionNode.TheVariants as expression
-use Rattle.cu_syntax.specs.declared.expressions.Items.{Items}
 use Rattle.cu_syntax.specs.declared.expressions.OperatorItem.{OperatorItem}
 use Rattle.cu_syntax.specs.declared.expressions.Qualifier.{Qualifier}
 use Rattle.cu_syntax.specs.declared.expressions.Qualifier.TheVariants as qualifier
 use Rattle.cu_syntax.specs.declared.patterns.ConstructorItem.{ConstructorItem}
-use Rattle.cu_syntax.specs.declared.patterns.PatItems.{PatItems}
 use Rattle.cu_syntax.specs.declared.patterns.Pattern.{Pattern}
 use Rattle.cu_syntax.specs.declared.patterns.PatternNode.{PatternNode}
 use Rattle.cu_syntax.specs.declared.patterns.PatternNode.TheVariants as pattern
@@ -33,7 +30,7 @@ use Rattle.cu_syntax.specs.Expressions.{alternatives_meaning, expression_node, m
 use Rattle.cu_syntax.specs.Patterns as patterns
 use Rattle.cu_syntax.specs.Patterns.{pattern_node, patterns_meaning}
 use Rattle.cu_syntax.specs.Sizes.{size_of_alternatives, size_of_declaration, size_of_declarations, size_of_expression, size_of_expressions, size_of_guards, size_of_maybe, size_of_operator_rest, size_of_pattern, size_of_pattern_rest, size_of_patterns, size_of_qualifier, size_of_qualifiers, size_of_right, size_of_type, size_of_types}
-use Rattle.cu_syntax.specs.Smaller.{DeclarationNodeIsBelow, ExpressionNodeIsBelow, PatternNodeIsBelow, TypeNodeIsBelow, alternative_size, body_size, constructor_item_size, declaration_size, enumeration_size, expression_size, guard_size, items_size, operator_item_size, pat_items_size, pattern_size, qualifier_size, right_size, size_if_there, type_size}
+use Rattle.cu_syntax.specs.Smaller.{DeclarationNodeIsBelow, ExpressionNodeIsBelow, PatternNodeIsBelow, TypeNodeIsBelow, alternative_size, body_size, constructor_item_size, declaration_size, expression_size, guard_size, operator_item_size, pattern_size, qualifier_size, right_size, size_if_there, type_size}
 use Rattle.cu_syntax.specs.Syntax as syntax
 use Rattle.cu_syntax.specs.Types.{function_type, type_meaning, type_node, types_meaning}
 

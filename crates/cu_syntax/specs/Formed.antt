@@ -1,7 +1,5 @@
 -- How many parts the grammar asks a node to have.
-use Rattle.std.specs.Prelude.{◌≡◌, ◌<◌, ℕ, List, Option, None, Some, length}
-use Rattle.cu_syntax.specs.declared.declarations.Body.{Body}
-use Rattle.cu_syntax.specs.declared.declarations.Body.TheVariants as body
+use Rattle.std.specs.Prelude.{◌≡◌, ◌<◌, List, Option, None, Some, length}
 use Rattle.cu_syntax.specs.declared.expressions.ExpressionNode.{ExpressionNode}
 use Rattle.cu_syntax.specs.declared.expressions.ExpressionNode.TheVariants as expression
 use Rattle.cu_syntax.specs.declared.patterns.PatternNode.{PatternNode}

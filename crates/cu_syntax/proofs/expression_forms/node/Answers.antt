@@ -1,7 +1,7 @@
 -- What is inside is one of the forms, and means the same.
-use Rattle.std.proofs.Common.{ap, sym, ◌∙◌}
+use Rattle.std.proofs.Common.{ap, sym}
 use Rattle.cu_syntax.specs.declared.symbol.Symbol.TheVariants as symbol
-use Rattle.cu_syntax.specs.ExpressionMeaning.{expression_at, expression_meaning}
+use Rattle.cu_syntax.specs.ExpressionMeaning.{expression_at}
 use Rattle.cu_syntax.specs.Expressions.{expression_node}
 use Rattle.cu_syntax.specs.Reading.{expression_as, expression_of}
 use Rattle.cu_syntax.specs.SubtreeMeaning.{tree_of}

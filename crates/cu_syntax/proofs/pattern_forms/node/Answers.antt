@@ -1,7 +1,7 @@
 -- What is inside is one of the forms, and means the same.
-use Rattle.std.proofs.Common.{ap, sym, ◌∙◌}
+use Rattle.std.proofs.Common.{ap, sym}
 use Rattle.cu_syntax.specs.declared.symbol.Symbol.TheVariants as symbol
-use Rattle.cu_syntax.specs.Patterns.{pattern_at, pattern_meaning, pattern_node}
+use Rattle.cu_syntax.specs.Patterns.{pattern_at, pattern_node}
 use Rattle.cu_syntax.specs.Reading.{pattern_as, pattern_of}
 use Rattle.cu_syntax.specs.SubtreeMeaning.{tree_of}
 use Rattle.cu_syntax.specs.Owners.{PatternIsOf}

@@ -1,9 +1,9 @@
 -- What is inside is one of the forms, and the same type.
-use Rattle.std.proofs.Common.{ap, sym, ◌∙◌}
+use Rattle.std.proofs.Common.{ap, sym}
 use Rattle.cu_syntax.specs.declared.symbol.Symbol.TheVariants as symbol
 use Rattle.cu_syntax.specs.Reading.{type_as, type_of}
 use Rattle.cu_syntax.specs.SubtreeMeaning.{tree_of}
-use Rattle.cu_syntax.specs.Types.{type_at, type_meaning, type_node}
+use Rattle.cu_syntax.specs.Types.{type_at, type_node}
 use Rattle.cu_syntax.specs.Owners.{TypeIsOf}
 use Rattle.cu_syntax.proofs.ShapeLemmas.{not_among}
 use Rattle.cu_syntax.proofs.TypeForms.{nodes}
