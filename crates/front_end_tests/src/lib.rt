@@ -3,10 +3,6 @@
 #![tactic(auto)]
 
 #[cfg(test)]
-mod grammar;
-#[cfg(test)]
-mod grouping;
-#[cfg(test)]
 mod layouts;
 #[cfg(test)]
 mod names;
@@ -14,5 +10,3 @@ mod names;
 mod tables;
 #[cfg(test)]
 mod tokens;
-#[cfg(test)]
-mod views;

@@ -145,7 +145,9 @@ impl<'t> Tell for Literal<'t> {
     fn tell(&self, told: Told) -> Told {
         match self {
             Literal::Int(number) => told.word(" number").number(*number),
-            Literal::Char(character) => told.word(" character").number(Int::from(*character as u32)),
+            Literal::Char(character) => told
+                .word(" character")
+                .number(Int::from(*character as u32)),
             Literal::String(characters) => told.word(" string").count(characters.len()),
         }
     }
