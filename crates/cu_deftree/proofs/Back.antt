@@ -86,7 +86,7 @@ high_not_held x next (suc n) l = or_from (nat_eq x next) (holds x (numbers (suc 
     differs true e = let same = eqb-true x next e in absurd (omega arith)
     differs false e = refl
 
-negated : (b : Bool) → b ≡ false → not b ≡ true
+pub negated : (b : Bool) → b ≡ false → not b ≡ true
 negated true e = let no : ⊥ = cc in absurd no
 negated false e = refl
 
@@ -286,7 +286,8 @@ low_on next names low y = let l = low y in omega arith
 low_bound : (next x : ℕ) (names : Names) → Low next names → Low (suc next) ((x, next) ∷ names)
 low_bound next x names low = low_cons (suc next) x next names (omega arith) (λ y. let l = low y in omega arith)
 
-bottom_or : (v : Value) → (v ≡ value.Bottom) ⊎ (v ≢ value.Bottom)
+-- a value is Bottom or not
+pub bottom_or : (v : Value) → (v ≡ value.Bottom) ⊎ (v ≢ value.Bottom)
 bottom_or value.Bottom = inl refl
 bottom_or (value.Variable x) = inr (λ e. let no : ⊥ = cc in no)
 bottom_or (value.Literal l) = inr (λ e. let no : ⊥ = cc in no)

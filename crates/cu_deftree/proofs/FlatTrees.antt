@@ -19,7 +19,7 @@ use Rattle.cu_deftree.specs.Lowering.{AllLower, Branches, Cases, Distinguishes, 
 use Rattle.cu_deftree.specs.LoweredProgram as lowered
 use Rattle.cu_deftree.specs.LoweredProgram.{Flattens, FunctionLowers}
 use Rattle.cu_deftree.specs.Rows.{Names, Row, constructor_ids, constructors_at, demand_at, first_occurrences, literal_in, literals_at, numbers, siblings}
-use Rattle.cu_deftree.proofs.Back.{numbers_linear, variables_are}
+use Rattle.cu_deftree.proofs.Back.{negated, numbers_linear, variables_are}
 use Rattle.cu_deftree.proofs.Levels.{stands_too}
 
 -- ---- rising constructors
@@ -94,10 +94,6 @@ same_literals l [] h = refl
 same_literals l (m ∷ ls) h =
     let parts = or_parts (same_literal l m) (list_any (same_literal l) ls) h in
     or_from (same_literal l m) (list_any (same_demand (ALiteral l)) (demanded [] ls)) parts.0 (same_literals l ls parts.1)
-
-negated : (b : Bool) → b ≡ false → not b ≡ true
-negated true e = let no : ⊥ = cc in absurd no
-negated false e = refl
 
 demands_differ : (cs : List ConId) (ls : List Lit) → Rising cs → Different ls → all_differ (demanded cs ls) ≡ true
 demands_differ [] [] r d = refl

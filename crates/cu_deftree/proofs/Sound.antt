@@ -37,7 +37,7 @@ use Rattle.cu_deftree.specs.Lowering.{Tree, is_variable, variables}
 use Rattle.cu_deftree.specs.LoweredProgram as lowered
 use Rattle.cu_deftree.specs.LoweredProgram.{Flattens, FunctionLowers}
 use Rattle.cu_deftree.specs.Rows.{Names, Row, name_of, names_at_all, numbers, row_of_rule}
-use Rattle.cu_deftree.proofs.Back.{FoundIn, high_not_held, numbers_count, numbers_linear, numbers_low, tree_back, variables_are, variables_at}
+use Rattle.cu_deftree.proofs.Back.{FoundIn, bottom_or, high_not_held, numbers_count, numbers_linear, numbers_low, tree_back, variables_are, variables_at}
 use Rattle.cu_deftree.proofs.Levels.{stands_too}
 use Rattle.cu_deftree.proofs.Meets.{all_matched_binds, all_matched_fits, all_shape_matched, bound_agrees, bound_in, others_stay}
 use Rattle.cu_deftree.proofs.Opening.{AllLow, At, Known, Low, known_all, low_names_at_all}
@@ -80,13 +80,6 @@ collected_same one two e c vs =
     ap (λ (s : Special). value.Constructed c (value.MoreValues (listed s.nil s.cons vs) value.NoValue)) e
 
 -- ---- scrutinees
-
-bottom_or : (v : Value) → (v ≡ value.Bottom) ⊎ (v ≢ value.Bottom)
-bottom_or value.Bottom = inl refl
-bottom_or (value.Variable x) = inr (λ e. let no : ⊥ = cc in no)
-bottom_or (value.Literal l) = inr (λ e. let no : ⊥ = cc in no)
-bottom_or (value.Constructed c vs) = inr (λ e. let no : ⊥ = cc in no)
-bottom_or (value.Partial h vs) = inr (λ e. let no : ⊥ = cc in no)
 
 variable_below : (flat : Program) (claims : List Claim) (env : Environment) (a : Term) (u : Value) → Gives flat claims env a u
     → (x : ℕ) → a ≡ term.Variable x → Below u (env x)
