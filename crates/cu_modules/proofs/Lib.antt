@@ -1,0 +1,13 @@
+pub mod BuiltInLemmas
+pub mod BuiltInTexts
+pub mod ImportLemmas
+pub mod KeywordLemmas
+pub mod LookUpLemmas
+pub mod MeaningLemmas
+pub mod NameLemmas
+pub mod OrderLemmas
+pub mod PathLemmas
+pub mod ReadLemmas
+pub mod StandsLemmas
+pub mod VisitLemmas
+pub mod WalkLemmas

@@ -1,0 +1,13 @@
+pub mod Binders
+pub mod Demands
+pub mod Entities
+pub mod Faults
+pub mod Imports
+pub mod Means
+pub mod Ordering
+pub mod OwnEntities
+pub mod Progress
+pub mod Reading
+pub mod Scopes
+pub mod Texts
+pub mod Walk
