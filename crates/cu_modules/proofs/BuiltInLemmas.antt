@@ -1,15 +1,13 @@
 -- The modules that are built in import no other modules than those.
-use Rattle.std.specs.Prelude.{◌≡◌, ℕ, Bool, true, false, ◌&&◌, ◌||◌, not, List, [], ◌∷◌, ◌++◌, Option, None, Some, Result, Ok, Err, if◌then◌else◌, codes, is_some, map, refl, slice_get}
+use Rattle.std.specs.Prelude.{◌≡◌, ℕ, Bool, true, false, ◌||◌, not, List, [], ◌∷◌, ◌++◌, None, Some, Result, Ok, Err, if◌then◌else◌, codes, is_some, map, refl, slice_get}
 use Rattle.std.proofs.Common.{◌∙◌, ap, subst, sym}
 use Rattle.std.proofs.lemmas.Bool.{and_parts, both_ways}
 use Rattle.std.proofs.lemmas.List.Elements.{All-cons, All-nil}
-use Rattle.std.proofs.lemmas.Slice.Eq.{bytes_eq-Decides}
-use Rattle.std.specs.List.{All, flat_map, list_all, list_any}
+use Rattle.std.specs.List.{All, flat_map, list_any}
 use Rattle.std.specs.Str.{bytes_eq}
 use Rattle.cu_lex.specs.declared.token.Keyword.TheVariants as keyword
 use Rattle.cu_lex.specs.Tokens as tokens
 use Rattle.cu_lex.specs.Tokens.{Lexeme}
-use Rattle.cu_peg.specs.declared.class.Class.{Class}
 use Rattle.cu_peg.specs.declared.class.Class.TheVariants as class
 use Rattle.cu_peg.specs.declared.row.Row.{Row}
 use Rattle.cu_peg.specs.declared.row.Row.TheVariants as row
@@ -27,7 +25,7 @@ use Rattle.cu_syntax.specs.Reading.{Tree, item_as, item_of}
 use Rattle.cu_syntax.specs.Table.{alternative, number, rows}
 use Rattle.cu_syntax.specs.Syntax.{Import, Item, Module}
 use Rattle.cu_modules.specs.Ordering.{IsOwn}
-use Rattle.cu_modules.specs.OwnEntities.{prelude_name, set_functions_name}
+use Rattle.cu_modules.specs.OwnEntities.{prelude_name}
 use Rattle.cu_modules.specs.Scopes.{Named, imports_by, names_module, prelude_import}
 use Rattle.cu_modules.specs.Texts as texts
 use Rattle.cu_modules.specs.Texts.{IsRead, TextFault}

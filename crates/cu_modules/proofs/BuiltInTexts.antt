@@ -102,8 +102,8 @@ split-none depth last (t ∷ ts) none =
     by : (ends parts : Bool) → not (has (class.Keyword keyword.Import) t) ≡ true → none_begin (behind (after last t) ts) ≡ true
         → SplitNone (split 0 (after last t) ts) → SplitNone (split (depth_after depth t.what) (after last t) ts)
         → SplitNone (if ends then record { first = []; whole = true; others = behind (after last t) ts }
-          else if parts then (let next = split 0 (after last t) ts in record { first = []; whole = true; others = part_of (after last t) next ∷ next.others })
-          else with_token t (split (depth_after depth t.what) (after last t) ts))
+        else if parts then (let next = split 0 (after last t) ts in record { first = []; whole = true; others = part_of (after last t) next ∷ next.others })
+        else with_token t (split (depth_after depth t.what) (after last t) ts))
     by true parts here end next inside = (refl, end)
     by false true here end next inside =
         (refl, and_from (not (begins_import (split 0 (after last t) ts).first)) (none_begin (split 0 (after last t) ts).others) next.0 next.1)

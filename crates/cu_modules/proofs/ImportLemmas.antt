@@ -1,9 +1,9 @@
 -- Which modules a module imports.
-use Rattle.std.proofs.Common.{◌≡◌, ◌∙◌, ◌+◌, ◌<◌, ◌||◌, ℕ, Bool, true, false, List, [], ◌∷◌, ◌++◌, map, drop, Some, None, Option, Ok, Err, Result, refl, sym, ap, subst, arith, get_or, length, append_assoc, append-nil, if◌then◌else◌}
+use Rattle.std.proofs.Common.{◌≡◌, ◌∙◌, ◌+◌, ◌<◌, ◌||◌, ℕ, Bool, true, false, List, [], ◌∷◌, ◌++◌, drop, Some, None, Option, refl, sym, ap, subst, get_or, length, append_assoc, append-nil, if◌then◌else◌}
 use Rattle.std.proofs.lemmas.List.{drop_more, map-append}
-use Rattle.std.proofs.lemmas.List.Elements.{All-append, All-cons, All-drop, All-head, All-nil, All-push, All-tail}
+use Rattle.std.proofs.lemmas.List.Elements.{All-append, All-cons, All-head, All-nil, All-tail}
 use Rattle.std.specs.List.{All, flat_map, list_any}
-use Rattle.std.specs.Prelude.{IfOk, nat_eq}
+use Rattle.std.specs.Prelude.{nat_eq}
 use Rattle.std.specs.Str.{bytes_eq}
 use Rattle.cu_names.specs.declared.names.NameId.{NameId}
 use Rattle.cu_names.specs.Texts.{AllDiffer, IsKnown, text_of}
@@ -12,16 +12,15 @@ use Rattle.cu_syntax.specs.declared.items.Import as node
 use Rattle.cu_syntax.specs.declared.text.Item.{Item}
 use Rattle.cu_syntax.specs.declared.items.ItemNode.{ItemNode}
 use Rattle.cu_syntax.specs.declared.items.ItemNode.TheVariants as variant
-use Rattle.cu_syntax.specs.Items.{import_meaning, item_node}
+use Rattle.cu_syntax.specs.Items.{item_node}
 use Rattle.cu_syntax.specs.Owners.{ImportIsOf, ItemIsOf, ItemNodeIsOf}
-use Rattle.cu_syntax.specs.Syntax as syntax
-use Rattle.cu_syntax.specs.Syntax.{Import, ImportItem}
+use Rattle.cu_syntax.specs.Syntax.{Import}
 use Rattle.cu_modules.specs.declared.modules.Module.{Module}
 use Rattle.cu_modules.specs.Imports.{AreImports, import_texts, option_names, written_in}
 use Rattle.cu_modules.specs.Ordering.{module_of, texts_of}
 use Rattle.cu_modules.specs.OwnEntities.{prelude_name}
 use Rattle.cu_modules.specs.Reading.{HasModule, HasPrelude}
-use Rattle.cu_modules.specs.Scopes.{Named, imports_by, imports_of, names_module, prelude_import}
+use Rattle.cu_modules.specs.Scopes.{imports_by, names_module, prelude_import}
 use Rattle.cu_modules.specs.Walk.{import_names}
 use Rattle.cu_modules.proofs.NameLemmas.{same_name}
 

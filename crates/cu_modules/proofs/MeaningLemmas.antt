@@ -1,6 +1,5 @@
 -- What names and modules stand for stays the same in a table that grows.
-use Rattle.std.proofs.Common.{◌≡◌, ◌∙◌, ℕ, Bool, List, [], ◌∷◌, ◌++◌, map, Some, None, Option, refl, sym, ap}
-use Rattle.std.proofs.lemmas.List.{map-append}
+use Rattle.std.proofs.Common.{◌≡◌, ◌∙◌, ℕ, List, [], ◌∷◌, map, Some, None, Option, refl, ap}
 use Rattle.std.proofs.lemmas.List.Elements.{All-head, All-tail, All-weaker}
 use Rattle.std.specs.List.{All}
 use Rattle.std.specs.Option.{option_map}
@@ -10,11 +9,10 @@ use Rattle.cu_lex.specs.declared.token.Token.{Token}
 use Rattle.cu_lex.specs.declared.token.TokenKind.{TokenKind}
 use Rattle.cu_lex.specs.declared.token.TokenKind.TheVariants as token
 use Rattle.cu_lex.specs.Reading.{HasKind, HasName, IsTokenOf, kind_of, lexeme_of, position_of, spelling_of}
-use Rattle.cu_lex.specs.Tokens.{Lexeme}
 use Rattle.cu_names.proofs.Growth.{known-extends, text_of-extends}
 use Rattle.cu_names.specs.declared.names.NameId.{NameId}
 use Rattle.cu_names.specs.Texts.{Extends, IsKnown, text_of}
-use Rattle.cu_syntax.specs.Answer.{header_meaning, item_meaning, item_read, items_meaning, module_meaning, tree_of}
+use Rattle.cu_syntax.specs.Answer.{header_meaning, item_read, items_meaning, module_meaning, tree_of}
 use Rattle.cu_syntax.specs.declared.text.Header.{Header}
 use Rattle.cu_syntax.specs.declared.text.Item.{Item}
 use Rattle.cu_syntax.specs.declared.text.Module as syntax
@@ -24,7 +22,6 @@ use Rattle.cu_syntax.specs.Reading.{header_of}
 use Rattle.cu_syntax.specs.Subtrees.{over}
 use Rattle.cu_modules.specs.declared.modules.Module.{Module}
 use Rattle.cu_modules.specs.Ordering.{module_of, modules_of, texts_of}
-use Rattle.cu_modules.specs.OwnEntities.{prelude_name}
 use Rattle.cu_modules.specs.Reading.{HasModule, HasPrelude}
 
 -- ---- names

@@ -1,16 +1,16 @@
 -- Modules that are built in stand before all others.
-use Rattle.std.proofs.Common.{◌≡◌, ◌∙◌, ◌+◌, ◌<◌, ◌||◌, ℕ, Bool, true, false, not, List, [], ◌∷◌, ◌++◌, map, drop, take, inl, inr, ◌⊎◌, Some, None, Option, Ok, Err, Result, refl, sym, ap, subst, arith, append_assoc, append-nil, get_or, length, if◌then◌else◌}
+use Rattle.std.proofs.Common.{◌≡◌, ◌∙◌, ◌||◌, ℕ, Bool, true, false, not, List, [], ◌∷◌, ◌++◌, inl, inr, ◌⊎◌, Some, Option, Ok, Err, Result, refl, sym, ap, subst, append_assoc, append-nil, get_or, if◌then◌else◌}
 use Rattle.std.proofs.lemmas.Bool.{both_ways}
 use Rattle.std.proofs.lemmas.List.{map-append}
 use Rattle.std.proofs.lemmas.List.Elements.{All-append, All-cons, All-filter, All-head, All-nil, All-tail, All-weaker}
 use Rattle.std.proofs.lemmas.Slice.Eq.{bytes_eq-Decides}
-use Rattle.std.specs.List.{All, filter, list_any}
-use Rattle.std.specs.Prelude.{IfErr, IfOk, IfSome, OnOk, slice_get}
+use Rattle.std.specs.List.{All, filter}
+use Rattle.std.specs.Prelude.{IfSome, slice_get}
 use Rattle.std.specs.Str.{bytes_eq}
 use Rattle.cu_io.specs.Holdings.{Holdings}
-use Rattle.cu_names.proofs.Growth.{extends-itself, extends-trans, interned-extends, text_of-at, text_of-extends}
+use Rattle.cu_names.proofs.Growth.{extends-trans, interned-extends, text_of-at}
 use Rattle.cu_names.specs.declared.names.NameId.{NameId}
-use Rattle.cu_names.specs.Texts.{Extends, IsKnown, interned, text_of}
+use Rattle.cu_names.specs.Texts.{Extends, interned, text_of}
 use Rattle.cu_modules.specs.declared.fault.OrderFault.{OrderFault}
 use Rattle.cu_modules.specs.declared.modules.Module.{Module}
 use Rattle.cu_modules.specs.Binders.{is_among}
@@ -18,7 +18,7 @@ use Rattle.cu_modules.specs.Ordering.{AllBehind, AllNew, AreOrdered, IsOwn, Tell
 use Rattle.cu_modules.specs.declared.visits.Progress.{Progress}
 use Rattle.cu_modules.specs.Reading.{HasModule}
 use Rattle.cu_modules.specs.Scopes.{Named}
-use Rattle.cu_modules.specs.Walk.{Refusal, Visits, Walk, built_in_first, import_names, is_built_in, is_there, refused, walked}
+use Rattle.cu_modules.specs.Walk.{Refusal, Visits, Walk, built_in_first, import_names, is_built_in, refused, walked}
 use Rattle.cu_modules.proofs.BuiltInLemmas.{own_imports}
 use Rattle.cu_modules.proofs.LookUpLemmas.{some_map, tells_map}
 use Rattle.cu_modules.proofs.StandsLemmas.{among_push, called}

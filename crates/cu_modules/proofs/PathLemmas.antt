@@ -1,6 +1,6 @@
 -- Modules on a path and modules that are done, by their numbers and by their texts.
-use Rattle.std.proofs.Common.{◌≡◌, ◌∙◌, ◌+◌, ◌<◌, ◌≤◌, ◌-◌, ◌||◌, ℕ, suc, Bool, true, false, not, List, [], ◌∷◌, ◌++◌, map, drop, take, Some, None, Option, refl, sym, ap, subst, arith, length, if◌then◌else◌}
-use Rattle.std.proofs.lemmas.Bool.{lt-ltb, ltb-false, ltb-true}
+use Rattle.std.proofs.Common.{◌≡◌, ◌∙◌, ◌+◌, ◌-◌, ◌||◌, ℕ, suc, Bool, true, false, not, List, [], ◌∷◌, drop, take, Some, None, Option, refl, sym, ap, arith, length, if◌then◌else◌}
+use Rattle.std.proofs.lemmas.Bool.{lt-ltb, ltb-true}
 use Rattle.std.proofs.lemmas.Bool.Decides.{Decides-ltb, same_from_decides}
 use Rattle.std.proofs.lemmas.List.{length-drop, take_all}
 use Rattle.std.proofs.lemmas.List.Elements.{All-head, All-tail}
@@ -15,8 +15,7 @@ use Rattle.cu_modules.specs.Binders.{is_among}
 use Rattle.cu_modules.specs.Ordering.{modules_of, texts_of}
 use Rattle.cu_modules.specs.Progress.{IsCycle}
 use Rattle.cu_modules.specs.Reading.{HasModule}
-use Rattle.cu_modules.specs.Scopes.{Named}
-use Rattle.cu_modules.specs.Walk.{ImportCycle, Refusal, from, has_name, is_there}
+use Rattle.cu_modules.specs.Walk.{ImportCycle, from, is_there}
 use Rattle.cu_modules.proofs.NameLemmas.{same_name}
 
 pub bytes_sym : (a b : List ℕ) → bytes_eq a b ≡ bytes_eq b a

@@ -1,12 +1,12 @@
 -- What a text is read as, or the fault that is told of it.
-use Rattle.std.proofs.Common.{◌≡◌, ◌∙◌, ℕ, suc, Bool, true, false, List, [], ◌∷◌, map, Some, None, Option, Ok, Err, Result, refl, sym, ap, subst, arith, slice_get}
+use Rattle.std.proofs.Common.{◌≡◌, ◌∙◌, ℕ, true, false, List, map, Ok, Err, Result, refl, sym, ap, subst}
 use Rattle.std.proofs.lemmas.Option.{get_or_from_slice_get, slice_get_within, slice_get-map}
 use Rattle.std.specs.List.{All}
 use Rattle.std.specs.Option.{option_map}
-use Rattle.std.specs.Prelude.{IfErr, IfOk, IfSome}
+use Rattle.std.specs.Prelude.{IfErr, IfOk}
 use Rattle.std.specs.Result.{result_map_both}
 use Rattle.cu_layout.proofs.LawLemmas.{owners-are, reads-alike}
-use Rattle.cu_layout.specs.Blocks.{block, layout_marks, marks_from}
+use Rattle.cu_layout.specs.Blocks.{block}
 use Rattle.cu_layout.specs.declared.fault.TooDeep as layout_fault
 use Rattle.cu_layout.specs.declared.fault.TooDeep.TheVariants as deep
 use Rattle.cu_layout.specs.Laws.{AreOf}
@@ -14,7 +14,6 @@ use Rattle.cu_layout.specs.Reading as layout
 use Rattle.cu_layout.specs.Reading.{emitted_token, lexeme_view, token_view}
 use Rattle.cu_lex.specs.declared.fault.LexFault.{LexFault}
 use Rattle.cu_lex.specs.declared.fault.LexFault.TheVariants as lexer
-use Rattle.cu_lex.specs.declared.token.LayoutMark.TheVariants as mark
 use Rattle.cu_lex.specs.declared.token.Token.{Token}
 use Rattle.cu_lex.specs.Reading as lex
 use Rattle.cu_lex.specs.Reading.{IsTokenOf, lexeme_of, position_of}
@@ -27,19 +26,16 @@ use Rattle.cu_syntax.specs.Answer as syntax
 use Rattle.cu_syntax.specs.Answer.{header_meaning, item_meaning, items_meaning, module_meaning}
 use Rattle.cu_syntax.specs.declared.fault.ParseFault.{ParseFault}
 use Rattle.cu_syntax.specs.declared.fault.ParseFault.TheVariants as parser
-use Rattle.cu_syntax.specs.declared.text.Header.{Header}
-use Rattle.cu_syntax.specs.declared.text.Item.{Item}
 use Rattle.cu_syntax.specs.declared.text.Module.{Module}
-use Rattle.cu_syntax.specs.Owners.{HeaderIsOf, ItemIsOf, ModuleIsOf}
+use Rattle.cu_syntax.specs.Owners.{ModuleIsOf}
 use Rattle.cu_syntax.specs.Parsing as parsing
 use Rattle.cu_syntax.specs.Parsing.{ModuleRead, split}
-use Rattle.cu_syntax.specs.Syntax as meant
 use Rattle.cu_modules.specs.declared.fault.OrderFault.{OrderFault}
 use Rattle.cu_modules.specs.declared.fault.OrderFault.TheVariants as answer
 use Rattle.cu_modules.specs.Ordering.{Tells}
 use Rattle.cu_modules.specs.Reading.{IsFaultOf, fault_of_layout, fault_of_syntax, fault_of_tokens}
 use Rattle.cu_modules.specs.Texts.{HasLayout, HeaderName, IsRead, Syntax, TextFault, Tokens, TooDeep, allows, no_syntax, no_tokens, other_name, right, too_deep}
-use Rattle.cu_modules.specs.Walk.{InText, Refusal}
+use Rattle.cu_modules.specs.Walk.{InText}
 
 fault_in : (name text : List ℕ) (fault : TextFault) → IsRead name text (Err fault) → IsFaultOf name text (InText name fault)
 fault_in name text fault read = record { fault = fault; refused = refl; read = read }

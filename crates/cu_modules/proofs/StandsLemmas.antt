@@ -1,16 +1,15 @@
 -- What holds between visits is kept where a module comes to the path, and where it leaves the path and is done.
-use Rattle.std.proofs.Common.{◌≡◌, ◌∙◌, ◌+◌, ◌<◌, ◌≤◌, ◌||◌, ℕ, suc, Bool, true, false, not, List, [], ◌∷◌, ◌++◌, map, Some, None, Option, refl, sym, ap, subst, arith, append_assoc, append-nil, length, if◌then◌else◌}
+use Rattle.std.proofs.Common.{◌≡◌, ◌∙◌, ◌+◌, ◌≤◌, ◌||◌, ℕ, Bool, true, false, not, List, [], ◌∷◌, ◌++◌, map, Some, None, refl, sym, ap, subst, arith, append_assoc, append-nil, length, if◌then◌else◌}
 use Rattle.std.proofs.lemmas.Bool.{both_ways}
 use Rattle.std.proofs.lemmas.List.{length-append, map-append}
-use Rattle.std.proofs.lemmas.List.Elements.{All-append, All-cons, All-head, All-nil, All-pop, All-push, All-tail, All-weaker, filter-append}
+use Rattle.std.proofs.lemmas.List.Elements.{All-cons, All-head, All-nil, All-pop, All-push, All-tail, All-weaker, filter-append}
 use Rattle.std.proofs.lemmas.Slice.Eq.{bytes_eq-Decides}
-use Rattle.std.specs.List.{All, filter, list_any}
+use Rattle.std.specs.List.{All, list_any}
 use Rattle.std.specs.Prelude.{is_some}
 use Rattle.std.specs.Str.{bytes_eq}
 use Rattle.cu_names.proofs.Growth.{known-extends, text_of-extends}
 use Rattle.cu_names.specs.declared.names.NameId.{NameId}
 use Rattle.cu_names.specs.Texts.{AllDiffer, Extends, IsKnown, text_of}
-use Rattle.cu_prelude.specs.BuiltIn.{built_in}
 use Rattle.cu_prelude.specs.declared.prelude.TheConstants.{PRELUDE}
 use Rattle.cu_prelude.specs.declared.set_functions.TheConstants.{SET_FUNCTIONS}
 use Rattle.cu_syntax.specs.Answer.{module_meaning}

@@ -1,12 +1,12 @@
 -- What a visit does.
-use Rattle.std.proofs.Common.{◌≡◌, ◌≢◌, ◌∙◌, ◌+◌, ◌-◌, ◌*◌, ◌<◌, ◌≤◌, ◌||◌, ◌⊎◌, inl, inr, ℕ, Bool, true, false, List, [], ◌∷◌, ◌++◌, map, take, Some, None, Option, Ok, Err, Result, refl, sym, ap, subst, arith, append_assoc, append-nil, length}
+use Rattle.std.proofs.Common.{◌≡◌, ◌∙◌, ◌+◌, ◌-◌, ◌*◌, ◌<◌, ◌≤◌, ◌||◌, inl, inr, ℕ, Bool, true, false, List, [], ◌∷◌, ◌++◌, take, Option, Ok, Err, Result, refl, sym, ap, subst, arith, append_assoc, length}
 use Rattle.std.proofs.Math.Seq.{take-append_seam}
 use Rattle.std.proofs.lemmas.List.{length-append}
-use Rattle.std.proofs.lemmas.List.Elements.{All-map, All-weaker}
+use Rattle.std.proofs.lemmas.List.Elements.{All-map}
 use Rattle.std.proofs.lemmas.Slice.Eq.{bytes_eq-Decides}
 use Rattle.std.specs.List.{All}
 use Rattle.std.specs.Str.{bytes_eq}
-use Rattle.std.specs.Prelude.{IfErr, IfOk, IfSome, IsErrAnd, OnOk}
+use Rattle.std.specs.Prelude.{IfErr, IfSome, IsErrAnd}
 use Rattle.cu_io.specs.Holdings.{Holdings}
 use Rattle.cu_names.proofs.Growth.{extends-trans, text_of-extends}
 use Rattle.cu_names.specs.declared.names.NameId.{NameId}
@@ -21,11 +21,9 @@ use Rattle.cu_modules.specs.Ordering.{IsOwn, Tells, module_of, modules_of, texts
 use Rattle.cu_modules.specs.OwnEntities.{prelude_name, set_functions_name}
 use Rattle.cu_modules.specs.Progress as found
 use Rattle.cu_modules.specs.Progress.{Came, Enters, IsCycle, IsFound, IsFree, IsLacking, Stands, StandsFor, built_in_met, is_met, one_if}
-use Rattle.cu_modules.specs.Reading.{IsFaultOf}
 use Rattle.cu_modules.specs.Scopes.{Named}
-use Rattle.cu_modules.specs.Texts.{IsRead}
-use Rattle.cu_modules.specs.Walk.{InText, IsNew, IsOpen, Refusal, VisitAll, Visits, cyclic, done, fetched, from, has_name, import_names, is_built_in, is_there, missing, most_modules, refused, too_many, unread, visited}
-use Rattle.cu_modules.proofs.LookUpLemmas.{err_map, in_some, some_map, tells_map}
+use Rattle.cu_modules.specs.Walk.{IsNew, IsOpen, Refusal, VisitAll, Visits, cyclic, done, fetched, import_names, is_there, missing, refused, too_many, unread, visited}
+use Rattle.cu_modules.proofs.LookUpLemmas.{in_some, some_map, tells_map}
 use Rattle.cu_modules.proofs.MeaningLemmas.{has_module, module_same, modules_same, texts_same}
 use Rattle.cu_modules.proofs.StandsLemmas.{modules_push, off_path, stands_at, texts_push, there_push}
 use Rattle.cu_modules.proofs.WalkLemmas.{both_map}

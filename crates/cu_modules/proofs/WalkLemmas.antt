@@ -1,22 +1,20 @@
 -- Visits, one after another.
-use Rattle.std.proofs.Common.{◌≡◌, ◌∙◌, ◌+◌, ◌<◌, ◌≤◌, ◌||◌, ℕ, Bool, true, false, List, [], ◌∷◌, ◌++◌, map, drop, Some, None, Option, Ok, Err, Result, refl, sym, ap, subst, arith, append_assoc, append-nil, get_or, length}
+use Rattle.std.proofs.Common.{◌≡◌, ◌∙◌, ◌≤◌, ◌||◌, ℕ, Bool, true, List, [], ◌∷◌, ◌++◌, drop, Some, None, Option, Ok, Err, Result, refl, sym, ap, subst, arith, append_assoc, append-nil, length}
 use Rattle.std.proofs.lemmas.List.{length-drop, map-append}
-use Rattle.std.proofs.lemmas.List.Elements.{All-append, All-cons, All-head, All-nil, All-push, All-tail, All-weaker}
-use Rattle.std.specs.List.{All, list_any}
-use Rattle.std.specs.Prelude.{IfErr, IfOk, IfSome, OnOk}
+use Rattle.std.proofs.lemmas.List.Elements.{All-nil, All-push, All-weaker}
+use Rattle.std.specs.List.{All}
+use Rattle.std.specs.Prelude.{IfSome}
 use Rattle.cu_io.specs.Holdings.{Holdings}
-use Rattle.cu_names.proofs.Growth.{extends-itself, extends-trans, known-extends, text_of-extends}
+use Rattle.cu_names.proofs.Growth.{extends-itself, extends-trans, text_of-extends}
 use Rattle.cu_names.specs.declared.names.NameId.{NameId}
 use Rattle.cu_names.specs.Texts.{Extends, IsKnown, text_of}
-use Rattle.cu_syntax.specs.Answer.{module_meaning}
 use Rattle.cu_modules.specs.declared.fault.OrderFault.{OrderFault}
-use Rattle.cu_modules.specs.declared.modules.Module.{Module}
 use Rattle.cu_modules.specs.declared.visits.Progress.{Progress}
 use Rattle.cu_modules.specs.Ordering.{Tells, module_of, modules_of, texts_of}
-use Rattle.cu_modules.specs.Progress.{Came, Stands, StandsFor}
+use Rattle.cu_modules.specs.Progress.{Came, Stands}
 use Rattle.cu_modules.specs.Scopes.{Named}
 use Rattle.cu_modules.specs.Walk.{Refusal, VisitAll, Visits, has_name, is_there, next, no_more, stopped}
-use Rattle.cu_modules.proofs.LookUpLemmas.{err_map, in_some, some_map, tells_map}
+use Rattle.cu_modules.proofs.LookUpLemmas.{in_some, some_map, tells_map}
 use Rattle.cu_modules.proofs.MeaningLemmas.{modules_same, texts_same}
 use Rattle.cu_modules.proofs.StandsLemmas.{any_append}
 

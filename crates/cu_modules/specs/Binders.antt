@@ -2,7 +2,6 @@
 use Rattle.std.specs.Prelude.{ℕ, Bool, true, false, not, List, [], ◌∷◌, ◌++◌, Option, None, Some, map, if◌then◌else◌}
 use Rattle.std.specs.List.{filter, flat_map, list_any}
 use Rattle.std.specs.Str.{bytes_eq}
-use Rattle.cu_syntax.specs.Syntax as syntax
 use Rattle.cu_syntax.specs.Syntax.{Arrow, As, Constructed, ConstructorDeclaration, Data, Declaration, DeclarationItem, Declarations, Fixity, FreeVariables, FunctionRule, Item, MoreDeclarations, MorePatterns, MoreTypes, Name, NoConstructor, NoDeclaration, NoPattern, NoType, Pattern, PatternBinding, PatternList, PatternLiteral, PatternOperators, PatternRest, PatternTuple, PatternVariable, Patterns, Signature, Synonym, ThenConstructor, TypeList, TypeNamed, TypeTerm, TypeTerms, TypeTuple, TypeVariable, Wildcard}
 
 abbrev pub texts : List Name → List (List ℕ)

@@ -1,5 +1,5 @@
 -- What the answers of `order` stand for, under a table of names.
-use Rattle.std.specs.Prelude.{◌≡◌, ℕ, Bool, true, false, List, [], ◌∷◌, ◌++◌, Ok, Some, map}
+use Rattle.std.specs.Prelude.{◌≡◌, ℕ, true, false, List, [], ◌∷◌, ◌++◌, Ok, Some, map}
 use Rattle.std.specs.List.{All}
 use Rattle.cu_io.specs.Rose.{Rose}
 use Rattle.cu_lex.specs.Reading.{position_of}
@@ -16,7 +16,7 @@ use Rattle.cu_modules.specs.declared.modules.Module.{Module}
 use Rattle.cu_modules.specs.Binders.{is_among}
 use Rattle.cu_modules.specs.Scopes.{Named}
 use Rattle.cu_modules.specs.Texts.{HeaderName, IsRead, Syntax, TextFault, Tokens, TooDeep}
-use Rattle.cu_modules.specs.Walk.{ImportCycle, InText, MissingModule, Refusal, TooManyModules, import_names, is_built_in}
+use Rattle.cu_modules.specs.Walk.{ImportCycle, InText, MissingModule, Refusal, TooManyModules, import_names}
 
 abbrev pub module_of : List (List ℕ) → Module → Named
 module_of names m = record { name = text_of names m.name; syntax = module_meaning names m.syntax }

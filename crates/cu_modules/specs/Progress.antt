@@ -1,5 +1,5 @@
 -- How far a walk has come, under a table of names.
-use Rattle.std.specs.Prelude.{◌≡◌, ◌≤◌, ℕ, ◌+◌, Bool, true, false, ◌||◌, ◌⊎◌, List, [], ◌∷◌, ◌++◌, Option, None, Some, Ok, Err, length, if◌then◌else◌}
+use Rattle.std.specs.Prelude.{◌≡◌, ◌≤◌, ℕ, ◌+◌, Bool, true, false, ◌||◌, ◌⊎◌, List, [], ◌∷◌, ◌++◌, Option, None, Some, Ok, length, if◌then◌else◌}
 use Rattle.std.specs.List.{All}
 use Rattle.cu_names.specs.declared.names.NameId.{NameId}
 use Rattle.cu_names.specs.Texts.{AllDiffer, IsKnown, text_of}
@@ -13,7 +13,7 @@ use Rattle.cu_modules.specs.OwnEntities.{prelude_name, set_functions_name}
 use Rattle.cu_modules.specs.Reading.{HasModule, HasPrelude, IsFaultOf}
 use Rattle.cu_modules.specs.Scopes.{Named}
 use Rattle.cu_modules.specs.Texts.{IsRead}
-use Rattle.cu_modules.specs.Walk.{ImportCycle, IsOpen, MissingModule, Refusal, TooManyModules, fetched, from, import_names, is_built_in, is_there, most_modules, source}
+use Rattle.cu_modules.specs.Walk.{ImportCycle, MissingModule, Refusal, TooManyModules, fetched, from, import_names, is_built_in, is_there, most_modules, source}
 
 abbrev pub one_if : Bool → ℕ
 one_if b = if b then 1 else 0

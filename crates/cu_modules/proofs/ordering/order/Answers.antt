@@ -1,4 +1,4 @@
-use Rattle.std.proofs.Common.{◌≡◌, ◌∙◌, rules, ap, refl, sym, subst, Err, Ok}
+use Rattle.std.proofs.Common.{sym, subst, Err}
 use Rattle.cu_io.specs.Holdings.{Holdings}
 use Rattle.cu_modules.specs.declared.fault.OrderFault.{OrderFault}
 use Rattle.cu_modules.specs.Ordering.{AreOrdered, Tells, modules_of}
