@@ -7,7 +7,6 @@ pub mod Occurring
 pub mod Outcome
 pub mod Pairs
 pub mod Reading
-pub mod Samples
 pub mod Inside
 pub mod Walk
 pub mod Written

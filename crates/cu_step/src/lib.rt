@@ -1,17 +1,11 @@
 //! One step of a branch of the search.
 #![tactic(auto)]
 
-#[cfg(test)]
-mod answer_tests;
 mod apply;
 mod build;
 mod call;
 mod case;
-#[cfg(test)]
-mod ending_tests;
 mod equal;
-#[cfg(test)]
-mod equation_tests;
 mod free;
 mod head;
 mod moved;
@@ -25,14 +19,6 @@ mod pairs;
 mod pending;
 mod read;
 mod rewrite;
-#[cfg(test)]
-mod row_tests;
-#[cfg(test)]
-mod runs;
-#[cfg(test)]
-mod samples;
-#[cfg(test)]
-mod tests;
 mod unify;
 mod waited;
 
@@ -45,7 +31,7 @@ ghost use Rattle.cu_machine.specs.Need.{need_all};
 ghost use Rattle.cu_machine.specs.Next.{Stops, answered, is_above, moved, next, next_by, too_large};
 ghost use Rattle.cu_machine.specs.Sets.{IsWithoutSets, code_is_without_sets, graph_is_without_sets};
 ghost use Rattle.cu_machine.specs.State as state;
-ghost use Rattle.cu_machine.specs.State.{Idle, start_of};
+ghost use Rattle.cu_machine.specs.State.{Idle, graph_of, start_of};
 ghost use Rattle.cu_machine.specs.Validity.{ArgumentsThere, IsAcyclic, IsValid, are_places};
 ghost use Rattle.cu_step.specs.Moved.{move_of};
 ghost use Rattle.cu_step.specs.Outcome.{branches_of, next_of, state_of};
@@ -65,6 +51,15 @@ pub struct Branch<S> {
     store: S,
     root: u32,
     goals: Vec<u32>,
+}
+
+impl<S: Store> Branch<S> {
+    /// The branch's graph.
+    pub fn store(&self) -> &S
+        ensures { S.content result.now ≡ graph_of (state_of S.content self.now) }
+    {
+        &self.store
+    }
 }
 
 /// What becomes of a branch in one step.

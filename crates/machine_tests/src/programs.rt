@@ -6,8 +6,7 @@ ghost use Rattle.cu_calculus.specs.declared.Head.TheVariants as head;
 ghost use Rattle.cu_calculus.specs.declared.Lit.TheVariants as lit;
 ghost use Rattle.cu_calculus.specs.declared.Mode.TheVariants as mode;
 ghost use Rattle.cu_flat.specs.Meaning.{branch_meaning, expr_meaning};
-ghost use Rattle.cu_machine.specs.Sets.{code_is_without_sets};
-ghost use Rattle.cu_step.specs.Samples.{sample};
+ghost use Rattle.machine_tests.specs.Samples.{sample};
 
 use cu_flat::{
     ConId, Entry, Expr, ExprId, FlatBody, FlatConstructor, FlatFunction, FlatProgram, FunId, Head,
@@ -112,6 +111,12 @@ impl Parts {
         ensures { self.new ≡ (self.old.0, self.old.1 ++ code.Literal (lit.Int n) ∷ []) }
     {
         self.push(rt, Expr::Lit(Lit::Int(n)));
+    }
+
+    pub(crate) fn character<R: Abort>(&mut self, rt: &R, c: char)
+        ensures { self.new ≡ (self.old.0, self.old.1 ++ code.Literal (lit.Char c) ∷ []) }
+    {
+        self.push(rt, Expr::Lit(Lit::Char(c)));
     }
 
     pub(crate) fn whole<R: Abort>(&mut self, rt: &R, head: Head, parts: &[ExprId])
@@ -240,7 +245,7 @@ pub(crate) fn both<R: Abort>(rt: &R, alloc: Global) -> Parts
     ensures { result ≡ (
       record { arity = 2; body = code.Rule (0 ∷ 1 ∷ []) (record { 0 = 3 }) } ∷ [],
       code.Variable 0 ∷ code.Variable 1 ∷ code.Whole (head.Con (record { 0 = 0 })) []
-          ∷ code.Case mode.Flex (0 ∷ 1 ∷ []) (record { 0 = 0 }) (
+          ∷ code.Case mode.Flex (1 ∷ []) (record { 0 = 0 }) (
           record { pattern = code.Built (record { 0 = 0 }) []; body = record { 0 = 2 } }
           ∷ record { pattern = code.Built (record { 0 = 1 }) []; body = record { 0 = 1 } } ∷ []) ∷ [],
     ) }
@@ -254,25 +259,7 @@ pub(crate) fn both<R: Abort>(rt: &R, alloc: Global) -> Parts
         branch(rt, alloc, TRUE, &[], ExprId(1)),
     ]
     .expect(rt, "memory");
-    parts.case(rt, Mode::Flex, &[0, 1], ExprId(0), branches);
+    parts.case(rt, Mode::Flex, &[1], ExprId(0), branches);
     parts.function(rt, 2, &[0, 1], ExprId(3));
     parts
-}
-
-/// `not True = False; not False = True`, and `goal x = not x`.
-pub(crate) fn negation<R: Abort>(rt: &R, alloc: Global) -> FlatProgram
-    ensures { IsTrue (code_is_without_sets result) }
-{
-    let mut parts = both(rt, alloc);
-    parts.constructed(rt, TRUE, &[]);
-    let branches = vec![in alloc;
-        branch(rt, alloc, FALSE, &[], ExprId(4)),
-        branch(rt, alloc, TRUE, &[], ExprId(2)),
-    ]
-    .expect(rt, "memory");
-    parts.case(rt, Mode::Flex, &[0], ExprId(0), branches);
-    parts.call(rt, FunId(1), &[ExprId(0)]);
-    parts.function(rt, 1, &[0], ExprId(5));
-    parts.function(rt, 1, &[0], ExprId(6));
-    parts.program(rt)
 }

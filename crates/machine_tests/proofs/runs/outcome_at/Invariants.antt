@@ -2,7 +2,7 @@
 use Rattle.cu_machine.specs.Sets.{IsWithoutSets}
 use Rattle.cu_machine.specs.Validity.{IsValid}
 use Rattle.cu_step.specs.Outcome.{state_of}
-use Rattle.cu_step.proofs.runs.outcome_at.Given as goal
+use Rattle.machine_tests.proofs.runs.outcome_at.Given as goal
 
 abbrev pub invariant-loop-choice : goal.invariant-loop-choice
 invariant-loop-choice l = IsValid l.program (state_of (λ store. store) l.branch) × IsWithoutSets (state_of (λ store. store) l.branch)
