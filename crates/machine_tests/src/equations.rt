@@ -68,7 +68,7 @@ fn expect_conjunctions<R: Abort>(rt: &R, alloc: Global) {
     expect(rt, alloc, &program, 4, "", "& 1 1 | True");
 }
 
-/// `x =:= x`, `x =:= y`, `x =:= 7` and `7 =:= x`.
+/// `x =:= x` and `x =:= y`.
 fn variables<R: Abort>(rt: &R, alloc: Global) -> FlatProgram
     ensures { IsTrue (code_is_without_sets result) }
 {
@@ -78,27 +78,51 @@ fn variables<R: Abort>(rt: &R, alloc: Global) -> FlatProgram
     parts.call(rt, FunId(1), &[ExprId(0), ExprId(1)]);
     parts.free(rt, 1, ExprId(6));
     parts.free(rt, 0, ExprId(7));
-    parts.integer(rt, 7);
-    parts.call(rt, FunId(1), &[ExprId(0), ExprId(9)]);
-    parts.free(rt, 0, ExprId(10));
-    parts.call(rt, FunId(1), &[ExprId(9), ExprId(0)]);
-    parts.free(rt, 0, ExprId(12));
     parts.external(rt, 2, Prim::Unify);
     parts.function(rt, 0, &[], ExprId(5));
     parts.function(rt, 0, &[], ExprId(8));
-    parts.function(rt, 0, &[], ExprId(11));
-    parts.function(rt, 0, &[], ExprId(13));
     parts.program(rt)
 }
 
-/// A variable equals itself, and is bound to another, or to a literal on either
-/// side.
+/// A variable equals itself, and is bound to another.
 fn expect_variables<R: Abort>(rt: &R, alloc: Global) {
     let program = variables(rt, alloc);
     expect(rt, alloc, &program, 2, "0", "True | free");
     expect(rt, alloc, &program, 3, "0", "True | -> 2 | free");
-    expect(rt, alloc, &program, 4, "0", "True | -> 2 | 7");
-    expect(rt, alloc, &program, 5, "0", "True | -> 2 | 7");
+}
+
+/// `x =:= 7`.
+fn binding<R: Abort>(rt: &R, alloc: Global) -> FlatProgram
+    ensures { IsTrue (code_is_without_sets result) }
+{
+    let mut parts = programs::both(rt, alloc);
+    parts.integer(rt, 7);
+    parts.call(rt, FunId(1), &[ExprId(0), ExprId(4)]);
+    parts.free(rt, 0, ExprId(5));
+    parts.external(rt, 2, Prim::Unify);
+    parts.function(rt, 0, &[], ExprId(6));
+    parts.program(rt)
+}
+
+/// `7 =:= x`.
+fn binding_on_the_left<R: Abort>(rt: &R, alloc: Global) -> FlatProgram
+    ensures { IsTrue (code_is_without_sets result) }
+{
+    let mut parts = programs::both(rt, alloc);
+    parts.integer(rt, 7);
+    parts.call(rt, FunId(1), &[ExprId(4), ExprId(0)]);
+    parts.free(rt, 0, ExprId(5));
+    parts.external(rt, 2, Prim::Unify);
+    parts.function(rt, 0, &[], ExprId(6));
+    parts.program(rt)
+}
+
+/// A variable is bound to a literal on either side.
+fn expect_bindings<R: Abort>(rt: &R, alloc: Global) {
+    let program = binding(rt, alloc);
+    expect(rt, alloc, &program, 2, "0", "True | -> 2 | 7");
+    let program = binding_on_the_left(rt, alloc);
+    expect(rt, alloc, &program, 2, "0", "True | -> 2 | 7");
 }
 
 /// `x =:= []`, `[1] =:= [2]`, `[] =:= [1]`, `1 =:= []` and `(&&) =:= (&&)`.
@@ -145,8 +169,8 @@ fn expect_constructors<R: Abort>(rt: &R, alloc: Global) {
     expect(rt, alloc, &program, 6, "0", "fail | part f0 | part f0");
 }
 
-/// `x =:= [y]`, `[y] =:= x` and `x =:= [x]`.
-fn imitations<R: Abort>(rt: &R, alloc: Global) -> FlatProgram
+/// `x =:= [y]`.
+fn imitation<R: Abort>(rt: &R, alloc: Global) -> FlatProgram
     ensures { IsTrue (code_is_without_sets result) }
 {
     let mut parts = programs::both(rt, alloc);
@@ -155,40 +179,53 @@ fn imitations<R: Abort>(rt: &R, alloc: Global) -> FlatProgram
     parts.call(rt, FunId(1), &[ExprId(0), ExprId(5)]);
     parts.free(rt, 1, ExprId(6));
     parts.free(rt, 0, ExprId(7));
-    parts.call(rt, FunId(1), &[ExprId(5), ExprId(0)]);
-    parts.free(rt, 1, ExprId(9));
-    parts.free(rt, 0, ExprId(10));
-    parts.constructed(rt, CONS, &[ExprId(0), ExprId(4)]);
-    parts.call(rt, FunId(1), &[ExprId(0), ExprId(12)]);
-    parts.free(rt, 0, ExprId(13));
     parts.external(rt, 2, Prim::Unify);
     parts.function(rt, 0, &[], ExprId(8));
-    parts.function(rt, 0, &[], ExprId(11));
-    parts.function(rt, 0, &[], ExprId(14));
     parts.program(rt)
 }
 
-/// A variable becomes a constructor over new ones, on either side, unless it
-/// stands in its own value.
+/// `[y] =:= x`.
+fn imitation_on_the_left<R: Abort>(rt: &R, alloc: Global) -> FlatProgram
+    ensures { IsTrue (code_is_without_sets result) }
+{
+    let mut parts = programs::both(rt, alloc);
+    parts.constructed(rt, NIL, &[]);
+    parts.constructed(rt, CONS, &[ExprId(1), ExprId(4)]);
+    parts.call(rt, FunId(1), &[ExprId(5), ExprId(0)]);
+    parts.free(rt, 1, ExprId(6));
+    parts.free(rt, 0, ExprId(7));
+    parts.external(rt, 2, Prim::Unify);
+    parts.function(rt, 0, &[], ExprId(8));
+    parts.program(rt)
+}
+
+/// A variable becomes a constructor over new ones, on either side.
 fn expect_imitations<R: Abort>(rt: &R, alloc: Global) {
-    let program = imitations(rt, alloc);
-    expect(
-        rt,
-        alloc,
-        &program,
-        2,
-        "0",
-        "& 7 8 | : 5 6 | free | [] | : 2 3 | free | free | =:= 5 2 | =:= 6 3",
-    );
-    expect(
-        rt,
-        alloc,
-        &program,
-        3,
-        "0",
-        "& 7 8 | : 5 6 | free | [] | : 2 3 | free | free | =:= 5 2 | =:= 6 3",
-    );
-    expect(rt, alloc, &program, 4, "0", "fail | free | [] | : 1 2");
+    let want = "& 7 8 | : 5 6 | free | [] | : 2 3 | free | free | =:= 5 2 | =:= 6 3";
+    let program = imitation(rt, alloc);
+    expect(rt, alloc, &program, 2, "0", want);
+    let program = imitation_on_the_left(rt, alloc);
+    expect(rt, alloc, &program, 2, "0", want);
+}
+
+/// `x =:= [x]`.
+fn circle<R: Abort>(rt: &R, alloc: Global) -> FlatProgram
+    ensures { IsTrue (code_is_without_sets result) }
+{
+    let mut parts = programs::both(rt, alloc);
+    parts.constructed(rt, NIL, &[]);
+    parts.constructed(rt, CONS, &[ExprId(0), ExprId(4)]);
+    parts.call(rt, FunId(1), &[ExprId(0), ExprId(5)]);
+    parts.free(rt, 0, ExprId(6));
+    parts.external(rt, 2, Prim::Unify);
+    parts.function(rt, 0, &[], ExprId(7));
+    parts.program(rt)
+}
+
+/// A variable in its own value fails.
+fn expect_circle<R: Abort>(rt: &R, alloc: Global) {
+    let program = circle(rt, alloc);
+    expect(rt, alloc, &program, 2, "0", "fail | free | [] | : 1 2");
 }
 
 /// Graphs are shown node by node.
@@ -198,6 +235,8 @@ fn equations_have_their_successors(rt: HostRuntime) {
     expect_comparisons(&rt, alloc);
     expect_conjunctions(&rt, alloc);
     expect_variables(&rt, alloc);
+    expect_bindings(&rt, alloc);
     expect_constructors(&rt, alloc);
     expect_imitations(&rt, alloc);
+    expect_circle(&rt, alloc);
 }
