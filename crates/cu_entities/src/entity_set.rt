@@ -60,7 +60,7 @@ impl EntitySet {
         ensures { (names : List (List ℕ)) (entities : List meant.Entity)
             → AllDiffer names → EntityIsKnown names entity → IsSet names entities self.old
             → OnOk result
-                (IsSet names (entities ++ entity_meaning names entity ∷ []) self.new) }
+            (IsSet names (entities ++ entity_meaning names entity ∷ []) self.new) }
     {
         if self.seen.insert(Identity::of(entity))? {
             self.list.push(entity)?;
