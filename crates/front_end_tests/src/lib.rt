@@ -3,6 +3,10 @@
 #![tactic(auto)]
 
 #[cfg(test)]
+mod grammar;
+#[cfg(test)]
+mod grouping;
+#[cfg(test)]
 mod layouts;
 #[cfg(test)]
 mod names;
@@ -10,3 +14,5 @@ mod names;
 mod tables;
 #[cfg(test)]
 mod tokens;
+#[cfg(test)]
+mod views;
