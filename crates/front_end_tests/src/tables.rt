@@ -39,7 +39,7 @@ fn grammar(alloc: Global, rows: Vec<Row>) -> Result<Grammar, BadGrammar> {
     Err(BadGrammar::NoMemory)
 }
 
-/// The tree of a text by the row 0, or a dash.
+/// The tree of a text by the first rule of a table, or a dash.
 fn tree(alloc: Global, grammar: &Grammar, tokens: &[Token]) -> Result<String, AllocError> {
     if grammar.rows().is_empty() {
         return Ok(String::new(alloc));
