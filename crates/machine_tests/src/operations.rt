@@ -71,6 +71,43 @@ fn expect_sums<R: Abort>(rt: &R, alloc: Global) {
     expect(rt, alloc, &program, 13, "0", "fail | 7 | 0");
 }
 
+/// The sums of 1 with the greatest integers of 64 and of 128 bits.
+fn sums_at_the_ends<R: Abort>(rt: &R, alloc: Global) -> FlatProgram
+    ensures { IsTrue (code_is_without_sets result) }
+{
+    let mut parts = programs::both(rt, alloc);
+    parts.integer(rt, 9_223_372_036_854_775_807);
+    parts.integer(rt, Int::MAX);
+    parts.integer(rt, 1);
+    parts.call(rt, FunId(1), &[ExprId(4), ExprId(6)]);
+    parts.call(rt, FunId(1), &[ExprId(5), ExprId(6)]);
+    parts.external(rt, 2, Prim::Add);
+    parts.function(rt, 0, &[], ExprId(7));
+    parts.function(rt, 0, &[], ExprId(8));
+    parts.program(rt)
+}
+
+/// Integers go on above 64 bits, and overflow above 128.
+fn expect_sums_at_the_ends<R: Abort>(rt: &R, alloc: Global) {
+    let program = sums_at_the_ends(rt, alloc);
+    expect(
+        rt,
+        alloc,
+        &program,
+        2,
+        "0",
+        "9223372036854775808 | 9223372036854775807 | 1",
+    );
+    expect(
+        rt,
+        alloc,
+        &program,
+        3,
+        "0",
+        "overflow 170141183460469231731687303715884105727 1",
+    );
+}
+
 /// `1 < 2`, `2 < 2`, `2 <= 2`, `2 <= 1`, `2 > 1`, `2 > 2`, `2 >= 2` and `1 >= 2`.
 fn orders<R: Abort>(rt: &R, alloc: Global) -> FlatProgram
     ensures { IsTrue (code_is_without_sets result) }
@@ -170,6 +207,7 @@ fn expect_kinds<R: Abort>(rt: &R, alloc: Global) {
 fn operations_are_computed(rt: HostRuntime) {
     let alloc = rt.alloc();
     expect_sums(&rt, alloc);
+    expect_sums_at_the_ends(&rt, alloc);
     expect_orders(&rt, alloc);
     expect_kinds(&rt, alloc);
 }
