@@ -1,13 +1,19 @@
-//! Tests of the front end, from the characters of a text to syntax and
-//! grouping.
+//! Tests of the front end, from the characters of a text to syntax, grouping and
+//! modules.
 #![tactic(auto)]
 
+#[cfg(test)]
+mod built_in;
+#[cfg(test)]
+mod entities;
 #[cfg(test)]
 mod grammar;
 #[cfg(test)]
 mod grouping;
 #[cfg(test)]
 mod layouts;
+#[cfg(test)]
+mod modules;
 #[cfg(test)]
 mod names;
 #[cfg(test)]
