@@ -1,17 +1,11 @@
 -- What a derived set has.
-use Rattle.std.proofs.Common.{◌≡◌, ◌≢◌, ℕ, zero, suc, ◌+◌, ◌<◌, ◌⊎◌, inl, inr, Bool, true, false, List, [], ◌∷◌, Some, length, set, replicate, eqb, refl, ap, sym, subst, ◌∙◌, arith, eqb-true, eq-eqb, true≢false, get_or-set_same, get_or-set_other, length-set}
+use Rattle.std.proofs.Common.{◌≡◌, ◌≢◌, ℕ, zero, suc, ◌<◌, ◌⊎◌, inl, inr, Bool, true, false, List, [], ◌∷◌, Some, length, set, replicate, eqb, refl, ap, sym, subst, ◌∙◌, arith, eqb-true, eq-eqb, true≢false, get_or-set_same, get_or-set_other, length-set}
 use Rattle.std.specs.Prelude.{slice_get, ◌&&◌, ◌||◌}
 use Rattle.std.specs.List.{list_all, list_any}
 use Rattle.std.proofs.lemmas.Option.{slice_get_within}
 use Rattle.cu_peg.specs.Closure as closure
-use Rattle.cu_peg.specs.Closure.{Derived, IsSaturated, MayJoin, holds, marked}
+use Rattle.cu_peg.specs.Closure.{Derived, IsSaturated, MayJoin, holds, marked, unmarked}
 use Rattle.cu_peg.specs.declared.closure.Condition.{Condition}
-
--- how many numbers are not in a set
-abbrev pub unmarked : List Bool → ℕ
-unmarked [] = 0
-unmarked (true ∷ marks) = unmarked marks
-unmarked (false ∷ marks) = 1 + unmarked marks
 
 pub unmarked-set : (marks : List Bool) (n : ℕ) → n < length marks → marked marks n ≡ false → unmarked (set marks n true) < unmarked marks
 unmarked-set [] n h e = absurd (omega arith)

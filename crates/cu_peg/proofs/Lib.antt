@@ -3,11 +3,15 @@ pub mod ClosureLemmas
 pub mod EndLemmas
 pub mod FillLemmas
 pub mod FoundedRows
+pub mod GrammarLemmas
+pub mod KeptLemmas
 pub mod OneTree
 pub mod OverLemmas
 pub mod PlaceLemmas
 pub mod TableLemmas
+pub mod ReachLemmas
 pub mod ReadLemmas
 pub mod RowLemmas
 pub mod Takes
 pub mod Total
+pub mod TransferLemmas

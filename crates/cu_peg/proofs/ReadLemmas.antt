@@ -19,6 +19,8 @@ use Rattle.cu_peg.specs.Matches.{Fails, Matches, RowFails, RowMatches}
 use Rattle.cu_peg.specs.Parse.{ParseTree, ParseTrees, Leaf, Parts, Chosen, NoTree, MoreTrees, only, size, sizes, spelled, spelled_all}
 use Rattle.cu_peg.specs.Spelling.{size-positive}
 use Rattle.cu_peg.proofs.OneTree.{once, refutes}
+use Rattle.cu_peg.proofs.KeptLemmas.{is_nothing}
+use Rattle.cu_peg.proofs.TransferLemmas.{matches-some}
 use Rattle.cu_peg.proofs.RowLemmas.{of_row}
 
 -- what a list has from one place on
@@ -543,6 +545,7 @@ module _ (rows : List Row) (has : Class → ℕ → Bool) (n : ℕ) (table : Lis
     pub found : next_part cell owner c ≡ Some (part, parts)
     pub within : part < length rows
     pub place : c.left ≤ n
+    pub takes : (e : Row) → slice_get rows part ≡ Some e → is_nothing e ≡ false
     pub more_nodes : length nodes < size tree
     pub reads : (e : Row) → slice_get rows part ≡ Some e
         → Reading (nodes ++ node_of cell e part n c.left ∷ []) (cs ++ option_to_list parts ++ option_to_list (first_parts cell e part c.left)) tree
@@ -570,6 +573,7 @@ module _ (rows : List Row) (has : Class → ℕ → Bool) (n : ℕ) (table : Lis
         found = next.found;
         within = row_within next.matched;
         place = top.top.within;
+        takes = λ e is. matches-some rows has e (last n c.left) next.rest next.tree (of_row rows has next.part e (last n c.left) next.rest next.tree is next.matched);
         more_nodes = omega (arith, counts, size-positive next.tree);
         reads = λ f is. read_more nodes (cs ++ option_to_list next.parts) tree next.tree (join next.others top.others) next.part c.left f next.rest is top.top.within next.matched
             (pending_push cs next.parts next.others top.others top.below next.open_behind) all (omega (arith, counts));

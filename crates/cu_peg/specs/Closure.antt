@@ -1,5 +1,5 @@
 -- The least set of numbers that is closed under conditions: each number has one, and joins the set where it holds.
-use Rattle.std.specs.Prelude.{◌≡◌, ℕ, Bool, true, false, List, [], ◌∷◌, ◌++◌, Some, slice_get, slice_index_or, slice_set}
+use Rattle.std.specs.Prelude.{◌≡◌, ℕ, ◌+◌, Bool, true, false, List, [], ◌∷◌, ◌++◌, Some, slice_get, slice_index_or, slice_set}
 use Rattle.std.specs.List.{list_all, list_any}
 use Rattle.cu_peg.specs.declared.closure.Condition.{Condition}
 use Rattle.cu_peg.specs.declared.closure.Quantifier.{Quantifier}
@@ -33,3 +33,9 @@ pub data Derived (conditions : List Condition) (start : List Bool) : List Bool �
 -- Each number whose condition holds is in the set.
 abbrev pub IsSaturated : List Condition → List Bool → Type 0
 IsSaturated conditions marks = (n : ℕ) (c : Condition) → slice_get conditions n ≡ Some c → holds marks c ≡ true → marked marks n ≡ true
+
+-- how many numbers are not in a set
+abbrev pub unmarked : List Bool → ℕ
+unmarked [] = 0
+unmarked (true ∷ marks) = unmarked marks
+unmarked (false ∷ marks) = 1 + unmarked marks

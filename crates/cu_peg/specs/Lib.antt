@@ -9,6 +9,7 @@ pub mod Matches
 pub mod Order
 pub mod Parse
 pub mod Places
+pub mod Reached
 pub mod Result
 pub mod Spelling
 pub mod WellFormed

@@ -3,9 +3,12 @@ ghost use Rattle.std.specs.Prelude.{◌≡◌, ◌≤◌, ◌-◌, ◌+◌, ℕ,
 ghost use Rattle.std.specs.Option.{option_and_then};
 ghost use Rattle.cu_lex.specs.Reading.{lexeme_of};
 ghost use Rattle.cu_peg.specs.Ends.{alone, choice_end, end_at, IsRight, joined, row_end, sequence_end, with_nodes};
+ghost use Rattle.cu_peg.specs.Closure.{marked};
 ghost use Rattle.cu_peg.specs.Order.{IsGrammar};
+ghost use Rattle.cu_peg.specs.Reached.{kept, kept_row};
 ghost use Rattle.cu_peg.specs.Result.{has_at};
 
+use crate::closure::is_marked;
 use crate::row::Row;
 use crate::table::{End, Table};
 use cu_lex::Token;
@@ -119,10 +122,30 @@ fn choice_end(parts: &[u32], table: &Table, left: usize) -> Option<End>
     None
 }
 
-/// Adds the ends of all rows where one token more is left.
+/// The end of a row, and none where it isn't among those that are asked for.
+fn kept_end(
+    row: &Row,
+    number: usize,
+    marks: &[bool],
+    table: &Table,
+    tokens: &[Token],
+    left: usize,
+) -> Option<End>
+    requires { left ≤ length tokens.now }
+    ensures { (names : List (List ℕ)) → result
+        ≡ row_end (λ c. has_at (map (lexeme_of names) tokens.now) c (length tokens.now - left)) (end_at table.now.columns) (kept_row (marked marks.now number) row.now) number left }
+{
+    if !is_marked(marks, number) {
+        return None;
+    }
+    row_end(row, number, table, tokens, left)
+}
+
+/// Adds the ends of the rows that are marked where one token more is left.
 pub fn add_place(
     alloc: Global,
     rows: &[Row],
+    marks: &[bool],
     order: &[usize],
     tokens: &[Token],
     table: &mut Table,
@@ -130,15 +153,15 @@ pub fn add_place(
     requires rows { IsGrammar rows.now order.now }
     requires wide { table.old.width ≡ length rows.now }
     requires place { length table.old.columns ≤ length tokens.now }
-    requires right { (names : List (List ℕ)) → IsRight rows.now (has_at (map (lexeme_of names) tokens.now)) (length tokens.now) table.old.columns }
+    requires right { (names : List (List ℕ)) → IsRight (kept marks.now rows.now) (has_at (map (lexeme_of names) tokens.now)) (length tokens.now) table.old.columns }
     ensures wide { OnOk result (table.new.width ≡ length rows.now) }
     ensures long { OnOk result (length table.new.columns ≡ length table.old.columns + 1) }
-    ensures right { (names : List (List ℕ)) → OnOk result (IsRight rows.now (has_at (map (lexeme_of names) tokens.now)) (length tokens.now) table.new.columns) }
+    ensures right { (names : List (List ℕ)) → OnOk result (IsRight (kept marks.now rows.now) (has_at (map (lexeme_of names) tokens.now)) (length tokens.now) table.new.columns) }
 {
     let left = table.len();
     table.add_column(alloc)?;
     for row in order {
-        let end = row_end(&rows[*row], *row, table, tokens, left);
+        let end = kept_end(&rows[*row], *row, marks, table, tokens, left);
         table.set(*row, end);
     }
     Ok(())

@@ -3,6 +3,7 @@ ghost use Rattle.std.specs.Prelude.{◌≡◌, ◌+◌, ℕ, IfErr, IfOk, List, 
 ghost use Rattle.std.specs.List.{list_all};
 ghost use Rattle.cu_lex.specs.Reading.{lexeme_of};
 ghost use Rattle.cu_peg.specs.Ends.{IsRight};
+ghost use Rattle.cu_peg.specs.Reached.{kept};
 ghost use Rattle.cu_peg.specs.Result.{has_at};
 ghost use Rattle.cu_peg.specs.WellFormed.{IsClosed, IsWellFormed, is_closed, named};
 ghost use Rattle.cu_peg.specs.declared.grammar.BadGrammar.TheVariants.{NoMemory};
@@ -10,6 +11,7 @@ ghost use Rattle.cu_peg.specs.Answer.{TellsBad};
 
 use crate::Row;
 use crate::calls::{call_order, first_bad, nullable_rows};
+use crate::closure::is_marked;
 use crate::ends::add_place;
 use crate::table::Table;
 use cu_lex::Token;
@@ -92,29 +94,36 @@ impl Grammar {
         self.rows.as_slice()
     }
 
-    /// The ends of all rows at all places of a list of tokens.
-    pub(crate) fn ends(&self, alloc: Global, tokens: &[Token]) -> Result<Table, AllocError>
+    /// The ends of the rows that are marked at all places of a list of tokens.
+    pub(crate) fn ends(
+        &self,
+        alloc: Global,
+        marks: &[bool],
+        tokens: &[Token],
+    ) -> Result<Table, AllocError>
         ensures long { IfOk result (λ table. length table.columns ≡ length tokens.now + 1) }
-        ensures right { (names : List (List ℕ)) → IfOk result (λ table. IsRight self.now (has_at (map (lexeme_of names) tokens.now)) (length tokens.now) table.columns) }
+        ensures right { (names : List (List ℕ)) → IfOk result (λ table. IsRight (kept marks.now self.now) (has_at (map (lexeme_of names) tokens.now)) (length tokens.now) table.columns) }
     {
         let rows = self.rows.as_slice();
         let order = self.order.as_slice();
-        let certain = certain_rows(alloc, rows)?;
+        let certain = certain_rows(alloc, rows, marks)?;
         let mut table = Table::new(alloc, certain);
         'places: while table.len() <= tokens.len() {
-            add_place(alloc, rows, order, tokens, &mut table)?;
+            add_place(alloc, rows, marks, order, tokens, &mut table)?;
         }
         Ok(table)
     }
 }
 
-/// Which rows match everywhere, taking nothing where their parts don't match.
-fn certain_rows(alloc: Global, rows: &[Row]) -> Result<Vec<bool>, AllocError>
+/// Which of the marked rows match everywhere, taking nothing where their parts
+/// don't match.
+fn certain_rows(alloc: Global, rows: &[Row], marks: &[bool]) -> Result<Vec<bool>, AllocError>
     ensures { IfOk result (λ certain. length certain.items ≡ length rows.now) }
 {
     let mut certain = Vec::new(alloc);
-    for row in rows {
-        certain.push(matches!(row, Row::Optional(_) | Row::Many(_)))?;
+    for (number, row) in rows.iter().enumerate() {
+        let never_fails = matches!(row, Row::Optional(_) | Row::Many(_));
+        certain.push(never_fails && is_marked(marks, number))?;
     }
     Ok(certain)
 }

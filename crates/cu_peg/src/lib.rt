@@ -11,6 +11,7 @@ mod laws;
 mod matching;
 mod node;
 mod places;
+mod reached;
 mod reading;
 mod row;
 mod table;

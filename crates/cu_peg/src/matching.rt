@@ -3,14 +3,16 @@ ghost use Rattle.std.specs.Prelude.{◌≡◌, ◌<◌, ℕ, List, length, map, 
 ghost use Rattle.cu_lex.specs.Reading.{lexeme_of};
 ghost use Rattle.cu_peg.specs.Result.{HasNoTree, IsTreeOf};
 
+use crate::reached::reached_rows;
 use crate::reading::read;
 use crate::{Grammar, Tree};
 use cu_lex::Token;
 use std::alloc::{AllocError, Global};
 
 /// The tree that a row of a grammar gives of a whole list of tokens, if it
-/// has one. Time and memory grow with the number of rows times the number of
-/// tokens, and with the size of the tree.
+/// has one. Time grows with the number of rows times the number of tokens, and
+/// memory with how many of the rows that it reaches match at each token, and
+/// with the size of the tree.
 ///
 /// # Errors
 ///
@@ -26,8 +28,10 @@ pub fn matches(
     ensures tree { (names : List (List ℕ)) → IfOk result (λ found. IfSome found (IsTreeOf grammar.now start (map (lexeme_of names) tokens.now))) }
     ensures none { (names : List (List ℕ)) → IfOk result (λ found. IfNone found (HasNoTree grammar.now start (map (lexeme_of names) tokens.now))) }
 {
-    let table = grammar.ends(alloc, tokens)?;
     let start = start as usize;
+    let rows = grammar.rows();
+    let marks = reached_rows(alloc, rows, start)?;
+    let table = grammar.ends(alloc, marks.as_slice(), tokens)?;
     let end = match table.end(start, tokens.len()) {
         Some(end) => end,
         None => return Ok(None),
@@ -38,6 +42,6 @@ pub fn matches(
     if end.nodes == usize::MAX {
         return Err(AllocError);
     }
-    let nodes = read(alloc, grammar.rows(), &table, tokens, start, end)?;
+    let nodes = read(alloc, rows, &table, tokens, start, end)?;
     Ok(Some(Tree::new(nodes)))
 }

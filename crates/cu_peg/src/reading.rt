@@ -4,9 +4,10 @@ ghost use Rattle.std.specs.Option.{option_to_list};
 ghost use Rattle.cu_lex.specs.Reading.{lexeme_of};
 ghost use Rattle.cu_peg.specs.declared.row.Row.{Row};
 ghost use Rattle.cu_peg.specs.Cursors.{cursor, first_alternative, first_parts, form_of, next_part, next_parts, node_of, part_at};
-ghost use Rattle.cu_peg.specs.Ends.{end_at, IsRight, last};
+ghost use Rattle.cu_peg.specs.Ends.{end_at, last};
 ghost use Rattle.cu_peg.specs.Matches.{HasTree};
 ghost use Rattle.cu_peg.specs.Parse.{ParseTree, spelled};
+ghost use Rattle.cu_peg.specs.Reached.{IsTableOf};
 ghost use Rattle.cu_peg.specs.Result.{has_at};
 
 use crate::node::{Form, Node};
@@ -198,7 +199,7 @@ pub fn read(
     start: usize,
     end: End,
 ) -> Result<Vec<Node>, AllocError>
-    requires right { (names : List (List ℕ)) → IsRight rows.now (has_at (map (lexeme_of names) tokens.now)) (length tokens.now) table.now.columns }
+    requires right { IsTableOf rows.now start tokens.now table.now.columns }
     requires long { length table.now.columns ≡ length tokens.now + 1 }
     requires start { start < length rows.now }
     requires end { end_at table.now.columns start (length tokens.now) ≡ Some end }

@@ -1,5 +1,5 @@
 use Rattle.std.proofs.Common.{◌≡◌, length}
 use Rattle.cu_peg.proofs.grammar.certain_rows.Given as goal
 
-abbrev pub invariant-loop-row : goal.invariant-loop-row
-invariant-loop-row l = length l.certain.items ≡ l.row-index
+abbrev pub invariant-loop-number : goal.invariant-loop-number
+invariant-loop-number l = length l.certain.items ≡ l.number

@@ -1,17 +1,18 @@
-use Rattle.std.proofs.Common.{◌-◌, ℕ, List, length, map, ◌≡◌, ◌+◌}
+use Rattle.std.proofs.Common.{◌-◌, ℕ, Bool, List, length, map, ◌≡◌, ◌+◌}
 use Rattle.cu_lex.specs.Reading.{lexeme_of}
 use Rattle.cu_peg.specs.Ends.{IsRight, last}
 use Rattle.cu_peg.specs.Matches.{HasTree}
 use Rattle.cu_peg.specs.Parse.{ParseTree}
+use Rattle.cu_peg.specs.Reached.{IsReached, kept}
 use Rattle.cu_peg.specs.Result.{has_at}
 use Rattle.cu_peg.proofs.ReadLemmas.{Reading}
 use Rattle.cu_peg.proofs.reading.read.Given as goal
 
 abbrev pub invariant-loop-parts : goal.invariant-loop-parts
 invariant-loop-parts l =
-    (names : List (List ℕ)) (right : IsRight l.rows (has_at (map (lexeme_of names) l.tokens)) (length l.tokens) l.table.columns) (long : length l.table.columns ≡ length l.tokens + 1) (tree : ParseTree ℕ)
-    → HasTree l.rows (has_at (map (lexeme_of names) l.tokens)) l.start (last (length l.tokens) (length l.tokens)) tree
-    → Reading l.rows (has_at (map (lexeme_of names) l.tokens)) (length l.tokens) l.table.columns right long l.nodes.items l.pending.items tree
+    (marks : List Bool) → IsReached l.rows l.start marks → (names : List (List ℕ)) (right : IsRight (kept marks l.rows) (has_at (map (lexeme_of names) l.tokens)) (length l.tokens) l.table.columns) (long : length l.table.columns ≡ length l.tokens + 1) (tree : ParseTree ℕ)
+    → HasTree (kept marks l.rows) (has_at (map (lexeme_of names) l.tokens)) l.start (last (length l.tokens) (length l.tokens)) tree
+    → Reading (kept marks l.rows) (has_at (map (lexeme_of names) l.tokens)) (length l.tokens) l.table.columns right long l.nodes.items l.pending.items tree
 
 abbrev pub decreases-loop-parts : goal.decreases-loop-parts
 decreases-loop-parts l = l.fn.end.nodes - length l.nodes.items
