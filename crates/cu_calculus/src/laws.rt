@@ -47,9 +47,11 @@ pub fn values_have_a_total_order()
 pub fn matches_rise()
     ensures one { (p : Pattern) (u v : Value) (low : Bindings) → Below u v → matched p u ≡ Some low
         → (high : Bindings) × (matched p v ≡ Some high) × BindingsBelow low high }
-    ensures all { (ps : Patterns) (us vs : Values) (low : Bindings) → AllBelow us vs → all_matched ps us ≡ Some low
+    ensures all { (ps : Patterns) (us vs : Values) (low : Bindings) → AllBelow us vs
+        → all_matched ps us ≡ Some low
         → (high : Bindings) × (all_matched ps vs ≡ Some high) × BindingsBelow low high }
-    ensures environments { (low high : Environment) (bindings greater : Bindings) → EnvBelow low high → BindingsBelow bindings greater
+    ensures environments { (low high : Environment) (bindings greater : Bindings)
+        → EnvBelow low high → BindingsBelow bindings greater
         → EnvBelow (bind_all low bindings) (bind_all high greater) }
 {}
 
@@ -58,7 +60,8 @@ pub fn matches_rise()
 pub fn choices_rise()
     ensures one { (program : Program) (rows : List Row) (u v : Value) (choice : ℕ) → Below u v
         → Chooses program rows (u ∷ []) choice → Chooses program rows (v ∷ []) choice }
-    ensures all { (program : Program) (rows : List Row) (us vs : List Value) (choice : ℕ) → AllBelow (values_of us) (values_of vs)
+    ensures all { (program : Program) (rows : List Row) (us vs : List Value) (choice : ℕ)
+        → AllBelow (values_of us) (values_of vs)
         → Chooses program rows us choice → Chooses program rows vs choice }
 {}
 
@@ -70,7 +73,8 @@ pub fn choosing_is_a_function()
     ensures one { (program : Program) (rows : List Row) (values : List Value) (choice other : ℕ)
         → Chooses program rows values choice → Chooses program rows values other → choice ≡ other }
     ensures looks { (program : Program) (rows : List Row) (values : List Value)
-        → chosen program rows values ≡ chosen_after (chosen program) values (look program rows values) }
+        → chosen program rows values ≡ chosen_after (chosen program) values
+        (look program rows values) }
     ensures again { (program : Program) (rows fewer : List Row) (values : List Value)
         → look program rows values ≡ Again fewer → looks fewer < looks rows }
     ensures narrow { (program : Program) (rows fewer : List Row) (values parts : List Value)
@@ -83,13 +87,18 @@ pub fn choosing_is_a_function()
 /// an unknown value where an earlier alternative demands something stops the
 /// choice.)
 pub fn taken_alternatives_match()
-    ensures selects { (program : Program) (alternatives : Alternatives) (may : ℕ → Bool) (u : Value) (choice : ℕ)
+    ensures selects { (program : Program) (alternatives : Alternatives) (may : ℕ → Bool) (u : Value)
+        (choice : ℕ)
         → IsTrue (fit_alternatives program may alternatives) → IsTrue (is_of program u)
         → Chooses program (rows_from 0 alternatives) (u ∷ []) choice
-        → (t : Term) × (bindings : Bindings) × (selects : Selects program alternatives u t bindings) × (selects.choice ≡ choice) }
-    ensures one { (program : Program) (alternatives : Alternatives) (u : Value) (t s : Term) (bindings others : Bindings)
-        → Selects program alternatives u t bindings → Selects program alternatives u s others → (t ≡ s) × (bindings ≡ others) }
-    ensures earlier { (program : Program) (alternatives : Alternatives) (u : Value) (choice earlier : ℕ) (p : Pattern) (t : Term)
+        → (t : Term) × (bindings : Bindings) × (selects : Selects program alternatives u t bindings)
+        × (selects.choice ≡ choice) }
+    ensures one { (program : Program) (alternatives : Alternatives) (u : Value) (t s : Term)
+        (bindings others : Bindings)
+        → Selects program alternatives u t bindings → Selects program alternatives u s others
+        → (t ≡ s) × (bindings ≡ others) }
+    ensures earlier { (program : Program) (alternatives : Alternatives) (u : Value)
+        (choice earlier : ℕ) (p : Pattern) (t : Term)
         → Chooses program (rows_from 0 alternatives) (u ∷ []) choice → earlier < choice
         → alternative_at alternatives earlier ≡ Some (p, t) → matched p u ≡ None }
 {}
@@ -99,15 +108,19 @@ pub fn taken_alternatives_match()
 /// is neither takes none.
 pub fn flat_alternatives_meet()
     ensures { (program : Program) (alternatives : Alternatives) (u : Value) (choice : ℕ)
-        → IsTrue (are_flat_alternatives alternatives) → IsTrue (all_differ (demands_of alternatives))
+        → IsTrue (are_flat_alternatives alternatives)
+        → IsTrue (all_differ (demands_of alternatives))
         → Chooses program (rows_from 0 alternatives) (u ∷ []) choice
-        ↔ ((d : Demand) × (met_by u ≡ Some d) × (slice_get (demands_of alternatives) choice ≡ Some d)) }
+        ↔ ((d : Demand) × (met_by u ≡ Some d)
+        × (slice_get (demands_of alternatives) choice ≡ Some d)) }
 {}
 
 /// Comparing by `==` has at most one answer, and a function finds it.
 pub fn comparing_is_a_function()
-    ensures one { (u v : Value) (answer : Bool) → Compares u v answer ↔ (compared u v ≡ Some answer) }
-    ensures all { (us vs : Values) (answer : Bool) → AllCompare us vs answer ↔ (all_compared us vs ≡ Some answer) }
+    ensures one { (u v : Value) (answer : Bool) → Compares u v answer
+        ↔ (compared u v ≡ Some answer) }
+    ensures all { (us vs : Values) (answer : Bool) → AllCompare us vs answer
+        ↔ (all_compared us vs ≡ Some answer) }
 {}
 
 /// A built-in operation answers at most one value, and a function finds it.
@@ -120,27 +133,35 @@ pub fn answering_is_a_function()
 /// A derivation stays where its value says less and its environment says
 /// more.
 pub fn derivations_weaken()
-    ensures { (program : Program) (claims : List Claim) (low high : Environment) (t : Term) (v w : Value)
-        → Gives program claims low t v → EnvBelow low high → Below w v → Gives program claims high t w }
+    ensures { (program : Program) (claims : List Claim) (low high : Environment) (t : Term)
+        (v w : Value)
+        → Gives program claims low t v → EnvBelow low high → Below w v
+        → Gives program claims high t w }
 {}
 
 /// From values of a valid program, and over claims of it, a derivation gives
 /// values of the program.
 pub fn derivations_stay_in_the_program()
     ensures { (program : Program) (claims : List Claim) (env : Environment) (t : Term) (v : Value)
-        → IsValid program → IsTrue (list_all (is_claim_of program) claims) → ((x : ℕ) → IsTrue (is_of program (env x)))
-        → IsTrue (fits_term program (λ x. true) t) → Gives program claims env t v → IsTrue (is_of program v) }
+        → IsValid program → IsTrue (list_all (is_claim_of program) claims)
+        → ((x : ℕ) → IsTrue (is_of program (env x)))
+        → IsTrue (fits_term program (λ x. true) t) → Gives program claims env t v
+        → IsTrue (is_of program v) }
 {}
 
 /// Proofs can be put one after another: the whole checks, concludes what the
 /// second concludes, and has the steps of both.
 pub fn proofs_join()
     ensures checks { (program : Program) (claims : List Claim) (first second : List Step)
-        → Checks program claims first → Checks program claims second → Checks program claims (joined first second) }
-    ensures concludes { (first second : List Step) → second ≢ [] → conclusion (joined first second) ≡ conclusion second }
-    ensures keeps_first { (first second : List Step) (k : ℕ) (step : Step) → slice_get first k ≡ Some step
+        → Checks program claims first → Checks program claims second
+        → Checks program claims (joined first second) }
+    ensures concludes { (first second : List Step) → second ≢ []
+        → conclusion (joined first second) ≡ conclusion second }
+    ensures keeps_first { (first second : List Step) (k : ℕ) (step : Step)
+        → slice_get first k ≡ Some step
         → slice_get (joined first second) k ≡ Some step }
-    ensures keeps_second { (first second : List Step) (k : ℕ) (step : Step) → slice_get second k ≡ Some step
+    ensures keeps_second { (first second : List Step) (k : ℕ) (step : Step)
+        → slice_get second k ≡ Some step
         → slice_get (joined first second) (length first + k) ≡ Some (moved (length first) step) }
 {}
 
@@ -151,10 +172,13 @@ pub fn proofs_join()
 pub fn forms_agree()
     ensures sound { (program : Program) (claims : List Claim) (statement : Statement)
         → IsProved program claims statement → IsGiven program claims statement }
-    ensures throughout { (program : Program) (claims : List Claim) (proof : List Step) (k : ℕ) (step : Step)
-        → Checks program claims proof → slice_get proof k ≡ Some step → IsGiven program claims step.statement }
+    ensures throughout { (program : Program) (claims : List Claim) (proof : List Step) (k : ℕ)
+        (step : Step)
+        → Checks program claims proof → slice_get proof k ≡ Some step
+        → IsGiven program claims step.statement }
     ensures complete { (program : Program) (claims : List Claim) (statement : Statement)
-        → IsValid program → IsTrue (list_all (is_claim_of program) claims) → IsTrue (is_statement_of program statement)
+        → IsValid program → IsTrue (list_all (is_claim_of program) claims)
+        → IsTrue (is_statement_of program statement)
         → IsGiven program claims statement → IsProved program claims statement }
 {}
 
@@ -163,27 +187,34 @@ pub fn forms_agree()
 /// proofs.
 pub fn calls_have_proofs()
     ensures proved { (program : Program) (claims : List Claim) (f : FunId) (vs : Values) (v : Value)
-        → IsValid program → IsTrue (list_all (is_claim_of program) claims) → Concludes program claims f vs v
+        → IsValid program → IsTrue (list_all (is_claim_of program) claims)
+        → Concludes program claims f vs v
         → IsProved program claims (call_statement f vs v) }
-    ensures concluded { (program : Program) (claims : List Claim) (f : FunId) (vs : Values) (v : Value)
+    ensures concluded { (program : Program) (claims : List Claim) (f : FunId) (vs : Values)
+        (v : Value)
         → IsProved program claims (call_statement f vs v) → Concludes program claims f vs v }
     ensures derived { (program : Program) (f : FunId) (vs : Values) (v : Value) → IsValid program
         → Derives program f vs v
-        ↔ ((levels : List ℕ) × AreLeastLevels program levels × (claims : List Claim) × AreTrue program levels (level_of levels f) claims
+        ↔ ((levels : List ℕ) × AreLeastLevels program levels × (claims : List Claim)
+        × AreTrue program levels (level_of levels f) claims
         × IsProved program claims (call_statement f vs v)) }
-    ensures derived_at { (program : Program) (levels : List ℕ) (f : FunId) (vs : Values) (v : Value) → IsValid program
+    ensures derived_at { (program : Program) (levels : List ℕ) (f : FunId) (vs : Values) (v : Value)
+        → IsValid program
         → DerivesAt program levels f vs v
-        ↔ ((claims : List Claim) × AreTrue program levels (level_of levels f) claims × IsProved program claims (call_statement f vs v)) }
+        ↔ ((claims : List Claim) × AreTrue program levels (level_of levels f) claims
+        × IsProved program claims (call_statement f vs v)) }
 {}
 
 /// A derivation over claims is one over any claims that have the same rows,
 /// and a proof that checks still checks when the claims get further rows of
 /// the program.
 pub fn claims_extend()
-    ensures derivations { (program : Program) (claims others : List Claim) (env : Environment) (t : Term) (v : Value)
+    ensures derivations { (program : Program) (claims others : List Claim) (env : Environment)
+        (t : Term) (v : Value)
         → AreRows claims others → Gives program claims env t v → Gives program others env t v }
     ensures proofs { (program : Program) (claims others : List Claim) (proof : List Step)
-        → AreRows claims others → IsTrue (list_all (is_claim_of program) others) → Checks program claims proof
+        → AreRows claims others → IsTrue (list_all (is_claim_of program) others)
+        → Checks program claims proof
         → Checks program others proof }
     ensures further { (program : Program) (claims further : List Claim) (proof : List Step)
         → IsTrue (list_all (is_claim_of program) further) → Checks program claims proof
@@ -194,19 +225,26 @@ pub fn claims_extend()
 /// they suffice: it stays over any claims of the program that have them.
 pub fn cited_claims_suffice()
     ensures cited_by_derivation { (program : Program) (claims : List Claim) (env : Environment) (t : Term) (v : Value)
-        (given : Gives program claims env t v) → AreRows (cited program claims env t v given) claims }
-    ensures derivations { (program : Program) (claims others : List Claim) (env : Environment) (t : Term) (v : Value)
-        (given : Gives program claims env t v) → AreRows (cited program claims env t v given) others → Gives program others env t v }
-    ensures cited_by_proof { (program : Program) (claims : List Claim) (proof : List Step) (checks : Checks program claims proof)
+        (given : Gives program claims env t v)
+        → AreRows (cited program claims env t v given) claims }
+    ensures derivations { (program : Program) (claims others : List Claim) (env : Environment)
+        (t : Term) (v : Value)
+        (given : Gives program claims env t v) → AreRows (cited program claims env t v given) others
+        → Gives program others env t v }
+    ensures cited_by_proof { (program : Program) (claims : List Claim) (proof : List Step)
+        (checks : Checks program claims proof)
         → AreRows (proof_cited program claims proof checks.follows) claims }
-    ensures proofs { (program : Program) (claims others : List Claim) (proof : List Step) (checks : Checks program claims proof)
-        → IsTrue (list_all (is_claim_of program) others) → AreRows (proof_cited program claims proof checks.follows) others
+    ensures proofs { (program : Program) (claims others : List Claim) (proof : List Step)
+        (checks : Checks program claims proof)
+        → IsTrue (list_all (is_claim_of program) others)
+        → AreRows (proof_cited program claims proof checks.follows) others
         → Checks program others proof }
 {}
 
 /// Least levels are unique: a program has one list of them at most.
 pub fn least_levels_are_unique()
-    ensures { (program : Program) (levels others : List ℕ) → AreLeastLevels program levels → AreLeastLevels program others
+    ensures { (program : Program) (levels others : List ℕ) → AreLeastLevels program levels
+        → AreLeastLevels program others
         → levels ≡ others }
 {}
 
@@ -214,13 +252,17 @@ pub fn least_levels_are_unique()
 /// of true claims are true together, and what is true at a level is true at
 /// each that is higher.
 pub fn true_claims_combine()
-    ensures of_program { (program : Program) (levels : List ℕ) (level : ℕ) (claims : List Claim) → IsValid program
+    ensures of_program { (program : Program) (levels : List ℕ) (level : ℕ) (claims : List Claim)
+        → IsValid program
         → AreTrue program levels level claims → IsTrue (list_all (is_claim_of program) claims) }
     ensures rows { (program : Program) (levels : List ℕ) (level : ℕ) (claims others : List Claim)
-        → AreTrue program levels level claims → AreRows others claims → AreTrue program levels level others }
+        → AreTrue program levels level claims → AreRows others claims
+        → AreTrue program levels level others }
     ensures joined { (program : Program) (levels : List ℕ) (level : ℕ) (claims others : List Claim)
-        → AreTrue program levels level claims → AreTrue program levels level others → AreTrue program levels level (claims ++ others) }
-    ensures higher { (program : Program) (levels : List ℕ) (level higher : ℕ) (claims : List Claim) → level ≤ higher
+        → AreTrue program levels level claims → AreTrue program levels level others
+        → AreTrue program levels level (claims ++ others) }
+    ensures higher { (program : Program) (levels : List ℕ) (level higher : ℕ) (claims : List Claim)
+        → level ≤ higher
         → AreTrue program levels level claims → AreTrue program levels higher claims }
 {}
 
@@ -233,10 +275,12 @@ pub fn true_claims_are_exact()
         ↔ ((k : ℕ) (claim : Claim) → slice_get claims k ≡ Some claim
         → (level_of levels claim.function < level)
         × IsExact program (AreTrue program levels (level_of levels claim.function)) claim) }
-    ensures determined { (program : Program) (levels : List ℕ) (level other : ℕ) (claims others : List Claim) (k m : ℕ) (claim twin : Claim)
+    ensures determined { (program : Program) (levels : List ℕ) (level other : ℕ)
+        (claims others : List Claim) (k m : ℕ) (claim twin : Claim)
         → AreTrue program levels level claims → AreTrue program levels other others
         → slice_get claims k ≡ Some claim → slice_get others m ≡ Some twin
-        → claim.function ≡ twin.function → claim.arguments ≡ twin.arguments → claim.values ≡ twin.values }
+        → claim.function ≡ twin.function → claim.arguments ≡ twin.arguments
+        → claim.values ≡ twin.values }
 {}
 
 /// A worked example: of `coin = 0 ? 1` the claim that its values are 0 and 1
@@ -245,8 +289,11 @@ pub fn true_claims_are_exact()
 pub fn coin_is_zero_or_one()
     ensures valid { IsValid coin.program }
     ensures least { AreLeastLevels coin.program coin.levels }
-    ensures zero_and_one { AreTrue coin.program coin.levels 1 (coin.coin_row (coin.literal 0 ∷ coin.literal 1 ∷ []) ∷ []) }
-    ensures fewer { AreTrue coin.program coin.levels 1 (coin.coin_row (coin.literal 0 ∷ []) ∷ []) → ⊥ }
-    ensures more { AreTrue coin.program coin.levels 1 (coin.coin_row (coin.literal 0 ∷ coin.literal 1 ∷ coin.literal 2 ∷ []) ∷ []) → ⊥ }
+    ensures zero_and_one { AreTrue coin.program coin.levels 1
+        (coin.coin_row (coin.literal 0 ∷ coin.literal 1 ∷ []) ∷ []) }
+    ensures fewer { AreTrue coin.program coin.levels 1 (coin.coin_row (coin.literal 0 ∷ []) ∷ [])
+        → ⊥ }
+    ensures more { AreTrue coin.program coin.levels 1
+        (coin.coin_row (coin.literal 0 ∷ coin.literal 1 ∷ coin.literal 2 ∷ []) ∷ []) → ⊥ }
     ensures every { Derives coin.program coin.every NoValue coin.both_values }
 {}

@@ -26,7 +26,8 @@ pub(crate) fn is_answer(
     values: &[Value],
     value: &Value,
 ) -> Result<bool, AllocError>
-    ensures { IfOk result (λ yes. yes ≡ is_answer (answered (heads_program heads.now) operation (values_of values.now)) value.now) }
+    ensures { IfOk result (λ yes. yes ≡ is_answer
+        (answered (heads_program heads.now) operation (values_of values.now)) value.now) }
 {
     match answer(alloc, heads, operation, values)? {
         Some(found) => Ok(value_is(&found, value)),
@@ -41,7 +42,8 @@ fn answer(
     operation: Prim,
     values: &[Value],
 ) -> Result<Option<Value>, AllocError>
-    ensures { IfOk result (λ found. found ≡ answered (heads_program heads.now) operation (values_of values.now)) }
+    ensures { IfOk result (λ found. found ≡ answered (heads_program heads.now) operation
+        (values_of values.now)) }
 {
     match operation {
         Prim::Equal => match pair(values) {
@@ -85,7 +87,8 @@ fn truth(alloc: Global, heads: &Heads, holds: bool) -> Result<Value, AllocError>
 
 /// True, where something holds.
 fn true_where(alloc: Global, heads: &Heads, holds: bool) -> Result<Option<Value>, AllocError>
-    ensures { IfOk result (λ found. found ≡ (if holds then Some (truth_of (heads_program heads.now) true) else None)) }
+    ensures { IfOk result (λ found. found ≡
+        (if holds then Some (truth_of (heads_program heads.now) true) else None)) }
 {
     if holds {
         let yes = truth(alloc, heads, true)?;
@@ -102,7 +105,8 @@ fn equal(
     left: &Value,
     right: &Value,
 ) -> Result<Option<Value>, AllocError>
-    ensures { IfOk result (λ found. found ≡ option_map (truth_of (heads_program heads.now)) (compared left.now right.now)) }
+    ensures { IfOk result (λ found. found ≡ option_map (truth_of (heads_program heads.now))
+        (compared left.now right.now)) }
 {
     match compare(alloc, left, right)? {
         Some(same) => {
@@ -132,7 +136,8 @@ fn conjoin(
     left: &Value,
     right: &Value,
 ) -> Result<Option<Value>, AllocError>
-    ensures { IfOk result (λ found. found ≡ conjoined (heads_program heads.now) left.now right.now) }
+    ensures { IfOk result (λ found. found ≡ conjoined (heads_program heads.now) left.now right.now)
+        }
 {
     let yes = truth(alloc, heads, true)?;
     true_where(alloc, heads, value_is(left, &yes) && value_is(right, &yes))
@@ -153,7 +158,8 @@ fn on_values(
     operation: Prim,
     values: &[Value],
 ) -> Result<Option<Value>, AllocError>
-    ensures { IfOk result (λ found. found ≡ option_and_then (on_literals (heads_program heads.now) operation) (literals_in (values_of values.now))) }
+    ensures { IfOk result (λ found. found ≡ option_and_then
+        (on_literals (heads_program heads.now) operation) (literals_in (values_of values.now))) }
 {
     match literals(alloc, values)? {
         Some(found) => on_literals(alloc, heads, operation, &found),
@@ -163,7 +169,8 @@ fn on_values(
 
 /// The literals that values are, where they all are literals.
 fn literals(alloc: Global, values: &[Value]) -> Result<Option<Vec<Lit>>, AllocError>
-    ensures { IfOk result (λ found. option_map (λ ls. ls.items) found ≡ literals_in (values_of values.now)) }
+    ensures { IfOk result (λ found. option_map (λ ls. ls.items) found ≡ literals_in
+        (values_of values.now)) }
 {
     let mut found = Vec::new(alloc);
     for value in values {
@@ -182,7 +189,8 @@ fn on_literals(
     operation: Prim,
     literals: &[Lit],
 ) -> Result<Option<Value>, AllocError>
-    ensures { IfOk result (λ found. found ≡ on_literals (heads_program heads.now) operation literals.now) }
+    ensures { IfOk result (λ found. found ≡ on_literals
+        (heads_program heads.now) operation literals.now) }
 {
     if literals.len() == 1 {
         return on_one(alloc, operation, literals[0]);
@@ -278,7 +286,8 @@ fn some_integer(alloc: Global, number: Option<Int>) -> Result<Option<Value>, All
 
 /// The literal of a character, where there is one.
 fn some_character(alloc: Global, character: Option<char>) -> Result<Option<Value>, AllocError>
-    ensures { IfOk result (λ found. found ≡ option_map (λ c. value.Literal (Lit.Char c)) character) }
+    ensures { IfOk result (λ found. found ≡ option_map (λ c. value.Literal (Lit.Char c)) character)
+        }
 {
     match character {
         Some(c) => {

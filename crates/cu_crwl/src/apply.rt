@@ -98,7 +98,8 @@ pub(crate) fn one<'a>(cited: &[&'a Statement]) -> Option<&'a Statement>
 
 /// The two statements that are cited.
 pub(crate) fn two<'a>(cited: &[&'a Statement]) -> Option<(&'a Statement, &'a Statement)>
-    ensures { option_map (λ pair. (statement_of pair.0.now, statement_of pair.1.now)) result ≡ two_cited (statements_at cited.now) }
+    ensures { option_map (λ pair. (statement_of pair.0.now, statement_of pair.1.now)) result
+        ≡ two_cited (statements_at cited.now) }
 {
     if cited.len() == 2 {
         Some((cited[0], cited[1]))
@@ -119,7 +120,8 @@ pub(crate) fn given_values(
     alloc: Global,
     statements: &[&Statement],
 ) -> Result<Vec<Value>, AllocError>
-    ensures { IfOk result (λ values. values_of values.items ≡ values_said (statements_at statements.now)) }
+    ensures { IfOk result (λ values. values_of values.items ≡ values_said
+        (statements_at statements.now)) }
 {
     let mut values = Vec::new(alloc);
     for statement in statements {
@@ -136,7 +138,8 @@ fn rule_gives(
     statement: &Statement,
     value: &Value,
 ) -> Result<bool, AllocError>
-    ensures { IfOk result (λ yes. yes ≡ rule_gives (values_of values.now) (statement_of statement.now) value.now (rule_meaning rule.now)) }
+    ensures { IfOk result (λ yes. yes ≡ rule_gives (values_of values.now)
+        (statement_of statement.now) value.now (rule_meaning rule.now)) }
 {
     match match_patterns(alloc, &rule.params, values)? {
         Some(bindings) => Ok(states(statement, &bindings, &[], &rule.body, value)),
@@ -153,7 +156,9 @@ fn rules_give(
     value: &Value,
 ) -> Result<bool, AllocError>
     ensures { IfOk result (λ yes. yes
-        ≡ rules_give (values_of values.now) (option_map (λ s. statement_of s.now) statement.entry) value.now (map rule_meaning rules.now)) }
+        ≡ rules_give (values_of values.now)
+        (option_map (λ s. statement_of s.now) statement.entry) value.now
+        (map rule_meaning rules.now)) }
 {
     let cited = match statement {
         Some(cited) => cited,
@@ -177,7 +182,8 @@ fn body_gives(
     value: &Value,
 ) -> Result<bool, AllocError>
     ensures { IfOk result (λ yes. yes
-        ≡ body_gives (heads_program heads.now) (values_of values.now) (statements_at last.now) value.now (body_meaning body.now)) }
+        ≡ body_gives (heads_program heads.now) (values_of values.now)
+        (statements_at last.now) value.now (body_meaning body.now)) }
 {
     match body {
         Body::Rules(rules) => rules_give(alloc, rules, values, one(last), value),
@@ -193,7 +199,8 @@ fn body_gives(
 
 /// A function, where it is the program's.
 pub(crate) fn function<'a>(heads: &Heads<'a>, f: FunId) -> Option<&'a Function>
-    ensures { option_map (λ g. plain_function (function_meaning g.now)) result ≡ function_of (heads_program heads.now) f }
+    ensures { option_map (λ g. plain_function (function_meaning g.now)) result ≡ function_of
+        (heads_program heads.now) f }
 {
     match heads.functions.get(f.0) {
         Some(function) => Some(function),
@@ -209,7 +216,8 @@ fn collected(
     constructor: ConId,
     values: &[Value],
 ) -> Result<Value, AllocError>
-    ensures { IfOk result (λ all. all ≡ collected (heads_program heads.now) constructor values.now) }
+    ensures { IfOk result (λ all. all ≡ collected (heads_program heads.now) constructor values.now)
+        }
 {
     let mut list = Value::constructed(alloc, heads.special.nil, &[])?;
     let mut i = values.len();
@@ -224,7 +232,8 @@ fn collected(
 
 /// A constructor on two values.
 fn longer(alloc: Global, cons: ConId, first: Value, rest: Value) -> Result<Value, AllocError>
-    ensures { IfOk result (λ v. v ≡ value.Constructed cons (value.MoreValues first (value.MoreValues rest value.NoValue))) }
+    ensures { IfOk result (λ v. v ≡ value.Constructed cons
+        (value.MoreValues first (value.MoreValues rest value.NoValue))) }
 {
     let mut parts = Vec::new(alloc);
     parts.push(first)?;
@@ -256,7 +265,8 @@ fn claim_gives(
     claim: &Claim,
 ) -> Result<bool, AllocError>
     ensures { IfOk result (λ yes. yes
-        ≡ claim_gives (heads_program heads.now) constructor f (values_of values.now) value.now (claim_of claim.now)) }
+        ≡ claim_gives (heads_program heads.now) constructor f (values_of values.now) value.now
+        (claim_of claim.now)) }
 {
     if claim.function.0 != f.0 {
         return Ok(false);
@@ -279,7 +289,8 @@ fn claims_give(
     value: &Value,
 ) -> Result<bool, AllocError>
     ensures { IfOk result (λ yes. yes
-        ≡ claims_give (heads_program heads.now) (heads_program heads.now).special.values (map claim_of claims.now) f (values_of values.now) value.now) }
+        ≡ claims_give (heads_program heads.now) (heads_program heads.now).special.values
+        (map claim_of claims.now) f (values_of values.now) value.now) }
 {
     let constructor = match heads.special.values {
         Some(constructor) => constructor,
@@ -306,7 +317,8 @@ pub(crate) fn applies(
     value: &Value,
 ) -> Result<bool, AllocError>
     ensures { IfOk result (λ yes. yes
-        ≡ applies (heads_program heads.now) (map claim_of claims.now) head (values_of values.now) (statements_at last.now) value.now) }
+        ≡ applies (heads_program heads.now) (map claim_of claims.now) head (values_of values.now)
+        (statements_at last.now) value.now) }
 {
     match head {
         Head::Con(constructor) => {

@@ -36,7 +36,8 @@ pub fn checks(
     claims: &Claims,
     proof: &Proof,
 ) -> Result<bool, AllocError>
-    ensures { IfOk result (λ yes. IsTrue yes ↔ Checks (program_of program.now) (map claim_of claims.now.rows.items) proof.now) }
+    ensures { IfOk result (λ yes. IsTrue yes
+        ↔ Checks (program_of program.now) (map claim_of claims.now.rows.items) proof.now) }
 {
     let heads = Heads::of(alloc, program)?;
     if !claims_are_of(&heads, &claims.rows) {
@@ -62,7 +63,9 @@ fn claims_are_of(heads: &Heads, claims: &[Claim]) -> bool
 
 /// Whether the statements of steps are the program's.
 fn steps_are_of(heads: &Heads, steps: &[Step]) -> Result<bool, AllocError>
-    ensures { IfOk result (λ yes. yes ≡ list_all (λ step. is_statement_of (heads_program heads.now) step.statement) (map step_of steps.now)) }
+    ensures { IfOk result (λ yes. yes ≡ list_all
+        (λ step. is_statement_of (heads_program heads.now) step.statement) (map step_of steps.now))
+        }
 {
     for step in steps {
         if !statement_is_of(heads, &step.statement)? {
@@ -79,7 +82,8 @@ fn steps_follow(
     claims: &[Claim],
     steps: &[Step],
 ) -> Result<bool, AllocError>
-    ensures { IfOk result (λ yes. yes ≡ all_follow (heads_program heads.now) (map claim_of claims.now) [] (map step_of steps.now)) }
+    ensures { IfOk result (λ yes. yes ≡ all_follow (heads_program heads.now)
+        (map claim_of claims.now) [] (map step_of steps.now)) }
 {
     for i in 0..steps.len() {
         if !step_follows(alloc, heads, claims, &steps[..i], &steps[i])? {
@@ -97,7 +101,8 @@ fn step_follows(
     before: &[Step],
     step: &Step,
 ) -> Result<bool, AllocError>
-    ensures { IfOk result (λ yes. yes ≡ step_follows (heads_program heads.now) (map claim_of claims.now) (map step_of before.now) (step_of step.now)) }
+    ensures { IfOk result (λ yes. yes ≡ step_follows (heads_program heads.now)
+        (map claim_of claims.now) (map step_of before.now) (step_of step.now)) }
 {
     match cited(alloc, before, &step.cites)? {
         Some(statements) => follows(alloc, heads, claims, &statements, &step.statement),
@@ -111,7 +116,8 @@ fn cited<'a>(
     before: &'a [Step],
     cites: &[usize],
 ) -> Result<Option<Vec<&'a Statement>>, AllocError>
-    ensures { IfOk result (λ found. option_map (λ ss. statements_at ss.items) found ≡ cited_by (statements (map step_of before.now)) cites.now) }
+    ensures { IfOk result (λ found. option_map (λ ss. statements_at ss.items) found ≡ cited_by
+        (statements (map step_of before.now)) cites.now) }
 {
     let mut found = Vec::new(alloc);
     for place in cites {
@@ -133,8 +139,10 @@ fn follows(
     cited: &[&Statement],
     statement: &Statement,
 ) -> Result<bool, AllocError>
-    ensures { IfOk result (λ yes. yes ≡ follows (heads_program heads.now) (map claim_of claims.now) (statements_at cited.now)
-        (statement_of statement.now).env (statement_of statement.now).term (statement_of statement.now).value) }
+    ensures { IfOk result (λ yes. yes ≡ follows (heads_program heads.now) (map claim_of claims.now)
+        (statements_at cited.now)
+        (statement_of statement.now).env (statement_of statement.now).term
+        (statement_of statement.now).value) }
 {
     if none(cited) && is_unknown(&statement.value) {
         return Ok(true);
@@ -151,8 +159,10 @@ fn row_follows(
     cited: &[&Statement],
     statement: &Statement,
 ) -> Result<bool, AllocError>
-    ensures { IfOk result (λ yes. yes ≡ row_follows (heads_program heads.now) (map claim_of claims.now) (statements_at cited.now)
-        (statement_of statement.now).env (statement_of statement.now).term (statement_of statement.now).value) }
+    ensures { IfOk result (λ yes. yes ≡ row_follows (heads_program heads.now)
+        (map claim_of claims.now) (statements_at cited.now)
+        (statement_of statement.now).env (statement_of statement.now).term
+        (statement_of statement.now).value) }
 {
     let env = statement.env.as_slice();
     let value = &statement.value;
@@ -195,7 +205,8 @@ fn row_follows(
 ///
 /// Want of memory.
 pub fn conclusion(alloc: Global, proof: &Proof) -> Result<Statement, AllocError>
-    ensures { IfOk result (λ statement. calculus.conclusion proof.now ≡ Some (statement_of statement)) }
+    ensures { IfOk result (λ statement. calculus.conclusion proof.now ≡ Some
+        (statement_of statement)) }
 {
     let steps = proof.steps();
     let last = &steps[steps.len() - 1];

@@ -146,7 +146,8 @@ impl<'a> Row<'a> {
     /// The row over the arguments of what stands at a position, which are so
     /// many.
     fn narrowed(&self, alloc: Global, position: usize, count: usize) -> Result<Row<'a>, AllocError>
-        ensures { IfOk result (λ row. row_meaning row ≡ narrowed position count (row_meaning self.now)) }
+        ensures { IfOk result (λ row. row_meaning row ≡ narrowed position count
+            (row_meaning self.now)) }
     {
         if position >= self.patterns.len() {
             return self.copied(alloc);
@@ -181,7 +182,8 @@ fn push_arguments<'a>(
     pattern: &'a Pattern,
     count: usize,
 ) -> Result<(), AllocError>
-    ensures { OnOk result (patterns_at patterns.new.items ≡ patterns_at patterns.old.items ++ arguments_of count (pattern_of pattern.now)) }
+    ensures { OnOk result (patterns_at patterns.new.items
+        ≡ patterns_at patterns.old.items ++ arguments_of count (pattern_of pattern.now)) }
 {
     match pattern {
         Pattern::Var(_) => push_repeated(patterns, pattern, count),
@@ -197,7 +199,8 @@ fn push_repeated<'a>(
     pattern: &'a Pattern,
     count: usize,
 ) -> Result<(), AllocError>
-    ensures { OnOk result (patterns_at patterns.new.items ≡ patterns_at patterns.old.items ++ replicate count (pattern_of pattern.now)) }
+    ensures { OnOk result (patterns_at patterns.new.items
+        ≡ patterns_at patterns.old.items ++ replicate count (pattern_of pattern.now)) }
 {
     for _ in 0..count {
         patterns.push(pattern)?;
@@ -207,7 +210,8 @@ fn push_repeated<'a>(
 
 /// Adds patterns, in order.
 fn push_all<'a>(patterns: &mut Vec<&'a Pattern>, arguments: &'a [Pattern]) -> Result<(), AllocError>
-    ensures { OnOk result (patterns_at patterns.new.items ≡ patterns_at patterns.old.items ++ map pattern_of arguments.now) }
+    ensures { OnOk result (patterns_at patterns.new.items
+        ≡ patterns_at patterns.old.items ++ map pattern_of arguments.now) }
 {
     for argument in arguments {
         patterns.push(argument)?;
@@ -249,7 +253,8 @@ fn kept<'a>(
     position: usize,
     keep: Keep,
 ) -> Result<Vec<Row<'a>>, AllocError>
-    ensures { IfOk result (λ some. rows_meaning some.items ≡ filter (λ row. keeps keep (demand_at position row)) (rows_meaning rows.now)) }
+    ensures { IfOk result (λ some. rows_meaning some.items ≡ filter
+        (λ row. keeps keep (demand_at position row)) (rows_meaning rows.now)) }
 {
     let mut some = Vec::new(alloc);
     for row in rows {
@@ -267,7 +272,8 @@ fn all_narrowed<'a>(
     position: usize,
     count: usize,
 ) -> Result<Vec<Row<'a>>, AllocError>
-    ensures { IfOk result (λ all. rows_meaning all.items ≡ map (narrowed position count) (rows_meaning rows.now)) }
+    ensures { IfOk result (λ all. rows_meaning all.items ≡ map (narrowed position count)
+        (rows_meaning rows.now)) }
 {
     let mut all = Vec::new(alloc);
     for row in rows {
@@ -287,7 +293,8 @@ fn narrow<'a>(
     arguments: &[Value],
 ) -> Result<Look<'a>, AllocError>
     requires { position < length values.now }
-    ensures { IfOk result (λ look. look_meaning look ≡ calculus.narrow position (keeps keep) (rows_meaning rows.now) arguments.now values.now) }
+    ensures { IfOk result (λ look. look_meaning look ≡ calculus.narrow position (keeps keep)
+        (rows_meaning rows.now) arguments.now values.now) }
 {
     let some = kept(alloc, rows, position, keep)?;
     let fewer = all_narrowed(alloc, some.as_slice(), position, arguments.len())?;
@@ -303,7 +310,8 @@ fn again<'a>(
     literal: Lit,
 ) -> Result<Look<'a>, AllocError>
     ensures { IfOk result (λ look. look_meaning look
-        ≡ calculus.Again (filter (λ row. not_literal literal (demand_at position row)) (rows_meaning rows.now))) }
+        ≡ calculus.Again (filter (λ row. not_literal literal (demand_at position row))
+        (rows_meaning rows.now))) }
 {
     let fewer = kept(alloc, rows, position, Keep::NotLiteral(literal))?;
     Ok(Look::Again(fewer))
@@ -320,7 +328,8 @@ fn at_literal<'a>(
 ) -> Result<Look<'a>, AllocError>
     requires { position < length values.now }
     ensures { IfOk result (λ look. look_meaning look
-        ≡ calculus.at_literal position literal (demand_meaning first) (has_variable position (rows_meaning rows.now)) (rows_meaning rows.now) values.now) }
+        ≡ calculus.at_literal position literal (demand_meaning first)
+        (has_variable position (rows_meaning rows.now)) (rows_meaning rows.now) values.now) }
 {
     if !some_is_free(rows, position) {
         return narrow(
@@ -378,7 +387,8 @@ fn at_constructor<'a>(
 ) -> Result<Look<'a>, AllocError>
     requires { position < length values.now }
     ensures { IfOk result (λ look. look_meaning look
-        ≡ calculus.at_constructor (heads_program heads.now) position constructor (demand_meaning first) (has_variable position (rows_meaning rows.now))
+        ≡ calculus.at_constructor (heads_program heads.now) position constructor
+        (demand_meaning first) (has_variable position (rows_meaning rows.now))
         (rows_meaning rows.now) arguments.now values.now) }
 {
     if !some_is_free(rows, position) {
@@ -420,8 +430,10 @@ fn look_at<'a>(
     position: usize,
     first: Demand,
 ) -> Result<Look<'a>, AllocError>
-    ensures { IfOk result (λ look. (row : calculus.Row) → demand_at position row ≡ demand_meaning first → look_meaning look
-        ≡ calculus.look_at (heads_program heads.now) position row (rows_meaning rows.now) values.now (slice_get values.now position)) }
+    ensures { IfOk result (λ look. (row : calculus.Row)
+        → demand_at position row ≡ demand_meaning first → look_meaning look
+        ≡ calculus.look_at (heads_program heads.now) position row (rows_meaning rows.now) values.now
+        (slice_get values.now position)) }
 {
     if position >= values.len() {
         return Ok(Look::Nowhere);
@@ -452,7 +464,8 @@ fn one_look<'a>(
     rows: &[Row<'a>],
     values: &[Value],
 ) -> Result<Look<'a>, AllocError>
-    ensures { IfOk result (λ look. look_meaning look ≡ calculus.look (heads_program heads.now) (rows_meaning rows.now) values.now) }
+    ensures { IfOk result (λ look. look_meaning look ≡ calculus.look (heads_program heads.now)
+        (rows_meaning rows.now) values.now) }
 {
     if rows.is_empty() {
         return Ok(Look::Nowhere);
@@ -473,7 +486,8 @@ fn one_look<'a>(
 
 /// A row for each alternative.
 fn rows_of(alloc: Global, alternatives: &[(Pattern, Term)]) -> Result<Vec<Row<'_>>, AllocError>
-    ensures { IfOk result (λ rows. rows_meaning rows.items ≡ rows_from 0 (alternatives_of alternatives.now)) }
+    ensures { IfOk result (λ rows. rows_meaning rows.items ≡ rows_from 0
+        (alternatives_of alternatives.now)) }
 {
     let mut rows = Vec::new(alloc);
     for (choice, alternative) in alternatives.iter().enumerate() {
@@ -491,7 +505,8 @@ pub(crate) fn chosen(
     alternatives: &[(Pattern, Term)],
     value: &Value,
 ) -> Result<Option<usize>, AllocError>
-    ensures { IfOk result (λ choice. choice ≡ chosen (heads_program heads.now) (rows_from 0 (alternatives_of alternatives.now)) (value.now ∷ [])) }
+    ensures { IfOk result (λ choice. choice ≡ chosen (heads_program heads.now)
+        (rows_from 0 (alternatives_of alternatives.now)) (value.now ∷ [])) }
 {
     let mut rows = rows_of(alloc, alternatives)?;
     let mut values = Vec::new(alloc);

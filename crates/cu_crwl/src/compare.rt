@@ -64,7 +64,8 @@ fn push_pairs(
     requires { length values.items ≡ length others.items }
     ensures answer { OnOk result (stack_compared pairs.new.items (ending whole)
         ≡ all_and values.items others.items (stack_compared pairs.old.items (ending whole))) }
-    ensures weight { OnOk result (stack_weight pairs.new.items ≡ stack_weight pairs.old.items + list_weight values.items) }
+    ensures weight { OnOk result
+        (stack_weight pairs.new.items ≡ stack_weight pairs.old.items + list_weight values.items) }
 {
     while let Some(value) = values.pop() {
         match others.pop() {
@@ -86,8 +87,11 @@ impl Pending {
     /// have no partner.
     fn push(&mut self, mut values: Vec<Value>, mut others: Vec<Value>) -> Result<(), AllocError>
         ensures answer { OnOk result (stack_compared self.new.pairs.items (ending self.new.whole)
-            ≡ and_compared (all_compared (values_of values.items) (values_of others.items)) (stack_compared self.old.pairs.items (ending self.old.whole))) }
-        ensures weight { OnOk result (stack_weight self.new.pairs.items ≤ stack_weight self.old.pairs.items + list_weight values.items) }
+            ≡ and_compared (all_compared (values_of values.items) (values_of others.items))
+            (stack_compared self.old.pairs.items (ending self.old.whole))) }
+        ensures weight { OnOk result
+            (stack_weight self.new.pairs.items ≤ stack_weight self.old.pairs.items + list_weight
+            values.items) }
     {
         if values.len() == others.len() {
             return push_pairs(&mut self.pairs, values, others, self.whole);

@@ -113,7 +113,8 @@ fn copy_alternatives(
     alloc: Global,
     alternatives: &[(Pattern, Term)],
 ) -> Result<Vec<(Pattern, Term)>, AllocError>
-    ensures { IfOk result (λ copies. alternatives_of copies.items ≡ alternatives_of alternatives.now) }
+    ensures { IfOk result (λ copies. alternatives_of copies.items
+        ≡ alternatives_of alternatives.now) }
 {
     let mut copies = Vec::new(alloc);
     for alternative in alternatives {

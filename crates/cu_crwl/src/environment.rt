@@ -50,7 +50,8 @@ pub(crate) fn bound(bindings: &[(u32, Value)], variable: u32) -> Option<&Value>
 
 /// Whether values are one, where a value that isn't there is unknown.
 fn both_are(found: Option<&Value>, expected: Option<&Value>) -> bool
-    ensures { result ≡ same_value (unwrap_or (option_copied found.entry) value.Bottom) (unwrap_or (option_copied expected.entry) value.Bottom) }
+    ensures { result ≡ same_value (unwrap_or (option_copied found.entry) value.Bottom)
+        (unwrap_or (option_copied expected.entry) value.Bottom) }
 {
     match (found, expected) {
         (None, None) => true,
@@ -137,7 +138,8 @@ pub(crate) fn states(
     term: &Term,
     value: &Value,
 ) -> bool
-    ensures { result ≡ says (statement_of statement.now) new.now old.now (term_of term.now) value.now }
+    ensures { result ≡ says (statement_of statement.now) new.now old.now
+        (term_of term.now) value.now }
 {
     concerns(statement, new, old, term) && value_is(&statement.value, value)
 }

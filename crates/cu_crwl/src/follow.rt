@@ -47,7 +47,8 @@ pub(crate) fn whole_follows(
     value: &Value,
 ) -> Result<bool, AllocError>
     ensures { IfOk result (λ yes. yes
-        ≡ whole_follows (heads_program heads.now) (map claim_of claims.now) (statements_at parts.now) (statements_at last.now) env.now head
+        ≡ whole_follows (heads_program heads.now) (map claim_of claims.now)
+        (statements_at parts.now) (statements_at last.now) env.now head
         (terms_of terms.now) value.now) }
 {
     if !concern_all(parts, env, terms) {
@@ -66,7 +67,8 @@ pub(crate) fn part_follows(
     terms: &[Term],
     value: &Value,
 ) -> Result<bool, AllocError>
-    ensures { IfOk result (λ yes. yes ≡ part_follows (statements_at parts.now) env.now head (terms_of terms.now) value.now) }
+    ensures { IfOk result (λ yes. yes ≡ part_follows (statements_at parts.now) env.now head
+        (terms_of terms.now) value.now) }
 {
     if !concern_all(parts, env, terms) {
         return Ok(false);
@@ -87,7 +89,8 @@ fn applied_to(
     value: &Value,
 ) -> Result<bool, AllocError>
     ensures { IfOk result (λ yes. yes
-        ≡ applied_to (heads_program heads.now) (map claim_of claims.now) head (values_of values.now) (statements_at last.now) value.now) }
+        ≡ applied_to (heads_program heads.now) (map claim_of claims.now) head (values_of values.now)
+        (statements_at last.now) value.now) }
 {
     if heads.takes_more(head, values.len()) {
         if none(last) {
@@ -113,7 +116,8 @@ fn application_gives(
     value: &Value,
 ) -> Result<bool, AllocError>
     ensures { IfOk result (λ yes. yes
-        ≡ application_gives (heads_program heads.now) (map claim_of claims.now) function.now argument.now (statements_at last.now) value.now) }
+        ≡ application_gives (heads_program heads.now)
+        (map claim_of claims.now) function.now argument.now (statements_at last.now) value.now) }
 {
     match function.head() {
         Cell::Part(head, _) => {
@@ -137,7 +141,8 @@ pub(crate) fn apply_follows(
     value: &Value,
 ) -> Result<bool, AllocError>
     ensures { IfOk result (λ yes. yes
-        ≡ apply_follows (heads_program heads.now) (map claim_of claims.now) (first_cited (statements_at cited.now)) env.now (term_of function.now)
+        ≡ apply_follows (heads_program heads.now) (map claim_of claims.now)
+        (first_cited (statements_at cited.now)) env.now (term_of function.now)
         (term_of argument.now) value.now) }
 {
     if cited.len() < 2 {
@@ -170,7 +175,8 @@ pub(crate) fn let_follows(
     value: &Value,
 ) -> Result<bool, AllocError>
     ensures { IfOk result (λ yes. yes
-        ≡ let_follows (two_cited (statements_at cited.now)) env.now variable (term_of definition.now) (term_of body.now) value.now) }
+        ≡ let_follows (two_cited (statements_at cited.now)) env.now variable
+        (term_of definition.now) (term_of body.now) value.now) }
 {
     match two(cited) {
         Some(pair) => let_gives(
@@ -193,7 +199,8 @@ fn let_gives(
     value: &Value,
 ) -> Result<bool, AllocError>
     ensures { IfOk result (λ yes. yes
-        ≡ let_follows (Some (statement_of first.now, statement_of second.now)) env.now variable (term_of definition.now) (term_of body.now) value.now) }
+        ≡ let_follows (Some (statement_of first.now, statement_of second.now)) env.now variable
+        (term_of definition.now) (term_of body.now) value.now) }
 {
     if !concerns(first, &[], env, definition) {
         return Ok(false);
@@ -214,7 +221,8 @@ pub(crate) fn free_follows(
     value: &Value,
 ) -> Result<bool, AllocError>
     ensures { IfOk result (λ yes. yes
-        ≡ free_follows (heads_program heads.now) (one_cited (statements_at cited.now)) env.now variable (term_of body.now) value.now) }
+        ≡ free_follows (heads_program heads.now)
+        (one_cited (statements_at cited.now)) env.now variable (term_of body.now) value.now) }
 {
     match one(cited) {
         Some(statement) => free_gives(alloc, heads, statement, env, variable, body, value),
@@ -235,7 +243,8 @@ fn free_gives(
     value: &Value,
 ) -> Result<bool, AllocError>
     ensures { IfOk result (λ yes. yes
-        ≡ free_gives (heads_program heads.now) (statement_of statement.now) env.now variable (bind_all empty (statement_of statement.now).env variable)
+        ≡ free_gives (heads_program heads.now) (statement_of statement.now) env.now variable
+        (bind_all empty (statement_of statement.now).env variable)
         (term_of body.now) value.now) }
 {
     match bound(&statement.env, variable) {
@@ -261,7 +270,8 @@ pub(crate) fn or_follows(
     right: &Term,
     value: &Value,
 ) -> bool
-    ensures { result ≡ or_follows (one_cited (statements_at cited.now)) env.now (term_of left.now) (term_of right.now) value.now }
+    ensures { result ≡ or_follows (one_cited (statements_at cited.now)) env.now (term_of left.now)
+        (term_of right.now) value.now }
 {
     match one(cited) {
         Some(statement) => states(statement, &[], env, left, value)
@@ -281,7 +291,8 @@ pub(crate) fn case_follows(
     value: &Value,
 ) -> Result<bool, AllocError>
     ensures { IfOk result (λ yes. yes
-        ≡ case_follows (heads_program heads.now) (two_cited (statements_at cited.now)) env.now (term_of scrutinee.now)
+        ≡ case_follows (heads_program heads.now) (two_cited (statements_at cited.now)) env.now
+        (term_of scrutinee.now)
         (alternatives_of alternatives.now) value.now) }
 {
     match two(cited) {
@@ -314,8 +325,10 @@ fn choice_gives(
     alternatives: &[(Pattern, Term)],
 ) -> Result<bool, AllocError>
     ensures { IfOk result (λ yes. yes
-        ≡ choice_gives (statement_of statement.now) env.now given.now value.now (alternatives_of alternatives.now)
-        (calculus.chosen (heads_program heads.now) (rows_from 0 (alternatives_of alternatives.now)) (given.now ∷ []))) }
+        ≡ choice_gives (statement_of statement.now) env.now given.now value.now
+        (alternatives_of alternatives.now)
+        (calculus.chosen (heads_program heads.now) (rows_from 0 (alternatives_of alternatives.now))
+        (given.now ∷ []))) }
 {
     match chosen(alloc, heads, alternatives, given)? {
         Some(choice) => alternative_gives(
@@ -342,7 +355,8 @@ fn alternative_gives(
     choice: usize,
 ) -> Result<bool, AllocError>
     ensures { IfOk result (λ yes. yes
-        ≡ choice_gives (statement_of statement.now) env.now given.now value.now (alternatives_of alternatives.now) (Some choice)) }
+        ≡ choice_gives (statement_of statement.now) env.now given.now value.now
+        (alternatives_of alternatives.now) (Some choice)) }
 {
     if choice >= alternatives.len() {
         return Ok(false);

@@ -13,8 +13,10 @@ ghost use Rattle.cu_crwl.specs.Table.{follows};
 /// and of cited ones whether it follows from them, and one says of steps
 /// whether each follows from those that it cites.
 pub fn following_is_decided()
-    ensures statement { (program : Program) (claims : List Claim) (cited : List Statement) (env : Bindings) (t : Term) (v : Value)
-        → IsTrue (follows program claims cited env t v) ↔ Follows program claims cited (bind_all empty env) t v }
+    ensures statement { (program : Program) (claims : List Claim) (cited : List Statement)
+        (env : Bindings) (t : Term) (v : Value)
+        → IsTrue (follows program claims cited env t v)
+        ↔ Follows program claims cited (bind_all empty env) t v }
     ensures steps { (program : Program) (claims : List Claim) (steps : List Step)
         → IsTrue (all_follow program claims [] steps) ↔ AllFollow program claims steps }
 {}

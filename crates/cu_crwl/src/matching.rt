@@ -28,7 +28,8 @@ pub(crate) fn match_pattern(
     pattern: &Pattern,
     value: &Value,
 ) -> Result<Option<Vec<(u32, Value)>>, AllocError>
-    ensures { IfOk result (λ found. option_map (λ bindings. bindings.items) found ≡ matched (pattern_of pattern.now) value.now) }
+    ensures { IfOk result (λ found. option_map (λ bindings. bindings.items) found ≡ matched
+        (pattern_of pattern.now) value.now) }
 {
     match pattern {
         Pattern::Var(variable) => {
@@ -67,7 +68,8 @@ pub(crate) fn match_patterns(
     patterns: &[Pattern],
     values: &[Value],
 ) -> Result<Option<Vec<(u32, Value)>>, AllocError>
-    ensures { IfOk result (λ found. option_map (λ bindings. bindings.items) found ≡ all_matched (patterns_of patterns.now) (values_of values.now)) }
+    ensures { IfOk result (λ found. option_map (λ bindings. bindings.items) found ≡ all_matched
+        (patterns_of patterns.now) (values_of values.now)) }
 {
     if patterns.len() != values.len() {
         return Ok(None);
@@ -89,7 +91,8 @@ fn with_whole(
     value: &Value,
 ) -> Result<Option<Vec<(u32, Value)>>, AllocError>
     ensures { IfOk result (λ all. option_map (λ bindings. bindings.items) all
-        ≡ option_map (λ bindings. (variable, value.now) ∷ bindings) (option_map (λ bindings. bindings.items) found)) }
+        ≡ option_map (λ bindings. (variable, value.now) ∷ bindings)
+        (option_map (λ bindings. bindings.items) found)) }
 {
     match found {
         Some(mut bindings) => {

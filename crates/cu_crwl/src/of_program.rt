@@ -81,14 +81,16 @@ pub(crate) fn claim_is_of(heads: &Heads, claim: &Claim) -> bool
 
 /// Whether the values of a claim are the program's.
 fn values_are_of(heads: &Heads, claim: &Claim) -> bool
-    ensures { result ≡ (list_all (is_of (heads_program heads.now)) claim.now.arguments.items && list_all (is_of (heads_program heads.now)) claim.now.values.items) }
+    ensures { result ≡ (list_all (is_of (heads_program heads.now)) claim.now.arguments.items
+        && list_all (is_of (heads_program heads.now)) claim.now.values.items) }
 {
     all_of(heads, &claim.arguments) && all_of(heads, &claim.values)
 }
 
 /// Whether a statement is one of the program.
 pub(crate) fn statement_is_of(heads: &Heads, statement: &Statement) -> Result<bool, AllocError>
-    ensures { IfOk result (λ yes. yes ≡ is_statement_of (heads_program heads.now) (statement_of statement.now)) }
+    ensures { IfOk result (λ yes. yes ≡ is_statement_of (heads_program heads.now)
+        (statement_of statement.now)) }
 {
     if !rise(&statement.env) {
         return Ok(false);
