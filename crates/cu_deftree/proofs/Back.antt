@@ -280,10 +280,10 @@ still_named E env names next w same low y = same y ∙ sym (other (nat_eq next (
 next_low : (next : ℕ) → next < suc next
 next_low next = omega arith
 
-low_on : (next : ℕ) (names : Names) → Low next names → Low (suc next) names
+pub low_on : (next : ℕ) (names : Names) → Low next names → Low (suc next) names
 low_on next names low y = let l = low y in omega arith
 
-low_bound : (next x : ℕ) (names : Names) → Low next names → Low (suc next) ((x, next) ∷ names)
+pub low_bound : (next x : ℕ) (names : Names) → Low next names → Low (suc next) ((x, next) ∷ names)
 low_bound next x names low = low_cons (suc next) x next names (omega arith) (λ y. let l = low y in omega arith)
 
 -- a value is Bottom or not

@@ -8,3 +8,5 @@ pub mod Opening
 pub mod Shows
 pub mod Sound
 pub mod Suits
+pub mod Weights
+pub mod Lowerable

@@ -132,13 +132,13 @@ case_shows program claims env high mode (term.Case n b others) t alternatives k 
 
 -- ---- rules
 
-record RuleFits (program : Program) (arity : ℕ) (rule : Rule) : Type 0 where
+pub record RuleFits (program : Program) (arity : ℕ) (rule : Rule) : Type 0 where
   pub many : pattern_count rule.params ≡ arity
   pub known : IsTrue (fit_patterns program rule.params)
   pub linear : IsTrue (is_linear (all_variables rule.params))
   pub right : IsTrue (fits_term program any rule.body)
 
-rule_fits : (program : Program) (arity : ℕ) (rule : Rule) → IsTrue (fits_rule program arity rule) → RuleFits program arity rule
+pub rule_fits : (program : Program) (arity : ℕ) (rule : Rule) → IsTrue (fits_rule program arity rule) → RuleFits program arity rule
 rule_fits program arity rule h =
     let may = λ (x : ℕ). holds x (all_variables rule.params) in
     let counted = nat_eq (pattern_count rule.params) arity in
@@ -154,11 +154,11 @@ rule_fits program arity rule h =
       right = fits_any program may rule.body one.1;
     }
 
-abbrev AllRulesFit : Program → ℕ → List Rule → Type 0
+abbrev pub AllRulesFit : Program → ℕ → List Rule → Type 0
 AllRulesFit program arity [] = Unit {0}
 AllRulesFit program arity (rule ∷ rules) = RuleFits program arity rule × AllRulesFit program arity rules
 
-all_rules_fit : (program : Program) (arity : ℕ) (rules : List Rule) → IsTrue (list_all (fits_rule program arity) rules)
+pub all_rules_fit : (program : Program) (arity : ℕ) (rules : List Rule) → IsTrue (list_all (fits_rule program arity) rules)
     → AllRulesFit program arity rules
 all_rules_fit program arity [] h = tt
 all_rules_fit program arity (rule ∷ rules) h =
@@ -179,7 +179,7 @@ row_of_rule_fits program arity xs rule e fits =
       right = fits.right;
     }
 
-rows_of_rules_fit : (program : Program) (arity : ℕ) (xs : List ℕ) (rules : List Rule) → xs ≡ numbers 1 arity → AllRulesFit program arity rules
+pub rows_of_rules_fit : (program : Program) (arity : ℕ) (xs : List ℕ) (rules : List Rule) → xs ≡ numbers 1 arity → AllRulesFit program arity rules
     → RowsFit program xs (suc arity) (map (row_of_rule xs) rules)
 rows_of_rules_fit program arity xs [] e h = tt
 rows_of_rules_fit program arity xs (rule ∷ rules) e h =

@@ -25,6 +25,11 @@ pub record IsOperation (program : Program) (operation : Primitive) (f : FunId) :
   pub is_built_in : function.body ≡ External operation
   pub first : (k : ℕ) (other : Function) → k < f.0 → slice_get program.functions k ≡ Some other → other.body ≢ External operation
 
+-- a program that has the operations that lowering puts into bodies
+pub record HasOperations (program : Program) : Type 0 where
+  pub failed : (f : FunId) × IsOperation program prim.Failed f
+  pub equal : (f : FunId) × IsOperation program prim.Equal f
+
 -- a call of `failed`
 abbrev pub failure : FunId → Term
 failure failed = term.Whole (head.Fun failed) term.NoTerm

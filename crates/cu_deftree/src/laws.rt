@@ -7,11 +7,18 @@ ghost use Rattle.cu_calculus.specs.Gives.{Claim};
 ghost use Rattle.cu_calculus.specs.Program.{Program};
 ghost use Rattle.cu_calculus.specs.Valid.{IsValid};
 ghost use Rattle.cu_calculus.specs.Value.{Bottom, Value, Values};
+ghost use Rattle.cu_deftree.specs.Lowering.{HasOperations};
 ghost use Rattle.cu_deftree.specs.LoweredProgram.{Flattens};
 
 /// A program has at most one flat program.
 pub fn lowering_is_a_function()
     ensures { (program flat other : Program) → Flattens program flat → Flattens program other → flat ≡ other }
+{}
+
+/// Each valid program that has the operations that lowering puts into bodies
+/// has a flat program.
+pub fn programs_can_be_lowered()
+    ensures { (program : Program) → IsValid program → HasOperations program → (flat : Program) × Flattens program flat }
 {}
 
 /// The least levels of a program are levels of its flat program too.
