@@ -220,7 +220,7 @@ any_meets (term.Named x p) v e = any_meets p v e
 any_meets (term.Exactly l) v e = let no : ⊥ = cc in absurd no
 any_meets (term.Built c ps) v e = let no : ⊥ = cc in absurd no
 
-none_inside : (ps : List Pattern) → leftmost ps ≡ None → inner_all ps ≡ []
+pub none_inside : (ps : List Pattern) → leftmost ps ≡ None → inner_all ps ≡ []
 none_inside [] e = refl
 none_inside (p ∷ ps) e =
     let parts = if_none (is_demanding (demand_of p)) (leftmost ps) e in

@@ -10,3 +10,5 @@ pub mod Sound
 pub mod Suits
 pub mod Weights
 pub mod Lowerable
+pub mod Scoped
+pub mod StillValid
