@@ -267,7 +267,7 @@ module _ (program : Program) (apart : same_constructor program.special.truth pro
       (and_from (are_variables (variables xs)) (is_linear (all_variables (variables xs))) (are_variables_of xs) linear)
       (tree_flat xs (suc function.arity) _ t p)
 
-all_from_each : (test : Function → Bool) (fs : List Function) → ((k : ℕ) (f : Function) → slice_get fs k ≡ Some f → test f ≡ true)
+pub all_from_each : (test : Function → Bool) (fs : List Function) → ((k : ℕ) (f : Function) → slice_get fs k ≡ Some f → test f ≡ true)
     → list_all test fs ≡ true
 all_from_each test [] h = refl
 all_from_each test (f ∷ fs) h = and_from (test f) (list_all test fs) (h 0 f refl) (all_from_each test fs (λ k g e. h (suc k) g e))

@@ -12,3 +12,5 @@ pub mod Weights
 pub mod Lowerable
 pub mod Scoped
 pub mod StillValid
+pub mod KeptConjunction
+pub mod FlatIsValid

@@ -1,17 +1,14 @@
 -- Each term, tree and case distinction of a valid program can be lowered, where the program has the operations that lowering
 -- puts into bodies.
-use Rattle.std.proofs.Common.{◌≡◌, ◌≢◌, ℕ, zero, suc, ◌+◌, ◌<◌, ◌≤◌, ◌⊎◌, inl, inr, Bool, true, false, not, ◌&&◌, ◌||◌, List, [], ◌∷◌, if◌then◌else◌, filter, length, map, replicate, Option, None, Some, slice_get, IsTrue, IsFalse, refl, ap, sym, ◌∙◌, subst, arith, true≢false}
+use Rattle.std.proofs.Common.{◌≡◌, ℕ, zero, suc, ◌+◌, ◌<◌, ◌≤◌, ◌⊎◌, inl, inr, Bool, true, false, not, ◌&&◌, ◌||◌, List, [], ◌∷◌, filter, length, map, replicate, Option, None, Some, slice_get, IsTrue, IsFalse, refl, ap, sym, ◌∙◌, subst, arith, true≢false}
 use Rattle.std.specs.List.{list_all, list_any}
 use Rattle.std.proofs.lemmas.Bool.{and_parts}
 use Rattle.cu_calculus.specs.declared.ConId.{ConId}
-use Rattle.cu_calculus.specs.declared.FunId.{FunId}
 use Rattle.cu_calculus.specs.declared.Lit.{Lit}
 use Rattle.cu_calculus.specs.declared.Mode.{Mode}
 use Rattle.cu_calculus.specs.declared.Mode.TheVariants.{Flex}
-use Rattle.cu_calculus.specs.declared.builtin.Primitive.{Primitive}
-use Rattle.cu_calculus.specs.declared.builtin.Primitive.TheVariants as prim
 use Rattle.cu_calculus.specs.Choose.{ALiteral, AConstructor, Demand, Nothing, arguments_of, demand_of, is_demanding, leftmost, not_literal, spliced, wants_constructor, wants_literal, wants_nothing}
-use Rattle.cu_calculus.specs.Program.{Body, External, Function, Program, Rule, Rules, function_of}
+use Rattle.cu_calculus.specs.Program.{Body, External, Function, Program, Rules}
 use Rattle.cu_calculus.specs.Term as term
 use Rattle.cu_calculus.specs.Term.{Alternatives, Pattern, Term, Terms}
 use Rattle.cu_calculus.specs.Valid.{IsValid, also, fit_alternatives, fit_terms, fits_body, fits_function, fits_pattern, fits_term, is_arity}
@@ -24,10 +21,10 @@ use Rattle.cu_deftree.specs.LoweredProgram as lowered
 use Rattle.cu_deftree.specs.LoweredProgram.{Flattens, FunctionLowers}
 use Rattle.cu_deftree.proofs.Alternatives.{alternatives_fit}
 use Rattle.cu_deftree.proofs.Back.{low_bound, low_on, numbers_count, numbers_low}
-use Rattle.cu_deftree.proofs.Opening.{AllLow, Low, put, spliced_put}
+use Rattle.cu_deftree.proofs.Opening.{AllLow, Low, spliced_put}
 use Rattle.cu_deftree.proofs.Sound.{all_rules_fit, rows_of_rules_fit}
-use Rattle.cu_deftree.proofs.Suits.{RowFits, RowsFit, built_count, filter_fits, opens_any, opens_literal, specialize_fits, there_too}
-use Rattle.cu_deftree.proofs.Weights.{all_demanding, alternatives_lighter, alternatives_weight, demanding_lighter, leftmost_demands, leftmost_there, not_literal_lighter, others_lighter, pattern_weight, row_weight, rows_weight, specialize_lighter, term_weight, terms_weight}
+use Rattle.cu_deftree.proofs.Suits.{RowFits, RowsFit, built_count, filter_fits, opens_literal, specialize_fits, there_too}
+use Rattle.cu_deftree.proofs.Weights.{all_demanding, alternatives_lighter, demanding_lighter, leftmost_demands, not_literal_lighter, others_lighter, rows_weight, specialize_lighter, term_weight, terms_weight}
 
 -- ---- rows over arguments
 
@@ -219,14 +216,14 @@ module _ (program : Program) (operations : HasOperations program) (n : ℕ) (bel
   branches positions next k position rows opened [] [] = (term.NoAlternative, lowering.no_branch positions next k rows)
   branches positions next k position rows opened [] (l ∷ ls) =
       let one = below.trees (spliced k [] positions) next (specialize k [] (wants_literal l) rows) (opened.lighter [] (wants_literal l))
-          (literal_branch_fits program positions next k position (wants_literal l) rows opened.there (counts_literal program l) opened.fit) in
+      (literal_branch_fits program positions next k position (wants_literal l) rows opened.there (counts_literal program l) opened.fit) in
       let rest = branches positions next k position rows opened [] ls in
       (term.MoreAlternatives (term.Exactly l) one.0 rest.0, lowering.literal_branch positions next k rows l ls one.0 rest.0 one.1 rest.1)
   branches positions next k position rows opened (c ∷ cs) ls =
       let m = constructor_arity program c in
       let new = numbers next m in
       let one = below.trees (spliced k new positions) (next + m) (specialize k new (wants_constructor c) rows) (opened.lighter new (wants_constructor c))
-          (branch_fits program positions next m k position new (wants_constructor c) rows refl opened.there (counts_constructor program c m refl) opened.fit) in
+      (branch_fits program positions next m k position new (wants_constructor c) rows refl opened.there (counts_constructor program c m refl) opened.fit) in
       let rest = branches positions next k position rows opened cs ls in (
         term.MoreAlternatives (term.Built c (variables new)) one.0 rest.0,
         lowering.constructor_branch positions next k m new rows c cs ls one.0 rest.0 refl refl one.1 rest.1,
@@ -239,7 +236,7 @@ module _ (program : Program) (operations : HasOperations program) (n : ℕ) (bel
       let test = goes_on b (wants_literal l) in
       let counts = counts_goes_on program 0 b (wants_literal l) (counts_literal program l) in
       let one = below.cases mode (spliced k [] positions) next (specialize k [] test rows) (opened.lighter [] test)
-          (literal_branch_fits program positions next k position test rows opened.there counts opened.fit) in
+      (literal_branch_fits program positions next k position test rows opened.there counts opened.fit) in
       let rest = case_branches mode b positions next k position rows opened [] ls in
       (term.MoreAlternatives (term.Exactly l) one.0 rest.0, lowering.literal_of_case mode b positions next k rows l ls one.0 rest.0 one.1 rest.1)
   case_branches mode b positions next k position rows opened (c ∷ cs) ls =
@@ -248,7 +245,7 @@ module _ (program : Program) (operations : HasOperations program) (n : ℕ) (bel
       let test = goes_on b (wants_constructor c) in
       let counts = counts_goes_on program m b (wants_constructor c) (counts_constructor program c m refl) in
       let one = below.cases mode (spliced k new positions) (next + m) (specialize k new test rows) (opened.lighter new test)
-          (branch_fits program positions next m k position new test rows refl opened.there counts opened.fit) in
+      (branch_fits program positions next m k position new test rows refl opened.there counts opened.fit) in
       let rest = case_branches mode b positions next k position rows opened cs ls in (
         term.MoreAlternatives (term.Built c (variables new)) one.0 rest.0,
         lowering.constructor_case mode b positions next k m new rows c cs ls one.0 rest.0 refl refl one.1 rest.1,
@@ -292,9 +289,9 @@ module _ (program : Program) (operations : HasOperations program) (n : ℕ) (bel
       let less = demanding_lighter row rows k f e in
       let fewer = others_lighter row rows k e in
       let one = below.trees positions next (filter (demands k) (row ∷ rows)) (omega arith)
-          (filter_fits program positions next (demands k) (row ∷ rows) fit) in
+      (filter_fits program positions next (demands k) (row ∷ rows) fit) in
       let two = below.trees positions next (filter (λ other. not (demands k other)) (row ∷ rows)) (omega arith)
-          (filter_fits program positions next (λ other. not (demands k other)) (row ∷ rows) fit) in
+      (filter_fits program positions next (λ other. not (demands k other)) (row ∷ rows) fit) in
       (term.Or one.0 two.0, lowering.split positions next k row rows one.0 two.0 f e one.1 two.1)
 
   lower_tree : (positions : List ℕ) (next : ℕ) (rows : List Row) → rows_weight rows < suc n → RowsFit program positions next rows
@@ -322,9 +319,9 @@ module _ (program : Program) (operations : HasOperations program) (n : ℕ) (bel
       let counts = counts_goes_on program 0 true (wants_literal m) (counts_literal program m) in
       let less = not_literal_lighter row rows k m d in
       let same = below.cases mode (spliced k [] positions) next (specialize k [] test (row ∷ rows)) (opened.lighter [] test)
-          (literal_branch_fits program positions next k position test (row ∷ rows) opened.there counts opened.fit) in
+      (literal_branch_fits program positions next k position test (row ∷ rows) opened.there counts opened.fit) in
       let other = below.cases mode positions next (filter (λ one. not_literal m (demand_at k one)) (row ∷ rows)) (omega arith)
-          (filter_fits program positions next (λ one. not_literal m (demand_at k one)) (row ∷ rows) opened.fit) in (
+      (filter_fits program positions next (λ one. not_literal m (demand_at k one)) (row ∷ rows) opened.fit) in (
         literal_case program operations.equal.0 position m same.0 other.0,
         lowering.first_literal mode positions next k position operations.equal.0 m row rows same.0 other.0 e opened.there some d
             operations.equal.1 same.1 other.1,

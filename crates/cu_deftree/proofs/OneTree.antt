@@ -322,10 +322,10 @@ mutual
 
 -- ---- programs
 
-abbrev with_rule : ℕ → List ℕ → Term → Function
+abbrev pub with_rule : ℕ → List ℕ → Term → Function
 with_rule n xs t = record { arity = n; body = Rules (record { params = variables xs; body = t } ∷ []) }
 
-function_one : (program : Program) (function one two : Function) → FunctionLowers program function one → FunctionLowers program function two
+pub function_one : (program : Program) (function one two : Function) → FunctionLowers program function one → FunctionLowers program function two
     → one ≡ two
 function_one program function one two (lowered.external o _ e f) (lowered.external o' _ e' f') = f ∙ sym f'
 function_one program function one two (lowered.external o _ e f) (lowered.by_tree rules xs t _ e' f' p' g') = let none : ⊥ = cc in absurd none

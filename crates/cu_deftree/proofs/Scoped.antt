@@ -1,33 +1,14 @@
 -- What lowering gives of a valid program is valid: heads have as many arguments as before, and each variable is bound.
-use Rattle.std.proofs.Common.{◌≡◌, ℕ, zero, suc, ◌+◌, ◌<◌, ◌≤◌, ◌⊎◌, inl, inr, Bool, true, false, not, ◌&&◌, ◌||◌, List, [], ◌∷◌, ◌++◌, cond, if◌then◌else◌, filter, length, map, nat_eq, Option, None, Some, option_map, slice_get, IsTrue, IsFalse, refl, ap, sym, ◌∙◌, subst, arith, add-one, append-nil, append_assoc, eq-eqb, eqb-true, true≢false}
-use Rattle.std.specs.List.{flat_map, list_all, list_any}
-use Rattle.std.proofs.lemmas.Bool.{and_from, and_parts}
-use Rattle.cu_calculus.specs.declared.ConId.{ConId}
-use Rattle.cu_calculus.specs.declared.FunId.{FunId}
-use Rattle.cu_calculus.specs.declared.Head.{Head}
-use Rattle.cu_calculus.specs.declared.Head.TheVariants as head
-use Rattle.cu_calculus.specs.declared.Lit.{Lit}
-use Rattle.cu_calculus.specs.declared.Mode.{Mode}
-use Rattle.cu_calculus.specs.declared.Mode.TheVariants.{Flex, Rigid}
-use Rattle.cu_calculus.specs.declared.builtin.Primitive.{Primitive}
-use Rattle.cu_calculus.specs.declared.builtin.Primitive.TheVariants as prim
-use Rattle.cu_calculus.specs.Choose.{ALiteral, AConstructor, Demand, Nothing, arguments_of, demand_of, leftmost, list_patterns, not_literal, spliced, wants_constructor, wants_literal}
-use Rattle.cu_calculus.specs.Literal.{is_literal, same_literal}
-use Rattle.cu_calculus.specs.Program.{Body, Constructor, External, Function, Program, Rule, Rules, arity_in, constructor_of, function_of}
-use Rattle.cu_calculus.specs.Shape.{is_allowed, takes, takes_more}
+use Rattle.std.proofs.Common.{◌≡◌, ℕ, zero, suc, ◌+◌, ◌<◌, ◌⊎◌, inl, inr, Bool, true, false, ◌||◌, List, [], ◌∷◌, ◌++◌, cond, if◌then◌else◌, filter, length, map, nat_eq, None, Some, slice_get, IsTrue, refl, ap, sym, ◌∙◌, subst, arith, eq-eqb, eqb-true, true≢false}
+use Rattle.cu_calculus.specs.Choose.{Demand, arguments_of, demand_of, leftmost, list_patterns}
+use Rattle.cu_calculus.specs.Program.{Program}
 use Rattle.cu_calculus.specs.Term as term
 use Rattle.cu_calculus.specs.Term.{Alternatives, Pattern, Patterns, Term, Terms}
-use Rattle.cu_calculus.specs.Valid.{IsValid, all_variables, also, also_all, but, fit_alternatives, fit_patterns, fit_terms, fits_body, fits_function, fits_pattern, fits_rule, fits_term, holds, is_arity, is_linear, pattern_count, term_count, variables_of}
-use Rattle.cu_calculus.proofs.Fitting.{any, fits_any}
-use Rattle.cu_calculus.proofs.Lists.{passed_at}
-use Rattle.cu_deftree.specs.Lowering as lowering
-use Rattle.cu_deftree.specs.Lowering.{AllLower, Branches, Cases, Distinguishes, IsOperation, Lowers, Tree, failure, goes_on, literal_case, test_of, variables}
-use Rattle.cu_deftree.specs.Rows.{Names, Row, argument_names, constructor_arity, constructor_ids, constructors_at, demand_at, demands, first_occurrences, literal_in, literals_at, name_of, names_at, names_at_all, numbers, rows_of, siblings, specialize, specialized}
-use Rattle.cu_deftree.proofs.Alternatives.{alternatives_fit}
-use Rattle.cu_deftree.proofs.Back.{none_inside, numbers_count, variables_are}
-use Rattle.cu_deftree.proofs.Lowerable.{branch_fits, counts_constructor, counts_goes_on, counts_literal, literal_branch_fits}
-use Rattle.cu_deftree.proofs.Opening.{inner, inner_all, put, spliced_put}
-use Rattle.cu_deftree.proofs.Suits.{RowFits, RowsFit, demand_is, filter_fits, opened, pattern_fits, specialized_is, there_too}
+use Rattle.cu_calculus.specs.Valid.{all_variables, also, also_all, fits_pattern, fits_term, holds, variables_of}
+use Rattle.cu_deftree.specs.Rows.{Names, Row, argument_names, demand_at, name_of, names_at, names_at_all, numbers, specialize, specialized}
+use Rattle.cu_deftree.proofs.Back.{none_inside}
+use Rattle.cu_deftree.proofs.Opening.{inner, inner_all, put}
+use Rattle.cu_deftree.proofs.Suits.{RowsFit, demand_is, opened, pattern_fits, specialized_is, there_too}
 
 -- ---- what a list holds
 

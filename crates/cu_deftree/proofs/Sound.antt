@@ -241,7 +241,7 @@ module _ (program flat : Program) (claims : List Claim) (flattens : Flattens pro
       let found = stands_too flat.functions program.functions f.0 low flattens.each e in
       (found.0, found.1, flattens.functions f.0 found.0 low found.1 e)
 
-  arity_lowered : (function low : Function) → FunctionLowers program function low → low.arity ≡ function.arity
+  pub arity_lowered : (function low : Function) → FunctionLowers program function low → low.arity ≡ function.arity
   arity_lowered function _ (lowered.external operation low e f) = ap (λ (x : Function). x.arity) f
   arity_lowered function _ (lowered.by_tree rules xs t low e f p g) = ap (λ (x : Function). x.arity) g
 
@@ -261,13 +261,13 @@ module _ (program flat : Program) (claims : List Claim) (flattens : Flattens pro
           let same : two ≡ Some found.0 = sym g ∙ there in
           ap Some (arity_lowered found.0 low found.2) ∙ sym (ap (option_map (λ function. function.arity)) same)
 
-  arity_same : (h : Head) → arity_in flat h ≡ arity_in program h
+  pub arity_same : (h : Head) → arity_in flat h ≡ arity_in program h
   arity_same (head.Fun f) = function_arity f
   arity_same (head.Set f) = function_arity f
   arity_same (head.Con c) =
       ap (λ (cs : List Constructor). option_map (λ constructor. constructor.arity) (slice_get cs c.0)) flattens.constructors
 
-  allowed_same : (h : Head) → is_allowed flat h ≡ is_allowed program h
+  pub allowed_same : (h : Head) → is_allowed flat h ≡ is_allowed program h
   allowed_same (head.Fun f) = refl
   allowed_same (head.Con c) = refl
   allowed_same (head.Set f) = ap (λ (s : Special). elim s.values [ Some c ↦ true | None ↦ false ]) flattens.special

@@ -1,5 +1,5 @@
 -- What lowering gives of a valid program fits the program: heads have as many arguments as before, and each variable is bound.
-use Rattle.std.proofs.Common.{◌≡◌, ℕ, zero, suc, ◌+◌, ◌<◌, ◌≤◌, ◌⊎◌, inl, inr, Bool, true, false, not, ◌&&◌, ◌||◌, List, [], ◌∷◌, ◌++◌, cond, if◌then◌else◌, filter, length, map, nat_eq, nat_lt, Option, None, Some, option_map, slice_get, IsTrue, IsFalse, refl, ap, sym, ◌∙◌, subst, arith, add-one, append-nil, eq-eqb, eqb-true, true≢false}
+use Rattle.std.proofs.Common.{◌≡◌, ℕ, zero, suc, ◌+◌, ◌<◌, ◌≤◌, ◌⊎◌, inl, inr, Bool, true, false, not, ◌&&◌, List, [], ◌∷◌, ◌++◌, cond, if◌then◌else◌, filter, length, map, nat_eq, Option, None, Some, option_map, slice_get, IsTrue, refl, ap, sym, ◌∙◌, subst, arith, add-one, eq-eqb, eqb-true, true≢false}
 use Rattle.std.specs.List.{flat_map, list_all, list_any}
 use Rattle.std.proofs.lemmas.Bool.{and_from, and_parts}
 use Rattle.cu_calculus.specs.declared.ConId.{ConId}
@@ -8,27 +8,25 @@ use Rattle.cu_calculus.specs.declared.Head.{Head}
 use Rattle.cu_calculus.specs.declared.Head.TheVariants as head
 use Rattle.cu_calculus.specs.declared.Lit.{Lit}
 use Rattle.cu_calculus.specs.declared.Mode.{Mode}
-use Rattle.cu_calculus.specs.declared.Mode.TheVariants.{Flex, Rigid}
-use Rattle.cu_calculus.specs.declared.builtin.Primitive.{Primitive}
+use Rattle.cu_calculus.specs.declared.Mode.TheVariants.{Flex}
 use Rattle.cu_calculus.specs.declared.builtin.Primitive.TheVariants as prim
-use Rattle.cu_calculus.specs.Choose.{ALiteral, AConstructor, Demand, Nothing, arguments_of, demand_of, leftmost, list_patterns, not_literal, spliced, wants_constructor, wants_literal}
+use Rattle.cu_calculus.specs.Choose.{ALiteral, AConstructor, Demand, Nothing, arguments_of, demand_of, not_literal, spliced, wants_constructor, wants_literal}
 use Rattle.cu_calculus.specs.Literal.{is_literal, same_literal}
-use Rattle.cu_calculus.specs.Program.{Body, Constructor, External, Function, Program, Rule, Rules, arity_in, constructor_of, function_of}
+use Rattle.cu_calculus.specs.Program.{Constructor, Program, arity_in, constructor_of}
 use Rattle.cu_calculus.specs.Shape.{is_allowed, takes, takes_more}
 use Rattle.cu_calculus.specs.Term as term
 use Rattle.cu_calculus.specs.Term.{Alternatives, Pattern, Patterns, Term, Terms}
-use Rattle.cu_calculus.specs.Valid.{all_variables, also, also_all, but, fit_alternatives, fit_patterns, fit_terms, fits_pattern, fits_term, holds, is_linear, pattern_count, term_count, variables_of}
+use Rattle.cu_calculus.specs.Valid.{also, also_all, but, fit_alternatives, fit_patterns, fit_terms, fits_pattern, fits_term, holds, is_linear, pattern_count, term_count, variables_of}
 use Rattle.cu_deftree.specs.Lowering as lowering
 use Rattle.cu_deftree.specs.Lowering.{AllLower, Branches, Cases, Distinguishes, IsOperation, Lowers, Tree, failure, goes_on, literal_case, test_of, variables}
 use Rattle.cu_deftree.specs.Rows.{Names, Row, constructor_arity, constructor_ids, constructors_at, demand_at, demands, first_occurrences, literal_in, literals_at, name_of, names_at, numbers, rows_of, siblings, specialize}
 use Rattle.cu_deftree.proofs.Alternatives.{alternatives_fit}
 use Rattle.cu_deftree.proofs.Back.{low_bound, low_on, numbers_count, numbers_linear, variables_are}
 use Rattle.cu_deftree.proofs.Lowerable.{branch_fits, counts_constructor, counts_goes_on, counts_literal, literal_branch_fits}
-use Rattle.cu_deftree.proofs.Opening.{Low, inner, inner_all, put, spliced_put}
-use Rattle.cu_deftree.proofs.Scoped.{AllMay, RowSees, RowsSee, Under, Within, all_within, filter_sees, leaf_sees, may_at, may_put, more_names, new_may, new_names, or_cases, or_first, or_second, rows_opened, targets_at, under_also, under_one, variable_named, within_also}
-use Rattle.cu_deftree.proofs.Suits.{RowFits, RowsFit, filter_fits, pattern_fits}
-use Rattle.cu_calculus.proofs.Fitting.{any, fits_any, fits_bound}
-use Rattle.cu_calculus.proofs.ValuesOf.{fits_part, fits_whole}
+use Rattle.cu_deftree.proofs.Opening.{Low, inner, inner_all, spliced_put}
+use Rattle.cu_deftree.proofs.Scoped.{AllMay, RowsSee, Under, all_within, filter_sees, leaf_sees, may_at, may_put, more_names, new_may, new_names, or_cases, or_first, or_second, rows_opened, targets_at, under_also, under_one, variable_named, within_also}
+use Rattle.cu_deftree.proofs.Suits.{RowsFit, filter_fits, pattern_fits}
+use Rattle.cu_calculus.proofs.Fitting.{any, fits_any}
 
 -- ---- constructors and literals that branches look for
 
@@ -120,11 +118,11 @@ literals_known program positions next k rows h =
 
 -- ---- variables as patterns
 
-count_variables : (xs : List ℕ) → pattern_count (variables xs) ≡ length xs
+pub count_variables : (xs : List ℕ) → pattern_count (variables xs) ≡ length xs
 count_variables [] = refl
 count_variables (x ∷ xs) = ap (λ n. n + 1) (count_variables xs) ∙ add-one (length xs)
 
-variables_fit : (program : Program) (xs : List ℕ) → IsTrue (fit_patterns program (variables xs))
+pub variables_fit : (program : Program) (xs : List ℕ) → IsTrue (fit_patterns program (variables xs))
 variables_fit program [] = refl
 variables_fit program (x ∷ xs) = variables_fit program xs
 
@@ -443,9 +441,9 @@ module _ (program flat : Program) (alike : Alike program flat) where
         let known = row_literal program k row.patterns l scoped.fit.0.known d in
         let test = goes_on true (wants_literal l) in
         let true_fits = distinguishes_fits mode (spliced k [] positions) next (specialize k [] test (row ∷ rows)) same p may
-            (opened_literal positions next k x test may (row ∷ rows) f (counts_goes_on program 0 true (wants_literal l) (counts_literal program l)) scoped) in
+        (opened_literal positions next k x test may (row ∷ rows) f (counts_goes_on program 0 true (wants_literal l) (counts_literal program l)) scoped) in
         let false_fits = distinguishes_fits mode positions next (filter (λ (one : Row). not_literal l (demand_at k one)) (row ∷ rows)) other q may
-            (filtered positions next may (λ (one : Row). not_literal l (demand_at k one)) (row ∷ rows) scoped) in
+        (filtered positions next may (λ (one : Row). not_literal l (demand_at k one)) (row ∷ rows) scoped) in
         let one_more = term.MoreAlternatives (term.Built program.special.falsity term.NoPattern) other term.NoAlternative in
         and_from (fits_term flat may (test_of equal x l))
         (fit_alternatives flat may (term.MoreAlternatives (term.Built program.special.truth term.NoPattern) same one_more))

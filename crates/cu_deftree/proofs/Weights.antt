@@ -1,16 +1,15 @@
 -- How much there is to lower: each row that is specialized at a position that the first row demands weighs less.
-use Rattle.std.proofs.Common.{◌≡◌, ℕ, zero, suc, ◌+◌, ◌<◌, ◌≤◌, ◌⊎◌, inl, inr, Bool, true, false, not, ◌&&◌, ◌||◌, List, [], ◌∷◌, ◌++◌, cond, if◌then◌else◌, filter, length, map, replicate, take, drop, Option, None, Some, option_map, slice_get, IsTrue, refl, ap, sym, ◌∙◌, subst, arith, add-one, true≢false}
-use Rattle.std.specs.List.{list_all, list_any}
+use Rattle.std.proofs.Common.{◌≡◌, ℕ, zero, suc, ◌+◌, ◌<◌, ◌≤◌, ◌⊎◌, inl, inr, Bool, true, false, not, ◌&&◌, List, [], ◌∷◌, ◌++◌, cond, if◌then◌else◌, filter, length, map, replicate, take, drop, Option, None, Some, option_map, slice_get, refl, ap, sym, ◌∙◌, arith, add-one, true≢false}
+use Rattle.std.specs.List.{list_all}
 use Rattle.std.proofs.lemmas.Bool.{and_parts}
 use Rattle.cu_calculus.specs.declared.Lit.{Lit}
 use Rattle.cu_calculus.specs.Choose.{ALiteral, Demand, Nothing, arguments_of, demand_of, is_demanding, leftmost, list_patterns, not_literal, spliced}
-use Rattle.cu_calculus.specs.Literal.{same_literal}
 use Rattle.cu_calculus.specs.Term as term
 use Rattle.cu_calculus.specs.Term.{Alternatives, Pattern, Patterns, Term, Terms}
 use Rattle.cu_calculus.proofs.Choosing.{literal_itself}
-use Rattle.cu_deftree.specs.Rows.{Names, Row, demand_at, demanded_by_all, demanded_from, demands, names_at, rows_of, specialize, specialized}
-use Rattle.cu_deftree.proofs.Opening.{put, spliced_put}
-use Rattle.cu_deftree.proofs.Suits.{demand_is, opened, specialized_is}
+use Rattle.cu_deftree.specs.Rows.{Names, Row, demand_at, demanded_by_all, demanded_from, demands, rows_of, specialize, specialized}
+use Rattle.cu_deftree.proofs.Opening.{put}
+use Rattle.cu_deftree.proofs.Suits.{demand_is, specialized_is}
 
 -- ---- weights
 

@@ -40,3 +40,8 @@ pub fn lowering_is_sound()
 pub fn lowered_programs_are_flat()
     ensures { (program flat : Program) → IsValid program → Flattens program flat → IsTrue (is_flat flat) }
 {}
+
+/// What lowering gives of a valid program is valid.
+pub fn lowered_programs_are_valid()
+    ensures { (program flat : Program) → IsValid program → Flattens program flat → IsValid flat }
+{}

@@ -1,4 +1,3 @@
-use Rattle.cu_deftree.proofs.StillValid.{tree_fits}
 use Rattle.cu_deftree.proofs.Lowerable.{flat_exists}
 use Rattle.cu_deftree.proofs.laws.programs_can_be_lowered.Goals as goal
 
