@@ -3,8 +3,10 @@ pub mod Back
 pub mod FlatTrees
 pub mod Levels
 pub mod Meets
+pub mod Occurs
 pub mod OneTree
 pub mod Opening
+pub mod Reached
 pub mod Shows
 pub mod Sound
 pub mod Suits

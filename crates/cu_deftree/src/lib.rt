@@ -5,5 +5,6 @@
 mod laws;
 
 pub use laws::{
-    least_levels_stay_levels, lowered_programs_are_flat, lowering_is_a_function, lowering_is_sound,
+    least_levels_stay_levels, lowered_programs_are_flat, lowering_is_a_function,
+    lowering_is_complete, lowering_is_sound,
 };

@@ -1,0 +1,5 @@
+use Rattle.cu_deftree.proofs.Reached.{RowHolds}
+use Rattle.cu_deftree.proofs.laws.lowering_is_complete.Goals as goal
+
+pub returns : goal.returns
+returns c = ?
