@@ -7,6 +7,7 @@ pub mod Occurs
 pub mod OneTree
 pub mod Opening
 pub mod Reached
+pub mod Selected
 pub mod Shows
 pub mod Sound
 pub mod Suits

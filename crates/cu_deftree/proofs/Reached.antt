@@ -61,7 +61,7 @@ holds_opened next k new p row E env inside vs u args e f opens at same low h =
       named = names_opened next k new p row E env inside u args e opens here at same low h.named;
     }
 
-holds_specialized : (program : Program) (positions : List ℕ) (next k position : ℕ) (new : List ℕ) (test : Demand → Bool) (row : Row)
+pub holds_specialized : (program : Program) (positions : List ℕ) (next k position : ℕ) (new : List ℕ) (test : Demand → Bool) (row : Row)
     (E env inside : Environment) (vs args : List Value) → slice_get positions k ≡ Some position → RowFits program positions next row
     → At env positions vs → test (demand_at k row) ≡ true
     → ((p : Pattern) → test (demand_of p) ≡ true → IsTrue (fits_pattern program p) → Opens (length new) p (env position) args)
@@ -91,7 +91,7 @@ pub record Reached (program flat : Program) (claims : List Claim) (env : Environ
   pub leaf : Leaf program E body
   pub whole : Gives flat claims leaf.inside leaf.right v → Gives flat claims env t v
 
-leaf_reached : (program flat : Program) (claims : List Claim) (next : ℕ) (row : Row) (t : Term) (E env : Environment) (vs : List Value) (v : Value)
+pub leaf_reached : (program flat : Program) (claims : List Claim) (next : ℕ) (row : Row) (t : Term) (E env : Environment) (vs : List Value) (v : Value)
     → leftmost row.patterns ≡ None → Lowers program row.names next row.body t → Low next row.names → EnvOf program env → RowHolds E env vs row
     → Reached program flat claims env t v E row.body
 leaf_reached program flat claims next row t E env vs v e p low known h = record {
@@ -117,7 +117,7 @@ right_reached : (program flat : Program) (claims : List Claim) (env : Environmen
 right_reached program flat claims env a b v E body r = record { leaf = r.leaf; whole = λ g. gives.right env a b v (r.whole g) }
 
 -- a branch of a flat case distinction, in which a right side is reached
-record Branched (program flat : Program) (claims : List Claim) (env : Environment) (alternatives : Alternatives) (w v : Value) (E : Environment)
+pub record Branched (program flat : Program) (claims : List Claim) (env : Environment) (alternatives : Alternatives) (w v : Value) (E : Environment)
     (body : Term) : Type 0 where
   pub place : ℕ
   pub pattern : Pattern
@@ -128,7 +128,7 @@ record Branched (program flat : Program) (claims : List Claim) (env : Environmen
   pub met : met_by w ≡ Some (demand_of pattern)
   pub reached : Reached program flat claims (bind_all env bindings) right v E body
 
-later : (program flat : Program) (claims : List Claim) (env : Environment) (p : Pattern) (t : Term) (alternatives : Alternatives) (w v : Value)
+pub later : (program flat : Program) (claims : List Claim) (env : Environment) (p : Pattern) (t : Term) (alternatives : Alternatives) (w v : Value)
     (E : Environment) (body : Term) → Branched program flat claims env alternatives w v E body
     → Branched program flat claims env (term.MoreAlternatives p t alternatives) w v E body
 later program flat claims env p t alternatives w v E body b = record {
@@ -148,7 +148,7 @@ demand_placed term.NoAlternative j p t e = let no : ⊥ = cc in absurd no
 demand_placed (term.MoreAlternatives q s alternatives) zero p t e = ap (λ (r : Pattern). Some (demand_of r)) (some_pair_parts q p s t e).0
 demand_placed (term.MoreAlternatives q s alternatives) (suc j) p t e = demand_placed alternatives j p t e
 
-case_reached : (program flat : Program) (claims : List Claim) (env : Environment) (mode : Mode) (a : Term) (alternatives : Alternatives) (w v : Value)
+pub case_reached : (program flat : Program) (claims : List Claim) (env : Environment) (mode : Mode) (a : Term) (alternatives : Alternatives) (w v : Value)
     (E : Environment) (body : Term) → is_flat_term (term.Case mode a alternatives) ≡ true → Gives flat claims env a w
     → Branched program flat claims env alternatives w v E body → Reached program flat claims env (term.Case mode a alternatives) v E body
 case_reached program flat claims env mode a alternatives w v E body is_flat given b =
@@ -177,7 +177,7 @@ variables_shape (x ∷ xs) value.NoValue e = absurd (omega arith)
 variables_shape (x ∷ xs) (value.MoreValues u us) e = (u, us, refl, tt, variables_shape xs us (omega arith))
 
 -- a value of the program is matched by the branch of its constructor
-constructor_met : (program : Program) (n : ℕ) (xs : List ℕ) (c d : ConId) (us : Values) (w : Value) → c ≡ d → n ≡ constructor_arity program c
+pub constructor_met : (program : Program) (n : ℕ) (xs : List ℕ) (c d : ConId) (us : Values) (w : Value) → c ≡ d → n ≡ constructor_arity program c
     → length xs ≡ n → w ≡ value.Constructed d us → IsTrue (is_of program w)
     → (b : Bindings) × (matched (term.Built c (variables xs)) w ≡ Some b) × (met_by w ≡ Some (AConstructor c))
 constructor_met program n xs c d us w same arity many is known =
@@ -226,7 +226,7 @@ known_constructor program c (term.Built d ps) e f =
         let no : ⊥ = cc in absurd no
     by (Some constructor) g h = (constructor, g)
 
-known_at_position : (program : Program) (positions : List ℕ) (next k position : ℕ) (row : Row) (c : ConId) → RowFits program positions next row
+pub known_at_position : (program : Program) (positions : List ℕ) (next k position : ℕ) (row : Row) (c : ConId) → RowFits program positions next row
     → slice_get positions k ≡ Some position → wants_constructor c (demand_at k row) ≡ true
     → (constructor : Constructor) × (constructor_of program c ≡ Some constructor)
 known_at_position program positions next k position row c fits e wants =
@@ -268,7 +268,7 @@ branch_into program positions next k position rows E env vs i row e f there h re
 
 -- ---- trees
 
-reached_of : (program flat : Program) (claims : List Claim) (env : Environment) (t : Term) (v : Value) (E : Environment) (one two : Term) → one ≡ two
+pub reached_of : (program flat : Program) (claims : List Claim) (env : Environment) (t : Term) (v : Value) (E : Environment) (one two : Term) → one ≡ two
     → Reached program flat claims env t v E one → Reached program flat claims env t v E two
 reached_of program flat claims env t v E one two same r = subst (λ (body : Term). Reached program flat claims env t v E body) same r
 
@@ -280,7 +280,7 @@ split_reached program flat claims env a b v E body true p q = left_reached progr
 split_reached program flat claims env a b v E body false p q = right_reached program flat claims env a b v E body (q refl)
 
 module _ (program flat : Program) (claims : List Claim) (ordered : program.special.falsity.0 < program.special.truth.0) where
-  apart : same_constructor program.special.truth program.special.falsity ≡ false
+  pub apart : same_constructor program.special.truth program.special.falsity ≡ false
   apart = swapped program.special.truth.0 program.special.falsity.0 ordered
 
   mutual

@@ -1,4 +1,4 @@
-use Rattle.cu_deftree.proofs.Reached.{RowHolds}
+use Rattle.cu_deftree.proofs.Selected.{HoldAt}
 use Rattle.cu_deftree.proofs.laws.lowering_is_complete.Goals as goal
 
 pub returns : goal.returns
