@@ -1,5 +1,6 @@
 pub mod Alternatives
 pub mod Back
+pub mod Complete
 pub mod FlatTrees
 pub mod Levels
 pub mod Meets

@@ -170,7 +170,7 @@ case_reached program flat claims env mode a alternatives w v E body is_flat give
 
 -- ---- branches that values take
 
-variables_shape : (xs : List ℕ) (us : Values) → length xs ≡ count us → AllFit None (variables xs) us
+pub variables_shape : (xs : List ℕ) (us : Values) → length xs ≡ count us → AllFit None (variables xs) us
 variables_shape [] value.NoValue e = refl
 variables_shape [] (value.MoreValues u us) e = absurd (omega arith)
 variables_shape (x ∷ xs) value.NoValue e = absurd (omega arith)
