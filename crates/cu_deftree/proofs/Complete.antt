@@ -1,8 +1,7 @@
 -- What the program concludes over claims of it, the flat program concludes.
-use Rattle.std.proofs.Common.{◌≡◌, ℕ, zero, suc, ◌+◌, ◌<◌, Bool, true, false, List, [], ◌∷◌, ◌++◌, length, map, Option, None, Some, slice_get, slice_index_or, IsTrue, refl, ap, ap₂, sym, ◌∙◌, subst, arith, add-one}
+use Rattle.std.proofs.Common.{◌≡◌, ℕ, zero, suc, ◌+◌, ◌<◌, List, [], ◌∷◌, length, map, Option, Some, slice_get, slice_index_or, IsTrue, refl, ap, sym, ◌∙◌, subst, arith}
 use Rattle.std.specs.List.{list_all}
 use Rattle.std.proofs.lemmas.Bool.{and_parts}
-use Rattle.cu_calculus.specs.declared.ConId.{ConId}
 use Rattle.cu_calculus.specs.declared.FunId.{FunId}
 use Rattle.cu_calculus.specs.declared.Head.{Head}
 use Rattle.cu_calculus.specs.declared.Head.TheVariants as head
@@ -11,12 +10,12 @@ use Rattle.cu_calculus.specs.declared.builtin.Primitive.{Primitive}
 use Rattle.cu_calculus.specs.declared.builtin.Special.{Special}
 use Rattle.cu_calculus.specs.Below.{Below, EnvBelow}
 use Rattle.cu_calculus.specs.Builtin.{Answers}
-use Rattle.cu_calculus.specs.Choose.{Selects, alternative_at, list_patterns, rows_from}
+use Rattle.cu_calculus.specs.Choose.{Selects, rows_from}
 use Rattle.cu_calculus.specs.Claims.{Concludes, arguments_env, variables_from}
 use Rattle.cu_calculus.specs.Gives as gives
 use Rattle.cu_calculus.specs.Gives.{AllGive, Applied, AppliedTo, Claim, Gives, collected}
-use Rattle.cu_calculus.specs.Match.{Bindings, Environment, all_matched, bind, bind_all, empty, matched}
-use Rattle.cu_calculus.specs.Program.{Body, External, Function, Program, Rule, Rules, arity_in, function_of}
+use Rattle.cu_calculus.specs.Match.{Bindings, Environment, all_matched, bind, bind_all, empty}
+use Rattle.cu_calculus.specs.Program.{External, Function, Program, Rule, Rules, function_of}
 use Rattle.cu_calculus.specs.Proof.{is_claim_of}
 use Rattle.cu_calculus.specs.Shape.{are_of, is_of, takes, takes_more}
 use Rattle.cu_calculus.specs.Term as term
@@ -36,12 +35,12 @@ use Rattle.cu_deftree.specs.Lowering as lowering
 use Rattle.cu_deftree.specs.Lowering.{AllLower, Distinguishes, Lowers, Tree, variables}
 use Rattle.cu_deftree.specs.LoweredProgram as lowered
 use Rattle.cu_deftree.specs.LoweredProgram.{Flattens, FunctionLowers}
-use Rattle.cu_deftree.specs.Rows.{Names, Row, name_of, names_at_all, numbers, row_of_rule, rows_of}
-use Rattle.cu_deftree.proofs.Back.{Ready, bound_here, high_not_held, low_bound, low_on, named_bind, next_low, numbers_count, numbers_linear, numbers_low, still_named, variables_are, variables_at}
+use Rattle.cu_deftree.specs.Rows.{Names, name_of, numbers, row_of_rule, rows_of}
+use Rattle.cu_deftree.proofs.Back.{bound_here, high_not_held, low_bound, low_on, named_bind, next_low, numbers_count, numbers_linear, numbers_low, still_named, variables_are, variables_at}
 use Rattle.cu_deftree.proofs.Levels.{stands_too}
 use Rattle.cu_deftree.proofs.Meets.{AllFit, all_matched_binds, all_matched_fits, all_shape_matched, bound_agrees, bound_in, others_stay}
-use Rattle.cu_deftree.proofs.Opening.{AllLow, At, Low, known_all}
-use Rattle.cu_deftree.proofs.Reached.{Leaf, Reached, RowHolds, tree_reached, variables_shape}
+use Rattle.cu_deftree.proofs.Opening.{AllLow, Low, known_all}
+use Rattle.cu_deftree.proofs.Reached.{Leaf, Reached, tree_reached, variables_shape}
 use Rattle.cu_deftree.proofs.Selected.{alternative_reached, operation_stays}
 use Rattle.cu_deftree.proofs.Sound.{AllRulesFit, RuleFits, all_fit, all_of_same, answers_same, arity_same, collected_same, names_from, of_same, rows_of_rules_fit, variable_below}
 use Rattle.cu_deftree.proofs.Suits.{to_list}

@@ -1,12 +1,11 @@
 -- What a row demands at a position is among the constructors and the literals that occur there.
-use Rattle.std.proofs.Common.{◌≡◌, ℕ, zero, suc, ◌+◌, ◌<◌, Bool, true, false, not, ◌||◌, List, [], ◌∷◌, ◌++◌, cond, filter, length, map, nat_eq, Option, None, Some, slice_get, refl, ap, sym, ◌∙◌, subst, arith, eq-eqb}
+use Rattle.std.proofs.Common.{◌≡◌, ℕ, zero, suc, ◌+◌, Bool, true, false, not, ◌||◌, List, [], ◌∷◌, cond, filter, length, nat_eq, Option, None, Some, slice_get, refl, ap, sym, ◌∙◌, subst, arith, eq-eqb}
 use Rattle.std.specs.List.{flat_map, list_all, list_any}
 use Rattle.std.proofs.lemmas.Bool.{and_parts}
 use Rattle.cu_calculus.specs.declared.ConId.{ConId}
 use Rattle.cu_calculus.specs.declared.Lit.{Lit}
 use Rattle.cu_calculus.specs.Choose.{ALiteral, AConstructor, Demand, Nothing, same_type, wants_constructor, wants_literal}
 use Rattle.cu_calculus.specs.Literal.{same_literal}
-use Rattle.cu_calculus.specs.Match.{same_constructor}
 use Rattle.cu_calculus.specs.Program.{Constructor, Program, constructor_of}
 use Rattle.cu_calculus.specs.Term.{Pattern}
 use Rattle.cu_calculus.proofs.Answering.{literal_is}

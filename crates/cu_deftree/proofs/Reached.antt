@@ -1,32 +1,24 @@
 -- The right side that a row reaches in its lowered tree or case distinction: what it is lowered to gives, the whole gives.
-use Rattle.std.proofs.Common.{◌≡◌, ℕ, zero, suc, ◌+◌, ◌<◌, ◌≤◌, ◌⊎◌, inl, inr, Bool, true, false, not, ◌&&◌, ◌||◌, List, [], ◌∷◌, if◌then◌else◌, cond, filter, length, map, Option, None, Some, slice_get, IsTrue, refl, ap, ap₂, sym, ◌∙◌, subst, arith, add-one, eq-eqb, option_map}
-use Rattle.std.specs.List.{list_any}
-use Rattle.std.proofs.lemmas.Bool.{and_from, and_parts, or_from}
+use Rattle.std.proofs.Common.{◌≡◌, ℕ, zero, suc, ◌+◌, ◌<◌, Bool, true, false, not, ◌&&◌, List, [], ◌∷◌, filter, length, Option, None, Some, slice_get, IsTrue, refl, ap, sym, ◌∙◌, subst, arith, eq-eqb, option_map}
+use Rattle.std.proofs.lemmas.Bool.{and_parts}
 use Rattle.std.proofs.lemmas.Option.{some_pair_parts}
 use Rattle.cu_calculus.specs.declared.ConId.{ConId}
-use Rattle.cu_calculus.specs.declared.FunId.{FunId}
 use Rattle.cu_calculus.specs.declared.Head.TheVariants as head
 use Rattle.cu_calculus.specs.declared.Lit.{Lit}
 use Rattle.cu_calculus.specs.declared.Mode.{Mode}
-use Rattle.cu_calculus.specs.declared.Mode.TheVariants.{Flex, Rigid}
-use Rattle.cu_calculus.specs.declared.builtin.Primitive.TheVariants as prim
-use Rattle.cu_calculus.specs.Builtin as builtin
-use Rattle.cu_calculus.specs.Builtin.{Compares, truth_of}
-use Rattle.cu_calculus.specs.Choose as choose
-use Rattle.cu_calculus.specs.Choose.{ALiteral, AConstructor, Again, Chooses, Demand, Look, Narrow, Nowhere, Take, alternative_at, arguments_of, at_constructor, at_literal, demand_of, is_demanding, leftmost, look, look_at, look_from, narrow, narrowed, not_literal, same_type, spliced, wants_constructor, wants_literal}
+use Rattle.cu_calculus.specs.declared.Mode.TheVariants.{Flex}
+use Rattle.cu_calculus.specs.Choose.{ALiteral, AConstructor, Demand, alternative_at, arguments_of, demand_of, is_demanding, leftmost, spliced, wants_constructor, wants_literal}
 use Rattle.cu_calculus.specs.Flat.{all_differ, are_flat_alternatives, demands_of, is_flat_term, met_by}
 use Rattle.cu_calculus.specs.Gives as gives
 use Rattle.cu_calculus.specs.Gives.{AllGive, Claim, Gives}
-use Rattle.cu_calculus.specs.Literal.{same_literal}
-use Rattle.cu_calculus.specs.Match.{Bindings, Environment, all_matched, bind, bind_all, matched, same_constructor}
-use Rattle.cu_calculus.specs.Program.{Constructor, External, Function, Program, arity_in, constructor_of, function_of}
+use Rattle.cu_calculus.specs.Match.{Bindings, Environment, bind_all, matched, same_constructor}
+use Rattle.cu_calculus.specs.Program.{Constructor, Program, arity_in, constructor_of}
 use Rattle.cu_calculus.specs.Shape.{are_of, is_of, takes}
 use Rattle.cu_calculus.specs.Term as term
 use Rattle.cu_calculus.specs.Term.{Alternatives, Pattern, Term}
 use Rattle.cu_calculus.specs.Valid.{fit_patterns, fits_pattern, holds, pattern_count}
 use Rattle.cu_calculus.specs.Value as value
 use Rattle.cu_calculus.specs.Value.{Value, Values, count, list_of}
-use Rattle.cu_calculus.proofs.Answering.{literal_is}
 use Rattle.cu_calculus.proofs.BelowLaws.{below_itself}
 use Rattle.cu_calculus.proofs.Choosing.{literal_itself}
 use Rattle.cu_calculus.proofs.Comparing.{same_is}
@@ -35,14 +27,13 @@ use Rattle.cu_calculus.proofs.Lists.{get_map}
 use Rattle.cu_calculus.proofs.OfProgram.{EnvOf, bind_all_of, matched_of}
 use Rattle.cu_deftree.specs.Lowering as lowering
 use Rattle.cu_deftree.specs.Lowering.{Branches, Cases, Distinguishes, IsOperation, Lowers, Tree, goes_on, literal_case, test_of, variables}
-use Rattle.cu_deftree.specs.Rows.{Names, Row, constructor_arity, constructors_at, demand_at, demanded_by_all, demands, literals_at, name_of, numbers, siblings, specialize, specialized}
-use Rattle.cu_deftree.proofs.Alternatives.{Agree, Alike, alike_filter, alike_narrowed, goes_same, goes_too, kept_at, look_constructor_all, look_constructor_other, look_constructor_some, look_literal_all, look_literal_other, look_literal_same, looks_at, map_at, same_demand, same_type_swaps, tests_agree, variable_there}
-use Rattle.cu_deftree.proofs.Back.{Ready, after_match, count_at, goes_at, goes_literal, none_inside, numbers_count, numbers_low, opens_at, ready_opened}
-use Rattle.cu_deftree.proofs.FlatTrees.{distinguishes_flat, swapped, tree_flat}
+use Rattle.cu_deftree.specs.Rows.{Names, Row, constructor_arity, constructors_at, demand_at, demanded_by_all, demands, literals_at, name_of, specialize, specialized}
+use Rattle.cu_deftree.proofs.Back.{Ready, after_match, count_at, none_inside, numbers_count, numbers_low, opens_at, ready_opened}
+use Rattle.cu_deftree.proofs.FlatTrees.{swapped, tree_flat}
 use Rattle.cu_deftree.proofs.Meets.{AllFit, AllMeet, Meets, all_shape_matched, built_matches, literal_matches}
-use Rattle.cu_deftree.proofs.Occurs.{all_demand_it, constructor_occurs, filtered, literal_occurs, sibling_occurs}
-use Rattle.cu_deftree.proofs.Opening.{AllLow, At, Low, SameBelow, at_place, meet_at, meet_put, put, spliced_put}
-use Rattle.cu_deftree.proofs.Suits.{NamesOf, Opens, RowFits, RowsFit, demand_is, filter_fits, names_opened, opened, opens_literal, pattern_fits, row_fits, specialized_is, takes_arity, there_too}
+use Rattle.cu_deftree.proofs.Occurs.{all_demand_it, constructor_occurs, filtered, literal_occurs}
+use Rattle.cu_deftree.proofs.Opening.{AllLow, At, Low, SameBelow, at_place, meet_at, meet_put, put}
+use Rattle.cu_deftree.proofs.Suits.{NamesOf, Opens, RowFits, demand_is, filter_fits, names_opened, opened, opens_literal, pattern_fits, row_fits, specialized_is, takes_arity, there_too}
 
 -- ---- rows that hold
 

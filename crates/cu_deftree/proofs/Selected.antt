@@ -1,5 +1,5 @@
 -- The right side of the alternative that a value takes is reached in the lowered case distinction.
-use Rattle.std.proofs.Common.{◌≡◌, ℕ, zero, suc, ◌+◌, ◌<◌, ◌≤◌, ◌⊎◌, inl, inr, Bool, true, false, not, ◌&&◌, ◌||◌, List, [], ◌∷◌, ◌++◌, if◌then◌else◌, cond, filter, length, map, Option, None, Some, slice_get, IsTrue, refl, ap, ap₂, sym, ◌∙◌, subst, arith}
+use Rattle.std.proofs.Common.{◌≡◌, ℕ, zero, suc, ◌+◌, ◌<◌, inl, inr, Bool, true, false, not, List, [], ◌∷◌, ◌++◌, if◌then◌else◌, cond, filter, length, map, Some, slice_get, IsTrue, refl, ap, ap₂, sym, ◌∙◌, subst, arith}
 use Rattle.std.specs.List.{list_any}
 use Rattle.std.proofs.lemmas.Option.{some_pair_parts}
 use Rattle.cu_calculus.specs.declared.ConId.{ConId}
@@ -35,7 +35,7 @@ use Rattle.cu_deftree.specs.Lowering as lowering
 use Rattle.cu_deftree.specs.Lowering.{Cases, Distinguishes, IsOperation, goes_on, literal_case, test_of, variables}
 use Rattle.cu_deftree.specs.LoweredProgram as lowered
 use Rattle.cu_deftree.specs.LoweredProgram.{Flattens, FunctionLowers}
-use Rattle.cu_deftree.specs.Rows.{Names, Row, name_of, names_at, rows_of, constructors_at, demand_at, demands, literals_at, numbers, siblings, specialize, specialized}
+use Rattle.cu_deftree.specs.Rows.{Names, Row, name_of, names_at, rows_of, constructors_at, demand_at, demands, literals_at, siblings, specialize, specialized}
 use Rattle.cu_deftree.proofs.Alternatives.{Agree, Alike, alike_filter, alike_narrowed, alternative_of, alternatives_alike, alternatives_fit, goes_same, goes_too, kept_at, look_constructor_all, look_constructor_other, look_constructor_some, look_literal_all, look_literal_other, look_literal_same, looks_at, map_at, same_demand, same_type_swaps, tests_agree, variable_there}
 use Rattle.cu_deftree.proofs.Back.{Ready, after_match, goes_at, goes_literal, numbers_count, numbers_low, ready_opened}
 use Rattle.cu_deftree.proofs.FlatTrees.{distinguishes_flat}
@@ -45,7 +45,7 @@ use Rattle.cu_deftree.proofs.Occurs.{constructor_occurs, literal_occurs, sibling
 use Rattle.cu_deftree.proofs.Opening.{AllLow, At, Known, Low, SameBelow, at_place, holds_append, inner, known_at, put, spliced_put}
 use Rattle.cu_deftree.proofs.Reached.{Branched, Reached, RowHolds, apart, case_reached, constructor_met, holds_specialized, known_at_position, later, leaf_reached, reached_of}
 use Rattle.cu_deftree.proofs.Sound.{truth_same}
-use Rattle.cu_deftree.proofs.Suits.{Opens, RowFits, RowsFit, filter_fits, row_fits}
+use Rattle.cu_deftree.proofs.Suits.{Opens, filter_fits, row_fits}
 
 -- ---- what follows a look
 

@@ -32,14 +32,15 @@ pub fn lowering_is_sound()
 {}
 
 /// Lowering loses nothing: what a function of a valid program concludes over
-/// claims of it, its flat program concludes over them too. (Claims of other
-/// values can tell the two apart: of a constructor with too many arguments
-/// a variable in a case distinction makes no demand, while the flat program
-/// looks at its constructor there.)
+/// claims of it, its flat program concludes over them too. (Claims with
+/// values of no program can tell the two apart: a constructor with an
+/// argument too many passes a variable beside a constructor of its type,
+/// and no branch of a flat case distinction.)
 pub fn lowering_is_complete()
-    ensures { (program flat : Program) (claims : List Claim) (f : FunId) (vs : Values) (v : Value) → IsValid program
-        → Flattens program flat → IsTrue (list_all (is_claim_of program) claims) → Concludes program claims f vs v
-        → Concludes flat claims f vs v }
+    ensures { (program flat : Program) (claims : List Claim) (f : FunId) (vs : Values) (v : Value)
+        → IsValid program
+        → Flattens program flat → IsTrue (list_all (is_claim_of program) claims)
+        → Concludes program claims f vs v → Concludes flat claims f vs v }
 {}
 
 /// What lowering gives of a valid program is flat.
