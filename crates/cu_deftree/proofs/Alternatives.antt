@@ -368,7 +368,7 @@ alternatives_fit program names position next (term.MoreAlternatives p t alternat
         by true e = refl
         by false e = e
 
-record AlternativeAt (program : Program) (names : Names) (position n : ℕ) (alternatives : Alternatives) (i : ℕ) (row : Row) (twin : choose.Row) : Type 0 where
+pub record AlternativeAt (program : Program) (names : Names) (position n : ℕ) (alternatives : Alternatives) (i : ℕ) (row : Row) (twin : choose.Row) : Type 0 where
   pub p : Pattern
   pub t : Term
   pub there : alternative_at alternatives i ≡ Some (p, t)
@@ -376,7 +376,7 @@ record AlternativeAt (program : Program) (names : Names) (position n : ℕ) (alt
   pub choice : twin.choice ≡ n + i
   pub linear : IsTrue (is_linear (variables_of p))
 
-alternative_of : (program : Program) (names : Names) (position n : ℕ) (alternatives : Alternatives) (i : ℕ) (row : Row) (twin : choose.Row)
+pub alternative_of : (program : Program) (names : Names) (position n : ℕ) (alternatives : Alternatives) (i : ℕ) (row : Row) (twin : choose.Row)
     → IsTrue (fit_alternatives program any alternatives) → slice_get (rows_of names position alternatives) i ≡ Some row
     → slice_get (rows_from n alternatives) i ≡ Some twin → AlternativeAt program names position n alternatives i row twin
 alternative_of program names position n term.NoAlternative i row twin h e f = let no : ⊥ = cc in absurd no

@@ -120,14 +120,14 @@ at_count env (x ∷ xs) [] h = absurd h
 at_count env (x ∷ xs) (v ∷ vs) h = ap suc (at_count env xs vs h.1)
 
 -- what a branch for a constructor binds
-record AfterMatch (env : Environment) (next n : ℕ) (xs : List ℕ) (c : ConId) (w : Value) (bindings : Bindings) : Type 0 where
+pub record AfterMatch (env : Environment) (next n : ℕ) (xs : List ℕ) (c : ConId) (w : Value) (bindings : Bindings) : Type 0 where
   pub us : Values
   pub is : w ≡ value.Constructed c us
   pub at : At (bind_all env bindings) xs (list_of us)
   pub same : SameBelow next env (bind_all env bindings)
   pub many : length (list_of us) ≡ n
 
-after_match : (env : Environment) (next n : ℕ) (xs : List ℕ) (c : ConId) (w : Value) (bindings : Bindings) → xs ≡ numbers next n
+pub after_match : (env : Environment) (next n : ℕ) (xs : List ℕ) (c : ConId) (w : Value) (bindings : Bindings) → xs ≡ numbers next n
     → matched (term.Built c (variables xs)) w ≡ Some bindings → AfterMatch env next n xs c w bindings
 after_match env next n xs c w bindings e m =
     let found = built_fits c (variables xs) w bindings m in
@@ -151,7 +151,7 @@ pub record Ready (program : Program) (positions : List ℕ) (next : ℕ) (rows :
   pub low : AllLow next positions
   pub fit : RowsFit program positions next rows
 
-ready_opened : (program : Program) (positions : List ℕ) (next more k position : ℕ) (new : List ℕ) (test : Demand → Bool) (rows : List Row)
+pub ready_opened : (program : Program) (positions : List ℕ) (next more k position : ℕ) (new : List ℕ) (test : Demand → Bool) (rows : List Row)
     (env inside : Environment) (vs args : List Value) → next ≤ more → AllLow more new → slice_get positions k ≡ Some position
     → ((p : Pattern) → test (demand_of p) ≡ true → IsTrue (fits_pattern program p) → length (arguments_of (length new) p) ≡ length new)
     → At inside new args → SameBelow next env inside → Ready program positions next rows env vs
@@ -245,7 +245,7 @@ leaf_suits program claims positions next env vs v row e at fits given = record {
 
 -- ---- binders
 
-named_bind : (E env : Environment) (names : Names) (next x : ℕ) (w : Value) → ((y : ℕ) → E y ≡ env (name_of names y)) → Low next names
+pub named_bind : (E env : Environment) (names : Names) (next x : ℕ) (w : Value) → ((y : ℕ) → E y ≡ env (name_of names y)) → Low next names
     → (y : ℕ) → bind E x w y ≡ bind env next w (name_of ((x, next) ∷ names) y)
 named_bind E env names next x w same low y = by (nat_eq x y) refl
   where
@@ -261,7 +261,7 @@ named_bind E env names next x w same low y = by (nat_eq x y) refl
     by true e = sym (here (nat_eq next next) (env next) (eq-eqb next next refl))
     by false e = same y ∙ sym (other (nat_eq next (name_of names y)) (name_of names y) (env (name_of names y)) refl (low y))
 
-bound_here : (env : Environment) (x : ℕ) (w : Value) → bind env x w x ≡ w
+pub bound_here : (env : Environment) (x : ℕ) (w : Value) → bind env x w x ≡ w
 bound_here env x w = by (nat_eq x x) (eq-eqb x x refl)
   where
     by : (b : Bool) → b ≡ true → (if b then w else env x) ≡ w
@@ -269,7 +269,7 @@ bound_here env x w = by (nat_eq x x) (eq-eqb x x refl)
     by false e = let no : ⊥ = cc in absurd no
 
 -- the names of variables below a new one stay
-still_named : (E env : Environment) (names : Names) (next : ℕ) (w : Value) → ((y : ℕ) → E y ≡ env (name_of names y)) → Low next names
+pub still_named : (E env : Environment) (names : Names) (next : ℕ) (w : Value) → ((y : ℕ) → E y ≡ env (name_of names y)) → Low next names
     → (y : ℕ) → E y ≡ bind env next w (name_of names y)
 still_named E env names next w same low y = same y ∙ sym (other (nat_eq next (name_of names y)) (name_of names y) (env (name_of names y)) refl (low y))
   where
@@ -277,7 +277,7 @@ still_named E env names next w same low y = same y ∙ sym (other (nat_eq next (
     other true z u e l = let equal = eqb-true next z e in absurd (omega arith)
     other false z u e l = refl
 
-next_low : (next : ℕ) → next < suc next
+pub next_low : (next : ℕ) → next < suc next
 next_low next = omega arith
 
 pub low_on : (next : ℕ) (names : Names) → Low next names → Low (suc next) names
@@ -364,18 +364,18 @@ module _ (program : Program) (claims : List Claim) (ordered : program.special.fa
   no_bindings [] e = refl
   no_bindings (x ∷ b) e = let no : ⊥ = cc in absurd no
 
-  count_at : (c : ConId) (xs : List ℕ) (p : Pattern) (n : ℕ) → length xs ≡ n → n ≡ constructor_arity program c
+  pub count_at : (c : ConId) (xs : List ℕ) (p : Pattern) (n : ℕ) → length xs ≡ n → n ≡ constructor_arity program c
       → wants_constructor c (demand_of p) ≡ true → IsTrue (fits_pattern program p) → length (arguments_of (length xs) p) ≡ length xs
   count_at c xs p n many count w f = built_count program c p (length xs) w f (many ∙ count)
 
-  opens_at : (c : ConId) (xs : List ℕ) (u : Value) (us : Values) (p : Pattern) (n : ℕ) → length xs ≡ n → n ≡ constructor_arity program c
+  pub opens_at : (c : ConId) (xs : List ℕ) (u : Value) (us : Values) (p : Pattern) (n : ℕ) → length xs ≡ n → n ≡ constructor_arity program c
       → u ≡ value.Constructed c us → length (list_of us) ≡ n → wants_constructor c (demand_of p) ≡ true → IsTrue (fits_pattern program p)
       → Opens (length xs) p u (list_of us)
   opens_at c xs u us p n many count is as_many w f =
       subst (λ (x : Value). Opens (length xs) p x (list_of us)) (sym is)
       (opens_built program c p us (length xs) w f (many ∙ count) (as_many ∙ sym many))
 
-  goes_at : (b : Bool) (c : ConId) (xs : List ℕ) (u : Value) (us : Values) (p : Pattern) (n : ℕ) → length xs ≡ n → n ≡ constructor_arity program c
+  pub goes_at : (b : Bool) (c : ConId) (xs : List ℕ) (u : Value) (us : Values) (p : Pattern) (n : ℕ) → length xs ≡ n → n ≡ constructor_arity program c
       → u ≡ value.Constructed c us → length (list_of us) ≡ n → goes_on b (wants_constructor c) (demand_of p) ≡ true → IsTrue (fits_pattern program p)
       → Opens (length xs) p u (list_of us)
   goes_at b c xs u us p n many count is as_many w f = by (goes_by b (wants_constructor c) (demand_of p) w)
@@ -384,7 +384,7 @@ module _ (program : Program) (claims : List Claim) (ordered : program.special.fa
       by (inl wanted) = opens_at c xs u us p n many count is as_many wanted f
       by (inr none) = opens_any p u (length xs) (list_of us) none (as_many ∙ sym many)
 
-  goes_literal : (b : Bool) (l : Lit) (u : Value) (p : Pattern) → u ≡ value.Literal l → goes_on b (wants_literal l) (demand_of p) ≡ true → Opens 0 p u []
+  pub goes_literal : (b : Bool) (l : Lit) (u : Value) (p : Pattern) → u ≡ value.Literal l → goes_on b (wants_literal l) (demand_of p) ≡ true → Opens 0 p u []
   goes_literal b l u p is w = by (goes_by b (wants_literal l) (demand_of p) w)
     where
       by : (wants_literal l (demand_of p) ≡ true) ⊎ (wants_nothing (demand_of p) ≡ true) → Opens 0 p u []
@@ -431,7 +431,7 @@ module _ (program : Program) (claims : List Claim) (ordered : program.special.fa
   is_the_literal w l _ (a_literal m answer e f) t = e ∙ ap value.Literal (literal_is m l (sym f ∙ t))
   is_the_literal w l _ (a_constructor c us answer e f) t = absurd (true≢false (sym t ∙ f))
 
-  look_other : (k x : ℕ) (l : Lit) (row : Row) (rows : List Row) (twin : choose.Row) (twins : List choose.Row) (env : Environment) (vs : List Value)
+  pub look_other : (k x : ℕ) (l : Lit) (row : Row) (rows : List Row) (twin : choose.Row) (twins : List choose.Row) (env : Environment) (vs : List Value)
       → Alike (row ∷ rows) (twin ∷ twins) → leftmost row.patterns ≡ Some k → slice_get vs k ≡ Some (env x)
       → list_any (λ other. not (demands k other)) (row ∷ rows) ≡ true → demand_at k row ≡ ALiteral l → (answer : Bool)
       → Tested (env x) l answer → answer ≡ false

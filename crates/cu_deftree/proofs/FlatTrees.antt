@@ -208,7 +208,7 @@ module _ (program : Program) (apart : same_constructor program.special.truth pro
     all_lower_flat _ _ _ _ (lowering.more_terms names next t u ts us p ps) =
         and_from (is_flat_term u) (are_flat_terms us) (lowers_flat names next t u p) (all_lower_flat names next ts us ps)
 
-    tree_flat : (positions : List ℕ) (next : ℕ) (rows : List Row) (t : Term) → Tree program positions next rows t → is_flat_term t ≡ true
+    pub tree_flat : (positions : List ℕ) (next : ℕ) (rows : List Row) (t : Term) → Tree program positions next rows t → is_flat_term t ≡ true
     tree_flat _ _ _ _ (lowering.no_rules positions next f is) = refl
     tree_flat _ _ _ t (lowering.rule positions next row _ e p) = lowers_flat row.names next row.body t p
     tree_flat _ _ _ _ (lowering.overlap positions next row other rows a b e p q) =
@@ -229,7 +229,7 @@ module _ (program : Program) (apart : same_constructor program.special.truth pro
     branches_flat _ _ _ _ _ _ _ (lowering.literal_branch positions next k rows l ls t a p q) =
         and_from (is_flat_term t) (are_flat_alternatives a) (tree_flat _ next _ t p) (branches_flat positions next k rows [] ls a q)
 
-    distinguishes_flat : (mode : Mode) (positions : List ℕ) (next : ℕ) (rows : List Row) (t : Term)
+    pub distinguishes_flat : (mode : Mode) (positions : List ℕ) (next : ℕ) (rows : List Row) (t : Term)
         → Distinguishes program mode positions next rows t → is_flat_term t ≡ true
     distinguishes_flat _ _ _ _ _ (lowering.no_alternatives mode positions next f is) = refl
     distinguishes_flat _ _ _ _ t (lowering.taken mode positions next row rows _ e p) = lowers_flat row.names next row.body t p
@@ -272,7 +272,7 @@ pub all_from_each : (test : Function → Bool) (fs : List Function) → ((k : �
 all_from_each test [] h = refl
 all_from_each test (f ∷ fs) h = and_from (test f) (list_all test fs) (h 0 f refl) (all_from_each test fs (λ k g e. h (suc k) g e))
 
-swapped : (m n : ℕ) → n < m → nat_eq m n ≡ false
+pub swapped : (m n : ℕ) → n < m → nat_eq m n ≡ false
 swapped m n l = by (nat_eq m n) refl
   where
     by : (b : Bool) → nat_eq m n ≡ b → b ≡ false

@@ -1,10 +1,14 @@
 pub mod Alternatives
 pub mod Back
+pub mod Complete
 pub mod FlatTrees
 pub mod Levels
 pub mod Meets
+pub mod Occurs
 pub mod OneTree
 pub mod Opening
+pub mod Reached
+pub mod Selected
 pub mod Shows
 pub mod Sound
 pub mod Suits

@@ -61,14 +61,14 @@ shape_fits (term.Built c ps) v h = h
 abbrev nothing : Bindings
 nothing = []
 
-literal_matches : (l : Lit) → matched (term.Exactly l) (value.Literal l) ≡ Some []
+pub literal_matches : (l : Lit) → matched (term.Exactly l) (value.Literal l) ≡ Some []
 literal_matches l = by (same_literal l l) (literal_itself l)
   where
     by : (b : Bool) → b ≡ true → (if b then Some nothing else None) ≡ Some nothing
     by true e = refl
     by false e = let no : ⊥ = cc in absurd no
 
-built_matches : (c : ConId) (ps : Patterns) (us : Values) (b : Bindings) → all_matched ps us ≡ Some b
+pub built_matches : (c : ConId) (ps : Patterns) (us : Values) (b : Bindings) → all_matched ps us ≡ Some b
     → matched (term.Built c ps) (value.Constructed c us) ≡ Some b
 built_matches c ps us b e = by (same_constructor c c) (eq-eqb c.0 c.0 refl)
   where

@@ -47,7 +47,7 @@ use Rattle.cu_deftree.proofs.Suits.{RowFits, RowsFit, Suits, from_list, listed_f
 
 -- ---- built-in operations know a program by its built-in entities
 
-truth_same : (one two : Program) → one.special ≡ two.special → (b : Bool) → truth_of one b ≡ truth_of two b
+pub truth_same : (one two : Program) → one.special ≡ two.special → (b : Bool) → truth_of one b ≡ truth_of two b
 truth_same one two e true = ap (λ (s : Special). value.Constructed s.truth value.NoValue) e
 truth_same one two e false = ap (λ (s : Special). value.Constructed s.falsity value.NoValue) e
 
@@ -66,7 +66,7 @@ literals_same one two e prim.Ord (Char c ∷ []) = refl
 literals_same one two e prim.Chr (Int n ∷ []) = refl
 literals_same one two e _ _ = refl
 
-answers_same : (one two : Program) → one.special ≡ two.special → (operation : Primitive) (us : Values) (v : Value) → Answers one operation us v
+pub answers_same : (one two : Program) → one.special ≡ two.special → (operation : Primitive) (us : Values) (v : Value) → Answers one operation us v
     → Answers two operation us v
 answers_same one two e _ _ v (builtin.of_literals operation ls us _ f g) =
     builtin.of_literals operation ls us v f (sym (literals_same one two e operation ls) ∙ g)
@@ -75,13 +75,13 @@ answers_same one two e _ _ v (builtin.unified a b _ alike total f) = builtin.uni
 answers_same one two e _ _ v (builtin.conjoined a b _ p q f) =
     builtin.conjoined a b v (p ∙ truth_same one two e true) (q ∙ truth_same one two e true) (f ∙ truth_same one two e true)
 
-collected_same : (one two : Program) → one.special ≡ two.special → (c : ConId) (vs : List Value) → collected one c vs ≡ collected two c vs
+pub collected_same : (one two : Program) → one.special ≡ two.special → (c : ConId) (vs : List Value) → collected one c vs ≡ collected two c vs
 collected_same one two e c vs =
     ap (λ (s : Special). value.Constructed c (value.MoreValues (listed s.nil s.cons vs) value.NoValue)) e
 
 -- ---- scrutinees
 
-variable_below : (flat : Program) (claims : List Claim) (env : Environment) (a : Term) (u : Value) → Gives flat claims env a u
+pub variable_below : (flat : Program) (claims : List Claim) (env : Environment) (a : Term) (u : Value) → Gives flat claims env a u
     → (x : ℕ) → a ≡ term.Variable x → Below u (env x)
 variable_below flat claims env _ _ (gives.bottom _ t) x e = below.bottom (env x)
 variable_below flat claims env _ _ (gives.variable _ y v p) x e =
@@ -165,7 +165,7 @@ all_rules_fit program arity (rule ∷ rules) h =
     let parts = and_parts (fits_rule program arity rule) (list_all (fits_rule program arity) rules) h in
     (rule_fits program arity rule parts.0, all_rules_fit program arity rules parts.1)
 
-row_of_rule_fits : (program : Program) (arity : ℕ) (xs : List ℕ) (rule : Rule) → xs ≡ numbers 1 arity → RuleFits program arity rule
+pub row_of_rule_fits : (program : Program) (arity : ℕ) (xs : List ℕ) (rule : Rule) → xs ≡ numbers 1 arity → RuleFits program arity rule
     → RowFits program xs (suc arity) (row_of_rule xs rule)
 row_of_rule_fits program arity xs rule e fits =
     let low : AllLow (suc arity) xs =
@@ -199,7 +199,7 @@ rule_at program arity xs (rule ∷ rules) zero row h e = record { rule = rule; t
 rule_at program arity xs (rule ∷ rules) (suc i) row h e =
     let rest = rule_at program arity xs rules i row h.1 e in record { rule = rest.rule; there = rest.there; is = rest.is; fits = rest.fits }
 
-names_from : (env : Environment) (b : Bindings) (xs : List ℕ) (ps : Patterns) (x : ℕ) → env 0 ≡ value.Bottom → bound_in b ≡ all_variables ps
+pub names_from : (env : Environment) (b : Bindings) (xs : List ℕ) (ps : Patterns) (x : ℕ) → env 0 ≡ value.Bottom → bound_in b ≡ all_variables ps
     → Known (bind_all empty b) env (names_at_all xs (list_patterns ps) ++ []) [] x (all_variables ps)
     → bind_all empty b x ≡ env (name_of (names_at_all xs (list_patterns ps)) x)
 names_from env b xs ps x zero_is binds (inl known) =
@@ -235,7 +235,7 @@ rule_applies program claims f function rules xs bindings us v e b is fits m at f
 -- ---- the flat program
 
 module _ (program flat : Program) (claims : List Claim) (flattens : Flattens program flat) (valid : IsValid program) where
-  lowered_function : (f : FunId) (low : Function) → function_of flat f ≡ Some low
+  pub lowered_function : (f : FunId) (low : Function) → function_of flat f ≡ Some low
       → (function : Function) × (function_of program f ≡ Some function) × FunctionLowers program function low
   lowered_function f low e =
       let found = stands_too flat.functions program.functions f.0 low flattens.each e in
@@ -273,7 +273,7 @@ module _ (program flat : Program) (claims : List Claim) (flattens : Flattens pro
   allowed_same (head.Set f) = ap (λ (s : Special). elim s.values [ Some c ↦ true | None ↦ false ]) flattens.special
 
   mutual
-    of_same : (u : Value) → is_of flat u ≡ is_of program u
+    pub of_same : (u : Value) → is_of flat u ≡ is_of program u
     of_same value.Bottom = refl
     of_same (value.Variable x) = refl
     of_same (value.Literal l) = refl
@@ -282,11 +282,11 @@ module _ (program flat : Program) (claims : List Claim) (flattens : Flattens pro
     of_same (value.Partial h us) =
         ap₂ (λ (a b : Bool). a && b) (ap₂ (λ (a : Bool) (n : Option ℕ). a && takes_more n (count us)) (allowed_same h) (arity_same h)) (all_of_same us)
 
-    all_of_same : (us : Values) → are_of flat us ≡ are_of program us
+    pub all_of_same : (us : Values) → are_of flat us ≡ are_of program us
     all_of_same value.NoValue = refl
     all_of_same (value.MoreValues u us) = ap₂ (λ (a b : Bool). a && b) (of_same u) (all_of_same us)
 
-  all_fit : (f : FunId) (function : Function) (rules : List Rule) → function_of program f ≡ Some function → function.body ≡ Rules rules
+  pub all_fit : (f : FunId) (function : Function) (rules : List Rule) → function_of program f ≡ Some function → function.body ≡ Rules rules
       → AllRulesFit program function.arity rules
   all_fit f function rules e b =
       let fits : IsTrue (fits_function program function) = passed_at (fits_function program) program.functions f.0 function valid.functions e in

@@ -71,7 +71,7 @@ pub patterns_count : (ps : Patterns) → length (list_patterns ps) ≡ pattern_c
 patterns_count term.NoPattern = refl
 patterns_count (term.MorePatterns p ps) = ap suc (patterns_count ps) ∙ sym (add-one (pattern_count ps))
 
-takes_arity : (found : Option Constructor) (m : ℕ) → takes (option_map (λ constructor. constructor.arity) found) m ≡ true
+pub takes_arity : (found : Option Constructor) (m : ℕ) → takes (option_map (λ constructor. constructor.arity) found) m ≡ true
     → elim found [ Some constructor ↦ constructor.arity | None ↦ 0 ] ≡ m
 takes_arity None m e = let no : ⊥ = cc in absurd no
 takes_arity (Some constructor) m e = eqb-true constructor.arity m e

@@ -1,10 +1,12 @@
 //! Laws of the definitions.
 ghost use Rattle.std.specs.Prelude.{◌≡◌, ◌≢◌, ℕ, List, IsTrue};
+ghost use Rattle.std.specs.List.{list_all};
 ghost use Rattle.cu_calculus.specs.declared.FunId.{FunId};
 ghost use Rattle.cu_calculus.specs.Claims.{AreLeastLevels, AreLevels, Concludes};
 ghost use Rattle.cu_calculus.specs.Flat.{is_flat};
 ghost use Rattle.cu_calculus.specs.Gives.{Claim};
 ghost use Rattle.cu_calculus.specs.Program.{Program};
+ghost use Rattle.cu_calculus.specs.Proof.{is_claim_of};
 ghost use Rattle.cu_calculus.specs.Valid.{IsValid};
 ghost use Rattle.cu_calculus.specs.Value.{Bottom, Value, Values};
 ghost use Rattle.cu_deftree.specs.Lowering.{HasOperations};
@@ -34,6 +36,18 @@ pub fn least_levels_stay_levels()
 pub fn lowering_is_sound()
     ensures { (program flat : Program) (claims : List Claim) (f : FunId) (vs : Values) (v : Value) → IsValid program
         → Flattens program flat → v ≢ Bottom → Concludes flat claims f vs v → Concludes program claims f vs v }
+{}
+
+/// Lowering loses nothing: what a function of a valid program concludes over
+/// claims of it, its flat program concludes over them too. (Claims with
+/// values of no program can tell the two apart: a constructor with an
+/// argument too many passes a variable beside a constructor of its type,
+/// and no branch of a flat case distinction.)
+pub fn lowering_is_complete()
+    ensures { (program flat : Program) (claims : List Claim) (f : FunId) (vs : Values) (v : Value)
+        → IsValid program
+        → Flattens program flat → IsTrue (list_all (is_claim_of program) claims)
+        → Concludes program claims f vs v → Concludes flat claims f vs v }
 {}
 
 /// What lowering gives of a valid program is flat.
