@@ -6,5 +6,5 @@ mod laws;
 
 pub use laws::{
     least_levels_stay_levels, lowered_programs_are_flat, lowering_is_a_function,
-    lowering_is_complete, lowering_is_sound,
+    lowering_is_complete, lowering_is_sound, lowering_keeps_meaning,
 };
