@@ -3,6 +3,7 @@ pub mod Back
 pub mod Complete
 pub mod FlatTrees
 pub mod Levels
+pub mod Meaning
 pub mod Meets
 pub mod Occurs
 pub mod OneTree

@@ -1,12 +1,14 @@
 //! Laws of the definitions.
-ghost use Rattle.std.specs.Prelude.{◌≡◌, ◌≢◌, ℕ, List, IsTrue};
+ghost use Rattle.std.specs.Prelude.{◌≡◌, ◌≢◌, ◌↔◌, ℕ, List, IsTrue};
 ghost use Rattle.std.specs.List.{list_all};
 ghost use Rattle.cu_calculus.specs.declared.FunId.{FunId};
+ghost use Rattle.cu_calculus.specs.Calls.{call_statement};
 ghost use Rattle.cu_calculus.specs.Claims.{AreLeastLevels, AreLevels, Concludes};
 ghost use Rattle.cu_calculus.specs.Flat.{is_flat};
 ghost use Rattle.cu_calculus.specs.Gives.{Claim};
 ghost use Rattle.cu_calculus.specs.Program.{Program};
 ghost use Rattle.cu_calculus.specs.Proof.{is_claim_of};
+ghost use Rattle.cu_calculus.specs.Proved.{IsProved};
 ghost use Rattle.cu_calculus.specs.Valid.{IsValid};
 ghost use Rattle.cu_calculus.specs.Value.{Bottom, Value, Values};
 ghost use Rattle.cu_deftree.specs.Lowering.{HasOperations};
@@ -40,14 +42,23 @@ pub fn lowering_is_sound()
 
 /// Lowering loses nothing: what a function of a valid program concludes over
 /// claims of it, its flat program concludes over them too. (Claims with
-/// values of no program can tell the two apart: a constructor with an
-/// argument too many passes a variable beside a constructor of its type,
-/// and no branch of a flat case distinction.)
+/// values that aren't the program's could tell the two apart: a constructor
+/// with too many arguments takes an alternative that has a variable there,
+/// and no branch of the flat program.)
 pub fn lowering_is_complete()
     ensures { (program flat : Program) (claims : List Claim) (f : FunId) (vs : Values) (v : Value)
         → IsValid program
         → Flattens program flat → IsTrue (list_all (is_claim_of program) claims)
         → Concludes program claims f vs v → Concludes flat claims f vs v }
+{}
+
+/// Lowering keeps meaning: over any claims some proof over a program concludes
+/// a statement on a call exactly where some proof over its flat program does.
+pub fn lowering_keeps_meaning()
+    ensures { (program flat : Program) (claims : List Claim) (f : FunId) (vs : Values) (v : Value)
+        → IsValid program → IsValid flat → Flattens program flat
+        → IsProved program claims (call_statement f vs v)
+        ↔ IsProved flat claims (call_statement f vs v) }
 {}
 
 /// What lowering gives of a valid program is flat.

@@ -6,5 +6,6 @@ mod laws;
 
 pub use laws::{
     least_levels_stay_levels, lowered_programs_are_flat, lowered_programs_are_valid,
-    lowering_is_a_function, lowering_is_complete, lowering_is_sound, programs_can_be_lowered,
+    lowering_is_a_function, lowering_is_complete, lowering_is_sound, lowering_keeps_meaning,
+    programs_can_be_lowered,
 };
