@@ -216,8 +216,7 @@ fn collected(
     constructor: ConId,
     values: &[Value],
 ) -> Result<Value, AllocError>
-    ensures { IfOk result (λ all. all ≡ collected (heads_program heads.now) constructor values.now)
-        }
+    ensures { IfOk result (λ all. all ≡ collected (heads_program heads.now) constructor values.now) }
 {
     let mut list = Value::constructed(alloc, heads.special.nil, &[])?;
     let mut i = values.len();
