@@ -56,7 +56,7 @@ pub fn lowering_is_complete()
 /// a statement on a call exactly where some proof over its flat program does.
 pub fn lowering_keeps_meaning()
     ensures { (program flat : Program) (claims : List Claim) (f : FunId) (vs : Values) (v : Value)
-        → IsValid program → IsValid flat → Flattens program flat
+        → IsValid program → Flattens program flat
         → IsProved program claims (call_statement f vs v)
         ↔ IsProved flat claims (call_statement f vs v) }
 {}
