@@ -19,4 +19,6 @@ mod kernel_terms;
 #[cfg(test)]
 mod kernel_types;
 #[cfg(test)]
+mod set_levels;
+#[cfg(test)]
 mod values;

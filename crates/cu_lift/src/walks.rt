@@ -1,0 +1,148 @@
+//! Walks along mentions.
+ghost use Rattle.std.specs.Prelude.{◌≡◌, ◌+◌, ◌<◌, ◌≤◌, ℕ, Some, IfOk, IfSome, IfNone, OnOk, length, slice_get};
+ghost use Rattle.cu_lift.specs.Inside.Graph.{Edge, Graph, IsRow, IsWhole, Reach};
+ghost use Rattle.cu_lift.specs.Inside.Trail.{Begins, Grows, IsDone, IsTrail, Meeting, Steps};
+
+use crate::mentions::Mention;
+use cu_kernel::FunId;
+use std::alloc::{AllocError, Global};
+
+/// A function that was found from another one.
+#[derive(Clone, Copy)]
+struct Found {
+    /// The function.
+    function: usize,
+    /// The place of the one that mentions it.
+    from: usize,
+}
+
+/// A search for the functions that one reaches, breadth first.
+#[derive(Drop)]
+struct Spread {
+    found: Vec<Found>,
+    met: Vec<bool>,
+}
+
+/// The row of a function.
+pub(crate) fn row_of(graph: &[Vec<Mention>], function: usize) -> &[Mention]
+    requires { function < length graph.now }
+    ensures { IsRow graph.now function result.now }
+{
+    graph[function].as_slice()
+}
+
+impl Spread {
+    /// The search that has found its start alone.
+    fn new(alloc: Global, start: usize, count: usize) -> Result<Spread, AllocError>
+        requires { start < count }
+        ensures { IfOk result (λ spread. Begins start count spread) }
+    {
+        let mut met = vec![in alloc; false; count]?;
+        met[start] = true;
+        let mut found = Vec::new(alloc);
+        found.push(Found {
+            function: start,
+            from: 0,
+        })?;
+        Ok(Spread { found, met })
+    }
+
+    /// Meets a function that the one at a place mentions.
+    fn meet(&mut self, target: usize, from: usize) -> Result<(), AllocError>
+        requires { target < length self.old.met.items }
+        ensures { OnOk result (Meeting self.old self.new target from) }
+    {
+        if !self.met[target] {
+            self.met[target] = true;
+            self.found.push(Found {
+                function: target,
+                from,
+            })?;
+        }
+        Ok(())
+    }
+
+    /// Meets all that the function at a place mentions.
+    fn widen(&mut self, graph: &[Vec<Mention>], from: usize) -> Result<(), AllocError>
+        requires whole { IsWhole graph.now }
+        requires trail { IsTrail graph.now self.old }
+        requires within { from < length self.old.found.items }
+        ensures trail { OnOk result (IsTrail graph.now self.new) }
+        ensures grows { OnOk result (Grows self.old self.new) }
+        ensures done { OnOk result (IsDone graph.now self.new from) }
+    {
+        let function = self.found[from].function;
+        let row = row_of(graph, function);
+        for mention in row {
+            self.meet(mention.function.0, from)?;
+        }
+        Ok(())
+    }
+
+    /// Finds all that the functions found mention.
+    fn run(&mut self, graph: &[Vec<Mention>]) -> Result<(), AllocError>
+        requires whole { IsWhole graph.now }
+        requires trail { IsTrail graph.now self.old }
+        ensures trail { OnOk result (IsTrail graph.now self.new) }
+        ensures grows { OnOk result (Grows self.old self.new) }
+        ensures done { OnOk result ((i : ℕ) → i < length self.new.found.items → IsDone graph.now self.new i) }
+    {
+        let mut next = 0;
+        while next < self.found.len() {
+            self.widen(graph, next)?;
+            next += 1;
+        }
+        Ok(())
+    }
+
+    /// The place of a function among those found.
+    fn place_of(&self, function: usize) -> Option<usize>
+        ensures some { IfSome result (λ i. (f : Found) × (slice_get self.now.found.items i ≡ Some f) × (f.function ≡ function)) }
+        ensures none { IfNone result ((i : ℕ) (f : Found) → slice_get self.now.found.items i ≡ Some f → f.function ≡ function → ⊥) }
+    {
+        for (i, found) in self.found.iter().enumerate() {
+            if found.function == function {
+                return Some(i);
+            }
+        }
+        None
+    }
+
+    /// The walk from the start to the function at a place.
+    fn trace(&self, alloc: Global, place: usize) -> Result<Vec<FunId>, AllocError>
+        requires within { place < length self.now.found.items }
+        requires falls { (i : ℕ) (f : Found) → slice_get self.now.found.items i ≡ Some f → 0 < i → f.from < i }
+        ensures { IfOk result (λ walk. (g : Graph) (first last : Found) → IsTrail g self.now → slice_get self.now.found.items 0 ≡ Some first
+            → slice_get self.now.found.items place ≡ Some last → Steps g first.function walk.items last.function) }
+    {
+        let mut walk = Vec::new(alloc);
+        let mut at = place;
+        while at != 0 {
+            at = self.found[at].from;
+            walk.push(FunId(self.found[at].function))?;
+        }
+        walk.reverse();
+        Ok(walk)
+    }
+}
+
+/// A walk along mentions, one of the shortest: the functions that it leaves,
+/// in order.
+pub(crate) fn walk(
+    alloc: Global,
+    graph: &[Vec<Mention>],
+    start: usize,
+    end: usize,
+) -> Result<Vec<FunId>, AllocError>
+    requires whole { IsWhole graph.now }
+    requires within { start < length graph.now }
+    requires reached { Reach graph.now start end }
+    ensures { IfOk result (λ walk. Steps graph.now start walk.items end) }
+{
+    let mut spread = Spread::new(alloc, start, graph.len())?;
+    spread.run(graph)?;
+    match spread.place_of(end) {
+        Some(place) => spread.trace(alloc, place),
+        None => unreachable!(),
+    }
+}
