@@ -1,0 +1,4 @@
+pub mod Counts
+pub mod Claiming
+pub mod Working
+pub mod Ordering

@@ -1,0 +1,4 @@
+pub mod Seats
+pub mod Drawn
+pub mod Outcomes
+pub mod Inside
