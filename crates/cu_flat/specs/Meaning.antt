@@ -1,5 +1,5 @@
 -- What the parts of a flat program stand for.
-use Rattle.std.specs.Prelude.{ℕ, List, Option, None, Some, map}
+use Rattle.std.specs.Prelude.{ℕ, List, map}
 use Rattle.cu_calculus.specs.declared.ExprId.{ExprId}
 use Rattle.cu_calculus.specs.declared.builtin.Special.{Special}
 use Rattle.cu_calculus.specs.Code as code

@@ -8,10 +8,15 @@ ghost use Rattle.cu_calculus.specs.Code.{arity_of, body_of, expr_of, kept_by};
 ghost use Rattle.cu_calculus.specs.WellFormed.{is_well_formed};
 ghost use Rattle.cu_flat.specs.Meaning.{body_meaning, code_of, expr_meaning};
 
+mod arena;
 mod expr;
+mod laws;
+mod of;
+mod scope;
 
 pub use cu_calculus::{ConId, FunId, Head, Int, Lit, Mode, Prim, Special};
 pub use expr::{Expr, ExprId, FlatBody, FlatConstructor, FlatFunction, Pattern};
+pub use laws::flat_programs_have_code;
 use std::marker::Model;
 
 /// An expression, and the variables that it keeps where it is a case

@@ -1,0 +1,10 @@
+pub mod Constructing
+pub mod FlatParts
+pub mod LaidProgram
+pub mod LaidTerms
+pub mod Laying
+pub mod Lengths
+pub mod Merging
+pub mod Ordering
+pub mod Parts
+pub mod Scopes

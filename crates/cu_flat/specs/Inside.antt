@@ -1,0 +1,4 @@
+-- What private contracts and invariants of loops say. No public contract speaks of it.
+pub mod Scope
+pub mod Written
+pub mod Laid
