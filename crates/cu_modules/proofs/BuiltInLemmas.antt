@@ -25,7 +25,7 @@ use Rattle.cu_syntax.specs.Reading.{Tree, item_as, item_of}
 use Rattle.cu_syntax.specs.Table.{alternative, number, rows}
 use Rattle.cu_syntax.specs.Syntax.{Import, Item, Module}
 use Rattle.cu_modules.specs.Ordering.{IsOwn}
-use Rattle.cu_modules.specs.OwnEntities.{prelude_name}
+use Rattle.cu_modules.specs.BuiltInEntities.{prelude_name}
 use Rattle.cu_modules.specs.Scopes.{Named, imports_by, names_module, prelude_import}
 use Rattle.cu_modules.specs.Texts as texts
 use Rattle.cu_modules.specs.Texts.{IsRead, TextFault}

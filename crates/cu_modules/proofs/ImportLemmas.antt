@@ -18,7 +18,7 @@ use Rattle.cu_syntax.specs.Syntax.{Import}
 use Rattle.cu_modules.specs.declared.modules.Module.{Module}
 use Rattle.cu_modules.specs.Imports.{AreImports, import_texts, option_names, written_in}
 use Rattle.cu_modules.specs.Ordering.{module_of, texts_of}
-use Rattle.cu_modules.specs.OwnEntities.{prelude_name}
+use Rattle.cu_modules.specs.BuiltInEntities.{prelude_name}
 use Rattle.cu_modules.specs.Reading.{HasModule, HasPrelude}
 use Rattle.cu_modules.specs.Scopes.{imports_by, names_module, prelude_import}
 use Rattle.cu_modules.specs.Walk.{import_names}

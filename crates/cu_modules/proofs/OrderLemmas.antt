@@ -2,7 +2,7 @@
 use Rattle.std.proofs.Common.{◌≡◌, ◌∙◌, ◌||◌, ℕ, Bool, true, false, not, List, [], ◌∷◌, ◌++◌, inl, inr, ◌⊎◌, Some, Option, Ok, Err, Result, refl, sym, ap, subst, append_assoc, append-nil, get_or, if◌then◌else◌}
 use Rattle.std.proofs.lemmas.Bool.{both_ways}
 use Rattle.std.proofs.lemmas.List.{map-append}
-use Rattle.std.proofs.lemmas.List.Elements.{All-append, All-cons, All-filter, All-head, All-nil, All-tail, All-weaker}
+use Rattle.std.proofs.lemmas.List.Elements.{All-append, All-cons, All-filter, All-head, All-nil, All-push, All-tail, All-weaker}
 use Rattle.std.proofs.lemmas.Slice.Eq.{bytes_eq-Decides}
 use Rattle.std.specs.List.{All, filter}
 use Rattle.std.specs.Prelude.{IfSome, slice_get}
@@ -13,7 +13,7 @@ use Rattle.cu_names.specs.declared.names.NameId.{NameId}
 use Rattle.cu_names.specs.Texts.{Extends, interned, text_of}
 use Rattle.cu_modules.specs.declared.fault.OrderFault.{OrderFault}
 use Rattle.cu_modules.specs.declared.modules.Module.{Module}
-use Rattle.cu_modules.specs.Binders.{is_among}
+use Rattle.cu_uses.specs.Binders.{is_among}
 use Rattle.cu_modules.specs.Ordering.{AllBehind, AllNew, AreOrdered, IsOwn, Tells, module_of, modules_of, texts_of}
 use Rattle.cu_modules.specs.declared.visits.Progress.{Progress}
 use Rattle.cu_modules.specs.Reading.{HasModule}
@@ -34,12 +34,16 @@ is_other names m = not (is_own names m)
 -- What is left, sorted behind what was found, is the whole, sorted.
 pub record Sorts (names : List (List ℕ)) (whole left built others : List Module) : Type 0 where
   pub known : All (HasModule names) left
+  pub built_known : All (HasModule names) built
+  pub others_known : All (HasModule names) others
   pub first : built ++ filter (is_own names) left ≡ filter (is_own names) whole
   pub second : others ++ filter (is_other names) left ≡ filter (is_other names) whole
 
 pub sorts_first : (names : List (List ℕ)) (whole left built others : List Module) → left ≡ whole → built ≡ [] → others ≡ [] → All (HasModule names) whole → Sorts names whole left built others
 sorts_first names whole left built others same none none' known = record {
   known = subst (All (HasModule names)) (sym same) known;
+  built_known = subst (All (HasModule names)) (sym none) (All-nil (HasModule names));
+  others_known = subst (All (HasModule names)) (sym none') (All-nil (HasModule names));
   first = (λ j. none j ++ filter (is_own names) (same j));
   second = (λ j. none' j ++ filter (is_other names) (same j));
 }
@@ -48,6 +52,8 @@ pub sorts_own : (names : List (List ℕ)) (whole left later built after others :
     → Sorts names whole later after others
 sorts_own names whole left later built after others m here own is sorts = record {
   known = All-tail (HasModule names) m later (subst (All (HasModule names)) here sorts.known);
+  built_known = subst (All (HasModule names)) (sym is) (All-push (HasModule names) built m sorts.built_known (All-head (HasModule names) m later (subst (All (HasModule names)) here sorts.known)));
+  others_known = sorts.others_known;
   first =
       ap (λ built. built ++ filter (is_own names) later) is ∙ append_assoc built (m ∷ []) (filter (is_own names) later)
       ∙ ap (λ b. built ++ (if b then m ∷ filter (is_own names) later else filter (is_own names) later)) (sym own) ∙ ap (λ left. built ++ filter (is_own names) left) (sym here) ∙ sorts.first;
@@ -58,6 +64,8 @@ pub sorts_other : (names : List (List ℕ)) (whole left later built others after
     → Sorts names whole later built after
 sorts_other names whole left later built others after m here own is sorts = record {
   known = All-tail (HasModule names) m later (subst (All (HasModule names)) here sorts.known);
+  built_known = sorts.built_known;
+  others_known = subst (All (HasModule names)) (sym is) (All-push (HasModule names) others m sorts.others_known (All-head (HasModule names) m later (subst (All (HasModule names)) here sorts.known)));
   first = ap (λ b. built ++ (if b then m ∷ filter (is_own names) later else filter (is_own names) later)) (sym own) ∙ ap (λ left. built ++ filter (is_own names) left) (sym here) ∙ sorts.first;
   second =
       ap (λ others. others ++ filter (is_other names) later) is ∙ append_assoc others (m ∷ []) (filter (is_other names) later)
@@ -81,6 +89,13 @@ sorted names whole left built others all none sorts is =
     let second = sym (append-nil others) ∙ ap (λ left. others ++ filter (is_other names) left) (sym none) ∙ sorts.second in
     ap (modules_of names) (is ∙ (λ j. first j ++ second j)) ∙ map-append (module_of names) (filter (is_own names) whole) (filter (is_other names) whole)
     ∙ (λ j. filter_named names (λ (m : Named). is_built_in m.name) whole j ++ filter_named names (λ (m : Named). not (is_built_in m.name)) whole j)
+
+pub sorted_known : (names : List (List ℕ)) (whole left built others all : List Module) → Sorts names whole left built others → all ≡ built ++ others → All (HasModule names) all
+sorted_known names whole left built others all sorts is = subst (All (HasModule names)) (sym is) (All-append (HasModule names) built others sorts.built_known sorts.others_known)
+
+-- one module that is moved from the front of a list to the end of another
+pub moved : (built after left later : List Module) (m : Module) → after ≡ built ++ m ∷ [] → left ≡ m ∷ later → after ++ later ≡ built ++ left
+moved built after left later m is here = ap (λ after. after ++ later) is ∙ append_assoc built (m ∷ []) later ∙ ap (λ left. built ++ left) (sym here)
 
 -- ---- the walk
 

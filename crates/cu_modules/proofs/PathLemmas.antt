@@ -11,7 +11,7 @@ use Rattle.std.specs.Str.{bytes_eq}
 use Rattle.cu_names.specs.declared.names.NameId.{NameId}
 use Rattle.cu_names.specs.Texts.{AllDiffer, IsKnown, text_of}
 use Rattle.cu_modules.specs.declared.modules.Module.{Module}
-use Rattle.cu_modules.specs.Binders.{is_among}
+use Rattle.cu_uses.specs.Binders.{is_among}
 use Rattle.cu_modules.specs.Ordering.{modules_of, texts_of}
 use Rattle.cu_modules.specs.Progress.{IsCycle}
 use Rattle.cu_modules.specs.Reading.{HasModule}

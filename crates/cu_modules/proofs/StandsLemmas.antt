@@ -18,9 +18,9 @@ use Rattle.cu_syntax.specs.Owners.{ModuleIsOf}
 use Rattle.cu_modules.specs.declared.modules.Module.{Module}
 use Rattle.cu_modules.specs.declared.visits.Progress.{Progress}
 use Rattle.cu_modules.specs.Imports.{AreImports}
-use Rattle.cu_modules.specs.Binders.{is_among}
+use Rattle.cu_uses.specs.Binders.{is_among}
 use Rattle.cu_modules.specs.Ordering.{AllBehind, AllNew, AreOrdered, IsOwn, module_of, modules_of, texts_of}
-use Rattle.cu_modules.specs.OwnEntities.{prelude_name, set_functions_name}
+use Rattle.cu_modules.specs.BuiltInEntities.{prelude_name, set_functions_name}
 use Rattle.cu_modules.specs.Progress.{Enters, Stands, StandsFor, built_in_met, fetched_with, is_met, one_if}
 use Rattle.cu_modules.specs.Reading.{HasModule, HasPrelude}
 use Rattle.cu_modules.specs.Scopes.{Named}

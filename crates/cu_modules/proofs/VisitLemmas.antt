@@ -16,9 +16,9 @@ use Rattle.cu_syntax.specs.Syntax as syntax
 use Rattle.cu_modules.specs.declared.fault.OrderFault.{OrderFault}
 use Rattle.cu_modules.specs.declared.modules.Module.{Module}
 use Rattle.cu_modules.specs.declared.visits.Progress.{Progress}
-use Rattle.cu_modules.specs.Binders.{is_among}
+use Rattle.cu_uses.specs.Binders.{is_among}
 use Rattle.cu_modules.specs.Ordering.{IsOwn, Tells, module_of, modules_of, texts_of}
-use Rattle.cu_modules.specs.OwnEntities.{prelude_name, set_functions_name}
+use Rattle.cu_modules.specs.BuiltInEntities.{prelude_name, set_functions_name}
 use Rattle.cu_modules.specs.Progress as found
 use Rattle.cu_modules.specs.Progress.{Came, Enters, IsCycle, IsFound, IsFree, IsLacking, Stands, StandsFor, built_in_met, is_met, one_if}
 use Rattle.cu_modules.specs.Scopes.{Named}

@@ -1,40 +1,19 @@
 -- What is wrong with the names of a module.
-use Rattle.std.specs.Prelude.{◌≡◌, ℕ, Bool, true, false, ◌&&◌, ◌||◌, List, [], ◌∷◌, ◌++◌, Option, None, Some, if◌then◌else◌, nat_eq, nat_lt}
-use Rattle.std.specs.List.{All, Contains, filter, flat_map, list_any}
+use Rattle.std.specs.Prelude.{ℕ, Bool, true, false, ◌||◌, List, [], ◌∷◌, ◌++◌, Option, None, Some, if◌then◌else◌}
+use Rattle.std.specs.List.{filter, flat_map, list_any}
 use Rattle.std.specs.Str.{bytes_eq}
-use Rattle.cu_lex.specs.Located.{Position}
+use Rattle.cu_entities.specs.Bindings.{Binding}
+use Rattle.cu_entities.specs.Entities.{Entity, Types, Values, same_space, space_of}
 use Rattle.cu_syntax.specs.Syntax as syntax
 use Rattle.cu_syntax.specs.Syntax.{ConstructorsNamed, Export, Goal, Import, ImportList, ModuleName, Name}
-use Rattle.cu_modules.specs.Demands.{Demand, Lacks, Repeats, Uses, goal_demands, items_demands}
-use Rattle.cu_modules.specs.Entities.{Entity, Types, Values, same_space, space_of}
-use Rattle.cu_modules.specs.Scopes.{Binding, Interface, Named, constructors_in, export_list, exports_of, imports_of, is_called, is_type_of, meant, names_entity, names_module, own_entities, scope, types_called}
-
-pub data Wrong : Type 0 where
-  -- an import or export list names what isn't there
-  NotExported : Wrong
-  -- a name means nothing
-  UnknownName : Wrong
-  -- a name means two entities or more
-  Ambiguous : Wrong
-  -- a second declaration in one scope
-  Duplicate : Wrong
-
-pub record Fault : Type 0 where
-  pub wrong : Wrong
-  pub at : Position
-  pub name : List ℕ
-
-abbrev pub wrong_name : Wrong → Name → Fault
-wrong_name wrong name = record { wrong = wrong; at = name.at; name = name.text }
+use Rattle.cu_uses.specs.Demands.{goal_demands, items_demands}
+use Rattle.cu_uses.specs.Faults.{Fault, demand_faults, unless_one, wrong_name}
+use Rattle.cu_uses.specs.declared.fault.Wrong.{Wrong}
+use Rattle.cu_uses.specs.declared.fault.Wrong.TheVariants.{NotExported}
+use Rattle.cu_modules.specs.Scopes.{Interface, Named, constructors_in, export_list, exports_of, imports_of, is_called, is_type_of, meant, names_entity, names_module, own_entities, scope, types_called}
 
 abbrev pub wrong_module : Wrong → ModuleName → Fault
 wrong_module wrong name = record { wrong = wrong; at = name.at; name = name.text }
-
--- a name that should mean one entity
-abbrev pub unless_one : Wrong → Name → List Entity → List Fault
-unless_one lacking name [] = wrong_name lacking name ∷ []
-unless_one lacking name (e ∷ []) = []
-unless_one lacking name (e ∷ f ∷ entities) = wrong_name Ambiguous name ∷ []
 
 -- a name that should be there
 abbrev pub unless : Bool → Name → List Fault
@@ -81,11 +60,6 @@ export_list_faults before m (Some exports) = flat_map (export_faults before m) e
 
 -- ---- texts
 
-abbrev pub demand_fault : List Binding → Demand → List Fault
-demand_fault bindings (Uses space name) = unless_one UnknownName name (meant bindings space name)
-demand_fault bindings (Lacks name) = wrong_name UnknownName name ∷ []
-demand_fault bindings (Repeats name) = wrong_name Duplicate name ∷ []
-
 -- the texts of a module's own functions and constructors
 abbrev pub own_values : Named → List (List ℕ)
 own_values m = flat_map (λ (e : Entity). if same_space Values (space_of e.sort) then e.name ∷ [] else []) (own_entities m)
@@ -94,27 +68,8 @@ own_values m = flat_map (λ (e : Entity). if same_space Values (space_of e.sort)
 abbrev pub faults : List Interface → Named → List Fault
 faults before m =
     export_list_faults before m (export_list m.syntax.header) ++
-    (flat_map (import_faults before) (imports_of m) ++ flat_map (demand_fault (scope before m)) (items_demands (own_values m) m.syntax.items))
+    (flat_map (import_faults before) (imports_of m) ++ demand_faults (scope before m) (items_demands (own_values m) m.syntax.items))
 
 -- All that is wrong with a goal in a module.
 abbrev pub goal_faults : List Interface → Named → Goal → List Fault
-goal_faults before m goal = flat_map (demand_fault (scope before m)) (goal_demands goal)
-
--- ---- the first
-
-abbrev pub rank : Wrong → ℕ
-rank NotExported = 0
-rank UnknownName = 1
-rank Ambiguous = 2
-rank Duplicate = 3
-
--- whether a fault stands before another: at an earlier place of the text, or at the same place and of an earlier kind
-abbrev pub is_before : Fault → Fault → Bool
-is_before f g =
-    nat_lt f.at.line g.at.line || (nat_eq f.at.line g.at.line &&
-    (nat_lt f.at.column g.at.column || (nat_eq f.at.column g.at.column && nat_lt (rank f.wrong) (rank g.wrong))))
-
--- One of the faults, with none before it.
-pub record IsFirst (found : List Fault) (fault : Fault) : Type 0 where
-  pub listed : Contains found fault
-  pub first : All (λ g. is_before g fault ≡ false) found
+goal_faults before m goal = demand_faults (scope before m) (goal_demands goal)

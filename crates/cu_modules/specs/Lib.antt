@@ -1,13 +1,14 @@
-pub mod Binders
-pub mod Demands
-pub mod Entities
+pub mod BuiltInEntities
 pub mod Faults
 pub mod Imports
+pub mod Inside
+pub mod Known
 pub mod Means
 pub mod Ordering
 pub mod OwnEntities
 pub mod Progress
 pub mod Reading
+pub mod ScopeAnswers
 pub mod Scopes
 pub mod Texts
 pub mod Walk

@@ -1,8 +1,9 @@
 -- What the names of modules mean.
 use Rattle.std.specs.Prelude.{◌≡◌, ℕ, List, [], ◌∷◌, ◌++◌, Some, slice_get, take}
 use Rattle.cu_syntax.specs.Syntax.{Goal, Name}
-use Rattle.cu_modules.specs.Entities.{Entity, Space}
-use Rattle.cu_modules.specs.Faults.{Fault, IsFirst, faults, goal_faults}
+use Rattle.cu_entities.specs.Entities.{Entity, Space}
+use Rattle.cu_uses.specs.Faults.{Fault, IsFirst}
+use Rattle.cu_modules.specs.Faults.{faults, goal_faults}
 use Rattle.cu_modules.specs.Scopes.{Interface, Named, interfaces, meant, scope}
 
 -- the interfaces of the modules before one

@@ -13,7 +13,7 @@ use Rattle.cu_syntax.specs.Parsing as parsing
 use Rattle.cu_modules.specs.declared.fault.OrderFault.{OrderFault}
 use Rattle.cu_modules.specs.declared.fault.OrderFault.TheVariants as answer
 use Rattle.cu_modules.specs.declared.modules.Module.{Module}
-use Rattle.cu_modules.specs.Binders.{is_among}
+use Rattle.cu_uses.specs.Binders.{is_among}
 use Rattle.cu_modules.specs.Scopes.{Named}
 use Rattle.cu_modules.specs.Texts.{HeaderName, IsRead, Syntax, TextFault, Tokens, TooDeep}
 use Rattle.cu_modules.specs.Walk.{ImportCycle, InText, MissingModule, Refusal, TooManyModules, import_names}

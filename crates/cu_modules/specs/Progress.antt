@@ -6,10 +6,10 @@ use Rattle.cu_names.specs.Texts.{AllDiffer, IsKnown, text_of}
 use Rattle.cu_syntax.specs.Syntax as syntax
 use Rattle.cu_modules.specs.declared.modules.Module.{Module}
 use Rattle.cu_modules.specs.declared.visits.Progress.{Progress}
-use Rattle.cu_modules.specs.Binders.{is_among}
+use Rattle.cu_uses.specs.Binders.{is_among}
 use Rattle.cu_modules.specs.Imports.{AreImports}
 use Rattle.cu_modules.specs.Ordering.{AreOrdered, IsOwn, module_of, modules_of, texts_of}
-use Rattle.cu_modules.specs.OwnEntities.{prelude_name, set_functions_name}
+use Rattle.cu_modules.specs.BuiltInEntities.{prelude_name, set_functions_name}
 use Rattle.cu_modules.specs.Reading.{HasModule, HasPrelude, IsFaultOf}
 use Rattle.cu_modules.specs.Scopes.{Named}
 use Rattle.cu_modules.specs.Texts.{IsRead}

@@ -12,7 +12,7 @@ use Rattle.cu_syntax.specs.Owners.{ModuleIsOf}
 use Rattle.cu_modules.specs.declared.fault.OrderFault.{OrderFault}
 use Rattle.cu_modules.specs.declared.fault.OrderFault.TheVariants as answer
 use Rattle.cu_modules.specs.declared.modules.Module.{Module}
-use Rattle.cu_modules.specs.OwnEntities.{prelude_name}
+use Rattle.cu_modules.specs.BuiltInEntities.{prelude_name}
 use Rattle.cu_modules.specs.Texts.{IsRead, TextFault}
 use Rattle.cu_modules.specs.Walk.{InText, Refusal}
 

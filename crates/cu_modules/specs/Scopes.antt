@@ -5,8 +5,10 @@ use Rattle.std.specs.Str.{bytes_eq}
 use Rattle.cu_lex.specs.Located.{first_position}
 use Rattle.cu_syntax.specs.Syntax as syntax
 use Rattle.cu_syntax.specs.Syntax.{ConstructorsNamed, Export, Header, Import, ImportList, Item, Module, ModuleName, Name}
-use Rattle.cu_modules.specs.OwnEntities.{cons, own, prelude_name}
-use Rattle.cu_modules.specs.Entities.{Constructor, Entity, Function, Sort, Space, TypeConstructor, Types, Values, distinct, same_space, space_of}
+use Rattle.cu_entities.specs.Bindings.{Binding, entities_of, meant_by}
+use Rattle.cu_entities.specs.Entities.{Constructor, DataType, Entity, Function, SetFunction, Sort, Space, Synonym, Types, Values, distinct, same_space, space_of}
+use Rattle.cu_modules.specs.BuiltInEntities.{cons, prelude_name}
+use Rattle.cu_modules.specs.OwnEntities.{own}
 
 -- a module, under the name by which it was looked for
 pub record Named : Type 0 where
@@ -17,11 +19,6 @@ pub record Named : Type 0 where
 pub record Interface : Type 0 where
   pub name : List ℕ
   pub entities : List Entity
-
--- An entity that a text can name, behind this qualifier or without one.
-pub record Binding : Type 0 where
-  pub qualifier : Option (List ℕ)
-  pub entity : Entity
 
 -- ---- imports
 
@@ -60,10 +57,12 @@ is_called name e = is_none name.qualifier && bytes_eq name.base e.name
 
 abbrev pub is_function : Sort → Bool
 is_function Function = true
+is_function (SetFunction n) = true
 is_function _ = false
 
 abbrev pub is_type : Sort → Bool
-is_type TypeConstructor = true
+is_type DataType = true
+is_type Synonym = true
 is_type _ = false
 
 -- whether a constructor is of a type of this name
@@ -134,22 +133,9 @@ abbrev pub scope : List Interface → Named → List Binding
 scope before m =
     binding None cons ∷ own_bindings m.name (own_entities m) ++ flat_map (import_bindings (own_entities m) before) (imports_of m)
 
-abbrev pub same_qualifier : Option (List ℕ) → Option (List ℕ) → Bool
-same_qualifier None None = true
-same_qualifier (Some p) (Some q) = bytes_eq p q
-same_qualifier _ _ = false
-
--- whether a name means what is bound
-abbrev pub is_meant : Space → Name → Binding → Bool
-is_meant space name b =
-    same_qualifier name.qualifier b.qualifier && (bytes_eq name.base b.entity.name && same_space space (space_of b.entity.sort))
-
-abbrev pub entities_of : List Binding → List Entity
-entities_of bindings = map (λ (b : Binding). b.entity) bindings
-
 -- the entities that a name means in a scope, each once
 abbrev pub meant : List Binding → Space → Name → List Entity
-meant bindings space name = distinct (entities_of (filter (is_meant space name) bindings))
+meant bindings space name = meant_by bindings space name.qualifier name.base
 
 -- ---- exports
 

@@ -4,7 +4,7 @@ use Rattle.std.specs.List.{filter, list_any}
 use Rattle.std.specs.Str.{bytes_eq}
 use Rattle.cu_prelude.specs.BuiltIn.{built_in}
 use Rattle.cu_syntax.specs.Syntax.{Import, Module}
-use Rattle.cu_modules.specs.Binders.{is_among}
+use Rattle.cu_uses.specs.Binders.{is_among}
 use Rattle.cu_modules.specs.Scopes.{Named, imports_of}
 use Rattle.cu_modules.specs.Texts.{IsRead, TextFault}
 

@@ -36,14 +36,14 @@ pub(crate) fn import_names(
 }
 
 /// Whether a module is the Prelude or writes that it imports it.
-fn says_so(module: &Module, prelude: NameId, written: &[NameId]) -> bool
+pub(crate) fn says_so(module: &Module, prelude: NameId, written: &[NameId]) -> bool
     ensures { result ≡ (nat_eq «module».now.name.0 prelude.0 || list_any (λ (id : NameId). nat_eq id.0 prelude.0) written.now) }
 {
     module.name == prelude || written.contains(&prelude)
 }
 
 /// The names in a module's import declarations.
-fn written(alloc: Global, module: &Module) -> Result<Vec<NameId>, AllocError>
+pub(crate) fn written(alloc: Global, module: &Module) -> Result<Vec<NameId>, AllocError>
     ensures { (names : List (List ℕ)) → HasModule names «module».now → IfOk result (λ found. AreImports names (written_in (module_of names «module».now)) found.items) }
 {
     let mut names = Vec::new(alloc);

@@ -1,13 +1,31 @@
 //! Modules: which of them a root reaches by its imports.
 #![tactic(auto)]
 
+mod binding;
+mod built_in;
+mod checking;
+mod exporting;
 mod fault;
+mod hiding;
+mod importing;
 mod imports;
+mod interfaces;
+mod listing;
+mod lists;
+mod module_scope;
 mod modules;
 mod ordering;
+mod own;
 mod reading;
+mod scope_fault;
+mod scoped;
+mod scopes;
+mod scoping;
 mod visits;
 
 pub use fault::OrderFault;
 pub use modules::Module;
 pub use ordering::order;
+pub use scope_fault::ScopeFault;
+pub use scopes::Scopes;
+pub use scoping::scope_goal;

@@ -1,11 +1,14 @@
 //! Modules with imports before importers.
-ghost use Rattle.std.specs.Prelude.{◌≡◌, ◌++◌, [], ◌∷◌, IfErr, IfOk, IfSome, OnErr, Ok, Err, List, ℕ, MatchResult};
+ghost use Rattle.std.specs.Prelude.{◌≡◌, ◌++◌, [], ◌∷◌, IfErr, IfOk, IfSome, OnErr, OnOk, Ok, Err, List, ℕ, MatchResult};
+ghost use Rattle.cu_modules.specs.BuiltInEntities.{HasBuiltIn};
+ghost use Rattle.cu_modules.specs.Known.{listed_texts};
 ghost use Rattle.cu_modules.specs.Ordering.{AreOrdered, FaultCount, Tells, modules_of};
 ghost use Rattle.cu_modules.specs.Reading.{HasModule};
 ghost use Rattle.cu_modules.specs.Walk.{built_in_first, is_built_in, Walk};
 ghost use Rattle.cu_names.specs.Texts.{text_of, Extends, IsKnown};
-ghost use Rattle.std.specs.List.{All};
+ghost use Rattle.std.specs.List.{All, Contains};
 
+use crate::built_in::{EXTERNALS, LISTS, LITERAL_TYPES, MODULES, SET_FUNCTIONS, SINGLE_TYPES};
 use crate::visits::{Progress, visit};
 use crate::{Module, OrderFault};
 use cu_io::Library;
@@ -31,6 +34,8 @@ pub fn order<L: Library>(
     ensures walked { IfSome (L.holdings lib.old) (λ held. IfOk result (λ modules. Walk (held.module_at dir.now) root.now (Ok (modules_of names.new modules.items)))) }
     ensures refused { IfSome (L.holdings lib.old) (λ held. IfErr result (Tells names.new (λ refusal. Walk (held.module_at dir.now) root.now (Err refusal)))) }
     ensures ordered { IfOk result (λ modules. AreOrdered (modules_of names.new modules.items)) }
+    ensures known { IfOk result (λ modules. All (HasModule names.new) modules.items) }
+    ensures built_in { OnOk result (HasBuiltIn names.new) }
     ensures names { Extends names.old names.new }
     ensures same { L.holdings lib.new ≡ L.holdings lib.old }
     ensures count { MatchResult result
@@ -45,57 +50,26 @@ pub fn order<L: Library>(
     Ok(built_in_first(alloc, names, progress.done)?)
 }
 
-/// The names of entities of the built-in modules that have no declaration.
-const BUILT_IN: [&str; 42] = [
-    "[]",
-    ":",
-    "()",
-    "(,)",
-    "(,,)",
-    "(,,,)",
-    "(,,,,)",
-    "(,,,,,)",
-    "(,,,,,,)",
-    "(,,,,,,,)",
-    "(,,,,,,,,)",
-    "(,,,,,,,,,)",
-    "(,,,,,,,,,,)",
-    "(,,,,,,,,,,,)",
-    "(,,,,,,,,,,,,)",
-    "(,,,,,,,,,,,,,)",
-    "(,,,,,,,,,,,,,,)",
-    "Int",
-    "Char",
-    "+",
-    "-",
-    "*",
-    "div",
-    "mod",
-    "<",
-    "<=",
-    ">",
-    ">=",
-    "==",
-    "=:=",
-    "&",
-    "ord",
-    "chr",
-    "failed",
-    "set0",
-    "set1",
-    "set2",
-    "set3",
-    "set4",
-    "set5",
-    "set6",
-    "set7",
-];
-
+/// Interns the names of the built-in modules, and of what they have without a
+/// declaration.
 fn intern_built_in(names: &mut Names) -> Result<(), AllocError>
-    ensures { Extends names.old names.new }
+    ensures names { Extends names.old names.new }
+    ensures built_in { OnOk result (HasBuiltIn names.new) }
 {
-    'names: for name in &BUILT_IN {
-        names.intern(name)?;
+    intern_all(names, &LISTS)?;
+    intern_all(names, &SINGLE_TYPES)?;
+    intern_all(names, &LITERAL_TYPES)?;
+    intern_all(names, &EXTERNALS)?;
+    intern_all(names, &SET_FUNCTIONS)?;
+    intern_all(names, &MODULES)
+}
+
+fn intern_all(names: &mut Names, texts: &[&str]) -> Result<(), AllocError>
+    ensures names { Extends names.old names.new }
+    ensures there { OnOk result (All (Contains names.new) (listed_texts texts.now)) }
+{
+    'texts: for text in texts {
+        names.intern(text)?;
     }
     Ok(())
 }
@@ -107,7 +81,8 @@ fn built_in_first(
     modules: Vec<Module>,
 ) -> Result<Vec<Module>, AllocError>
     requires { All (HasModule names.now) modules.items }
-    ensures { IfOk result (λ found. modules_of names.now found.items ≡ built_in_first (modules_of names.now modules.items)) }
+    ensures sorted { IfOk result (λ found. modules_of names.now found.items ≡ built_in_first (modules_of names.now modules.items)) }
+    ensures known { IfOk result (λ found. All (HasModule names.now) found.items) }
 {
     let mut built_in = Vec::new(alloc);
     let mut others = Vec::new(alloc);

@@ -1,7 +1,7 @@
 //! Visits of modules, and of those that they import.
 ghost use Rattle.std.specs.Prelude.{◌≡◌, ◌≤◌, ℕ, Ok, Err, IfErr, IfOk, IfSome, List, MatchResult, OnOk, false, true};
 ghost use Rattle.std.specs.List.{All};
-ghost use Rattle.cu_modules.specs.Binders.{is_among};
+ghost use Rattle.cu_uses.specs.Binders.{is_among};
 ghost use Rattle.cu_modules.specs.Ordering.{FaultCount, IsOwn, Tells, modules_of, texts_of};
 ghost use Rattle.cu_modules.specs.Progress.{fetched_with, Came, Enters, IsCycle, IsFound, IsLacking, Stands};
 ghost use Rattle.cu_modules.specs.Reading.{HasModule};

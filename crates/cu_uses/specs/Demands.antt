@@ -3,8 +3,8 @@ use Rattle.std.specs.Prelude.{ℕ, ◌&&◌, List, [], ◌∷◌, ◌++◌, is_n
 use Rattle.std.specs.List.{flat_map}
 use Rattle.cu_syntax.specs.Syntax as syntax
 use Rattle.cu_syntax.specs.Syntax.{Alternatives, ConstructorDeclaration, Declaration, Declarations, Expression, Expressions, Goal, Guards, Item, MaybeExpression, Name, OperatorRest, Qualifier, Qualifiers, RightSide, TypeTerms}
-use Rattle.cu_modules.specs.Binders.{all_type_constructors, all_type_variables, constructors, declared_in, declared_names, fixed_in, is_among, missing, pattern_constructors, pattern_variables, repeated, second, signed, signed_in, texts, type_constructors, types_by, values_by, variables}
-use Rattle.cu_modules.specs.Entities.{Space, Types, Values}
+use Rattle.cu_uses.specs.Binders.{all_type_constructors, all_type_variables, constructors, declared_in, declared_names, fixed_in, is_among, missing, pattern_constructors, pattern_variables, repeated, second, signed, signed_in, texts, type_constructors, types_by, values_by, variables}
+use Rattle.cu_entities.specs.Entities.{Space, Types, Values}
 
 pub data Demand : Type 0 where
   -- a use of an entity of top level

@@ -1,0 +1,9 @@
+use Rattle.cu_uses.specs.Inside.Gathered.{names_meaning}
+use Rattle.cu_uses.proofs.FoundLemmas.{on_ok}
+use Rattle.cu_uses.proofs.ToldLemmas.{told_both}
+use Rattle.cu_uses.proofs.item_uses.data_uses.Goals as goal
+
+pub returns : goal.returns
+returns c w local sees all of =
+    on_ok c.fields_uses.result (λ rest. told_both (c.in_ok-known.ensures.told w sees.differ all) rest)
+    (c.fields_uses.ensures w local (names_meaning w.names c.args.parameters.now) sees (c.in_ok-known.ensures.has w.owner w.names sees.differ all) of)

@@ -1,0 +1,5 @@
+pub mod Binders
+pub mod Demands
+pub mod Faults
+pub mod Telling
+pub mod Inside
