@@ -12,10 +12,10 @@ eq_true a b h = search (arith, h)
 pub eq_false : (a b : ℕ) → a ≢ b → nat_eq a b ≡ false
 eq_false a b h = search (arith, h)
 
-here_is : (r f x : ℕ) (ranks : List ℕ) → x ≡ r → of_rank r f (x ∷ ranks) ≡ record { 0 = f } ∷ of_rank r (f + 1) ranks
+pub here_is : (r f x : ℕ) (ranks : List ℕ) → x ≡ r → of_rank r f (x ∷ ranks) ≡ record { 0 = f } ∷ of_rank r (f + 1) ranks
 here_is r f x ranks e = ap (λ b. cond b (record { 0 = f } ∷ of_rank r (f + 1) ranks) (of_rank r (f + 1) ranks)) (eq_true x r e)
 
-here_not : (r f x : ℕ) (ranks : List ℕ) → x ≢ r → of_rank r f (x ∷ ranks) ≡ of_rank r (f + 1) ranks
+pub here_not : (r f x : ℕ) (ranks : List ℕ) → x ≢ r → of_rank r f (x ∷ ranks) ≡ of_rank r (f + 1) ranks
 here_not r f x ranks h = ap (λ b. cond b (record { 0 = f } ∷ of_rank r (f + 1) ranks) (of_rank r (f + 1) ranks)) (eq_false x r h)
 
 in_later : (r f x : ℕ) (ranks : List ℕ) (v : FunId) → (j : ℕ) × (v.0 ≡ f + 1 + j) × (slice_get ranks j ≡ Some r)
@@ -47,13 +47,13 @@ all_by r f x ranks j rest (inr other) =
     (rest.0, ap (λ (y : List FunId). slice_get y rest.0) (here_not r f x ranks other) ∙ rest.1 ∙ ap (λ (n : ℕ). Some (record { 0 = n })) at)
 
 -- a function of a rank has that rank
-of_rank_in : (r f : ℕ) (ranks : List ℕ) (k : ℕ) (v : FunId) → slice_get (of_rank r f ranks) k ≡ Some v
+pub of_rank_in : (r f : ℕ) (ranks : List ℕ) (k : ℕ) (v : FunId) → slice_get (of_rank r f ranks) k ≡ Some v
     → (j : ℕ) × (v.0 ≡ f + j) × (slice_get ranks j ≡ Some r)
 of_rank_in r f [] k v e = let no : ⊥ = cc in absurd no
 of_rank_in r f (x ∷ ranks) k v e = in_by r f x ranks k v e (λ m d. of_rank_in r (f + 1) ranks m v d) (same_or_not x r)
 
 -- and each function that has it is among them
-of_rank_all : (r f : ℕ) (ranks : List ℕ) (j : ℕ) → slice_get ranks j ≡ Some r → (k : ℕ) × (slice_get (of_rank r f ranks) k ≡ Some (record { 0 = f + j }))
+pub of_rank_all : (r f : ℕ) (ranks : List ℕ) (j : ℕ) → slice_get ranks j ≡ Some r → (k : ℕ) × (slice_get (of_rank r f ranks) k ≡ Some (record { 0 = f + j }))
 of_rank_all r f [] j e = let no : ⊥ = cc in absurd no
 of_rank_all r f (x ∷ ranks) zero e =
     let same : x ≡ r = cc in

@@ -12,7 +12,7 @@ use Rattle.cu_lift.specs.Inside.Trail.{Begins, Grows, IsDone, IsTrail, Linked, M
 use Rattle.cu_lift.specs.declared.walks.Found.{Found}
 use Rattle.cu_lift.specs.declared.walks.Spread.{Spread}
 
-unmet_set : (met : List Bool) (t : ℕ) → slice_get met t ≡ Some false → unmet (set met t true) + 1 ≡ unmet met
+pub unmet_set : (met : List Bool) (t : ℕ) → slice_get met t ≡ Some false → unmet (set met t true) + 1 ≡ unmet met
 unmet_set [] t e = let no : ⊥ = cc in absurd no
 unmet_set (true ∷ met) zero e = let no : ⊥ = cc in absurd no
 unmet_set (false ∷ met) zero e = refl

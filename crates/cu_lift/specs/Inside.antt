@@ -5,3 +5,6 @@ pub mod Search
 pub mod Trail
 pub mod Levelling
 pub mod Outcome
+pub mod Ordering
+pub mod Capturing
+pub mod LiftedPlaces

@@ -282,9 +282,9 @@ pub(crate) fn find_components(
 }
 
 /// As many empty rows as there are components.
-fn empty_rows(alloc: Global, count: usize) -> Result<Vec<Vec<FunId>>, AllocError>
+pub(crate) fn empty_rows<T: Drop>(alloc: Global, count: usize) -> Result<Vec<Vec<T>>, AllocError>
     ensures sized { IfOk result (λ rows. length rows.items ≡ count) }
-    ensures empty { IfOk result (λ rows. (r : ℕ) (row : Vec FunId Global) → slice_get rows.items r ≡ Some row → row.items ≡ []) }
+    ensures empty { IfOk result (λ rows. (r : ℕ) (row : Vec T Global) → slice_get rows.items r ≡ Some row → row.items ≡ []) }
 {
     let mut rows = Vec::new(alloc);
     let mut number = 0;

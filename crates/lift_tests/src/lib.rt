@@ -1,0 +1,9 @@
+//! Tests of lambda lifting and of dependency groups, over their public calls.
+#![tactic(auto)]
+
+#[cfg(test)]
+mod captured_variables;
+#[cfg(test)]
+mod chooser_programs;
+#[cfg(test)]
+mod dependency_groups;
