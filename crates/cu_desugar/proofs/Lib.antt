@@ -1,0 +1,8 @@
+mod CaptureLaws
+mod FirstFault
+mod Following
+mod Marked
+mod Members
+mod Places
+mod Settling
+mod Trees

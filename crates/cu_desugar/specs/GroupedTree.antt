@@ -1,0 +1,24 @@
+-- The tree of items whose operands fit their operators: of all trees of the items, the one that is
+-- grouped.
+use Rattle.std.specs.Prelude.{List, [], ◌∷◌, Option, find, flat_map, map}
+use Rattle.cu_fixity.specs.declared.fixity.Fixity.{Fixity}
+use Rattle.cu_fixity.specs.Grouping.{Applied, Between, Infix, Item, Leaf, Operand, Prefix, Tree, is_grouped}
+
+-- What comes before the items of a tree takes the whole tree, or only the left operand of the
+-- operator at its top, or only the left one of that, and so on.
+abbrev pub in_front : {A O : Type 0} → (Tree A O → Tree A O) → Tree A O → List (Tree A O)
+in_front taking (Leaf a) = taking (Leaf a) ∷ []
+in_front taking (Applied o t) = taking (Applied o t) ∷ []
+in_front taking (Between l o r) =
+    taking (Between l o r) ∷ map (λ left. Between left o r) (in_front taking l)
+
+-- all trees of a list of items
+abbrev pub trees : {A O : Type 0} → List (Item A O) → List (Tree A O)
+trees (Operand a ∷ []) = Leaf a ∷ []
+trees (Operand a ∷ Infix o ∷ items) = flat_map (in_front (Between (Leaf a) o)) (trees items)
+trees (Prefix o ∷ items) = flat_map (in_front (Applied o)) (trees items)
+trees _ = []
+
+-- the grouped tree of a list of items, if it has one
+abbrev pub grouped_tree : {A O : Type 0} → (O → Fixity) → List (Item A O) → Option (Tree A O)
+grouped_tree fixity items = find (is_grouped fixity) (trees items)
