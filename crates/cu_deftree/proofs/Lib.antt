@@ -19,3 +19,13 @@ pub mod Scoped
 pub mod StillValid
 pub mod KeptConjunction
 pub mod FlatIsValid
+mod NameLaws
+mod RowSteps
+mod ChoiceSteps
+mod Passing
+mod Nodes
+mod TreeViews
+mod TaskWeights
+mod TreeNodes
+mod TaskSteps
+mod TreeExits

@@ -2,3 +2,4 @@
 pub mod Rows
 pub mod Lowering
 pub mod LoweredProgram
+pub mod Inside

@@ -1,8 +1,14 @@
-//! Lowering: the flat program of a program, by definitional trees. The crate
-//! has the definitions, in `specs/`, and their laws; it computes nothing yet.
+//! Lowering: the flat program of a program, by definitional trees. The
+//! definitions stand in `specs/`, with their laws.
 #![tactic(auto)]
 
+mod choices;
 mod laws;
+mod names;
+mod patterns;
+mod rows;
+mod tasks;
+mod trees;
 
 pub use laws::{
     least_levels_stay_levels, lowered_programs_are_flat, lowered_programs_are_valid,

@@ -1,0 +1,5 @@
+-- What private contracts and invariants of loops say. No public contract speaks of it.
+pub mod NamesOf
+pub mod RowsOf
+pub mod Tasks
+pub mod Ready

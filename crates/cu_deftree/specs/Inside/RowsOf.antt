@@ -1,0 +1,66 @@
+-- The rows that the code works on.
+use Rattle.std.specs.Prelude.{ℕ, Option, Bool, true, not, List, ◌∷◌, [], ◌++◌, Some, None, map, slice_get}
+use denote.Ref.{Bor}
+use Rattle.cu_calculus.specs.Choose as calculus
+use Rattle.cu_calculus.specs.Choose.{arguments_of, is_demanding, not_literal, wants_constructor, wants_literal}
+use Rattle.cu_calculus.specs.Term as clean
+use Rattle.cu_calculus.specs.declared.ConId.{ConId}
+use Rattle.cu_calculus.specs.declared.Lit.{Lit}
+use Rattle.cu_deftree.specs.Inside.NamesOf.{names_of}
+use Rattle.cu_deftree.specs.Lowering.{goes_on}
+use Rattle.cu_deftree.specs.Rows as definition
+use Rattle.cu_deftree.specs.declared.patterns.Choice.{Choice}
+use Rattle.cu_deftree.specs.declared.patterns.Choice.TheVariants as choice
+use Rattle.cu_deftree.specs.declared.patterns.Demand.{Demand}
+use Rattle.cu_deftree.specs.declared.patterns.Demand.TheVariants as demand
+use Rattle.cu_deftree.specs.declared.patterns.Keep.{Keep}
+use Rattle.cu_deftree.specs.declared.patterns.Keep.TheVariants as keep
+use Rattle.cu_deftree.specs.declared.rows.Row.{Row}
+use Rattle.cu_kernel.specs.TermsOf.{pattern_of, term_of}
+use Rattle.cu_kernel.specs.declared.term.Pattern.{Pattern}
+
+abbrev pub demand_meaning : Demand → calculus.Demand
+demand_meaning demand.Nothing = calculus.Nothing
+demand_meaning (demand.Literal l) = calculus.ALiteral l
+demand_meaning (demand.Constructor c) = calculus.AConstructor c
+
+abbrev pub wants : Choice → calculus.Demand → Bool
+wants (choice.Constructor c) = wants_constructor c
+wants (choice.Literal l) = wants_literal l
+
+-- which demands stay
+abbrev pub keeps : Keep → calculus.Demand → Bool
+keeps keep.Demanding d = is_demanding d
+keeps keep.Undemanding d = not (is_demanding d)
+keeps (keep.OtherThan l) d = not_literal l d
+keeps (keep.Branch c has_variables) d = goes_on has_variables (wants c) d
+
+-- patterns behind references
+abbrev pub patterns_at : List (Bor Pattern) → List clean.Pattern
+patterns_at ps = map (λ p. pattern_of p.now) ps
+
+abbrev pub row_of : Row → definition.Row
+row_of row = record {
+  patterns = patterns_at row.patterns.items;
+  names = row.own.items ++ names_of row.around.now;
+  body = term_of row.body.now;
+}
+
+abbrev pub all_rows : List Row → List definition.Row
+all_rows rows = map row_of rows
+
+-- the patterns for the n arguments of what stands at a position
+abbrev pub arguments_at : ℕ → ℕ → List clean.Pattern → List clean.Pattern
+arguments_at n k ps = elim (slice_get ps k) [ Some p ↦ arguments_of n p | None ↦ [] ]
+
+-- the row of an alternative, where the variables around it are called so
+abbrev pub alternative_row : definition.Names → ℕ → clean.Pattern → clean.Term → definition.Row
+alternative_row names position p t = record { patterns = p ∷ []; names = definition.names_at position p ++ names; body = t }
+
+-- constructors and then literals
+abbrev pub choices : List ConId → List Lit → List Choice
+choices cs ls = map choice.Constructor cs ++ map choice.Literal ls
+
+abbrev pub list_from_option : {A : Type 0} → Option A → List A
+list_from_option None = []
+list_from_option (Some x) = x ∷ []

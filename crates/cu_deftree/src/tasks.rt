@@ -1,0 +1,92 @@
+//! What is to be lowered, and how many expressions may still be made.
+ghost use Rattle.std.specs.Prelude.{◌≡◌, ◌+◌};
+ghost use Rattle.cu_deftree.specs.Inside.Tasks.{Spends, mode_of};
+ghost use Rattle.cu_deftree.specs.declared.tasks.Stop.TheVariants.{NoMemory};
+
+use crate::names::Names;
+use crate::rows::Row;
+use cu_kernel::{Mode, Term};
+use std::alloc::{AllocError, AllocFailed};
+
+/// Why something isn't lowered.
+#[derive(Clone, Copy)]
+pub(crate) enum Stop {
+    /// It would be of more expressions than may be made.
+    TooBig,
+    /// There is no memory left.
+    NoMemory,
+}
+
+impl From<AllocError> for Stop {
+    ghost from_gives = { λ _ stop. stop ≡ NoMemory };
+
+    fn from(_error: AllocError) -> Stop {
+        Stop::NoMemory
+    }
+}
+
+impl<T: Drop> From<AllocFailed<T>> for Stop {
+    ghost from_gives = { λ _ stop. stop ≡ NoMemory };
+
+    fn from(_failed: AllocFailed<T>) -> Stop {
+        Stop::NoMemory
+    }
+}
+
+/// What the variables around a term are called, and the number of the next
+/// variable that is bound.
+#[derive(Clone, Copy)]
+pub(crate) struct Scope<'a> {
+    pub(crate) names: &'a Names<'a>,
+    pub(crate) next: u32,
+}
+
+/// Rows over positions, and the number of the next variable that is bound.
+#[derive(Clone, Copy)]
+pub(crate) struct Matrix<'a> {
+    pub(crate) positions: &'a [u32],
+    pub(crate) next: u32,
+    pub(crate) rows: &'a [Row<'a>],
+}
+
+/// Where rows are from.
+#[derive(Clone, Copy)]
+pub(crate) enum Manner {
+    /// The rules of a function, of which each that matches counts.
+    Rules,
+    /// The alternatives of a case distinction, of which the first that
+    /// matches counts.
+    Alternatives(Mode),
+}
+
+/// What is to be lowered.
+#[derive(Clone, Copy)]
+pub(crate) enum Task<'a> {
+    /// A term in its scope.
+    Term(Scope<'a>, &'a Term),
+    /// Rows.
+    Rows(Manner, Matrix<'a>),
+}
+
+impl Manner {
+    /// The mode of the case distinctions that rows become.
+    pub(crate) fn mode(self) -> Mode
+        ensures { result ≡ mode_of self }
+    {
+        match self {
+            Manner::Rules => Mode::Flex,
+            Manner::Alternatives(mode) => mode,
+        }
+    }
+}
+
+/// Takes expressions from those that may still be made.
+pub(crate) fn spend(left: &mut u32, count: u32) -> Result<(), Stop>
+    ensures { Spends count left.old left.new result }
+{
+    if *left < count {
+        return Err(Stop::TooBig);
+    }
+    *left -= count;
+    Ok(())
+}
