@@ -1,5 +1,0 @@
-use Rattle.cu_desugar.proofs.Places.{places_are}
-use Rattle.cu_desugar.proofs.laws.local_functions_are_numbered.Goals as goal
-
-pub returns : goal.returns
-returns c = places_are
