@@ -3,8 +3,10 @@ pub mod BroughtLemmas
 pub mod BuiltInLemmas
 pub mod BuiltInTexts
 pub mod EntityLemmas
+pub mod ExportFaultLemmas
 pub mod ExportLemmas
 pub mod HidingLemmas
+pub mod ImportFaultLemmas
 pub mod ImportLemmas
 pub mod ImportedLemmas
 pub mod InternLemmas
@@ -15,10 +17,12 @@ pub mod LookUpLemmas
 pub mod MeaningLemmas
 pub mod NameLemmas
 pub mod OrderLemmas
+pub mod OutcomeLemmas
 pub mod OwnLemmas
 pub mod PathLemmas
 pub mod ReadLemmas
 pub mod ScopingLemmas
 pub mod StandsLemmas
+pub mod ToldLemmas
 pub mod VisitLemmas
 pub mod WalkLemmas

@@ -31,12 +31,12 @@ use Rattle.cu_modules.proofs.NameLemmas.{same_name}
 -- ---- lists
 
 -- tests that agree on what stands for what
-any_alike : {A B : Type 0} (P : A → Type 0) (f : A → B) (test : A → Bool) (other : B → Bool) → ((a : A) → P a → test a ≡ other (f a)) → (xs : List A) → All P xs
+pub any_alike : {A B : Type 0} (P : A → Type 0) (f : A → B) (test : A → Bool) (other : B → Bool) → ((a : A) → P a → test a ≡ other (f a)) → (xs : List A) → All P xs
     → list_any test xs ≡ list_any other (map f xs)
 any_alike P f test other same [] known = refl
 any_alike P f test other same (x ∷ xs) known = ap₂ (λ a b. a || b) (same x (All-head P x xs known)) (any_alike P f test other same xs (All-tail P x xs known))
 
-any_filtered : {A : Type 0} (test keep : A → Bool) (xs : List A) → list_any test (filter keep xs) ≡ list_any (λ x. keep x && test x) xs
+pub any_filtered : {A : Type 0} (test keep : A → Bool) (xs : List A) → list_any test (filter keep xs) ≡ list_any (λ x. keep x && test x) xs
 any_filtered test keep [] = refl
 any_filtered test keep (x ∷ xs) = by (keep x) (any_filtered test keep xs)
   where
@@ -55,7 +55,7 @@ pub called_by : (owner : NameId) (names : List (List ℕ)) (name : Name) (e : co
     → called name e ≡ is_called (name_meaning names name) (entity_meaning names e)
 called_by owner names name e differ own known = ap₂ (λ a b. a && b) (no_qualifier names name.qualifier) (same_name names name.base e.name differ own.base known.name)
 
-type_by : (names : List (List ℕ)) (s : sorts.Sort) → is_type_sort s ≡ is_type (sort_meaning names s)
+pub type_by : (names : List (List ℕ)) (s : sorts.Sort) → is_type_sort s ≡ is_type (sort_meaning names s)
 type_by names sort.Function = refl
 type_by names (sort.SetFunction n) = refl
 type_by names (sort.Constructor t) = refl

@@ -16,7 +16,7 @@ use Rattle.cu_entities.specs.NameTables.{KeyIsKnown, MeantIsKnown, Tells, count_
 use Rattle.cu_lex.specs.Reading.{position_of}
 use Rattle.cu_names.specs.declared.names.NameId.{NameId}
 use Rattle.cu_names.specs.declared.place.Place.{Place}
-use Rattle.cu_names.specs.Texts.{text_of}
+use Rattle.cu_names.specs.Texts.{IsKnown, text_of}
 use Rattle.cu_syntax.specs.Syntax.{Goal, Name}
 use Rattle.cu_uses.specs.declared.fault.Fault as faults
 use Rattle.cu_uses.specs.declared.fault.Wrong.{Wrong}
@@ -30,7 +30,7 @@ use Rattle.cu_modules.specs.declared.scopes.Scopes.{Scopes}
 use Rattle.cu_modules.specs.Inside.Scoping.{answer_for, only_one, wrong_at}
 use Rattle.cu_modules.specs.Means.{IsGoalScoped, IsGoalWrong, Means, interfaces_before}
 use Rattle.cu_modules.specs.Ordering.{module_of, modules_of}
-use Rattle.cu_modules.specs.ScopeAnswers.{AreScopes, IsNamed, TellsFault}
+use Rattle.cu_modules.specs.ScopeAnswers.{AreScopes, FaultIsKnown, IsNamed, TellsFault}
 use Rattle.cu_modules.specs.Scopes.{Named, meant, scope}
 
 -- ---- elements by number
@@ -135,3 +135,27 @@ goal_is_right names modules root scopes table goal owner are within index tells 
     let at = element (modules_of names modules) root inside in
     let there = slice_get_read scopes.tables.items (length (modules_of names modules)) root table (sym are.each) inside index in
     record { m = at.0; is_there = at.1; right = tells (scope (interfaces_before (modules_of names modules) root) at.0) (are.tells root at.0 table at.1 there) }
+
+-- ---- the names of a fault
+
+answer_known : (names : List (List ℕ)) (w : Wrong) (place : Place) (id : NameId) → IsKnown names place.«module» → IsKnown names id → FaultIsKnown names (answer_for w place id)
+answer_known names wrong.NotExported place id in_module known = (in_module, known)
+answer_known names wrong.UnknownName place id in_module known = (in_module, known)
+answer_known names wrong.Ambiguous place id in_module known = (in_module, known)
+answer_known names wrong.Duplicate place id in_module known = (in_module, known)
+
+pub fault_known : (owner : NameId) (names : List (List ℕ)) (all : List Fault) (f : faults.Fault) (result : ScopeFault) → IsKnown names owner → IsFirstIf owner names all (Some f) → result ≡ wrong_at f
+    → FaultIsKnown names result
+fault_known owner names all f result known found is =
+    subst (FaultIsKnown names) (sym is) (answer_known names f.wrong f.place f.name (subst (IsKnown names) (sym found.0.place) known) found.0.name)
+
+pub goal_known : (names : List (List ℕ)) (modules : List Module) (root : ℕ) (scopes : Scopes) (table : NameTable) (goal : Goal) (owner : NameId) (f : faults.Fault) (result : ScopeFault) → IsKnown names owner
+    → AreScopes names (modules_of names modules) scopes → root < length modules → table ≡ get_or scopes.tables.items root table
+    → ((bindings : List Binding) → Tells names bindings table → IsFirstIf owner names (demand_faults bindings (goal_demands goal)) (Some f))
+    → result ≡ wrong_at f → FaultIsKnown names result
+goal_known names modules root scopes table goal owner f result known are within index tells is =
+    let inside : root < length (modules_of names modules) = subst (λ n. root < n) (sym (length-map modules (module_of names))) within in
+    let at = element (modules_of names modules) root inside in
+    let there = slice_get_read scopes.tables.items (length (modules_of names modules)) root table (sym are.each) inside index in
+    let bindings = scope (interfaces_before (modules_of names modules) root) at.0 in
+    fault_known owner names (demand_faults bindings (goal_demands goal)) f result known (tells bindings (are.tells root at.0 table at.1 there)) is

@@ -4,5 +4,7 @@ pub mod Exporting
 pub mod Exports
 pub mod Imported
 pub mod Lists
+pub mod Outcome
 pub mod Scoped
 pub mod Scoping
+pub mod Telling

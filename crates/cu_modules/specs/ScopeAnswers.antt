@@ -28,6 +28,14 @@ TellsFault names P (answer.Ambiguous place id) = P (text_of names place.«module
 TellsFault names P (answer.Duplicate place id) = P (text_of names place.«module») (fault_at names wrong.Duplicate place id)
 TellsFault names P answer.NoMemory = Unit {0}
 
+-- A table has the names of an answer: that of the module, and that of the token.
+abbrev pub FaultIsKnown : List (List ℕ) → ScopeFault → Type 0
+FaultIsKnown names (answer.NotExported place id) = IsKnown names place.«module» × IsKnown names id
+FaultIsKnown names (answer.UnknownName place id) = IsKnown names place.«module» × IsKnown names id
+FaultIsKnown names (answer.Ambiguous place id) = IsKnown names place.«module» × IsKnown names id
+FaultIsKnown names (answer.Duplicate place id) = IsKnown names place.«module» × IsKnown names id
+FaultIsKnown names answer.NoMemory = Unit {0}
+
 -- A qualifier, if there is one, and what stands behind it are those of a name, and a table has them.
 pub record IsNamed (names : List (List ℕ)) (qualifier : Option NameId) (base : NameId) (name : Name) : Type 0 where
   pub qualifier_is : name.qualifier ≡ option_map (text_of names) qualifier

@@ -1,12 +1,15 @@
-//! Modules: which of them a root reaches by its imports.
+//! Modules: which of them a root reaches by its imports, and what names mean in
+//! them.
 #![tactic(auto)]
 
 mod binding;
 mod built_in;
 mod checking;
+mod export_faults;
 mod exporting;
 mod fault;
 mod hiding;
+mod import_faults;
 mod importing;
 mod imports;
 mod interfaces;
@@ -21,6 +24,7 @@ mod scope_fault;
 mod scoped;
 mod scopes;
 mod scoping;
+mod telling;
 mod visits;
 
 pub use fault::OrderFault;
@@ -28,4 +32,4 @@ pub use modules::Module;
 pub use ordering::order;
 pub use scope_fault::ScopeFault;
 pub use scopes::Scopes;
-pub use scoping::scope_goal;
+pub use scoping::{scope, scope_goal};

@@ -43,14 +43,14 @@ fn is_any(names: &[Name], entity: Entity) -> bool
 }
 
 /// Whether an entity is a constructor of a type of a name among others.
-fn is_beside(name: &Name, entities: &[Entity], entity: Entity) -> bool
+pub(crate) fn is_beside(name: &Name, entities: &[Entity], entity: Entity) -> bool
     ensures { result ≡ is_beside name.now entities.now entity }
 {
     entities.iter().any(|t| t.sort.is_type() && is_called(name, *t) && entity.is_constructor_of(*t))
 }
 
 /// Whether an entry names an entity among these exports.
-fn names_entity(entry: &syntax::Entity, exports: &[Entity], entity: Entity) -> bool
+pub(crate) fn names_entity(entry: &syntax::Entity, exports: &[Entity], entity: Entity) -> bool
     ensures { result ≡ lists_entity exports.now entity entry.now }
 {
     match entry {

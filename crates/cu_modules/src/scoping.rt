@@ -6,25 +6,95 @@ ghost use Rattle.cu_entities.specs.Entities as meant;
 ghost use Rattle.cu_entities.specs.EntityMeaning.{EntityIsKnown, entity_meaning, space_meaning};
 ghost use Rattle.cu_entities.specs.NameTables.{KeyIsKnown};
 ghost use Rattle.cu_modules.specs.BuiltInEntities.{HasBuiltIn};
+ghost use Rattle.cu_modules.specs.Inside.Exports.{AreInterfaces};
+ghost use Rattle.cu_modules.specs.Inside.Outcome.{IsRight, IsWrongIn};
 ghost use Rattle.cu_modules.specs.Inside.Scoping.{only_one, wrong_at};
 ghost use Rattle.cu_modules.specs.Means.{AreScoped, IsGoalScoped, IsGoalWrong, IsWrong, Means};
-ghost use Rattle.cu_modules.specs.Ordering.{AreOrdered, modules_of};
+ghost use Rattle.cu_modules.specs.Ordering.{AreOrdered, module_of, modules_of};
 ghost use Rattle.cu_modules.specs.Reading.{HasModule};
-ghost use Rattle.cu_modules.specs.ScopeAnswers.{AreScopes, IsNamed, TellsFault};
-ghost use Rattle.cu_modules.specs.Scopes.{Named};
-ghost use Rattle.cu_names.specs.Texts.{AllDiffer, text_of};
+ghost use Rattle.cu_modules.specs.ScopeAnswers.{AreScopes, FaultIsKnown, IsNamed, TellsFault};
+ghost use Rattle.cu_modules.specs.Scopes.{Interface, Named, exports_of};
+ghost use Rattle.cu_names.specs.Texts.{AllDiffer, IsKnown, text_of};
 ghost use Rattle.cu_names.specs.declared.names.NameId.{NameId};
 ghost use Rattle.cu_syntax.specs.Answer.{goal_meaning};
 ghost use Rattle.cu_syntax.specs.Owners.{GoalIsOf};
 ghost use Rattle.cu_syntax.specs.Syntax.{Name};
 
+use crate::checking::{exports, first_fault, scoped};
+use crate::interfaces::Interfaces;
+use crate::module_scope::ModuleScope;
+use crate::scoped::Scoped;
 use crate::scopes::Scopes;
 use crate::{Module, ScopeFault};
-use cu_entities::{Entity, Key, Meant, Space};
+use cu_entities::{Entity, Key, Meant, NameTable, Space};
 use cu_names::{NameId, Names};
 use cu_syntax::GoalText;
 use cu_uses::{Fault, FirstFault, Wrong, goal_faults};
 use std::alloc::Global;
+
+/// What names mean in modules, each of which stands behind those that it
+/// imports.
+///
+/// # Errors
+///
+/// The first fault of the names of the first module that has one, by its place
+/// in the text, and `NoMemory`.
+pub fn scope(alloc: Global, names: &Names, modules: &[Module]) -> Result<Scopes, ScopeFault>
+    requires built_in { HasBuiltIn names.now }
+    requires known { All (HasModule names.now) modules.now }
+    requires ordered { AreOrdered (modules_of names.now modules.now) }
+    ensures right { OnOk result (AreScoped [] (modules_of names.now modules.now)) }
+    ensures scopes { IfOk result (AreScopes names.now (modules_of names.now modules.now)) }
+    ensures wrong { IfErr result (TellsFault names.now (IsWrong (modules_of names.now modules.now))) }
+    ensures known { IfErr result (FaultIsKnown names.now) }
+{
+    let mut interfaces = Interfaces::new(alloc);
+    let mut tables = Vec::new(alloc);
+    'modules: for module in modules {
+        let table = scope_module(alloc, names, module, &mut interfaces)?;
+        tables.push(table)?;
+    }
+    Ok(Scopes { tables })
+}
+
+/// What names mean in one module. Its exports are added to the interfaces.
+fn scope_module(
+    alloc: Global,
+    names: &Names,
+    module: &Module,
+    interfaces: &mut Interfaces,
+) -> Result<NameTable, ScopeFault>
+    requires built_in { HasBuiltIn names.now }
+    requires has { HasModule names.now «module».now }
+    ensures right { (before : List Interface) → exports_of before (text_of names.now «module».now.name) ≡ [] → AreInterfaces names.now before interfaces.old
+        → IfOk result (λ table. IsRight names.now before (module_of names.now «module».now) table interfaces.new) }
+    ensures wrong { (before : List Interface) → AreInterfaces names.now before interfaces.old
+        → IfErr result (TellsFault names.now (IsWrongIn before (module_of names.now «module».now))) }
+    ensures known { (before : List Interface) → AreInterfaces names.now before interfaces.old
+        → IfErr result (FaultIsKnown names.now) }
+{
+    let _count = names.count();
+    let scoped = scoped(alloc, names, module, interfaces)?;
+    let found = first_fault(alloc, module, interfaces, &scoped)?;
+    if let Some(fault) = found {
+        return Err(of_fault(fault));
+    }
+    let exports = exports(alloc, module, interfaces, &scoped)?;
+    interfaces.add(module.name, exports)?;
+    Ok(table_of(scoped))
+}
+
+fn table_of(scoped: Scoped) -> NameTable
+    ensures { result ≡ scoped.scope.table }
+{
+    let Scoped {
+        own: _,
+        imports: _,
+        scope,
+    } = scoped;
+    let ModuleScope { table, bound: _ } = scope;
+    table
+}
 
 /// The scopes of modules, beside which a goal in the module of a number is right
 /// too. A goal's names mean there what they mean in that module.
@@ -48,6 +118,8 @@ pub fn scope_goal(
         → IfErr result (TellsFault names.now (λ name fault. (name ≡ text_of names.now owner)
         × IsGoalWrong (modules_of names.now modules.now) root (goal_meaning names.now goal.now) fault)) }
     ensures same { IfOk result (λ found. found ≡ scopes) }
+    ensures known { (owner : NameId) → IsKnown names.now owner → GoalIsOf owner names.now goal.now
+        → IfErr result (FaultIsKnown names.now) }
 {
     let _count = names.count();
     let mut first = FirstFault::new();

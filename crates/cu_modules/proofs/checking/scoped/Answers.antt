@@ -1,4 +1,4 @@
-use Rattle.std.proofs.Common.{◌∷◌, ◌++◌, List, None, map, subst, sym}
+use Rattle.std.proofs.Common.{◌∷◌, List, None, subst, sym}
 use Rattle.cu_entities.specs.declared.entities.Entity.{Entity}
 use Rattle.cu_syntax.specs.declared.items.Import.{Import}
 use Rattle.cu_names.specs.Texts.{text_of}

@@ -1,0 +1,20 @@
+-- What comes of one module, behind the interfaces of those before it.
+use Rattle.std.specs.Prelude.{◌≡◌, ℕ, List, [], ◌∷◌}
+use Rattle.cu_entities.specs.declared.name_table.NameTable.{NameTable}
+use Rattle.cu_entities.specs.NameTables.{Tells}
+use Rattle.cu_uses.specs.Faults.{Fault, IsFirst}
+use Rattle.cu_modules.specs.declared.interfaces.Interfaces.{Interfaces}
+use Rattle.cu_modules.specs.Faults.{faults}
+use Rattle.cu_modules.specs.Inside.Exports.{AreInterfaces}
+use Rattle.cu_modules.specs.Scopes.{Interface, Named, interfaces, scope}
+
+-- It has no fault. A table tells its scope, and its exports were added.
+pub record IsRight (names : List (List ℕ)) (before : List Interface) (m : Named) (table : NameTable) (after : Interfaces) : Type 0 where
+  pub right : faults before m ≡ []
+  pub tells : Tells names (scope before m) table
+  pub added : AreInterfaces names (interfaces before (m ∷ [])) after
+
+-- its first fault, in the module of this name
+pub record IsWrongIn (before : List Interface) (m : Named) (name : List ℕ) (fault : Fault) : Type 0 where
+  pub is_named : name ≡ m.name
+  pub is_first : IsFirst (faults before m) fault
