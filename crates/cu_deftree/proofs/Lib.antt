@@ -29,3 +29,7 @@ mod TaskWeights
 mod TreeNodes
 mod TaskSteps
 mod TreeExits
+mod LoweredFunctions
+mod CopiedParts
+mod KernelStays
+mod LoweredMeaning

@@ -1,5 +1,5 @@
 -- What terms are lowered to, node by node.
-use Rattle.std.proofs.Common.{◌≡◌, ℕ, zero, suc, ◌+◌, ◌<◌, ◌≤◌, Bool, true, false, List, [], ◌∷◌, ◌++◌, map, refl, ap, ap₂, sym, ◌∙◌, subst, arith, IsFalse, true≢false}
+use Rattle.std.proofs.Common.{◌≡◌, ℕ, suc, ◌+◌, false, List, [], ◌∷◌, ◌++◌, map, refl, ap, ap₂, sym, ◌∙◌, subst, arith, true≢false}
 use Rattle.std.specs.declared.alloc.Global.{Global}
 use Rattle.std.specs.declared.boxed.Box.{Box}
 use Rattle.std.specs.declared.vec.Vec.{Vec}
@@ -18,7 +18,7 @@ use Rattle.cu_deftree.specs.Inside.NamesOf.{names_of, names_of-With}
 use Rattle.cu_deftree.specs.declared.names.Names.TheVariants as scopes
 use Rattle.cu_deftree.specs.declared.tasks.Scope.{Scope}
 use Rattle.cu_deftree.specs.declared.tasks.Stop.{Stop}
-use Rattle.cu_deftree.specs.Inside.Tasks.{BothLower, Each, TaskLowers, TermLowers, Within, both_of, both_size, terms_in, terms_listed, total}
+use Rattle.cu_deftree.specs.Inside.Tasks.{Each, TermLowers, Within, both_size, terms_in, terms_listed, total}
 use Rattle.cu_deftree.specs.LoweredProgram.{size, sizes}
 use Rattle.cu_deftree.specs.Lowering as lowering
 use Rattle.cu_deftree.specs.Lowering.{AllLower, Distinguishes, Lowers, failure, is_variable, test_of}

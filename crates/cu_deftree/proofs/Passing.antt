@@ -1,13 +1,11 @@
 -- What is made within a number of expressions, from what its parts are.
-use Rattle.std.proofs.Common.{◌≡◌, ℕ, zero, suc, ◌+◌, ◌<◌, ◌≤◌, List, [], ◌∷◌, ◌++◌, drop, length, map, get_or, Result, Ok, Err, refl, ap, ap₂, sym, ◌∙◌, subst, arith, append_assoc, append-nil}
-use Rattle.std.proofs.lemmas.List.{at_drop_all, map-append}
+use Rattle.std.proofs.Common.{◌≡◌, ℕ, ◌+◌, ◌≤◌, List, [], ◌∷◌, ◌++◌, Result, Ok, Err, refl, ap, sym, ◌∙◌, subst, arith, append_assoc, append-nil}
 use Rattle.std.specs.Result.{IsErrAnd}
 use Rattle.cu_calculus.specs.Term as clean
 use Rattle.cu_deftree.specs.Inside.Tasks.{Each, Spends, Within, total}
 use Rattle.cu_deftree.specs.LoweredProgram.{size}
 use Rattle.cu_deftree.specs.declared.tasks.Stop.{Stop}
 use Rattle.cu_deftree.specs.declared.tasks.Stop.TheVariants as stop
-use Rattle.cu_deftree.proofs.NameLaws.{left}
 
 -- An error of a part is one of the whole, where whatever the whole is has a part that is smaller by what was taken before.
 pub stops : {A B C D : Type 0} (meaning : A → B) (measure : B → ℕ) (R : B → Type 0) (part : C → D) (weight : D → ℕ) (S : D → Type 0)

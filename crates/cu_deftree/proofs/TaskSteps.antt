@@ -1,24 +1,21 @@
 -- Pieces of work, one after the other, and how much there is in them.
-use Rattle.std.proofs.Common.{◌≡◌, ℕ, zero, suc, ◌+◌, ◌*◌, ◌<◌, ◌≤◌, ◌⊎◌, inl, inr, Bool, true, false, List, [], ◌∷◌, ◌++◌, drop, length, map, max, get_or, Option, None, Some, Result, Ok, Err, refl, ap, ap₂, sym, ◌∙◌, subst, arith, add-one, drop-cons}
+use Rattle.std.proofs.Common.{◌≡◌, ℕ, zero, suc, ◌+◌, ◌*◌, ◌<◌, List, [], ◌∷◌, drop, length, max, get_or, Ok, Err, ap, sym, subst, arith}
 use Rattle.std.specs.declared.alloc.Global.{Global}
 use Rattle.std.specs.declared.boxed.Box.{Box}
 use Rattle.cu_calculus.specs.Program.{Program}
 use Rattle.cu_calculus.specs.Term as clean
-use Rattle.cu_calculus.specs.Choose.{leftmost}
 use Rattle.cu_deftree.specs.Inside.NamesOf.{names_of}
-use Rattle.cu_deftree.specs.Inside.RowsOf.{all_rows, patterns_at, row_of}
-use Rattle.cu_deftree.specs.Inside.Tasks.{BothLower, IsOpened, TaskLowers, Within, both_of, both_size}
+use Rattle.cu_deftree.specs.Inside.RowsOf.{all_rows, row_of}
+use Rattle.cu_deftree.specs.Inside.Tasks.{BothLower, TaskLowers, Within, both_of, both_size}
 use Rattle.cu_deftree.specs.LoweredProgram.{size}
-use Rattle.cu_deftree.specs.Rows.{Row, demand_at, demands, rows_of, specialize}
 use Rattle.cu_deftree.specs.declared.rows.Row as code
 use Rattle.cu_deftree.specs.declared.tasks.Stop.{Stop}
 use Rattle.cu_deftree.specs.declared.tasks.Task.TheVariants as task
 use Rattle.cu_deftree.specs.declared.tasks.Task.{Task}
 use Rattle.cu_deftree.proofs.OneTree.{lowers_one}
 use Rattle.cu_deftree.proofs.Passing.{stops}
-use Rattle.cu_deftree.proofs.TaskWeights.{task_weight}
 use Rattle.cu_deftree.proofs.TreeNodes.{rows_one}
-use Rattle.cu_deftree.proofs.Weights.{rows_weight, term_weight, terms_weight}
+use Rattle.cu_deftree.proofs.Weights.{term_weight, terms_weight}
 use Rattle.cu_kernel.specs.TermsOf.{term_of, terms_of}
 use Rattle.cu_kernel.specs.declared.term.Term.{Term}
 

@@ -1,5 +1,5 @@
 -- What rows are lowered to, node by node.
-use Rattle.std.proofs.Common.{◌≡◌, ℕ, zero, suc, ◌+◌, ◌<◌, ◌≤◌, Bool, true, false, not, ◌||◌, ◌&&◌, cond, List, [], ◌∷◌, ◌++◌, filter, map, append-nil, length, get_or, Option, None, Some, slice_get, refl, ap, ap₂, sym, ◌∙◌, subst, arith}
+use Rattle.std.proofs.Common.{◌≡◌, ℕ, ◌+◌, Bool, true, false, not, ◌||◌, ◌&&◌, cond, List, [], ◌∷◌, filter, map, append-nil, Option, None, Some, slice_get, refl, ap, ap₂, sym, ◌∙◌, subst, arith}
 use Rattle.std.specs.List.{list_any}
 use Rattle.cu_calculus.specs.declared.ConId.{ConId}
 use Rattle.cu_calculus.specs.declared.FunId.{FunId}

@@ -3,3 +3,6 @@ pub mod NamesOf
 pub mod RowsOf
 pub mod Tasks
 pub mod Ready
+pub mod Functions
+pub mod Outcome
+pub mod OtherFunctions

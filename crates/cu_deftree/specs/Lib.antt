@@ -2,4 +2,5 @@
 pub mod Rows
 pub mod Lowering
 pub mod LoweredProgram
+pub mod NotLowered
 pub mod Inside

@@ -44,7 +44,11 @@ struct Opened<'a> {
 }
 
 /// So many numbers from this one on, and the number behind them.
-fn fresh_numbers(alloc: Global, next: u32, count: usize) -> Result<(Vec<u32>, u32), AllocError>
+pub(crate) fn fresh_numbers(
+    alloc: Global,
+    next: u32,
+    count: usize,
+) -> Result<(Vec<u32>, u32), AllocError>
     ensures { IfOk result (λ both. (both.0.items ≡ numbers next count) × (both.1 ≡ next + count)) }
 {
     if count >= (u32::MAX - next) as usize {

@@ -8,11 +8,11 @@ use cu_names::{NameId, Place};
 use std::alloc::{AllocError, Global};
 
 /// The name of everything.
-const NAME: NameId = NameId(0);
+pub(crate) const NAME: NameId = NameId(0);
 
-const FALSE: ConId = ConId(17);
+pub(crate) const FALSE: ConId = ConId(17);
 
-const TRUE: ConId = ConId(18);
+pub(crate) const TRUE: ConId = ConId(18);
 
 const ENTITIES: Special = Special {
     falsity: FALSE,
@@ -94,7 +94,7 @@ fn both_rule(alloc: Global, first: ConId, body: Term) -> Result<Rule, AllocError
 }
 
 /// True && x = x, and False && _ = False
-fn both(alloc: Global) -> Result<Function, AllocError> {
+pub(crate) fn both(alloc: Global) -> Result<Function, AllocError> {
     let mut rules = Vec::new(alloc);
     rules.push(both_rule(alloc, TRUE, Term::Var(0))?)?;
     rules.push(both_rule(alloc, FALSE, constant(alloc, FALSE))?)?;
@@ -168,8 +168,7 @@ fn modules(alloc: Global) -> Result<Vec<ModuleInfo>, AllocError> {
     Ok(modules)
 }
 
-fn parts(alloc: Global, rows: &[&[Head]]) -> Result<ProgramParts, AllocError> {
-    let functions = functions(alloc, rows)?;
+fn parts(alloc: Global, functions: Vec<Function>) -> Result<ProgramParts, AllocError> {
     let marks = marks(alloc, functions.as_slice())?;
     Ok(ProgramParts {
         types: types(alloc)?,
@@ -182,11 +181,20 @@ fn parts(alloc: Global, rows: &[&[Head]]) -> Result<ProgramParts, AllocError> {
     })
 }
 
-/// A program of `&&` and of functions that mention these.
-pub(crate) fn program(alloc: Global, rows: &[&[Head]]) -> Result<Option<Program>, AllocError> {
-    let parts = parts(alloc, rows)?;
+/// A program of these functions, of which the first is `&&`, if it is valid.
+pub(crate) fn program_of(
+    alloc: Global,
+    functions: Vec<Function>,
+) -> Result<Option<Program>, AllocError> {
+    let parts = parts(alloc, functions)?;
     if parts.valid()? {
         return Ok(Some(Program::new(parts)));
     }
     Ok(None)
+}
+
+/// A program of `&&` and of functions that mention these.
+pub(crate) fn program(alloc: Global, rows: &[&[Head]]) -> Result<Option<Program>, AllocError> {
+    let functions = functions(alloc, rows)?;
+    program_of(alloc, functions)
 }

@@ -1,4 +1,5 @@
-//! Tests of lambda lifting and of dependency groups, over their public calls.
+//! Tests of lambda lifting, of dependency groups and of lowering, over their
+//! public calls.
 #![tactic(auto)]
 
 #[cfg(test)]
@@ -7,3 +8,7 @@ mod captured_variables;
 mod chooser_programs;
 #[cfg(test)]
 mod dependency_groups;
+#[cfg(test)]
+mod kernel_functions;
+#[cfg(test)]
+mod lowered_programs;

@@ -1,5 +1,5 @@
 -- The rows that the code works on.
-use Rattle.std.specs.Prelude.{ℕ, Option, Bool, true, not, List, ◌∷◌, [], ◌++◌, Some, None, map, slice_get}
+use Rattle.std.specs.Prelude.{ℕ, Option, Bool, not, List, ◌∷◌, [], ◌++◌, Some, None, map, slice_get}
 use denote.Ref.{Bor}
 use Rattle.cu_calculus.specs.Choose as calculus
 use Rattle.cu_calculus.specs.Choose.{arguments_of, is_demanding, not_literal, wants_constructor, wants_literal}

@@ -1,7 +1,6 @@
 -- What the code makes of terms and rows, within a number of expressions.
 use Rattle.std.specs.Prelude.{◌≡◌, ◌<◌, ℕ, ◌+◌, Bool, true, not, List, [], ◌∷◌, Some, None, Result, Ok, Err, map, slice_get}
 use Rattle.std.specs.List.{list_any}
-use denote.Ref.{Bor}
 use Rattle.std.specs.declared.alloc.Global.{Global}
 use Rattle.std.specs.declared.boxed.Box.{Box}
 use Rattle.std.specs.declared.vec.Vec.{Vec}
@@ -10,11 +9,10 @@ use Rattle.cu_calculus.specs.Program.{Program}
 use Rattle.cu_calculus.specs.Term as clean
 use Rattle.cu_calculus.specs.declared.Mode.{Mode}
 use Rattle.cu_calculus.specs.declared.Mode.TheVariants.{Flex}
-use Rattle.cu_calculus.specs.declared.builtin.Primitive.TheVariants as prim
 use Rattle.cu_deftree.specs.Inside.NamesOf.{names_of}
 use Rattle.cu_deftree.specs.Inside.RowsOf.{all_rows, wants}
 use Rattle.cu_deftree.specs.LoweredProgram.{size}
-use Rattle.cu_deftree.specs.Lowering.{Distinguishes, IsOperation, Lowers, Tree, goes_on, variables}
+use Rattle.cu_deftree.specs.Lowering.{Distinguishes, Lowers, Tree, goes_on, variables}
 use Rattle.cu_deftree.specs.Rows.{Row, constructor_arity, demand_at, demanded_by_all, demands, numbers, specialize}
 use Rattle.cu_deftree.specs.declared.patterns.Choice.{Choice}
 use Rattle.cu_deftree.specs.declared.patterns.Choice.TheVariants as choice

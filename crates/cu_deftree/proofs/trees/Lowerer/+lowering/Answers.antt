@@ -1,32 +1,29 @@
-use Rattle.std.proofs.Common.{rules, ◌≡◌, ◌<◌, ◌+◌, ◌∷◌, ◌++◌, [], List, ℕ, arith, ap, ap₂, sym, ◌∙◌, refl, subst, length, map, drop}
+use Rattle.std.proofs.Common.{rules, ◌+◌, ◌∷◌, [], List, arith, ap, ap₂, sym, ◌∙◌, refl, length, map, drop}
 use Rattle.cu_calculus.specs.Term as clean
 use Rattle.cu_deftree.specs.declared.tasks.Manner.TheVariants as manner
-use Rattle.cu_deftree.specs.declared.tasks.Task.TheVariants as task
 use Rattle.cu_deftree.specs.declared.patterns.Choice.{Choice}
 use Rattle.cu_deftree.specs.Inside.NamesOf.{names_of}
 use Rattle.cu_deftree.specs.Inside.RowsOf.{all_rows, demand_meaning, wants}
-use Rattle.cu_deftree.specs.Inside.Tasks.{BothLower, BranchLowers, CaseLowers, Each, FirstDemands, IsFree, IsMixed, IsOpened, IsSplit, MatrixLowers, RowsLower, TaskLowers, TermLowers, Within, both_of, both_size, branch_of, branch_pattern, branch_size, branches_of, opened_count, terms_in, total}
+use Rattle.cu_deftree.specs.Inside.Tasks.{BranchLowers, TermLowers, both_of, both_size, branch_of, branch_pattern, branch_size, branches_of, terms_in, total}
 use Rattle.cu_deftree.specs.LoweredProgram.{size}
-use Rattle.cu_deftree.specs.Inside.Ready.{IsReady, program_in}
-use Rattle.cu_deftree.proofs.Nodes.{Two, apply_in, apply_is, case_is, free_is, let_is, literal_done, or_in, or_is, part_in, part_is, variable_done, whole_in, whole_is, apply_node, as_term, free_in, free_node, let_in, let_node, part_written, whole_written, or_node, part_node, term_case_node, variable_case_node, whole_node}
-use Rattle.cu_deftree.proofs.Passing.{begun, begun_with, finished, gone_on, gone_wrong, node_done, node_exit, node_ok, node_spent, node_stops, one_spent, passed_on, spent_exit, through}
-use Rattle.cu_deftree.proofs.TreeViews.{tree_case}
-use Rattle.cu_deftree.proofs.TaskSteps.{both_done, first_row, first_stops, in_terms, second_stops, task_one}
+use Rattle.cu_deftree.specs.Inside.Ready.{program_in}
+use Rattle.cu_deftree.proofs.Nodes.{apply_in, apply_is, case_is, free_is, let_is, literal_done, or_in, or_is, part_in, part_is, variable_done, whole_in, whole_is, as_term, free_in, let_in, part_written, whole_written}
+use Rattle.cu_deftree.proofs.Passing.{begun_with, finished, gone_on, gone_wrong, node_exit, node_ok, one_spent, passed_on, spent_exit, through}
+use Rattle.cu_deftree.proofs.TaskSteps.{both_done, first_stops, in_terms, second_stops}
 use Rattle.std.proofs.Common.{get_or, take, ◌-◌}
-use Rattle.std.specs.Prelude.{not, true, false}
+use Rattle.std.specs.Prelude.{true, false}
 use Rattle.cu_deftree.specs.Lowering.{goes_on, literal_case}
 use Rattle.cu_calculus.specs.Choose.{wants_literal}
 use Rattle.cu_deftree.specs.Inside.Tasks.{mode_of}
 use Rattle.cu_deftree.proofs.RowSteps.{some_rows}
-use Rattle.std.specs.Prelude.{Some}
 use Rattle.cu_deftree.proofs.TreeExits.{no_rows, failing_tree, failing_cases, cases_less, variable_case_in, term_case_in, case_written, literal_in, other_literals_less, all_case_in, body_lighter, demanding_less, demands_first, first_case_in, left_at, mixed_first, never_nothing, opened_common, opened_first, opened_lighter, opened_mixed, others_less, overlap_in, rest_is, rest_lighter, some_mixed, split_first, tree_case_in, as_case_out, branch_in, first_in, get_at, is_free, rule_in, some_free, split_in}
-use Rattle.cu_deftree.proofs.TreeNodes.{rows_one, all_as_case, branch_node, branch_one, case_node, first_as_case, literal_node, overlap_node, rule_node, split_node, taken_node, tree_as_case}
+use Rattle.cu_deftree.proofs.TreeNodes.{branch_one, case_node}
 use Rattle.std.proofs.lemmas.List.{at_drop_all, map-append}
 use Rattle.cu_deftree.proofs.NameLaws.{left}
 use Rattle.cu_deftree.proofs.OneTree.{lowers_one}
-use Rattle.cu_deftree.proofs.Weights.{rows_weight, term_weight, terms_weight}
+use Rattle.cu_deftree.proofs.Weights.{term_weight}
 use Rattle.cu_kernel.specs.declared.term.Term.{Term}
-use Rattle.cu_kernel.specs.TermsOf.{alternatives_of, pattern_of, term_of, term_of-Apply, term_of-Case, term_of-Free, term_of-Let, term_of-Lit, term_of-Or, term_of-Part, term_of-Var, term_of-Whole, terms_of}
+use Rattle.cu_kernel.specs.TermsOf.{alternatives_of, term_of, term_of-Apply, term_of-Free, term_of-Let, term_of-Or}
 use Rattle.cu_deftree.proofs.trees.Lowerer.+lowering.Goals as goal
 
 pub binding-returns-in_err-spend : goal.binding-returns-in_err-spend

@@ -1,5 +1,4 @@
 use Rattle.std.proofs.Common.{◌+◌, ◌*◌, drop, max}
-use Rattle.cu_calculus.specs.Term as clean
 use Rattle.cu_deftree.specs.Inside.Ready.{program_in}
 use Rattle.cu_deftree.specs.Inside.RowsOf.{all_rows}
 use Rattle.cu_deftree.specs.Inside.Tasks.{BranchLowers, TermLowers, branch_size, branches_of, terms_in}

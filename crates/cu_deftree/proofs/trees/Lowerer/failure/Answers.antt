@@ -1,7 +1,6 @@
 use Rattle.std.proofs.Common.{ap, arith}
 use Rattle.cu_deftree.specs.LoweredProgram.{size}
 use Rattle.cu_deftree.proofs.Nodes.{failure_written}
-use Rattle.cu_deftree.proofs.Passing.{node_done}
 use Rattle.cu_deftree.proofs.trees.Lowerer.failure.Goals as goal
 
 pub returns : goal.returns

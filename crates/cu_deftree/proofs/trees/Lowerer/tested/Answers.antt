@@ -1,6 +1,5 @@
 use Rattle.cu_kernel.specs.Heads.{heads_program}
 use Rattle.cu_deftree.proofs.Nodes.{literal_written}
-use Rattle.cu_deftree.proofs.TaskSteps.{both_done}
 use Rattle.cu_deftree.proofs.trees.Lowerer.tested.Goals as goal
 
 pub returns : goal.returns
