@@ -1,0 +1,16 @@
+pub mod Counts
+pub mod TypeLists
+pub mod BinderSteps
+pub mod FreeSteps
+pub mod Tests
+pub mod UseLemmas
+pub mod FreeLemmas
+pub mod LetLemmas
+pub mod CapturingSteps
+pub mod ScopedLemmas
+pub mod ScopedSteps
+pub mod FirstTypeLemmas
+pub mod LocalVariants
+pub mod LocalBoth
+pub mod JoinedLemmas
+pub mod PartLemmas
