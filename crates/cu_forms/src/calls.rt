@@ -119,7 +119,12 @@ fn set_call(
         return no_term(alloc);
     };
     let _name = arguments.remove(0);
-    call(alloc, LocalHead::Global(Head::Set(function)), count, arguments)
+    call(
+        alloc,
+        LocalHead::Global(Head::Set(function)),
+        count,
+        arguments,
+    )
 }
 
 /// What a name refers to, on arguments, where the first of these may be a name
