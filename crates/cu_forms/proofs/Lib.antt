@@ -1,0 +1,5 @@
+pub mod ScopeLemmas
+pub mod CallLemmas
+pub mod ListLemmas
+pub mod VariableLemmas
+pub mod OrderLemmas

@@ -1,0 +1,4 @@
+-- In the order in which to read them.
+pub mod Scopes
+pub mod Variables
+pub mod Inside

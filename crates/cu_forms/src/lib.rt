@@ -1,0 +1,13 @@
+//! Translation of source forms to terms before lifting.
+#![tactic(auto)]
+
+mod calls;
+mod lists;
+mod names;
+mod scope;
+mod tree_order;
+mod variables;
+
+pub use names::{fixity_at, referent};
+pub use scope::Scope;
+pub use variables::{all_pattern_variables, pattern_variables};
