@@ -17,6 +17,8 @@ mod modules;
 #[cfg(test)]
 mod names;
 #[cfg(test)]
+mod scopes;
+#[cfg(test)]
 mod tables;
 #[cfg(test)]
 mod tokens;
