@@ -1,0 +1,9 @@
+pub mod DeclarationLemmas
+pub mod EntityLemmas
+pub mod FixityLemmas
+pub mod GivenLemmas
+pub mod HeadLemmas
+pub mod ListingLemmas
+pub mod NameLemmas
+pub mod TopLemmas
+pub mod TupleLemmas

@@ -1,0 +1,4 @@
+pub mod Commas
+pub mod Gathering
+pub mod Given
+pub mod Heads
