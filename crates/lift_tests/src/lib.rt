@@ -4,6 +4,10 @@
 #[cfg(test)]
 mod captured_variables;
 #[cfg(test)]
+mod checked_parts;
+#[cfg(test)]
 mod chooser_programs;
 #[cfg(test)]
 mod dependency_groups;
+#[cfg(test)]
+mod local_programs;
