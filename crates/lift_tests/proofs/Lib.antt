@@ -1,1 +1,2 @@
 pub mod CapturingScope
+pub mod NameLemmas

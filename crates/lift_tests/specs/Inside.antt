@@ -1,1 +1,2 @@
 pub mod CapturingSample
+pub mod Naming

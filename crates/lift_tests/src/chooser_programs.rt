@@ -14,7 +14,7 @@ pub(crate) const FALSE: ConId = ConId(17);
 
 pub(crate) const TRUE: ConId = ConId(18);
 
-const ENTITIES: Special = Special {
+pub(crate) const ENTITIES: Special = Special {
     falsity: FALSE,
     truth: TRUE,
     nil: ConId(0),
@@ -67,7 +67,7 @@ fn push_type(
 
 /// The list, unit, the tuples, `Int`, `Char`, `Bool`, and the type of the
 /// values of set functions.
-fn types(alloc: Global) -> Result<Vec<DataType>, AllocError> {
+pub(crate) fn types(alloc: Global) -> Result<Vec<DataType>, AllocError> {
     let mut types = Vec::new(alloc);
     push_type(alloc, &mut types, 1, &[0, 2])?;
     push_type(alloc, &mut types, 0, &[0])?;
@@ -158,7 +158,7 @@ fn marks(alloc: Global, functions: &[Function]) -> Result<Vec<Mark>, AllocError>
     Ok(marks)
 }
 
-fn modules(alloc: Global) -> Result<Vec<ModuleInfo>, AllocError> {
+pub(crate) fn modules(alloc: Global) -> Result<Vec<ModuleInfo>, AllocError> {
     let mut modules = Vec::new(alloc);
     modules.push(ModuleInfo {
         name: NAME,
