@@ -5,5 +5,6 @@ pub mod GivenLemmas
 pub mod HeadLemmas
 pub mod ListingLemmas
 pub mod NameLemmas
+pub mod SpecialLemmas
 pub mod TopLemmas
 pub mod TupleLemmas

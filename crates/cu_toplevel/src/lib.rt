@@ -9,6 +9,7 @@ mod fixities;
 mod function_heads;
 mod given;
 mod listing;
+mod special;
 mod top_names;
 mod tuples;
 
