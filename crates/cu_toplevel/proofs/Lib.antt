@@ -5,5 +5,7 @@ pub mod GivenLemmas
 pub mod HeadLemmas
 pub mod ListingLemmas
 pub mod NameLemmas
+pub mod OperatorLemmas
+pub mod SpecialLemmas
 pub mod TopLemmas
 pub mod TupleLemmas

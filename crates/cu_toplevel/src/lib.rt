@@ -9,6 +9,8 @@ mod fixities;
 mod function_heads;
 mod given;
 mod listing;
+mod operators;
+mod special;
 mod top_names;
 mod tuples;
 
@@ -16,4 +18,5 @@ pub use built_in::BuiltInType;
 pub use entities::Entities;
 pub use function_heads::{FunctionHead, heads};
 pub use listing::Numbered;
+pub use operators::fixity_declarations;
 pub use top_names::TopNames;
