@@ -199,3 +199,15 @@ pub pushed_all : {X T Y : Type 0} (g : T → Y) (f : X → Y) (xs : List X) (i :
     → map g done ++ map f (drop i xs) ≡ whole → map g done ≡ whole
 pushed_all g f xs i done whole past before =
     sym (append-nil (map g done)) ∙ ap (λ ys. map g done ++ map f ys) (sym (drop_all i xs past)) ∙ before
+
+pub pushed_plain : {X Y : Type 0} (f : X → Y) (xs : List X) (i : ℕ) (d : X) (done after : List Y) (y : Y) (whole : List Y) → i < length xs
+    → after ≡ done ++ y ∷ [] → y ≡ f (get_or xs i d) → done ++ map f (drop i xs) ≡ whole → after ++ map f (drop (i + 1) xs) ≡ whole
+pushed_plain f xs i d done after y whole within pushed same before =
+    ap (λ ys. ys ++ map f (drop (i + 1) xs)) pushed
+    ∙ append_assoc done (y ∷ []) (map f (drop (i + 1) xs))
+    ∙ ap (λ ys. done ++ ys) (ap₂ (λ z n. z ∷ map f (drop n xs)) same (add-one i) ∙ sym (ap (map f) (drop-cons xs i d within)))
+    ∙ before
+
+pub pushed_plain_all : {X Y : Type 0} (f : X → Y) (xs : List X) (i : ℕ) (done whole : List Y) → length xs ≤ i → done ++ map f (drop i xs) ≡ whole → done ≡ whole
+pushed_plain_all f xs i done whole past before =
+    sym (append-nil done) ∙ ap (λ ys. done ++ map f ys) (sym (drop_all i xs past)) ∙ before

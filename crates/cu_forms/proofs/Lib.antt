@@ -3,3 +3,4 @@ pub mod CallLemmas
 pub mod ListLemmas
 pub mod VariableLemmas
 pub mod OrderLemmas
+pub mod PatternLemmas

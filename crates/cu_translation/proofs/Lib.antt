@@ -5,4 +5,4 @@ mod Marked
 mod Members
 mod Places
 mod Settling
-mod Trees
+pub mod Trees
