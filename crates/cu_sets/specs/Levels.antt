@@ -1,0 +1,35 @@
+-- What branches of a level became, before what the others become.
+use Rattle.std.specs.Prelude.{List, ◌++◌, map}
+use Rattle.cu_calculus.specs.Value.{Value}
+use Rattle.cu_machine.specs.Graph.{Graph}
+use Rattle.cu_machine.specs.Next.{Blocked, Halts, LevelEvent, On}
+use Rattle.cu_machine.specs.State.{State}
+use Rattle.cu_step.specs.Outcome.{state_of}
+use Rattle.cu_sets.specs.declared.level.Ending.{Ending}
+use Rattle.cu_sets.specs.declared.level.Ending.TheVariants as ending
+use Rattle.cu_sets.specs.declared.level.Level as code
+use Rattle.cu_sets.specs.declared.level.Stepped as code_event
+use Rattle.cu_sets.specs.declared.level.Stepped.TheVariants as stepped
+
+-- the values that were found, and the states that follow
+pub record Level : Type 0 where
+  pub values : List Value
+  pub states : List State
+
+abbrev pub level_of : {S : Type 0} → (S → Graph) → code.Level S → Level
+level_of content level = record { values = level.values.items; states = map (state_of content) level.branches.items }
+
+abbrev pub before : Level → LevelEvent → LevelEvent
+before level (On values states) = On (level.values ++ values) (level.states ++ states)
+before level Blocked = Blocked
+before level (Halts stop) = Halts stop
+
+-- what ends the search
+abbrev pub ended : Ending → LevelEvent
+ended ending.Blocked = Blocked
+ended (ending.Halted stop) = Halts stop
+
+-- what became of a whole level
+abbrev pub event_of : {S : Type 0} → (S → Graph) → code_event.Stepped S → LevelEvent
+event_of content (stepped.On level) = On level.values.items (map (state_of content) level.branches.items)
+event_of content (stepped.Ended e) = ended e

@@ -1,0 +1,4 @@
+pub mod Delivered
+pub mod Levels
+pub mod Nesting
+pub mod Onward

@@ -1,0 +1,13 @@
+-- Whether exactly one branch follows.
+use Rattle.std.specs.Prelude.{◌≡◌, [], ◌∷◌, None}
+use Rattle.cu_machine.specs.Graph.{Graph}
+use Rattle.cu_machine.specs.Run.{only_state}
+use Rattle.cu_step.specs.Outcome.{branches_of, next_of}
+use Rattle.cu_step.specs.declared.Outcome.{Outcome}
+use Rattle.cu_sets.specs.declared.runs.Onward.{Onward}
+use Rattle.cu_sets.specs.declared.runs.Onward.TheVariants as onward
+
+-- the only branch that an outcome goes on as, or else the outcome itself
+abbrev pub GoesOnward : {S : Type 0} → (S → Graph) → Outcome S → Onward S → Type 0
+GoesOnward content outcome (onward.Only branch) = branches_of outcome ≡ branch ∷ []
+GoesOnward content outcome (onward.Other same) = (same ≡ outcome) × (only_state (next_of content outcome) ≡ None)

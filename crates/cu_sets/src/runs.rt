@@ -1,0 +1,79 @@
+//! Several steps of a branch at once.
+ghost use Rattle.std.specs.Prelude.{◌≡◌, IfOk, IsFalse};
+ghost use Rattle.std.specs.List.{All};
+ghost use Rattle.cu_machine.specs.Run.{run};
+ghost use Rattle.cu_machine.specs.Validity.{IsValid};
+ghost use Rattle.cu_sets.specs.Onward.{GoesOnward};
+ghost use Rattle.cu_step.specs.Outcome.{branches_of, is_inner, next_of, state_of};
+ghost use Rattle.cu_step.specs.declared.Outcome.TheVariants.{Go};
+
+use crate::advance;
+use cu_flat::FlatProgram;
+use cu_graph::Store;
+use cu_machine::Limits;
+use cu_step::{Branch, Outcome};
+use std::alloc::{AllocError, Global};
+
+/// What becomes of a branch, by whether exactly one follows.
+#[derive(Drop)]
+enum Onward<S> {
+    /// This one alone does.
+    Only(Branch<S>),
+    /// Anything else becomes of it.
+    Other(Outcome<S>),
+}
+
+/// Whether exactly one branch follows.
+fn only_branch_of<S: Store>(outcome: Outcome<S>) -> Onward<S>
+    requires { IsFalse (is_inner outcome) }
+    ensures { GoesOnward S.content outcome result }
+{
+    match outcome {
+        Outcome::Go(branches) => only(branches),
+        outcome => Onward::Other(outcome),
+    }
+}
+
+/// Whether branches are exactly one.
+fn only<S: Store>(branches: Vec<Branch<S>>) -> Onward<S>
+    ensures { GoesOnward S.content (Go branches) result }
+{
+    if branches.len() != 1 {
+        return Onward::Other(Outcome::Go(branches));
+    }
+    let mut branches = branches;
+    match branches.pop() {
+        Some(branch) => Onward::Only(branch),
+        None => unreachable!(),
+    }
+}
+
+/// Takes a branch on for up to so many steps, which are one or more, while
+/// exactly one branch follows: what becomes of it then. An `Err` says what it
+/// says of [`advance`].
+pub fn run<S: Store>(
+    alloc: Global,
+    program: &FlatProgram,
+    branch: Branch<S>,
+    limits: &Limits,
+    stride: u64,
+) -> Result<Outcome<S>, AllocError>
+    requires valid { IsValid program.now (state_of S.content branch) }
+    ensures run { IfOk result (λ outcome. next_of S.content outcome
+        ≡ run stride program.now limits.now (state_of S.content branch)) }
+    ensures inner { IfOk result (λ outcome. IsFalse (is_inner outcome)) }
+    ensures valid { IfOk result (λ outcome. All (λ branch. IsValid program.now (state_of S.content branch))
+        (branches_of outcome)) }
+{
+    let mut branch = branch;
+    let mut more = stride.saturating_sub(1);
+    'steps: while more > 0 {
+        let outcome = advance(alloc, program, branch, limits)?;
+        match only_branch_of(outcome) {
+            Onward::Only(next) => branch = next,
+            Onward::Other(outcome) => return Ok(outcome),
+        }
+        more -= 1;
+    }
+    advance(alloc, program, branch, limits)
+}
