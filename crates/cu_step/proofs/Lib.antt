@@ -1,4 +1,5 @@
 pub mod Advances
+pub mod BranchStates
 pub mod Builds
 pub mod Finds
 pub mod Frames
@@ -17,8 +18,10 @@ pub mod Occurrences
 pub mod Operands
 pub mod Orders
 pub mod Ordinals
+pub mod Pushings
 pub mod Readings
 pub mod Reversals
+pub mod SetCalls
 pub mod StepLemmas
 pub mod Steps
 pub mod Tasks

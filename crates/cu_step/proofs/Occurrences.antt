@@ -1,20 +1,25 @@
--- The occurs check looks at the arguments of each node once: a node that is met again reaches the variable only by way of a
+-- A search looks at the arguments of each node once: a node that is met again reaches what is sought only by way of a
 -- lower one, which is still to be looked at.
-use Rattle.std.proofs.Common.{◌≡◌, ◌≢◌, ℕ, zero, suc, ◌+◌, ◌<◌, ◌≤◌, Bool, true, false, not, ◌&&◌, ◌||◌, List, [], ◌∷◌, ◌++◌, if◌then◌else◌, refl, ap, sym, ◌∙◌, subst, length, set, replicate, reverse, nat_eq, ltb, arith, append-nil, eq-eqb, eqb-true, get_or-set_other}
+use Rattle.std.proofs.Common.{◌≡◌, ◌≢◌, ℕ, zero, suc, ◌+◌, ◌<◌, ◌≤◌, Bool, true, false, not, ◌&&◌, ◌||◌, List, [], ◌∷◌, ◌++◌, if◌then◌else◌, refl, ap, sym, ◌∙◌, subst, length, map, set, replicate, reverse, nat_eq, ltb, arith, append-nil, eq-eqb, eqb-true, get_or-set_other}
 use Rattle.std.specs.List.{list_all, list_any}
 use Rattle.std.proofs.lemmas.Bool.{lt-ltb, ltb-true}
 use Rattle.std.proofs.lemmas.Grind.{reverse_onto}
 use Rattle.std.proofs.lemmas.List.{length-append, length-replicate, length-reverse, length-set}
 use Rattle.std.proofs.lemmas.List.Folds.{list_all-append, list_any-append}
 use Rattle.std.proofs.lemmas.List.Sorted.{IsPermutation-reverse, list_any-IsPermutation}
+use Rattle.cu_calculus.specs.Shape.{are_data, is_data}
+use Rattle.cu_calculus.specs.Value.{Value, values_of}
 use Rattle.cu_machine.specs.declared.Kind.{Kind}
 use Rattle.cu_machine.specs.declared.Kind.TheVariants as kind
 use Rattle.cu_machine.specs.Graph.{Graph, head_of, node_at}
-use Rattle.cu_machine.specs.Rewrite.{occurs_at, occurs_in}
+use Rattle.cu_machine.specs.Rewrite.{occurs_at}
+use Rattle.cu_machine.specs.Spell.{spelled, spelled_at}
 use Rattle.cu_machine.specs.Validity.{ArgumentsThere, IsAcyclic, are_places}
 use Rattle.cu_machine.proofs.Fuel.{both_true, left_true, right_true}
-use Rattle.cu_machine.proofs.Tables.{occurs_table}
-use Rattle.cu_step.specs.Occurring.{Looks, head_reaches, is_variable, left_after, marks_after, leads_on, lower_reaches, reaches, seen_at, unseen_arguments}
+use Rattle.cu_machine.proofs.Tables.{occurs_table, spelled_table}
+use Rattle.cu_step.specs.declared.occurs.Sought.{Sought}
+use Rattle.cu_step.specs.declared.occurs.Sought.TheVariants as sought
+use Rattle.cu_step.specs.Occurring.{Looks, are_reached, head_reaches, is_sought, left_after, marks_after, leads_on, lower_reaches, part_at, reaches, seen_at, sought_at, unseen_arguments}
 use Rattle.cu_step.specs.Walk.{height, highest}
 use Rattle.cu_step.proofs.Heights.{head_lower, height_table}
 
@@ -35,6 +40,10 @@ or_other false b so = so
 or_nothing : (a : Bool) → (a || false) ≡ a
 or_nothing true = refl
 or_nothing false = refl
+
+not_both : (a b : Bool) → not (a && b) ≡ (not a || not b)
+not_both true b = refl
+not_both false b = refl
 
 -- a test that follows from another
 any_follows : {A : Type 0} (p q : A → Bool) (xs : List A) → ((x : A) → p x ≡ true → q x ≡ true) → list_any p xs ≡ true → list_any q xs ≡ true
@@ -73,23 +82,35 @@ all_reverse p (x ∷ xs) all =
 
 -- ** Heights
 
-reaches_table : (graph : Graph) (v id : ℕ) → ArgumentsThere graph → IsAcyclic graph → id < length graph → reaches graph v id ≡ head_reaches graph v (head_of graph id)
-reaches_table graph v id there acyclic below = occurs_table graph v id there (acyclic id below) below
+pub any_part : (part : ℕ → Value) (args : List ℕ) → not (are_data (values_of (map part args))) ≡ list_any (λ id. not (is_data (part id))) args
+any_part part [] = refl
+any_part part (arg ∷ args) = not_both (is_data (part arg)) (are_data (values_of (map part args))) ∙ ap (λ b. not (is_data (part arg)) || b) (any_part part args)
+
+part_table : (part : ℕ → Value) (id : ℕ) (k : Kind) (args : List ℕ) → not (is_data (spelled_at part id k args)) ≡ part_at (λ x. not (is_data (part x))) k args
+part_table part id (kind.Cons c) args = any_part part args
+part_table part id (kind.Part h) args = refl
+part_table part id _ args = refl
+
+reaches_table : (graph : Graph) (v : Sought) (id : ℕ) → ArgumentsThere graph → IsAcyclic graph → id < length graph → reaches graph v id ≡ head_reaches graph v (head_of graph id)
+reaches_table graph (sought.Variable v) id there acyclic below = occurs_table graph v id there (acyclic id below) below
+reaches_table graph sought.Part id there acyclic below =
+    ap (λ (v : Value). not (is_data v)) (spelled_table graph id there (acyclic id below) below)
+    ∙ part_table (spelled graph) (head_of graph id) (node_at graph (head_of graph id)).kind (node_at graph (head_of graph id)).args
 
 -- from which the variable is reached, below a greater height
-lower_more : (graph : Graph) (v low high : ℕ) (ids : List ℕ) → low ≤ high → lower_reaches graph v low ids ≡ true → lower_reaches graph v high ids ≡ true
+lower_more : (graph : Graph) (v : Sought) (low high : ℕ) (ids : List ℕ) → low ≤ high → lower_reaches graph v low ids ≡ true → lower_reaches graph v high ids ≡ true
 lower_more graph v low high ids less so =
     any_follows (λ id. reaches graph v id && ltb (height graph id) low) (λ id. reaches graph v id && ltb (height graph id) high) ids
     (λ id both. both_true (reaches graph v id) (ltb (height graph id) high) (left_true (reaches graph v id) (ltb (height graph id) low) both)
     (let under : height graph id < low = ltb-true (height graph id) low (right_true (reaches graph v id) (ltb (height graph id) low) both) in
     lt-ltb (height graph id) high (omega arith))) so
 
-lower_any : (graph : Graph) (v top : ℕ) (ids : List ℕ) → lower_reaches graph v top ids ≡ true → list_any (reaches graph v) ids ≡ true
+lower_any : (graph : Graph) (v : Sought) (top : ℕ) (ids : List ℕ) → lower_reaches graph v top ids ≡ true → list_any (reaches graph v) ids ≡ true
 lower_any graph v top ids so =
     any_follows (λ id. reaches graph v id && ltb (height graph id) top) (reaches graph v) ids (λ id both. left_true (reaches graph v id) (ltb (height graph id) top) both) so
 
 -- nodes of which each is lower
-any_lower : (graph : Graph) (v top : ℕ) (ids : List ℕ) → highest (height graph) ids < top → list_any (reaches graph v) ids ≡ true → lower_reaches graph v top ids ≡ true
+any_lower : (graph : Graph) (v : Sought) (top : ℕ) (ids : List ℕ) → highest (height graph) ids < top → list_any (reaches graph v) ids ≡ true → lower_reaches graph v top ids ≡ true
 unfolding highest
 any_lower graph v top [] high so = so
 any_lower graph v top (id ∷ ids) high so =
@@ -101,7 +122,7 @@ any_lower graph v top (id ∷ ids) high so =
 -- ** One look
 
 -- what is known where the last of the nodes to be looked at is taken, and others are put there
-pub record Taken (graph : Graph) (v : ℕ) (id : ℕ) (more : List ℕ) (rest : List ℕ) : Type 0 where
+pub record Taken (graph : Graph) (v : Sought) (id : ℕ) (more : List ℕ) (rest : List ℕ) : Type 0 where
   pub there : are_places (length graph) more ≡ true
   pub sound : list_any (reaches graph v) more ≡ true → head_reaches graph v (head_of graph id) ≡ true
   pub found : head_reaches graph v (head_of graph id) ≡ true → lower_reaches graph v (height graph (head_of graph id)) (rest ++ more) ≡ true
@@ -112,7 +133,7 @@ same_any false true o n is sound found = is ∙ sym (ap (λ b. b || false) (soun
 same_any false false true n is sound found = found refl
 same_any false false false n is sound found = is
 
-pub looks_on : (graph : Graph) (v : ℕ) (ids : List ℕ) (seen after : List Bool) (rest more : List ℕ) (id : ℕ) → ArgumentsThere graph → IsAcyclic graph
+pub looks_on : (graph : Graph) (v : Sought) (ids : List ℕ) (seen after : List Bool) (rest more : List ℕ) (id : ℕ) → ArgumentsThere graph → IsAcyclic graph
     → Looks graph v ids seen (rest ++ id ∷ []) → Taken graph v id more rest
     → ((other : ℕ) → seen_at after other ≡ true → (seen_at seen other ≡ false) → other ≡ head_of graph id)
     → Looks graph v ids after (rest ++ more)
@@ -152,8 +173,9 @@ looks_on graph v ids seen after rest more id arguments acyclic looks taken marke
 
 -- ** What a head's kind says
 
-pub is_reached : (part : ℕ → Bool) (v id : ℕ) (k : Kind) (args : List ℕ) → is_variable v id k ≡ true → occurs_at part v id k args ≡ true
-is_reached part v id kind.Free args so = so
+pub is_reached : (part : ℕ → Bool) (v : Sought) (id : ℕ) (k : Kind) (args : List ℕ) → is_sought v id k ≡ true → sought_at part v id k args ≡ true
+is_reached part (sought.Variable v) id kind.Free args so = so
+is_reached part sought.Part id (kind.Part h) args so = refl
 is_reached part v id _ args so = let no : ⊥ = cc in absurd no
 
 not_false : (b : Bool) → not b ≡ false → b ≡ true
@@ -164,9 +186,10 @@ not_true : (b : Bool) → not b ≡ true → b ≡ false
 not_true true so = sym so
 not_true false so = refl
 
-only_seen : (part : ℕ → Bool) (v id : ℕ) (k : Kind) (args : List ℕ) (seen : Bool) → is_variable v id k ≡ false → leads_on k seen ≡ false
-    → occurs_at part v id k args ≡ true → seen ≡ true
-only_seen part v id kind.Free args seen other on so = let no : ⊥ = cc in absurd no
+only_seen : (part : ℕ → Bool) (v : Sought) (id : ℕ) (k : Kind) (args : List ℕ) (seen : Bool) → is_sought v id k ≡ false → leads_on k seen ≡ false
+    → sought_at part v id k args ≡ true → seen ≡ true
+only_seen part (sought.Variable v) id kind.Free args seen other on so = let no : ⊥ = cc in absurd no
+only_seen part sought.Part id (kind.Part h) args seen other on so = let no : ⊥ = cc in absurd no
 only_seen part v id (kind.Cons c) args seen other on so = not_false seen on
 only_seen part v id _ args seen other on so = let no : ⊥ = cc in absurd no
 
@@ -174,8 +197,9 @@ leads_unseen : (k : Kind) (seen : Bool) → leads_on k seen ≡ true → seen �
 leads_unseen (kind.Cons c) seen on = not_true seen on
 leads_unseen _ seen on = let no : ⊥ = cc in absurd no
 
-leads_arguments : (part : ℕ → Bool) (v id : ℕ) (k : Kind) (args : List ℕ) (seen : Bool) → leads_on k seen ≡ true → occurs_at part v id k args ≡ list_any part args
-leads_arguments part v id (kind.Cons c) args seen on = refl
+leads_arguments : (part : ℕ → Bool) (v : Sought) (id : ℕ) (k : Kind) (args : List ℕ) (seen : Bool) → leads_on k seen ≡ true → sought_at part v id k args ≡ list_any part args
+leads_arguments part (sought.Variable v) id (kind.Cons c) args seen on = refl
+leads_arguments part sought.Part id (kind.Cons c) args seen on = refl
 leads_arguments part v id _ args seen on = let no : ⊥ = cc in absurd no
 
 -- ** The walk
@@ -186,7 +210,7 @@ unseen (suc count) zero = refl
 unseen (suc count) (suc id) = unseen count id
 
 -- nothing is marked, whether marks are kept or not
-pub looks_unmarked : (graph : Graph) (v : ℕ) (seen : List Bool) (pending : List ℕ) → are_places (length graph) pending ≡ true
+pub looks_unmarked : (graph : Graph) (v : Sought) (seen : List Bool) (pending : List ℕ) → are_places (length graph) pending ≡ true
     → ((id : ℕ) → seen_at seen id ≡ false) → Looks graph v pending seen pending
 looks_unmarked graph v seen pending there none = record {
   there = there;
@@ -194,13 +218,13 @@ looks_unmarked graph v seen pending there none = record {
   comes = refl;
 }
 
-pub looks_begin : (graph : Graph) (v : ℕ) (ids : List ℕ) (seen : List Bool) (pending : List ℕ) → are_places (length graph) ids ≡ true → pending ≡ ids
+pub looks_begin : (graph : Graph) (v : Sought) (ids : List ℕ) (seen : List Bool) (pending : List ℕ) → are_places (length graph) ids ≡ true → pending ≡ ids
     → seen ≡ [] → Looks graph v ids seen pending
 looks_begin graph v ids seen pending there is none =
     rw (is) (looks_unmarked graph v seen ids there (λ id. ap (λ marks. seen_at marks id) none))
 
 -- marks are kept from now on
-pub looks_again : (graph : Graph) (v : ℕ) (ids : List ℕ) (seen after : List Bool) (pending left : List ℕ) (count : ℕ) → Looks graph v ids seen pending
+pub looks_again : (graph : Graph) (v : Sought) (ids : List ℕ) (seen after : List Bool) (pending left : List ℕ) (count : ℕ) → Looks graph v ids seen pending
     → after ≡ replicate count false → count ≡ length graph → left ≡ pending → Looks graph v left after left
 looks_again graph v ids seen after pending left count looks new same stays =
     subst (λ (xs : List ℕ). Looks graph v xs after xs) (sym stays)
@@ -209,14 +233,14 @@ looks_again graph v ids seen after pending left count looks new same stays =
 pub marks_count : (graph : Graph) (after : List Bool) (count : ℕ) → after ≡ replicate count false → count ≡ length graph → length after ≡ length graph
 marks_count graph after count new same = ap length new ∙ length-replicate count false ∙ same
 
-pub looks_last : (graph : Graph) (v : ℕ) (ids : List ℕ) (seen : List Bool) (pending left : List ℕ) → Looks graph v ids seen pending → left ≡ pending
-    → occurs_in graph v left ≡ occurs_in graph v ids
+pub looks_last : (graph : Graph) (v : Sought) (ids : List ℕ) (seen : List Bool) (pending left : List ℕ) → Looks graph v ids seen pending → left ≡ pending
+    → are_reached graph v left ≡ are_reached graph v ids
 looks_last graph v ids seen pending left looks stays = ap (list_any (reaches graph v)) stays ∙ looks.comes
 
-taken_below : (graph : Graph) (v : ℕ) (ids : List ℕ) (seen : List Bool) (rest : List ℕ) (id : ℕ) → Looks graph v ids seen (rest ++ id ∷ []) → id < length graph
+taken_below : (graph : Graph) (v : Sought) (ids : List ℕ) (seen : List Bool) (rest : List ℕ) (id : ℕ) → Looks graph v ids seen (rest ++ id ∷ []) → id < length graph
 taken_below graph v ids seen rest id looks = ltb-true id (length graph) (all_last (λ x. ltb x (length graph)) rest id looks.there).1
 
-pub looked_there : (graph : Graph) (v : ℕ) (ids : List ℕ) (seen : List Bool) (pending rest : List ℕ) (id : ℕ) → pending ≡ rest ++ id ∷ []
+pub looked_there : (graph : Graph) (v : Sought) (ids : List ℕ) (seen : List Bool) (pending rest : List ℕ) (id : ℕ) → pending ≡ rest ++ id ∷ []
     → Looks graph v ids seen pending → id < length graph
 looked_there graph v ids seen pending rest id was looks =
     taken_below graph v ids seen rest id (subst (λ (xs : List ℕ). Looks graph v ids seen xs) was looks)
@@ -225,9 +249,9 @@ pub head_there : (graph : Graph) (id head : ℕ) → ArgumentsThere graph → Is
 head_there graph id head arguments acyclic below is =
     subst (λ (h : ℕ). h < length graph) (sym is) (head_lower (length graph) graph id arguments acyclic below).0
 
-pub looks_found : (graph : Graph) (v : ℕ) (ids : List ℕ) (seen : List Bool) (pending rest : List ℕ) (id : ℕ) → ArgumentsThere graph → IsAcyclic graph
-    → pending ≡ rest ++ id ∷ [] → Looks graph v ids seen pending → is_variable v (head_of graph id) (node_at graph (head_of graph id)).kind ≡ true
-    → true ≡ occurs_in graph v ids
+pub looks_found : (graph : Graph) (v : Sought) (ids : List ℕ) (seen : List Bool) (pending rest : List ℕ) (id : ℕ) → ArgumentsThere graph → IsAcyclic graph
+    → pending ≡ rest ++ id ∷ [] → Looks graph v ids seen pending → is_sought v (head_of graph id) (node_at graph (head_of graph id)).kind ≡ true
+    → true ≡ are_reached graph v ids
 looks_found graph v ids seen pending rest id arguments acyclic was before so =
     let looks : Looks graph v ids seen (rest ++ id ∷ []) = subst (λ (xs : List ℕ). Looks graph v ids seen xs) was before in
     let here : reaches graph v id ≡ true =
@@ -237,11 +261,11 @@ looks_found graph v ids seen pending rest id arguments acyclic was before so =
     ∙ or_other (list_any (reaches graph v) rest) (reaches graph v id || false) (or_one (reaches graph v id) false here))
     ∙ looks.comes
 
-pub looks_none : (graph : Graph) (v : ℕ) (ids : List ℕ) (seen : List Bool) (pending : List ℕ) → pending ≡ [] → Looks graph v ids seen pending → false ≡ occurs_in graph v ids
+pub looks_none : (graph : Graph) (v : Sought) (ids : List ℕ) (seen : List Bool) (pending : List ℕ) → pending ≡ [] → Looks graph v ids seen pending → false ≡ are_reached graph v ids
 looks_none graph v ids seen pending none looks = ap (list_any (reaches graph v)) (sym none) ∙ looks.comes
 
-pub looks_past : (graph : Graph) (v : ℕ) (ids : List ℕ) (seen : List Bool) (pending rest : List ℕ) (id : ℕ) → ArgumentsThere graph → IsAcyclic graph
-    → pending ≡ rest ++ id ∷ [] → Looks graph v ids seen pending → is_variable v (head_of graph id) (node_at graph (head_of graph id)).kind ≡ false
+pub looks_past : (graph : Graph) (v : Sought) (ids : List ℕ) (seen : List Bool) (pending rest : List ℕ) (id : ℕ) → ArgumentsThere graph → IsAcyclic graph
+    → pending ≡ rest ++ id ∷ [] → Looks graph v ids seen pending → is_sought v (head_of graph id) (node_at graph (head_of graph id)).kind ≡ false
     → leads_on (node_at graph (head_of graph id)).kind (seen_at seen (head_of graph id)) ≡ false → Looks graph v ids seen rest
 looks_past graph v ids seen pending rest id arguments acyclic was before other on =
     let head = head_of graph id in
@@ -271,7 +295,7 @@ marked_before seen head other is new = go (nat_eq head other) refl
         let apart : other ≢ head = λ same. (let no : ⊥ = cc (eq-eqb head other (sym same)) in no) in
         let no : ⊥ = cc (get_or-set_other seen head other true false apart) in absurd no
 
-pub looks_into : (graph : Graph) (v : ℕ) (ids : List ℕ) (seen after : List Bool) (pending rest next : List ℕ) (id : ℕ) → ArgumentsThere graph → IsAcyclic graph
+pub looks_into : (graph : Graph) (v : Sought) (ids : List ℕ) (seen after : List Bool) (pending rest next : List ℕ) (id : ℕ) → ArgumentsThere graph → IsAcyclic graph
     → pending ≡ rest ++ id ∷ [] → Looks graph v ids seen pending
     → leads_on (node_at graph (head_of graph id)).kind (seen_at seen (head_of graph id)) ≡ true
     → after ≡ set seen (head_of graph id) true → next ≡ rest ++ reverse (node_at graph (head_of graph id)).args → Looks graph v ids after next
@@ -297,8 +321,8 @@ looks_into graph v ids seen after pending rest next id arguments acyclic was bef
     (λ x is new. marked_before seen head x is new))
 
 -- whether a look leads on or not
-looks_by : (graph : Graph) (v : ℕ) (ids : List ℕ) (seen after : List Bool) (pending rest next : List ℕ) (id : ℕ) (b : Bool) → ArgumentsThere graph → IsAcyclic graph
-    → pending ≡ rest ++ id ∷ [] → Looks graph v ids seen pending → is_variable v (head_of graph id) (node_at graph (head_of graph id)).kind ≡ false
+looks_by : (graph : Graph) (v : Sought) (ids : List ℕ) (seen after : List Bool) (pending rest next : List ℕ) (id : ℕ) (b : Bool) → ArgumentsThere graph → IsAcyclic graph
+    → pending ≡ rest ++ id ∷ [] → Looks graph v ids seen pending → is_sought v (head_of graph id) (node_at graph (head_of graph id)).kind ≡ false
     → leads_on (node_at graph (head_of graph id)).kind (seen_at seen (head_of graph id)) ≡ b
     → after ≡ (if b then set seen (head_of graph id) true else seen)
     → next ≡ (if b then rest ++ reverse (node_at graph (head_of graph id)).args else rest) → Looks graph v ids after next
@@ -308,8 +332,8 @@ looks_by graph v ids seen after pending rest next id false arguments acyclic was
     subst (λ (ms : List Bool). Looks graph v ids ms next) (sym marks)
     (subst (λ (xs : List ℕ). Looks graph v ids seen xs) (sym adds) (looks_past graph v ids seen pending rest id arguments acyclic was before other on))
 
-pub looks_after : (graph : Graph) (v : ℕ) (ids : List ℕ) (seen after : List Bool) (pending rest next : List ℕ) (id : ℕ) → ArgumentsThere graph → IsAcyclic graph
-    → pending ≡ rest ++ id ∷ [] → Looks graph v ids seen pending → is_variable v (head_of graph id) (node_at graph (head_of graph id)).kind ≡ false
+pub looks_after : (graph : Graph) (v : Sought) (ids : List ℕ) (seen after : List Bool) (pending rest next : List ℕ) (id : ℕ) → ArgumentsThere graph → IsAcyclic graph
+    → pending ≡ rest ++ id ∷ [] → Looks graph v ids seen pending → is_sought v (head_of graph id) (node_at graph (head_of graph id)).kind ≡ false
     → after ≡ marks_after seen (head_of graph id) (node_at graph (head_of graph id)).kind
     → next ≡ left_after seen rest (head_of graph id) (node_at graph (head_of graph id)) → Looks graph v ids after next
 looks_after graph v ids seen after pending rest next id arguments acyclic was before other marks adds =

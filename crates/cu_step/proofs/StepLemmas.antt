@@ -1,5 +1,5 @@
 -- The next event of a state, and what its search and its limits ask for.
-use Rattle.std.proofs.Common.{◌≡◌, ℕ, ◌<◌, ◌++◌, ◌||◌, Bool, true, false, not, List, [], ◌∷◌, Option, Some, None, IsTrue, slice_get, length, map, refl, sym, ap, ◌∙◌, arith, lt-ltb, if◌then◌else◌}
+use Rattle.std.proofs.Common.{◌≡◌, ℕ, zero, suc, ◌<◌, ◌++◌, ◌||◌, Bool, true, false, not, List, [], ◌∷◌, Option, Some, None, IsTrue, slice_get, get_or, length, map, refl, sym, ap, ◌∙◌, arith, lt-ltb, if◌then◌else◌}
 use Rattle.std.specs.List.{All, list_any}
 use Rattle.std.specs.Option.{IsSome}
 use Rattle.cu_calculus.specs.Code as code
@@ -10,18 +10,19 @@ use Rattle.cu_calculus.specs.declared.FunId.{FunId}
 use Rattle.cu_calculus.specs.declared.Head.TheVariants.{Fun}
 use Rattle.cu_machine.specs.declared.Limits.{Limits}
 use Rattle.cu_machine.specs.declared.Kind.{Kind}
+use Rattle.cu_machine.specs.declared.Kind.TheVariants as kind
 use Rattle.cu_machine.specs.Build.{kind_of_call}
-use Rattle.cu_machine.specs.Graph.{Graph, node_at}
+use Rattle.cu_machine.specs.Graph.{Graph}
 use Rattle.cu_machine.specs.Need.{At, Throughout, need_all}
 use Rattle.cu_machine.specs.Next as next_def
 use Rattle.cu_machine.specs.Next.{Answer, Go, Next, answered, is_above, is_too_large, next, next_by, read, spelled_all, too_large, unless_one_is_large}
-use Rattle.cu_machine.specs.Sets.{IsWithoutSets, code_is_without_sets, graph_is_without_sets, is_set_kind, without}
-use Rattle.cu_machine.specs.State.{Branch, Idle, State, free_nodes, graph_of, numbers, start_of}
-use Rattle.cu_machine.specs.Validity.{ArgumentsThere, IsAcyclic, IsValid, IsValidBranch, are_places}
+use Rattle.cu_machine.specs.State.{Branch, Idle, State, free_nodes, numbers, start_of}
+use Rattle.cu_machine.specs.Validity.{ArgumentsThere, IsAcyclic, IsValid, IsValidBranch, are_places, is_set_call}
 use Rattle.cu_machine.proofs.NeedPlaces.{need_at_redex}
-use Rattle.cu_machine.proofs.Successors.{all_valid, all_without, at_node}
+use Rattle.cu_machine.proofs.Searches.{follows_valid}
+use Rattle.cu_machine.proofs.Successors.{mapped_among}
 use Rattle.cu_step.specs.Outcome.{branches_of, next_of, state_of}
-use Rattle.cu_step.specs.declared.Branch as step_branch
+use Rattle.cu_step.specs.declared.branch.Branch as step_branch
 use Rattle.cu_step.specs.declared.Outcome as step_outcome
 use Rattle.cu_step.specs.declared.Outcome.TheVariants as outcome
 use Rattle.cu_step.proofs.Frees.{length_frees}
@@ -32,10 +33,12 @@ pub need_place : (truth : ConId) (graph : Graph) (root id : ℕ) → ArgumentsTh
 need_place truth graph root id there within is =
     (need_at_redex (length graph) truth graph Throughout root id there (lt-ltb root (length graph) within) (sym is)).0
 
-pub no_set_call : (graph : Graph) (id : ℕ) → graph_is_without_sets graph ≡ true → id < length graph → not (is_set_kind (node_at graph id).kind) ≡ true
-no_set_call graph id all below = at_node (λ node. not (is_set_kind node.kind)) graph id all below
+-- a node that isn't a set function's call
+pub no_set_call : (k : Kind) → ((f : FunId) → k ≡ kind.SetCall f → ⊥) → not (is_set_call k) ≡ true
+no_set_call (kind.SetCall f) other = absurd (other f refl)
+no_set_call _ other = refl
 
-pub ruleset steps = (need_place, no_set_call)
+pub ruleset steps = (need_place)
 
 -- ** Too large, or not
 
@@ -68,9 +71,6 @@ pub branch_valid : (program : Code) (graph : Graph) (root : ℕ) (goals : List �
 unfolding IsValid
 branch_valid program graph root goals valid = valid.0
 
-pub sets_of : (state : State) → IsWithoutSets state → graph_is_without_sets (graph_of state) ≡ true
-sets_of state (without graph root goals all) = all
-
 module _ (program : Code) (graph : Graph) (root : ℕ) (goals : List ℕ) (valid : IsValid program (Branch graph root goals Idle)) where
   pub valid_root : root < length graph
   valid_root = (branch_valid program graph root goals valid).root_there
@@ -87,19 +87,24 @@ module _ (program : Code) (graph : Graph) (root : ℕ) (goals : List ℕ) (valid
 none_left : {B : Type 0} (P : B → Type 0) → All P []
 none_left P = λ k d below. let no : ⊥ = omega arith in absurd no
 
-module _ {S : Type 0} (content : S → Graph) (program : Code) (limits : Limits) (graph : Graph) (root : ℕ) (goals : List ℕ)
-    (well : IsTrue (is_well_formed program)) (valid : IsValid program (Branch graph root goals Idle)) where
-  pub follow_valid : (o : step_outcome.Outcome S) → next_of content o ≡ next program limits (Branch graph root goals Idle)
-      → All (λ (branch : step_branch.Branch S). IsValid program (state_of content branch)) (branches_of o)
-  follow_valid (outcome.Go branches) is = all_valid (state_of content) branches.items program limits graph root goals well valid (sym is)
-  follow_valid _ is = none_left _
+-- one branch alone
+pub one_valid : {B : Type 0} (P : B → Type 0) (branch : B) → P branch → All P (branch ∷ [])
+one_valid P branch valid zero d below = valid
+one_valid P branch valid (suc k) d below = let no : ⊥ = omega arith in absurd no
 
-  pub follow_without : IsTrue (code_is_without_sets program) → IsWithoutSets (Branch graph root goals Idle) → (o : step_outcome.Outcome S)
-      → next_of content o ≡ next program limits (Branch graph root goals Idle)
-      → All (λ (branch : step_branch.Branch S). IsWithoutSets (state_of content branch)) (branches_of o)
-  follow_without code_without sets (outcome.Go branches) is =
-      all_without (state_of content) branches.items program limits (Branch graph root goals Idle) well code_without valid sets (sym is)
-  follow_without code_without sets _ is = none_left _
+-- the branches that follow a valid state are valid
+module _ {S : Type 0} (content : S → Graph) (program : Code) (limits : Limits) (state : State) (well : IsTrue (is_well_formed program)) (valid : IsValid program state) where
+  go_valid : (branches : List (step_branch.Branch S)) → Go (map (state_of content) branches) ≡ next program limits state
+      → All (λ (branch : step_branch.Branch S). IsValid program (state_of content branch)) branches
+  go_valid branches is =
+      λ k d below. follows_valid program limits well state (state_of content (get_or branches k d)) (map (state_of content) branches) valid (sym is)
+      (mapped_among (state_of content) branches k d below)
+
+  pub follow_valid : (o : step_outcome.Outcome S) → next_of content o ≡ next program limits state
+      → All (λ (branch : step_branch.Branch S). IsValid program (state_of content branch)) (branches_of o)
+  follow_valid (outcome.Go branches) is = go_valid branches.items is
+  follow_valid (outcome.Inner branch) is = go_valid (branch ∷ []) is
+  follow_valid _ is = none_left _
 
 -- ** Several graphs
 

@@ -2,6 +2,7 @@
 #![tactic(auto)]
 
 mod apply;
+mod branch;
 mod build;
 mod call;
 mod case;
@@ -17,50 +18,39 @@ mod occurs;
 mod operand;
 mod pairs;
 mod pending;
+mod push;
 mod read;
 mod rewrite;
+mod set_call;
 mod unify;
 mod waited;
 
-ghost use Rattle.std.specs.Prelude.{◌≡◌, ◌<◌, ℕ, IfOk, IsTrue, length, map, true};
+ghost use Rattle.std.specs.Prelude.{◌≡◌, ◌<◌, ℕ, IfOk, IsFalse, IsTrue, length, map, true};
 ghost use Rattle.std.specs.List.{All, list_any};
 ghost use Rattle.cu_calculus.specs.Code.{Code, body_of, is_rule};
 ghost use Rattle.cu_calculus.specs.WellFormed.{is_well_formed};
 ghost use Rattle.cu_machine.specs.Graph.{Graph};
 ghost use Rattle.cu_machine.specs.Need.{need_all};
 ghost use Rattle.cu_machine.specs.Next.{Stops, answered, is_above, moved, next, next_by, too_large};
-ghost use Rattle.cu_machine.specs.Sets.{IsWithoutSets, code_is_without_sets, graph_is_without_sets};
+ghost use Rattle.cu_machine.specs.Rewrite.{move};
+ghost use Rattle.cu_machine.specs.Sets.{IsWithoutSets};
 ghost use Rattle.cu_machine.specs.State as state;
-ghost use Rattle.cu_machine.specs.State.{Idle, graph_of, start_of};
+ghost use Rattle.cu_machine.specs.State.{Idle, start_of};
 ghost use Rattle.cu_machine.specs.Validity.{ArgumentsThere, IsAcyclic, IsValid, are_places};
 ghost use Rattle.cu_step.specs.Moved.{move_of};
-ghost use Rattle.cu_step.specs.Outcome.{branches_of, next_of, state_of};
+ghost use Rattle.cu_step.specs.Outcome.{branches_of, is_inner, is_running, next_of, state_of};
+ghost use Rattle.cu_step.specs.declared.Outcome.TheVariants.{Inner};
 
+use branch::Search;
+pub use branch::{Branch, Running};
 use cu_flat::{FlatProgram, FunId, Head};
-use cu_graph::Store;
+use cu_graph::{Kind, Store};
 pub use cu_machine::{Limits, SearchLimits, Stop, Waited};
 use moved::Moved;
 use need::Needed;
+pub use push::push_value;
 pub use read::Reading;
 use std::alloc::{AllocError, Global};
-
-/// A branch of the search: a graph, the node whose value is sought, and the
-/// nodes of the goal's variables.
-#[derive(Drop)]
-pub struct Branch<S> {
-    store: S,
-    root: u32,
-    goals: Vec<u32>,
-}
-
-impl<S: Store> Branch<S> {
-    /// The branch's graph.
-    pub fn store(&self) -> &S
-        ensures { S.content result.now ≡ graph_of (state_of S.content self.now) }
-    {
-        &self.store
-    }
-}
 
 /// What becomes of a branch in one step.
 #[derive(Drop)]
@@ -75,6 +65,8 @@ pub enum Outcome<S> {
     Wait(Vec<Waited>),
     /// It meets a limit or an overflow, which ends the search.
     Stop(Stop),
+    /// It is as it was: a search runs in it, whose level is to be stepped.
+    Inner(Branch<S>),
 }
 
 /// The branch in which the search for a goal begins: a free variable for each
@@ -94,7 +86,12 @@ pub fn start<S: Store>(
     let mut store = S::empty(alloc)?;
     let goals = free::push(alloc, &mut store, count)?;
     let root = node::push(&mut store, kind, goals.as_slice())?;
-    Ok(Branch { store, root, goals })
+    Ok(Branch {
+        store,
+        root,
+        goals,
+        search: Search::Idle,
+    })
 }
 
 /// Whether a graph has more nodes than the limit.
@@ -130,8 +127,9 @@ fn answered<S: Store>(
     requires goals { are_places (length (S.content store.now)) goals.now ≡ true }
     requires arguments { ArgumentsThere (S.content store.now) }
     requires acyclic { IsAcyclic (S.content store.now) }
-    ensures { IfOk result (λ outcome. next_of S.content outcome
+    ensures next { IfOk result (λ outcome. next_of S.content outcome
         ≡ answered limits.now (S.content store.now) root goals.now) }
+    ensures inner { IfOk result (λ outcome. IsFalse (is_inner outcome)) }
 {
     match read::read(alloc, store, root, goals, limits.nodes)? {
         Some(reading) => Ok(Outcome::Answer(reading)),
@@ -152,7 +150,12 @@ fn branches<S: Store>(
     let mut branches = Vec::with_capacity(alloc, stores.len())?;
     for store in stores {
         let goals = Vec::from_slice(alloc, goals)?;
-        branches.push(Branch { store, root, goals })?;
+        branches.push(Branch {
+            store,
+            root,
+            goals,
+            search: Search::Idle,
+        })?;
     }
     Ok(branches)
 }
@@ -166,8 +169,9 @@ fn following<S: Store>(
     goals: &[u32],
     limits: &Limits,
 ) -> Result<Outcome<S>, AllocError>
-    ensures { IfOk result (λ outcome. (program : Code) (graph : Graph) (id : ℕ) → next_of S.content outcome
+    ensures next { IfOk result (λ outcome. (program : Code) (graph : Graph) (id : ℕ) → next_of S.content outcome
         ≡ moved program limits.now root goals.now graph id (move_of S.content graphs)) }
+    ensures inner { IfOk result (λ outcome. IsFalse (is_inner outcome)) }
 {
     match graphs {
         Moved::Become(stores) => {
@@ -181,59 +185,96 @@ fn following<S: Store>(
     }
 }
 
-/// What becomes of a branch that is not too large, by what its value needs.
-#[tactic(auto, using(crate::proofs::StepLemmas::steps))]
-fn by_need<S: Store>(
+/// What becomes of a branch where the node at a place is rewritten.
+fn rewritten<S: Store>(
     alloc: Global,
     program: &FlatProgram,
-    store: S,
-    root: u32,
-    goals: &[u32],
+    branch: Branch<S>,
+    id: u32,
     limits: &Limits,
 ) -> Result<Outcome<S>, AllocError>
-    requires root { root < length (S.content store) }
-    requires goals { are_places (length (S.content store)) goals.now ≡ true }
-    requires arguments { ArgumentsThere (S.content store) }
-    requires acyclic { IsAcyclic (S.content store) }
-    requires sets { IsTrue (graph_is_without_sets (S.content store)) }
-    ensures well_formed { IsTrue (is_well_formed program.now) }
+    requires code { IsTrue (is_well_formed program.now) }
+    requires id { id < length (S.content branch.store) }
+    requires arguments { ArgumentsThere (S.content branch.store) }
+    requires acyclic { IsAcyclic (S.content branch.store) }
     ensures next { IfOk result (λ outcome. next_of S.content outcome
-        ≡ next_by program.now limits.now (S.content store) root goals.now
-        (need_all program.now.special.truth (S.content store) root)) }
+        ≡ moved program.now limits.now branch.root branch.goals.items (S.content branch.store) id
+        (move program.now (S.content branch.store) id)) }
+    ensures inner { IfOk result (λ outcome. IsFalse (is_inner outcome)) }
 {
-    match need::find(alloc, &store, program.special().truth, root)? {
-        Needed::Done => answered(alloc, &store, root, goals, limits),
-        Needed::Dead => Ok(Outcome::Fail),
-        Needed::Wait(ids) => {
-            let names = waited::names(alloc, &store, goals, ids.as_slice())?;
-            Ok(Outcome::Wait(names))
-        }
-        Needed::At(id) => {
+    match branch.store.kind(id) {
+        Kind::SetCall(f) => set_call::begin(alloc, program, branch, id, f, limits),
+        _ => {
+            let Branch {
+                store,
+                root,
+                goals,
+                search: _,
+            } = branch;
             let graphs = rewrite::rewritten(alloc, program, store, id)?;
-            following(alloc, graphs, root, goals, limits)
+            following(alloc, graphs, root, goals.as_slice(), limits)
         }
     }
 }
 
-/// One step of a branch. An `Err` says that memory ran out, or that a graph
-/// has 4,294,967,295 nodes and needs one more.
+/// What becomes of a branch that is not too large and in which no search runs,
+/// by what its value needs.
+#[tactic(auto, using(crate::proofs::StepLemmas::steps))]
+fn by_need<S: Store>(
+    alloc: Global,
+    program: &FlatProgram,
+    branch: Branch<S>,
+    limits: &Limits,
+) -> Result<Outcome<S>, AllocError>
+    requires root { branch.root < length (S.content branch.store) }
+    requires goals { are_places (length (S.content branch.store)) branch.goals.items ≡ true }
+    requires arguments { ArgumentsThere (S.content branch.store) }
+    requires acyclic { IsAcyclic (S.content branch.store) }
+    ensures well_formed { IsTrue (is_well_formed program.now) }
+    ensures next { IfOk result (λ outcome. next_of S.content outcome
+        ≡ next_by program.now limits.now (S.content branch.store) branch.root branch.goals.items
+        (need_all program.now.special.truth (S.content branch.store) branch.root)) }
+    ensures inner { IfOk result (λ outcome. IsFalse (is_inner outcome)) }
+{
+    let truth = program.special().truth;
+    match need::find(alloc, &branch.store, truth, branch.root)? {
+        Needed::Done => {
+            let goals = branch.goals.as_slice();
+            answered(alloc, &branch.store, branch.root, goals, limits)
+        }
+        Needed::Dead => Ok(Outcome::Fail),
+        Needed::Wait(ids) => {
+            let goals = branch.goals.as_slice();
+            let names = waited::names(alloc, &branch.store, goals, ids.as_slice())?;
+            Ok(Outcome::Wait(names))
+        }
+        Needed::At(id) => rewritten(alloc, program, branch, id, limits),
+    }
+}
+
+/// One step of a branch in which no search runs. A branch in which one runs is
+/// answered as it was. An `Err` says that memory ran out, or that a graph has
+/// 4,294,967,295 nodes and needs one more.
 pub fn step<S: Store>(
     alloc: Global,
     program: &FlatProgram,
     branch: Branch<S>,
     limits: &Limits,
 ) -> Result<Outcome<S>, AllocError>
-    requires code { IsTrue (code_is_without_sets program.now) }
-    requires sets { IsWithoutSets (state_of S.content branch) }
     requires valid { IsValid program.now (state_of S.content branch) }
-    ensures next { IfOk result (λ outcome. next_of S.content outcome
-        ≡ next program.now limits.now (state_of S.content branch)) }
-    ensures valid { IfOk result (λ outcome. All (λ branch. IsValid program.now (state_of S.content branch)) (branches_of outcome)) }
-    ensures sets { IfOk result (λ outcome. All (λ branch. IsWithoutSets (state_of S.content branch)) (branches_of outcome)) }
+    ensures inner { IfOk result (λ outcome. is_inner outcome ≡ is_running (state_of S.content branch)) }
+    ensures same { IfOk result (λ outcome. IsTrue (is_running (state_of S.content branch))
+        → outcome ≡ Inner branch) }
+    ensures next { IfOk result (λ outcome. IsFalse (is_running (state_of S.content branch))
+        → next_of S.content outcome ≡ next program.now limits.now (state_of S.content branch)) }
+    ensures valid { IfOk result (λ outcome. All (λ branch. IsValid program.now (state_of S.content branch))
+        (branches_of outcome)) }
 {
+    if branch.is_running() {
+        return Ok(Outcome::Inner(branch));
+    }
     if is_too_large(&branch.store, limits) {
         return Ok(Outcome::Stop(too_large(limits)));
     }
-    let Branch { store, root, goals } = branch;
-    by_need(alloc, program, store, root, goals.as_slice(), limits)
+    by_need(alloc, program, branch, limits)
 }

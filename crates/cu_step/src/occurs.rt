@@ -1,15 +1,24 @@
-//! Whether a free variable stands in a value.
+//! What is reached from nodes by Ind and constructors alone: a free variable,
+//! or a partial application.
 ghost use Rattle.std.specs.Prelude.{◌≡◌, ◌<◌, IfOk, OnOk, false, length, replicate, slice_set, true};
 ghost use Rattle.cu_machine.specs.Graph.{head_of, node_at};
-ghost use Rattle.cu_machine.specs.Rewrite.{occurs_in};
 ghost use Rattle.cu_machine.specs.Validity.{ArgumentsThere, IsAcyclic, are_places};
-ghost use Rattle.cu_step.specs.Occurring.{Looks, is_variable, leads_on, left_after, marks_after, seen_at};
+ghost use Rattle.cu_step.specs.Occurring.{Looks, are_reached, is_sought, leads_on, left_after, marks_after, seen_at};
 
 use crate::{head, node, pending};
 use cu_graph::{Kind, Store};
 use std::alloc::{AllocError, Global};
 
-/// What is left of a search for a free variable.
+/// What is sought.
+#[derive(Clone, Copy)]
+pub(crate) enum Sought {
+    /// The free variable at this place.
+    Variable(u32),
+    /// A partial application.
+    Part,
+}
+
+/// What is left of a search.
 #[derive(Drop)]
 struct Search {
     /// The nodes that are to be looked at. The last one comes first.
@@ -18,19 +27,18 @@ struct Search {
     seen: Vec<bool>,
 }
 
-/// Whether a free variable is reached from nodes by Ind and constructors
-/// alone. Marks are kept from when a node must have been met twice. From then
+/// Whether what is sought is reached from one of these nodes. Marks are kept from when a node must have been met twice. From then
 /// on the arguments of each node are looked at once.
-pub(crate) fn occurs<S: Store>(
+pub(crate) fn are_reached<S: Store>(
     alloc: Global,
     store: &S,
-    variable: u32,
+    sought: Sought,
     ids: &[u32],
 ) -> Result<bool, AllocError>
     requires ids { are_places (length (S.content store.now)) ids.now ≡ true }
     requires arguments { ArgumentsThere (S.content store.now) }
     requires acyclic { IsAcyclic (S.content store.now) }
-    ensures { IfOk result (λ yes. yes ≡ occurs_in (S.content store.now) variable ids.now) }
+    ensures { IfOk result (λ yes. yes ≡ are_reached (S.content store.now) sought ids.now) }
 {
     let mut search = Search {
         pending: Vec::from_slice(alloc, ids)?,
@@ -40,13 +48,13 @@ pub(crate) fn occurs<S: Store>(
         let Some(id) = search.pending.pop() else {
             return Ok(false);
         };
-        let found = search.look(store, variable, id)?;
+        let found = search.look(store, sought, id)?;
         if found {
             return Ok(true);
         }
     }
     search.keep_marks(store.len())?;
-    search.finish(store, variable)
+    search.finish(store, sought)
 }
 
 impl Search {
@@ -60,21 +68,21 @@ impl Search {
         Ok(())
     }
 
-    /// Whether the head of a node is the variable. If not, its arguments are to
-    /// be looked at.
-    fn look<S: Store>(&mut self, store: &S, variable: u32, id: u32) -> Result<bool, AllocError>
+    /// Whether the head of a node is what is sought. If not, its arguments are
+    /// to be looked at.
+    fn look<S: Store>(&mut self, store: &S, sought: Sought, id: u32) -> Result<bool, AllocError>
         requires id { id < length (S.content store.now) }
         requires arguments { ArgumentsThere (S.content store.now) }
         requires acyclic { IsAcyclic (S.content store.now) }
         ensures found { IfOk result (λ found. found
-            ≡ is_variable variable (head_of (S.content store.now) id) (node_at (S.content store.now) (head_of (S.content store.now) id)).kind) }
+            ≡ is_sought sought (head_of (S.content store.now) id) (node_at (S.content store.now) (head_of (S.content store.now) id)).kind) }
         ensures seen { IfOk result (λ found. found ≡ false → self.new.seen.items
             ≡ marks_after self.old.seen.items (head_of (S.content store.now) id) (node_at (S.content store.now) (head_of (S.content store.now) id)).kind) }
         ensures pending { IfOk result (λ found. found ≡ false → self.new.pending.items
             ≡ left_after self.old.seen.items self.old.pending.items (head_of (S.content store.now) id) (node_at (S.content store.now) (head_of (S.content store.now) id))) }
     {
         let head = head::find(store, id);
-        if is_variable(store, head, variable) {
+        if is_sought(store, head, sought) {
             return Ok(true);
         }
         if leads_on(store, head, self.seen.as_slice()) {
@@ -84,16 +92,16 @@ impl Search {
         Ok(false)
     }
 
-    /// Looks on until the variable is found or nothing is left.
-    fn finish<S: Store>(mut self, store: &S, variable: u32) -> Result<bool, AllocError>
+    /// Looks on until what is sought is found or nothing is left.
+    fn finish<S: Store>(mut self, store: &S, sought: Sought) -> Result<bool, AllocError>
         requires arguments { ArgumentsThere (S.content store.now) }
         requires acyclic { IsAcyclic (S.content store.now) }
-        requires looks { Looks (S.content store.now) variable self.pending.items self.seen.items self.pending.items }
+        requires looks { Looks (S.content store.now) sought self.pending.items self.seen.items self.pending.items }
         requires marked { length self.seen.items ≡ length (S.content store.now) }
-        ensures { IfOk result (λ yes. yes ≡ occurs_in (S.content store.now) variable self.pending.items) }
+        ensures { IfOk result (λ yes. yes ≡ are_reached (S.content store.now) sought self.pending.items) }
     {
         while let Some(id) = self.pending.pop() {
-            let found = self.look(store, variable, id)?;
+            let found = self.look(store, sought, id)?;
             if found {
                 return Ok(true);
             }
@@ -102,13 +110,19 @@ impl Search {
     }
 }
 
-/// Whether a head is the free variable.
-fn is_variable<S: Store>(store: &S, id: u32, variable: u32) -> bool
-    ensures { result ≡ is_variable variable id (node_at (S.content store.now) id).kind }
+/// Whether a head is what is sought.
+fn is_sought<S: Store>(store: &S, id: u32, sought: Sought) -> bool
+    ensures { result ≡ is_sought sought id (node_at (S.content store.now) id).kind }
 {
-    match node::kind_at(store, id) {
-        Kind::Free => variable == id,
-        _ => false,
+    match sought {
+        Sought::Variable(variable) => match node::kind_at(store, id) {
+            Kind::Free => variable == id,
+            _ => false,
+        },
+        Sought::Part => match node::kind_at(store, id) {
+            Kind::Part(_) => true,
+            _ => false,
+        },
     }
 }
 

@@ -4,8 +4,7 @@ ghost use Rattle.cu_calculus.specs.declared.builtin.Primitive.TheVariants as pri
 ghost use Rattle.cu_calculus.specs.WellFormed.{is_well_formed};
 ghost use Rattle.cu_machine.specs.Graph.{node_at};
 ghost use Rattle.cu_machine.specs.Rewrite.{move, operated, rewritten};
-ghost use Rattle.cu_machine.specs.Sets.{is_set_kind};
-ghost use Rattle.cu_machine.specs.Validity.{ArgumentsThere, IsAcyclic};
+ghost use Rattle.cu_machine.specs.Validity.{ArgumentsThere, IsAcyclic, is_set_call};
 ghost use Rattle.cu_step.specs.Moved.{move_of};
 
 use crate::moved::{self, Moved};
@@ -101,7 +100,8 @@ fn operated<S: Store>(
     }
 }
 
-/// What becomes of a graph where the node at a place is rewritten.
+/// What becomes of a graph where the node at a place is rewritten. The call of
+/// a set function has a way of its own.
 pub(crate) fn rewritten<S: Store>(
     alloc: Global,
     program: &FlatProgram,
@@ -110,7 +110,7 @@ pub(crate) fn rewritten<S: Store>(
 ) -> Result<Moved<S>, AllocError>
     requires code { IsTrue (is_well_formed program.now) }
     requires id { id < length (S.content store) }
-    requires sets { IsTrue (not (is_set_kind (node_at (S.content store) id).kind)) }
+    requires call { IsTrue (not (is_set_call (node_at (S.content store) id).kind)) }
     requires arguments { ArgumentsThere (S.content store) }
     requires acyclic { IsAcyclic (S.content store) }
     ensures { IfOk result (λ moved. move_of S.content moved ≡ move program.now (S.content store) id) }

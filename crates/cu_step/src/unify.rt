@@ -8,6 +8,7 @@ ghost use Rattle.cu_step.specs.Moved.{move_of};
 
 use crate::case::is_same_literal;
 use crate::moved::{self, Moved};
+use crate::occurs::Sought;
 use crate::operand::Operand;
 use crate::{build, free, occurs, pairs};
 use cu_flat::{ConId, Prim, Special};
@@ -74,7 +75,7 @@ fn imitates<S: Store>(
     if args.is_empty() {
         return renames(alloc, special, store, id, variable, other.id);
     }
-    if occurs::occurs(alloc, &store, variable, args)? {
+    if occurs::are_reached(alloc, &store, Sought::Variable(variable), args)? {
         return moved::fails(alloc, store, id);
     }
     let fresh = free::to_constructor(alloc, &mut store, variable, c, args.len())?;

@@ -6,5 +6,6 @@ use Rattle.cu_step.proofs.by_need.Goals as goal
 
 pub rewritten-requires-clause-id : goal.rewritten-requires-clause-id
 rewritten-requires-clause-id g c κs within =
-    need_place c.special.result.now.truth (g.S.Store.content c.args.store) c.args.root c.in-At.id c.requires.arguments c.requires.root
+    let branch = c.args.branch in
+    need_place c.special.result.now.truth (g.S.Store.content branch.store) branch.root c.in-At.id c.requires.arguments c.requires.root
     (sym (ap need_of c.in-At.is) ∙ c.in_ok-find.ensures)

@@ -8,16 +8,16 @@ use Rattle.cu_step.specs.Outcome.{state_of}
 use Rattle.cu_step.proofs.StepLemmas.{none_is_large, one_is_large}
 use Rattle.cu_step.proofs.following.Goals as goal
 
-pub returns-then-any_too_large : goal.returns-then-any_too_large
-returns-then-any_too_large g c = λ program graph id.
+pub returns-then-any_too_large-clause-next : goal.returns-then-any_too_large-clause-next
+returns-then-any_too_large-clause-next g c = λ program graph id.
     let content = g.S.Store.content in
     let limits = c.args.limits.now in
     let any = sym (ap (list_any (λ store. is_above limits (length (content store)))) c.as_slice.ensures.value) ∙ sym c.any_too_large.ensures ∙ c.if-any_too_large.true in
     c.too_large.ensures ∙ sym (one_is_large content limits c.args.root c.args.goals.now c.in-Become.stores.items any)
     ∙ ap (λ (what : Move). moved program limits c.args.root c.args.goals.now graph id what) (sym (ap (move_of content) c.in-Become.is))
 
-pub returns-in_ok-branches-in-Become : goal.returns-in_ok-branches-in-Become
-returns-in_ok-branches-in-Become g c = λ program graph id.
+pub returns-in_ok-branches-in-Become-clause-next : goal.returns-in_ok-branches-in-Become-clause-next
+returns-in_ok-branches-in-Become-clause-next g c = λ program graph id.
     let content = g.S.Store.content in
     let limits = c.args.limits.now in
     let any = sym (ap (list_any (λ store. is_above limits (length (content store)))) c.as_slice.ensures.value) ∙ sym c.any_too_large.ensures ∙ c.if-any_too_large.false in

@@ -1,38 +1,79 @@
--- A branch that is too large stops; any other is valid, and goes on by what its value needs.
-use Rattle.std.proofs.Common.{List, ℕ, ap, length, sym, ◌∙◌}
+-- A branch in which a search runs is answered as it was. One that is too large stops; any other is valid, and goes on by what
+-- its value needs.
+use Rattle.std.proofs.Common.{◌≡◌, List, ℕ, ap, length, subst, sym, true≢false, ◌∙◌}
 use Rattle.cu_machine.specs.Need.{need_all}
-use Rattle.cu_machine.specs.Next.{next_by}
-use Rattle.cu_machine.specs.Validity.{are_places}
+use Rattle.cu_machine.specs.Next.{next, next_by}
+use Rattle.cu_machine.specs.State as state
+use Rattle.cu_machine.specs.State.{Branch, Idle}
+use Rattle.cu_machine.specs.Validity.{IsValid, are_places}
+use Rattle.cu_step.specs.Outcome.{search_of, state_of}
+use Rattle.cu_step.proofs.BranchStates.{idle_search}
 use Rattle.cu_step.proofs.Builds.{if_ok}
-use Rattle.cu_step.proofs.StepLemmas.{follow_valid, follow_without, next_large, next_small, valid_acyclic, valid_arguments, valid_goals, valid_root}
+use Rattle.cu_step.proofs.StepLemmas.{follow_valid, next_large, next_small, one_valid, valid_acyclic, valid_arguments, valid_goals, valid_root}
+use Rattle.cu_step.proofs.step.Given.{Over}
+use Rattle.cu_step.proofs.step.Goals.{After-is_too_large}
 use Rattle.cu_step.proofs.step.Goals as goal
+
+pub returns-then-is_running-clause-valid : goal.returns-then-is_running-clause-valid
+returns-then-is_running-clause-valid g c =
+    one_valid (λ branch. IsValid c.args.program.now (state_of g.S.Store.content branch)) c.args.branch c.requires.valid
+
+pub returns-then-is_running-clause-next : goal.returns-then-is_running-clause-next
+returns-then-is_running-clause-next g c = λ idle. absurd (true≢false (sym c.if-is_running.true ∙ c.is_running.ensures ∙ idle))
+
+pub returns-then-is_too_large-clause-same : goal.returns-then-is_too_large-clause-same
+returns-then-is_too_large-clause-same g c = λ running. absurd (true≢false (sym running ∙ (sym c.is_running.ensures ∙ c.if-is_running.false)))
+
+-- no search runs
+idle : (g : Over) (c : After-is_too_large g) → search_of g.S.Store.content c.args.branch.search ≡ Idle
+idle g c =
+    let branch = c.args.branch in
+    idle_search (g.S.Store.content branch.store) branch.root branch.goals.items (search_of g.S.Store.content branch.search)
+    (sym c.is_running.ensures ∙ c.if-is_running.false)
+
+valid : (g : Over) (c : After-is_too_large g)
+    → IsValid c.args.program.now (Branch (g.S.Store.content c.args.branch.store) c.args.branch.root c.args.branch.goals.items Idle)
+valid g c =
+    let branch = c.args.branch in
+    subst (λ (s : state.Search). IsValid c.args.program.now (Branch (g.S.Store.content branch.store) branch.root branch.goals.items s)) (idle g c) c.requires.valid
+
+same : (g : Over) (c : After-is_too_large g)
+    → next c.args.program.now c.args.limits.now (state_of g.S.Store.content c.args.branch)
+    ≡ next c.args.program.now c.args.limits.now (Branch (g.S.Store.content c.args.branch.store) c.args.branch.root c.args.branch.goals.items Idle)
+same g c =
+    let branch = c.args.branch in
+    ap (λ (s : state.Search). next c.args.program.now c.args.limits.now (Branch (g.S.Store.content branch.store) branch.root branch.goals.items s)) (idle g c)
 
 pub returns-then-is_too_large-clause-next : goal.returns-then-is_too_large-clause-next
 returns-then-is_too_large-clause-next g c =
     let branch = c.args.branch in
-    c.too_large.ensures ∙ sym (next_large c.args.program.now c.args.limits.now (g.S.Store.content branch.store) branch.root branch.goals.items
+    let here = (goal.at.returns-then-is_too_large-clause-next g c).After-is_too_large in
+    λ idle. c.too_large.ensures ∙ sym (same g here ∙ next_large c.args.program.now c.args.limits.now (g.S.Store.content branch.store) branch.root branch.goals.items
     (sym c.is_too_large.ensures ∙ c.if-is_too_large.true))
 
 pub by_need-requires-clause-root : goal.by_need-requires-clause-root
 by_need-requires-clause-root g c κs within =
     let branch = c.args.branch in
-    valid_root c.args.program.now (g.S.Store.content branch.store) branch.root branch.goals.items c.requires.valid
+    valid_root c.args.program.now (g.S.Store.content branch.store) branch.root branch.goals.items
+    (valid g (goal.at.by_need-requires-clause-root g c).After-is_too_large)
 
 pub by_need-requires-clause-goals : goal.by_need-requires-clause-goals
 by_need-requires-clause-goals g c κs within =
     let branch = c.args.branch in
-    ap (are_places (length (g.S.Store.content branch.store))) c.as_slice.ensures.value
-    ∙ valid_goals c.args.program.now (g.S.Store.content branch.store) branch.root branch.goals.items c.requires.valid
+    valid_goals c.args.program.now (g.S.Store.content branch.store) branch.root branch.goals.items
+    (valid g (goal.at.by_need-requires-clause-goals g c).After-is_too_large)
 
 pub by_need-requires-clause-arguments : goal.by_need-requires-clause-arguments
 by_need-requires-clause-arguments g c κs within =
     let branch = c.args.branch in
-    valid_arguments c.args.program.now (g.S.Store.content branch.store) branch.root branch.goals.items c.requires.valid
+    valid_arguments c.args.program.now (g.S.Store.content branch.store) branch.root branch.goals.items
+    (valid g (goal.at.by_need-requires-clause-arguments g c).After-is_too_large)
 
 pub by_need-requires-clause-acyclic : goal.by_need-requires-clause-acyclic
 by_need-requires-clause-acyclic g c κs within =
     let branch = c.args.branch in
-    valid_acyclic c.args.program.now (g.S.Store.content branch.store) branch.root branch.goals.items c.requires.valid
+    valid_acyclic c.args.program.now (g.S.Store.content branch.store) branch.root branch.goals.items
+    (valid g (goal.at.by_need-requires-clause-acyclic g c).After-is_too_large)
 
 pub returns-clause-next : goal.returns-clause-next
 returns-clause-next g c =
@@ -40,24 +81,22 @@ returns-clause-next g c =
     let graph = g.S.Store.content branch.store in
     let program = c.args.program.now in
     let limits = c.args.limits.now in
-    let need = need_all program.special.truth graph branch.root in
+    let here = (goal.at.returns-clause-next g c).After-is_too_large in
     if_ok c.by_need.result _ _
-    (λ o is. is ∙ ap (λ (goals : List ℕ). next_by program limits graph branch.root goals need) c.as_slice.ensures.value
-    ∙ sym (next_small program limits graph branch.root branch.goals.items (sym c.is_too_large.ensures ∙ c.if-is_too_large.false)))
+    (λ o is. λ idle. is ∙ sym (same g here ∙ next_small program limits graph branch.root branch.goals.items (sym c.is_too_large.ensures ∙ c.if-is_too_large.false)))
     c.by_need.ensures.next
+
+pub returns-clause-inner : goal.returns-clause-inner
+returns-clause-inner g c = if_ok c.by_need.result _ _ (λ o is. is ∙ sym (sym c.is_running.ensures ∙ c.if-is_running.false)) c.by_need.ensures.inner
+
+pub returns-clause-same : goal.returns-clause-same
+returns-clause-same g c =
+    if_ok c.by_need.result _ _ (λ o is. λ running. absurd (true≢false (sym running ∙ (sym c.is_running.ensures ∙ c.if-is_running.false)))) c.by_need.ensures.inner
 
 pub returns-clause-valid : goal.returns-clause-valid
 returns-clause-valid g c =
     let branch = c.args.branch in
     if_ok c.by_need.result _ _
-    (follow_valid g.S.Store.content c.args.program.now c.args.limits.now (g.S.Store.content branch.store) branch.root branch.goals.items
-    c.by_need.ensures.well_formed c.requires.valid)
-    (returns-clause-next g c)
-
-pub returns-clause-sets : goal.returns-clause-sets
-returns-clause-sets g c =
-    let branch = c.args.branch in
-    if_ok c.by_need.result _ _
-    (follow_without g.S.Store.content c.args.program.now c.args.limits.now (g.S.Store.content branch.store) branch.root branch.goals.items
-    c.by_need.ensures.well_formed c.requires.valid c.requires.code c.requires.sets)
+    (λ o is. follow_valid g.S.Store.content c.args.program.now c.args.limits.now (state_of g.S.Store.content branch)
+    c.by_need.ensures.well_formed c.requires.valid o (is (sym c.is_running.ensures ∙ c.if-is_running.false)))
     (returns-clause-next g c)

@@ -5,7 +5,7 @@ use Rattle.cu_step.proofs.occurs.Search.finish.Given as goal
 
 abbrev pub invariant-loop-id : goal.invariant-loop-id
 invariant-loop-id g l = record {
-  looks : Looks (g.S.Store.content l.store) l.variable l.fn.self.pending.items l.self.seen.items l.self.pending.items;
+  looks : Looks (g.S.Store.content l.store) l.sought l.fn.self.pending.items l.self.seen.items l.self.pending.items;
   marked : length l.self.seen.items ≡ length (g.S.Store.content l.store);
 }
 

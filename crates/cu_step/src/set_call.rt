@@ -1,0 +1,135 @@
+//! Calls of set functions: where searches for all values of a function begin.
+ghost use Rattle.std.specs.Prelude.{◌≡◌, ◌<◌, [], ◌∷◌, IfOk, IsFalse, None, Some, if◌then◌else◌, length, map, nat_lt, option_map, true};
+ghost use Rattle.cu_calculus.specs.Value.{values_of};
+ghost use Rattle.cu_machine.specs.declared.Kind.TheVariants as kind;
+ghost use Rattle.cu_machine.specs.Graph.{node_at};
+ghost use Rattle.cu_machine.specs.Next.{Go, moved};
+ghost use Rattle.cu_machine.specs.Rewrite.{move};
+ghost use Rattle.cu_machine.specs.Spell.{cells_of_all, ordinal, renumbered, spelled, variables_of_all};
+ghost use Rattle.cu_machine.specs.State.{call_on};
+ghost use Rattle.cu_machine.specs.Validity.{ArgumentsThere, IsAcyclic, are_places};
+ghost use Rattle.cu_step.specs.Outcome.{is_inner, next_of, state_of};
+
+use crate::branch::{Branch, Running, Search};
+use crate::occurs::Sought;
+use crate::push::push_value;
+use crate::{Outcome, build, following, is_too_large, moved, node, occurs, read, too_large};
+use cu_flat::{FlatProgram, FunId};
+use cu_graph::Store;
+use cu_machine::Limits;
+use cu_values::Value;
+use std::alloc::{AllocError, Global};
+
+/// The values of arguments, unless they have more cells together than the
+/// limit. The variables in them are numbered from 1.
+fn arguments<S: Store>(
+    alloc: Global,
+    store: &S,
+    args: &[u32],
+    limit: u32,
+) -> Result<Option<Vec<Value>>, AllocError>
+    requires args { are_places (length (S.content store.now)) args.now ≡ true }
+    requires arguments { ArgumentsThere (S.content store.now) }
+    requires acyclic { IsAcyclic (S.content store.now) }
+    ensures { IfOk result (λ values. option_map (λ values. values.items) values
+        ≡ (if nat_lt limit (cells_of_all (map (spelled (S.content store.now)) args.now)) then None
+        else Some (map (renumbered (ordinal (variables_of_all (map (spelled (S.content store.now)) args.now))))
+        (map (spelled (S.content store.now)) args.now)))) }
+{
+    let Some((last, others)) = args.split_last() else {
+        return Ok(Some(Vec::new(alloc)));
+    };
+    let Some(reading) = read::read(alloc, store, *last, others, limit)? else {
+        return Ok(None);
+    };
+    let mut values = reading.bindings;
+    values.push(reading.value)?;
+    Ok(Some(values))
+}
+
+/// The branch in which an inner search begins: the cells of the arguments, and
+/// the call of the function on them.
+fn call_on<S: Store>(
+    alloc: Global,
+    program: &FlatProgram,
+    f: FunId,
+    arguments: &[Value],
+) -> Result<Branch<S>, AllocError>
+    ensures { IfOk result (λ branch. state_of S.content branch
+        ≡ call_on program.now f (values_of arguments.now)) }
+{
+    let mut store = S::empty(alloc)?;
+    let mut ids = Vec::with_capacity(alloc, arguments.len())?;
+    for argument in arguments {
+        ids.push(push_value(alloc, &mut store, argument)?)?;
+    }
+    let kind = build::kind_of_call(program, f);
+    let root = node::push(&mut store, kind, ids.as_slice())?;
+    Ok(Branch {
+        store,
+        root,
+        goals: Vec::new(alloc),
+        search: Search::Idle,
+    })
+}
+
+/// One branch alone follows.
+fn alone<S: Store>(alloc: Global, branch: Branch<S>) -> Result<Outcome<S>, AllocError>
+    ensures next { IfOk result (λ outcome. next_of S.content outcome ≡ Go (state_of S.content branch ∷ [])) }
+    ensures inner { IfOk result (λ outcome. IsFalse (is_inner outcome)) }
+{
+    let mut branches = Vec::with_capacity(alloc, 1)?;
+    branches.push(branch)?;
+    Ok(Outcome::Go(branches))
+}
+
+/// What becomes of a branch where the call of a set function at a place is
+/// rewritten: the search for all values of the function begins. A partial
+/// application in an argument leaves the call stuck.
+pub(crate) fn begin<S: Store>(
+    alloc: Global,
+    program: &FlatProgram,
+    branch: Branch<S>,
+    id: u32,
+    f: FunId,
+    limits: &Limits,
+) -> Result<Outcome<S>, AllocError>
+    requires id { id < length (S.content branch.store) }
+    requires call { (node_at (S.content branch.store) id).kind ≡ kind.SetCall f }
+    requires arguments { ArgumentsThere (S.content branch.store) }
+    requires acyclic { IsAcyclic (S.content branch.store) }
+    ensures next { IfOk result (λ outcome. next_of S.content outcome
+        ≡ moved program.now limits.now branch.root branch.goals.items (S.content branch.store) id
+        (move program.now (S.content branch.store) id)) }
+    ensures inner { IfOk result (λ outcome. IsFalse (is_inner outcome)) }
+{
+    let Branch {
+        store,
+        root,
+        goals,
+        search: _,
+    } = branch;
+    let args = node::args(alloc, &store, id)?;
+    if occurs::are_reached(alloc, &store, Sought::Part, args.as_slice())? {
+        let graphs = moved::sticks(alloc, store, id)?;
+        return following(alloc, graphs, root, goals.as_slice(), limits);
+    }
+    let Some(values) = arguments(alloc, &store, args.as_slice(), limits.nodes)? else {
+        return Ok(Outcome::Stop(too_large(limits)));
+    };
+    let inner = call_on(alloc, program, f, values.as_slice())?;
+    if is_too_large(&inner.store, limits) {
+        return Ok(Outcome::Stop(too_large(limits)));
+    }
+    let mut level = Vec::with_capacity(alloc, 1)?;
+    level.push(inner)?;
+    let running = Running {
+        store,
+        root,
+        goals,
+        call: id,
+        found: Vec::new(alloc),
+        level,
+    };
+    alone(alloc, running.going_on())
+}
