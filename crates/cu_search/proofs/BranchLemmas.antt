@@ -7,7 +7,7 @@ use Rattle.cu_machine.specs.Graph.{Graph}
 use Rattle.cu_machine.specs.Level.{go_list}
 use Rattle.cu_machine.specs.State.{State}
 use Rattle.cu_pile.specs.Outcomes.{Pairwise}
-use Rattle.cu_step.specs.declared.Branch.{Branch}
+use Rattle.cu_step.specs.declared.branch.Branch.{Branch}
 use Rattle.cu_step.specs.declared.Outcome.{Outcome}
 use Rattle.cu_step.specs.declared.Outcome.TheVariants as outcome
 use Rattle.cu_step.specs.Outcome.{branches_of, next_of, state_of}
@@ -44,6 +44,7 @@ states-of_one content (outcome.Answer reading) = refl
 states-of_one content outcome.Fail = refl
 states-of_one content (outcome.Wait names) = refl
 states-of_one content (outcome.Stop stop) = refl
+states-of_one content (outcome.Inner branch) = refl
 
 pub states-follow : {S : Type 0} (content : S → Graph) (outcomes : List (Outcome S))
     → map (state_of content) (flat_map branches_of outcomes) ≡ flat_map go_list (map (next_of content) outcomes)

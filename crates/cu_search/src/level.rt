@@ -85,5 +85,9 @@ fn add_following<S: Store>(
         Outcome::Fail => Ok(()),
         Outcome::Wait(_) => Ok(()),
         Outcome::Stop(_) => Ok(()),
+        Outcome::Inner(branch) => {
+            level.push(branch)?;
+            Ok(())
+        }
     }
 }

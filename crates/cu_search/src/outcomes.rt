@@ -84,6 +84,7 @@ fn list_outcome<S: Store, K: Sink>(
         Outcome::Fail => Ok(None),
         Outcome::Wait(names) => list_wait(turn, names.as_slice(), tally, page, sink),
         Outcome::Stop(stop) => Ok(Some(End::Stopped(*stop, turn.round))),
+        Outcome::Inner(_) => Ok(None),
     }
 }
 
