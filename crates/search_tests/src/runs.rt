@@ -1,5 +1,7 @@
 //! Searches of the sample, as the text that they write.
-ghost use Rattle.std.specs.Prelude.{◌≤◌};
+ghost use Rattle.std.specs.Prelude.{◌≤◌, IfSome};
+ghost use Rattle.cu_search.specs.Standing.{IsGoing};
+ghost use Rattle.cu_search.specs.Stands.{standing_of};
 
 use crate::kernel::parts;
 use crate::programs::program;
@@ -10,8 +12,8 @@ use cu_kernel::{Goal, Program};
 use cu_machine::{Limits, SearchLimits};
 use cu_names::Names;
 use cu_pile::Gate;
-use cu_search::{Round, Search, SearchFault};
-use std::alloc::{AllocError, Global};
+use cu_search::Search;
+use std::alloc::Global;
 use std::process::Abort;
 use std::thread::Threads;
 
@@ -69,12 +71,12 @@ pub(crate) const AMPLE: SearchLimits = SearchLimits {
 
 /// The search for a goal, where its function has rules and a parameter for
 /// each of its names.
-pub(crate) fn open<'p, R: Abort>(
-    rt: &R,
+pub(crate) fn open<'p>(
     bench: &'p Bench,
     goal: &'p Goal,
     limits: SearchLimits,
 ) -> Option<Search<'p, PlainStore>>
+    ensures { IfSome result (λ search. IsGoing (standing_of PlainStore.content search)) }
 {
     let arity = bench.code.arity_if_known(Head::Fun(goal.function))?;
     let Some(FlatBody::Rule(_, _)) = bench.code.body(goal.function) else {
@@ -107,7 +109,7 @@ pub(crate) fn written<R: Threads + Abort + Sync, G: Gate + Sync>(
 {
     let failing = Vec::new(bench.alloc);
     let mut sink = VecSink::new(bench.alloc, ROOM, failing).expect(rt, "memory");
-    let mut search = open(rt, bench, goal, limits).expect(rt, "a goal");
+    let mut search = open(bench, goal, limits).expect(rt, "a goal");
     let end = search.list(rt, workers, gate, &mut sink);
     assert!(rt; end.is_ok() && search.ended());
     sink
