@@ -127,7 +127,7 @@ fn listings(rt: HostRuntime) -> Result<(), Fail> {
         5,
         &["x"],
         AMPLE,
-        "[2] waits on x\n[2] waits on _1\nno more; 2 floundered\n",
+        "[3] waits on x\n[3] waits on _1\nno more; 2 floundered\n",
     );
     Ok(())
 }
