@@ -1,0 +1,6 @@
+mod WrittenLemmas
+pub mod OneOutcome
+mod RoundLemmas
+mod ListingLemmas
+mod LineLemmas
+mod BranchLemmas

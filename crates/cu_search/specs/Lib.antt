@@ -1,0 +1,5 @@
+pub mod Lines
+pub mod Standing
+pub mod Written
+pub mod Rounds
+pub mod Stands

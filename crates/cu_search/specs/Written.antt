@@ -1,0 +1,19 @@
+-- What was written to a sink, and why a search breaks off.
+use Rattle.std.specs.Prelude.{◌≡◌, ℕ, ◌≤◌, List, ◌++◌, Option, Result, Ok, Err, length, option_map, take}
+use Rattle.cu_io.specs.Rose.{Rose}
+use Rattle.cu_search.specs.declared.fault.SearchFault.{SearchFault}
+use Rattle.cu_search.specs.declared.fault.SearchFault.TheVariants.{NoMemory, Write}
+
+-- after the output held `before`, it holds these bytes too, where the sink tells
+abbrev pub Adds : Option (List ℕ) → Option (List ℕ) → List ℕ → Type 0
+Adds before after bytes = after ≡ option_map (λ told. told ++ bytes) before
+
+-- a front of these bytes was added
+abbrev pub AddsFront : Option (List ℕ) → Option (List ℕ) → List ℕ → Type 0
+AddsFront before after bytes = (n : ℕ) × (n ≤ length bytes) × Adds before after (take n bytes)
+
+-- the output's count of faults rose where it failed, and stands otherwise, also where memory ran out
+abbrev pub HasCause : {A : Type 0} → Result A SearchFault → ℕ → ℕ → Type 0
+HasCause (Ok x) old new = new ≡ old
+HasCause (Err Write) old new = Rose old new
+HasCause (Err NoMemory) old new = new ≡ old

@@ -1,0 +1,143 @@
+//! A kernel program for the display of values: the built-in types, `Bool` and
+//! `&&`.
+use cu_kernel::{
+    Body, ConId, Constructor, DataType, FunId, Function, Head, Mark, ModuleInfo, Pattern,
+    ProgramParts, Rule, Special, Term, TypeId, TypeName, TypeTerm,
+};
+use cu_names::{NameId, Names, Place};
+use std::alloc::{AllocError, Global};
+
+const NAME: NameId = NameId(0);
+
+const FALSE: ConId = ConId(17);
+
+const TRUE: ConId = ConId(18);
+
+fn one<T: Drop>(alloc: Global, item: T) -> Result<Vec<T>, AllocError> {
+    let mut items = Vec::new(alloc);
+    items.push(item)?;
+    Ok(items)
+}
+
+fn pair<T: Drop>(alloc: Global, first: T, second: T) -> Result<Vec<T>, AllocError> {
+    let mut items = one(alloc, first)?;
+    items.push(second)?;
+    Ok(items)
+}
+
+fn constructor(name: NameId, fields: Vec<TypeTerm>) -> Constructor {
+    Constructor {
+        name,
+        public: true,
+        fields,
+    }
+}
+
+fn data_type(name: NameId, arity: u32, constructors: Vec<Constructor>) -> DataType {
+    DataType {
+        name,
+        module: 0,
+        arity,
+        public: true,
+        constructors,
+    }
+}
+
+/// `data [] a = [] | a : [a]`
+fn list_type(alloc: Global, names: &mut Names) -> Result<DataType, AllocError> {
+    let empty = constructor(names.intern("[]")?, Vec::new(alloc));
+    let arguments = one(alloc, TypeTerm::Var(0))?;
+    let rest = TypeTerm::Named(TypeName::Data(TypeId(0)), arguments);
+    let fields = pair(alloc, TypeTerm::Var(0), rest)?;
+    let longer = constructor(names.intern(":")?, fields);
+    let constructors = pair(alloc, empty, longer)?;
+    Ok(data_type(names.intern("[]")?, 1, constructors))
+}
+
+/// The type of tuples of so many components.
+fn tuple_type(alloc: Global, name: NameId, count: u32) -> Result<DataType, AllocError> {
+    let mut fields = Vec::new(alloc);
+    for x in 0..count {
+        fields.push(TypeTerm::Var(x))?;
+    }
+    let constructors = one(alloc, constructor(name, fields))?;
+    Ok(data_type(name, count, constructors))
+}
+
+fn bool_type(alloc: Global, names: &mut Names) -> Result<DataType, AllocError> {
+    let no = constructor(names.intern("False")?, Vec::new(alloc));
+    let yes = constructor(names.intern("True")?, Vec::new(alloc));
+    let constructors = pair(alloc, no, yes)?;
+    Ok(data_type(names.intern("Bool")?, 0, constructors))
+}
+
+fn types(alloc: Global, names: &mut Names) -> Result<Vec<DataType>, AllocError> {
+    let mut types = one(alloc, list_type(alloc, names)?)?;
+    types.push(tuple_type(alloc, names.intern("()")?, 0)?)?;
+    let name = names.intern("(..)")?;
+    for count in 2..16 {
+        types.push(tuple_type(alloc, name, count)?)?;
+    }
+    types.push(data_type(names.intern("Int")?, 0, Vec::new(alloc)))?;
+    types.push(data_type(names.intern("Char")?, 0, Vec::new(alloc)))?;
+    types.push(bool_type(alloc, names)?)?;
+    Ok(types)
+}
+
+/// A rule of `&&` on this constructor.
+fn rule(alloc: Global, constructor: ConId, body: Term) -> Result<Rule, AllocError> {
+    let first = Pattern::Con(constructor, Vec::new(alloc));
+    let params = pair(alloc, first, Pattern::Var(0))?;
+    Ok(Rule { params, body })
+}
+
+/// `True && x = x` and `False && _ = False`.
+fn both(alloc: Global) -> Result<Function, AllocError> {
+    let falsity = Term::Whole(Head::Con(FALSE), Vec::new(alloc));
+    let yes = rule(alloc, TRUE, Term::Var(0))?;
+    let no = rule(alloc, FALSE, falsity)?;
+    Ok(Function {
+        name: NAME,
+        arity: 2,
+        body: Body::Rules(pair(alloc, yes, no)?),
+    })
+}
+
+fn mark() -> Mark {
+    Mark {
+        module: 0,
+        public: true,
+        declared: None,
+        captured: 0,
+        place: Place {
+            module: NAME,
+            line: 1,
+            column: 1,
+        },
+    }
+}
+
+/// The parts of the program, whose names are in the table.
+pub(crate) fn parts(alloc: Global, names: &mut Names) -> Result<ProgramParts, AllocError> {
+    let prelude = ModuleInfo {
+        name: NAME,
+        imports: Vec::new(alloc),
+        operators: Vec::new(alloc),
+    };
+    Ok(ProgramParts {
+        types: types(alloc, names)?,
+        functions: one(alloc, both(alloc)?)?,
+        synonyms: Vec::new(alloc),
+        modules: one(alloc, prelude)?,
+        marks: one(alloc, mark())?,
+        goal: None,
+        special: Special {
+            falsity: FALSE,
+            truth: TRUE,
+            nil: ConId(0),
+            cons: ConId(1),
+            both: FunId(0),
+            values: None,
+        },
+    })
+}
