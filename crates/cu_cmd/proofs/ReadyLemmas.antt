@@ -1,19 +1,15 @@
--- Branches that may be stepped, over the branches of a level and those that follow them.
+-- What holds of branches, over the branches of a level and those that follow them.
 use Rattle.std.proofs.Common.{◌≡◌, zero, suc, List, [], ◌∷◌, ◌++◌, flat_map, map, refl, sym, ap, subst, ◌∙◌, append_assoc, arith}
 use Rattle.std.specs.List.{All}
 use Rattle.std.proofs.lemmas.List.{map-append}
 use Rattle.std.proofs.lemmas.List.Elements.{All-append, All-nil}
-use Rattle.cu_calculus.specs.Code.{Code}
 use Rattle.cu_machine.specs.Graph.{Graph}
 use Rattle.cu_machine.specs.Level.{go_list}
-use Rattle.cu_machine.specs.Sets.{IsWithoutSets}
 use Rattle.cu_machine.specs.State.{State}
-use Rattle.cu_machine.specs.Validity.{IsValid}
-use Rattle.cu_step.specs.declared.Branch.{Branch}
+use Rattle.cu_step.specs.declared.branch.Branch.{Branch}
 use Rattle.cu_step.specs.declared.Outcome.{Outcome}
 use Rattle.cu_step.specs.declared.Outcome.TheVariants as outcome
 use Rattle.cu_step.specs.Outcome.{branches_of, next_of, state_of}
-use Rattle.cu_cmd.specs.Ready.{IsReady}
 
 -- all but the first element
 pub all-behind : {X : Type 0} (P : X → Type 0) (xs : List X) (x : X) (behind : List X) → xs ≡ x ∷ behind → All P xs → All P behind
@@ -28,11 +24,6 @@ all-and_one {X} P old new x is all last = subst (λ (ys : List X). All P ys) (sy
     one : All P (x ∷ [])
     one zero d below = last
     one (suc k) d below = absurd (omega (arith, below))
-
--- what is valid and without set functions may be stepped
-pub all-ready : {B : Type 0} (program : Code) (state : B → State) (branches : List B) → All (λ branch. IsValid program (state branch)) branches
-    → All (λ branch. IsWithoutSets (state branch)) branches → All (λ branch. IsReady program (state branch)) branches
-all-ready program state branches valid sets = λ k d below. record { valid = valid k d below; sets = sets k d below }
 
 -- one branch more was stepped
 pub one_stepped : {B O M N : Type 0} (event : O → N) (state : B → M) (next : M → N) (old new : List O) (outcome : O) (left behind : List B) (branch : B) (whole : List N)
@@ -54,6 +45,7 @@ states-of_one content (outcome.Answer reading) = refl
 states-of_one content outcome.Fail = refl
 states-of_one content (outcome.Wait names) = refl
 states-of_one content (outcome.Stop stop) = refl
+states-of_one content (outcome.Inner branch) = refl
 
 pub states-follow : {S : Type 0} (content : S → Graph) (outcomes : List (Outcome S))
     → map (state_of content) (flat_map branches_of outcomes) ≡ flat_map go_list (map (next_of content) outcomes)

@@ -1,7 +1,6 @@
 -- What is due for a command, over plain variables.
-use Rattle.std.proofs.Common.{◌≡◌, ℕ, ◌<◌, List, [], ◌∷◌, ◌++◌, Option, None, Some, Result, Ok, Err, IfOk, IfSome, IsErr, IsTrue, Global, length, slice_get, take, string_bytes, option_map, refl, ap, subst, ◌∙◌, arith, codes}
-use Rattle.std.proofs.lemmas.List.{append-nil, length-map}
-use Rattle.std.proofs.lemmas.Option.{slice_get_within}
+use Rattle.std.proofs.Common.{◌≡◌, ℕ, List, [], ◌∷◌, ◌++◌, Option, None, Some, Result, Ok, Err, IfOk, IfSome, IsErr, IsTrue, Global, slice_get, take, string_bytes, option_map, refl, ap, subst, ◌∙◌, arith, codes}
+use Rattle.std.proofs.lemmas.List.{append-nil}
 use Rattle.std.specs.List.{concat}
 use Rattle.std.specs.Prelude.{String, Vec}
 use Rattle.cu_calculus.specs.declared.FunId.{FunId}
@@ -13,7 +12,6 @@ use Rattle.cu_io.specs.Fetches.{Fetches, most_bytes}
 use Rattle.cu_io.specs.Holdings.{Holdings}
 use Rattle.cu_cmd.specs.Line.{pieces}
 use Rattle.cu_machine.specs.Listing.{listing}
-use Rattle.cu_machine.specs.Sets.{code_is_without_sets}
 use Rattle.cu_machine.specs.State.{start_of}
 use Rattle.cu_cmd.specs.declared.due.Due.{Due}
 use Rattle.cu_cmd.specs.declared.due.Due.TheVariants.{Listing, Refusal}
@@ -21,11 +19,11 @@ use Rattle.cu_cmd.specs.declared.rounds.SearchFault.{SearchFault}
 use Rattle.cu_cmd.specs.declared.status.Status.{Status}
 use Rattle.cu_cmd.specs.declared.status.Status.TheVariants as status
 use Rattle.cu_cmd.proofs.LawsReport.{same_report}
-use Rattle.cu_cmd.proofs.ScopeLemmas.{goal-has_rule, program-without_sets}
+use Rattle.cu_cmd.proofs.ScopeLemmas.{goal-has_rule}
 use Rattle.cu_cmd.specs.Choices.{Accepts, IsAbsent, Refuses, lines_of, names_of}
 use Rattle.cu_cmd.specs.Definition.{Definition}
 use Rattle.cu_cmd.specs.Due.{Ends, Owes, OwesTo}
-use Rattle.cu_cmd.specs.Program.{AreSound, goal_of, program_of}
+use Rattle.cu_cmd.specs.Program.{goal_of, program_of}
 use Rattle.cu_cmd.specs.Report.{Adds, AddsFront, Held, default_limits, IsFront, Report, usage, usage_line, listed, missing, missing_line, syntax_line, wrong_goal, wrong_line}
 use Rattle.cu_cmd.specs.Words.{IsCommand, ReadsAs, Solve}
 
@@ -58,17 +56,10 @@ pub owes_missing_refusal : (solve : Solve) (line : List ℕ) (held : Held) (word
 owes_missing_refusal solve line held words is_line is_absent reads =
     missing (line ∷ []) solve reads is_absent (ap (λ l. l ∷ []) is_line)
 
--- the goal is an operation with a rule, and the program has no set functions
-pub goal_runs : (definitions : List Definition) (k : ℕ) (name : List ℕ) (program : Code) (goal : FunId)
-    → slice_get (names_of definitions) k ≡ Some name → AreSound definitions → program ≡ code_of (program_of definitions k) → goal ≡ goal_of definitions
-    → IsTrue (is_rule (body_of program goal)) × IsTrue (code_is_without_sets program)
-goal_runs definitions k name program goal named sound is_program is_goal =
-    let within : k < length definitions =
-    omega (arith, slice_get_within (names_of definitions) k name named, length-map definitions (λ d. d.name)) in
-    rw (is_program, is_goal) (
-      goal-has_rule definitions k,
-      program-without_sets definitions k within sound,
-    )
+-- the goal is an operation with a rule
+pub goal_runs : (definitions : List Definition) (k : ℕ) (program : Code) (goal : FunId)
+    → program ≡ code_of (program_of definitions k) → goal ≡ goal_of definitions → IsTrue (is_rule (body_of program goal))
+goal_runs definitions k program goal is_program is_goal = rw (is_program, is_goal) (goal-has_rule definitions k)
 
 -- what holds of an Ok holds as far as it implies
 pub if_ok : {A E : Type 0} (r : Result A E) (P Q : A → Type 0) → ((x : A) → P x → Q x) → IfOk r P → IfOk r Q

@@ -1,5 +1,5 @@
 -- Terms whose calls are whole and whose variables are parameters, and the flat code of programs that are made of them.
-use Rattle.std.proofs.Common.{◌≡◌, ℕ, zero, suc, ◌+◌, ◌-◌, ◌*◌, ◌^◌, ◌<◌, ◌≤◌, Bool, true, not, ◌&&◌, IsTrue, List, [], ◌∷◌, ◌++◌, Option, None, Some, length, map, nat_le, pos, slice_get, option_map, get_or, refl, ap, sym, subst, ◌∙◌, arith, add-zero, append-nil, leb-true, length-append}
+use Rattle.std.proofs.Common.{◌≡◌, ℕ, zero, suc, ◌+◌, ◌-◌, ◌*◌, ◌^◌, ◌<◌, ◌≤◌, Bool, true, ◌&&◌, IsTrue, List, [], ◌∷◌, ◌++◌, Option, None, Some, length, map, nat_le, pos, slice_get, option_map, get_or, refl, ap, sym, subst, ◌∙◌, arith, add-zero, append-nil, leb-true, length-append}
 use Rattle.std.specs.List.{All, list_all}
 use Rattle.std.proofs.lemmas.Bool.{eq-eqb, le-leb}
 use Rattle.std.proofs.lemmas.List.{length-map}
@@ -20,7 +20,6 @@ use Rattle.cu_calculus.specs.Valid.{holds, is_arity, is_linear}
 use Rattle.cu_calculus.specs.WellFormed.{fit_branches, fits, fits_case, fits_expr, fits_function, is_allowed, is_well_formed}
 use Rattle.cu_calculus.proofs.Lists.{all_append}
 use Rattle.cu_machine.proofs.Fuel.{left_true, right_true}
-use Rattle.cu_machine.specs.Sets.{code_is_without_sets, has_set_head, is_set_head}
 use Rattle.cu_cmd.specs.Builtin.{constructors, falsity, truth}
 use Rattle.cu_cmd.specs.Layout.{branches, code_of, layout, layouts, operations_from, place, places, size, sizes}
 use Rattle.cu_cmd.specs.Term.{Operation, Term, Terms, Choice, Decision, End, Literal, More, Variable, Whole}
@@ -108,7 +107,6 @@ fits-deep program scope (suc depth) e found deep is h =
 -- code that has the heads that are known, with their arities, and the constructors False and True
 pub record Knows (program : Code) (known : Head → Option ℕ) : Type 0 where
   pub heads : (h : Head) (n : ℕ) → known h ≡ Some n → IsTrue (is_allowed program h && takes (arity_of program h) n)
-  pub no_sets : (h : Head) (n : ℕ) → known h ≡ Some n → IsTrue (not (is_set_head h))
   pub falsity_known : IsTrue (takes (arity_of program (Con falsity)) 0)
   pub truth_known : IsTrue (takes (arity_of program (Con truth)) 0)
 
@@ -274,7 +272,7 @@ module _ (program : Code) (known : Head → Option ℕ) (knows : Knows program k
         (every-pass test scope m ts passes scoped.1
         (Stands-right program.expressions n m (layout n t) (layouts m ts) stands (omega (arith, length-layout n t))) (omega arith))
 
-  -- case distinctions fit over what they keep, and no head is a set function
+  -- case distinctions fit over what they keep
   cases-pass : Passes (fits_case program)
   cases-pass = record {
     variable = λ x. refl;
@@ -282,15 +280,6 @@ module _ (program : Code) (known : Head → Option ℕ) (knows : Knows program k
     whole = λ h n es is. refl;
     or = λ left right. refl;
     case = λ kept value. branches-fit (fits (length program.expressions) program) kept;
-  }
-
-  sets-pass : Passes (λ expr. not (has_set_head expr))
-  sets-pass = record {
-    variable = λ x. refl;
-    literal = λ l. refl;
-    whole = λ h n es is. knows.no_sets h n is;
-    or = λ left right. refl;
-    case = λ kept value if_false if_true linear n y. refl;
   }
 
 -- an operation whose parameters are different and whose body is in their scope
@@ -358,7 +347,6 @@ arity-con (Some constructor) = refl
 program-knows : (program : List Operation) → Knows (code_of program) (known program)
 program-knows program = record {
   heads = heads;
-  no_sets = no_sets;
   falsity_known = refl;
   truth_known = refl;
 }
@@ -371,13 +359,7 @@ program-knows program = record {
     heads (Set f) n is =
         let no : ⊥ = cc in absurd no
 
-    no_sets : (h : Head) (n : ℕ) → known program h ≡ Some n → IsTrue (not (is_set_head h))
-    no_sets (Fun f) n is = refl
-    no_sets (Con c) n is = refl
-    no_sets (Set f) n is =
-        let no : ⊥ = cc in absurd no
-
--- the code of a program in scope that begins with the conjunction is well-formed, and has no set functions
+-- the code of a program in scope that begins with the conjunction is well-formed
 code-well_formed : (others : List Operation) → AllScoped (known (conjunction_operation ∷ others)) (conjunction_operation ∷ others)
     → IsTrue (is_well_formed (code_of (conjunction_operation ∷ others)))
 code-well_formed others scoped =
@@ -389,13 +371,6 @@ code-well_formed others scoped =
     (functions-fit code (known program) knows 0 program scoped (Stands-all code.expressions) (omega arith)))
     (operations-pass code (known program) knows (fits_case code) (cases-pass code (known program) knows) 0 program scoped (Stands-all code.expressions) (omega arith)))
     refl
-
-code-without_sets : (program : List Operation) → AllScoped (known program) program → IsTrue (code_is_without_sets (code_of program))
-code-without_sets program scoped =
-    let code = code_of program in
-    let knows = program-knows program in
-    operations-pass code (known program) knows (λ expr. not (has_set_head expr)) (sets-pass code (known program) knows) 0 program scoped
-    (Stands-all code.expressions) (omega arith)
 
 -- the terms of a module's program are in scope
 module _ (heads : Head → Option ℕ) (n : ℕ) (two : heads (Fun choice_operator) ≡ Some 2)
@@ -444,17 +419,13 @@ program-scoped definitions goal within sound = (
   ),
 )
 
--- so its code is well-formed, and has no set functions
+-- so its code is well-formed
 pub program-well_formed : (definitions : List Definition) (goal : ℕ) → goal < length definitions → AreSound definitions
     → IsTrue (is_well_formed (code_of (program_of definitions goal)))
 program-well_formed definitions goal within sound =
     code-well_formed
     (choice_operation ∷ map (λ definition. constant (choice_term definition.first definition.others)) definitions ++ constant (call_of goal) ∷ [])
     (program-scoped definitions goal within sound)
-
-pub program-without_sets : (definitions : List Definition) (goal : ℕ) → goal < length definitions → AreSound definitions
-    → IsTrue (code_is_without_sets (code_of (program_of definitions goal)))
-program-without_sets definitions goal within sound = code-without_sets (program_of definitions goal) (program-scoped definitions goal within sound)
 
 -- each operation has a rule
 rule-get : (n k : ℕ) (os : List Operation) → k < length os

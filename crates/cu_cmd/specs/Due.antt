@@ -4,7 +4,6 @@ use Rattle.std.specs.List.{concat}
 use Rattle.cu_io.specs.Rose.{Rose}
 use Rattle.cu_calculus.specs.Code.{body_of, is_rule}
 use Rattle.cu_machine.specs.Listing.{listing}
-use Rattle.cu_machine.specs.Sets.{code_is_without_sets}
 use Rattle.cu_machine.specs.State.{start_of}
 use Rattle.cu_cmd.specs.declared.due.Due.{Due}
 use Rattle.cu_cmd.specs.declared.due.Due.TheVariants.{Listing, Refusal}
@@ -29,10 +28,10 @@ Owes (Listing program goal) words held =
 abbrev pub OwesTo : Solve → Due → Held → Type 0
 OwesTo solve due held = (words : List (List ℕ)) → ReadsAs words solve → Owes due words held
 
--- the goal of a listing is an operation with a rule, and its program has no set functions
+-- the goal of a listing is an operation with a rule
 abbrev pub IsRunnable : Due → Type 0
 IsRunnable (Refusal line) = Unit {0}
-IsRunnable (Listing program goal) = IsTrue (is_rule (body_of program goal)) × IsTrue (code_is_without_sets program)
+IsRunnable (Listing program goal) = IsTrue (is_rule (body_of program goal))
 
 -- The library's count of faults rose where it failed, and stands otherwise, also where memory ran out.
 abbrev pub HasReadCause : {A : Type 0} → Result A ReadFault → ℕ → ℕ → Type 0

@@ -9,7 +9,6 @@ pub mod Layout
 pub mod Line
 pub mod Numbers
 pub mod Program
-pub mod Ready
 pub mod Report
 pub mod SearchFaults
 pub mod Term

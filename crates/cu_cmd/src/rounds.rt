@@ -5,7 +5,6 @@ ghost use Rattle.cu_calculus.specs.Code.{body_of, is_rule};
 ghost use Rattle.cu_machine.specs.declared.End.TheVariants.{NoMore, Rounds, Stopped};
 ghost use Rattle.cu_machine.specs.declared.Stop.TheVariants.{TooWide};
 ghost use Rattle.cu_machine.specs.Listing.{listing};
-ghost use Rattle.cu_machine.specs.Sets.{code_is_without_sets};
 ghost use Rattle.cu_machine.specs.State.{start_of};
 ghost use Rattle.cu_cmd.specs.Line.{end_text, pieces};
 ghost use Rattle.cu_cmd.specs.Report.{Adds, AddsFront};
@@ -53,7 +52,6 @@ pub fn list_goal<S: Store, K: Sink>(
     sink: &mut K,
 ) -> Result<End, SearchFault>
     requires rule { IsTrue (is_rule (body_of program.now goal)) }
-    requires code { IsTrue (code_is_without_sets program.now) }
     requires single { limits.now.stride ≡ 1 }
     ensures end { IfOk result (λ end. end ≡ (listing program.now limits.now (start_of program.now goal)).end) }
     ensures whole { IfOk result (λ _. Adds (K.written sink.old) (K.written sink.new)

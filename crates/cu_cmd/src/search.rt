@@ -7,11 +7,10 @@ ghost use Rattle.cu_machine.specs.declared.End.TheVariants.{Answers};
 ghost use Rattle.cu_machine.specs.Level.{go_list};
 ghost use Rattle.cu_machine.specs.Listing.{Answered, Waiting, is_last, one_answer, one_wait, round_of};
 ghost use Rattle.cu_machine.specs.Next.{next};
-ghost use Rattle.cu_machine.specs.Sets.{code_is_without_sets};
 ghost use Rattle.cu_machine.specs.State.{start_of};
+ghost use Rattle.cu_machine.specs.Validity.{IsValid};
 ghost use Rattle.cu_step.specs.Outcome.{branches_of, next_of, reading_of, state_of};
 ghost use Rattle.cu_cmd.specs.Line.{line_text, line_texts};
-ghost use Rattle.cu_cmd.specs.Ready.{IsReady};
 ghost use Rattle.cu_cmd.specs.Report.{Adds, AddsFront};
 ghost use Rattle.cu_cmd.specs.SearchFaults.{HasSearchCause};
 
@@ -22,7 +21,8 @@ use cu_flat::{FlatProgram, FunId};
 use cu_graph::Store;
 use cu_io::Sink;
 use cu_machine::{End, Limits, SearchLimits, Waited};
-use cu_step::{Branch, Outcome, Reading, start, step};
+use cu_sets::advance;
+use cu_step::{Branch, Outcome, Reading, start};
 use std::alloc::{AllocError, Global};
 use std::marker::Model;
 use std::mem;
@@ -89,7 +89,7 @@ pub fn first_level<S: Store>(
 ) -> Result<Vec<Branch<S>>, AllocError>
     requires { IsTrue (is_rule (body_of program.now goal)) }
     ensures level { IfOk result (λ level. map (state_of S.content) level.items ≡ start_of program.now goal ∷ []) }
-    ensures ready { IfOk result (λ level. All (λ branch. IsReady program.now (state_of S.content branch)) level.items) }
+    ensures valid { IfOk result (λ level. All (λ branch. IsValid program.now (state_of S.content branch)) level.items) }
 {
     let mut level = Vec::new(alloc);
     level.push(start(alloc, program, goal)?)?;
@@ -107,15 +107,14 @@ pub fn list_round<S: Store, K: Sink>(
     tally: &mut Tally,
     sink: &mut K,
 ) -> Result<Option<End>, SearchFault>
-    requires code { IsTrue (code_is_without_sets program.now) }
-    requires ready { All (λ branch. IsReady program.now (state_of S.content branch)) level.old.items }
+    requires valid { All (λ branch. IsValid program.now (state_of S.content branch)) level.old.items }
     ensures end { IfOk result (λ end. end ≡ (round_of round limits.now.answers tally.old
         (map (next program.now limits.now.step) (map (state_of S.content) level.old.items))).end) }
     ensures tally { OnOk result (tally.new ≡ (round_of round limits.now.answers tally.old
         (map (next program.now limits.now.step) (map (state_of S.content) level.old.items))).tally) }
     ensures level { OnOk result (map (state_of S.content) level.new.items
         ≡ flat_map go_list (map (next program.now limits.now.step) (map (state_of S.content) level.old.items))) }
-    ensures ready { OnOk result (All (λ branch. IsReady program.now (state_of S.content branch)) level.new.items) }
+    ensures valid { OnOk result (All (λ branch. IsValid program.now (state_of S.content branch)) level.new.items) }
     ensures whole { OnOk result (Adds (K.written sink.old) (K.written sink.new)
         (concat (line_texts (round_of round limits.now.answers tally.old
         (map (next program.now limits.now.step) (map (state_of S.content) level.old.items))).lines))) }
@@ -138,16 +137,15 @@ fn step_level<S: Store>(
     limits: &Limits,
     level: Vec<Branch<S>>,
 ) -> Result<Vec<Outcome<S>>, AllocError>
-    requires code { IsTrue (code_is_without_sets program.now) }
-    requires ready { All (λ branch. IsReady program.now (state_of S.content branch)) level.items }
+    requires valid { All (λ branch. IsValid program.now (state_of S.content branch)) level.items }
     ensures next { IfOk result (λ outcomes. map (next_of S.content) outcomes.items
         ≡ map (next program.now limits.now) (map (state_of S.content) level.items)) }
-    ensures ready { IfOk result (λ outcomes. All (λ outcome. All (λ branch. IsReady program.now (state_of S.content branch))
+    ensures valid { IfOk result (λ outcomes. All (λ outcome. All (λ branch. IsValid program.now (state_of S.content branch))
         (branches_of outcome)) outcomes.items) }
 {
     let mut outcomes = Vec::with_capacity(alloc, level.len())?;
     for branch in level {
-        outcomes.push(step(alloc, program, branch, limits)?)?;
+        outcomes.push(advance(alloc, program, branch, limits)?)?;
     }
     Ok(outcomes)
 }
@@ -179,6 +177,10 @@ fn add_following<S: Store>(
         Outcome::Fail => Ok(()),
         Outcome::Wait(_) => Ok(()),
         Outcome::Stop(_) => Ok(()),
+        Outcome::Inner(branch) => {
+            level.push(branch)?;
+            Ok(())
+        }
     }
 }
 
@@ -237,6 +239,7 @@ fn list_outcome<S: Store, K: Sink>(
         Outcome::Fail => Ok(None),
         Outcome::Wait(names) => list_wait(alloc, round, names.as_slice(), tally, sink),
         Outcome::Stop(stop) => Ok(Some(End::Stopped(*stop, round))),
+        Outcome::Inner(_) => Ok(None),
     }
 }
 

@@ -14,7 +14,7 @@ pub loop-level-init : goal.loop-level-init
 loop-level-init g c =
     record {
       left = listing_starts (g.K.Sink.written c.args.sink.now) c.args.program.now c.args.limits.now (start_of c.args.program.now c.args.goal) c.new-tally.result (map (state_of g.S.Store.content) c.in_ok-level.level.items) c.new-tally.ensures c.in_ok-level.ensures.level;
-      ready = c.in_ok-level.ensures.ready;
+      valid = c.in_ok-level.ensures.valid;
       within = zero-le;
       count = refl;
     }
@@ -76,4 +76,4 @@ loop-level-preserved g c =
     let whole = listing c.args.program.now c.args.limits.now (start_of c.args.program.now c.args.goal) in
     let on = next_round c.args.program.now c.args.limits.now c.loop-level.round {whole = whole} c.requires.single c.loop-level.invariant.within c.loop-level.invariant.left (done g (goal.at.loop-level-preserved g c).After-or) c.in_default.is in
     let below : c.loop-level.round < c.args.limits.now.rounds = on.0 in
-    record { left = on.1; ready = c.in_ok-listed.ensures.ready; within = omega arith; count = c.in_ok-listed.ensures.cause ∙ c.loop-level.invariant.count }
+    record { left = on.1; valid = c.in_ok-listed.ensures.valid; within = omega arith; count = c.in_ok-listed.ensures.cause ∙ c.loop-level.invariant.count }

@@ -35,3 +35,6 @@ returns-in-Wait-clause-front g c =
 
 pub returns-in-Stop-clause-whole : goal.returns-in-Stop-clause-whole
 returns-in-Stop-clause-whole g c = rw (c.in-Stop.is, round_of-Stops) (Adds-nothing (g.K.Sink.written c.args.sink.now))
+
+pub returns-in-Inner-clause-whole : goal.returns-in-Inner-clause-whole
+returns-in-Inner-clause-whole g c = rw (c.in-Inner.is, round_of-Go) (Adds-nothing (g.K.Sink.written c.args.sink.now))

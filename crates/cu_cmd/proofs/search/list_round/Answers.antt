@@ -3,9 +3,9 @@ use Rattle.std.specs.List.{All, concat}
 use Rattle.cu_machine.specs.Level.{go_list}
 use Rattle.cu_machine.specs.Listing.{round_of}
 use Rattle.cu_machine.specs.Next.{next}
+use Rattle.cu_machine.specs.Validity.{IsValid}
 use Rattle.cu_step.specs.Outcome.{next_of, state_of}
 use Rattle.cu_cmd.specs.Line.{line_texts}
-use Rattle.cu_cmd.specs.Ready.{IsReady}
 use Rattle.cu_cmd.proofs.ReadyLemmas.{all-follow, states-follow}
 use Rattle.cu_cmd.proofs.RoundsLemmas.{OnErr-always, whole_front}
 use Rattle.cu_cmd.proofs.search.list_round.Goals as goal
@@ -35,7 +35,7 @@ returns-clause-level g c =
     rw (← c.replace-branches.ensures.value) c.in_ok-outcomes.ensures.next
     in ap (map (state_of content)) c.in_ok-level.ensures ∙ states-follow content c.in_ok-outcomes.outcomes.items ∙ ap (flat_map go_list) same
 
-pub returns-clause-ready : goal.returns-clause-ready
-returns-clause-ready g c =
-    subst (All (λ branch. IsReady c.args.program.now (state_of g.S.Store.content branch))) (sym c.in_ok-level.ensures)
-    (all-follow (λ branch. IsReady c.args.program.now (state_of g.S.Store.content branch)) c.in_ok-outcomes.outcomes.items c.in_ok-outcomes.ensures.ready)
+pub returns-clause-valid : goal.returns-clause-valid
+returns-clause-valid g c =
+    subst (All (λ branch. IsValid c.args.program.now (state_of g.S.Store.content branch))) (sym c.in_ok-level.ensures)
+    (all-follow (λ branch. IsValid c.args.program.now (state_of g.S.Store.content branch)) c.in_ok-outcomes.outcomes.items c.in_ok-outcomes.ensures.valid)

@@ -12,7 +12,7 @@ returns-in_ok-program-in-Some-clause-owes c = λ held text is_held accepted word
 
 pub returns-in_ok-program-in-Some-clause-runnable : goal.returns-in_ok-program-in-Some-clause-runnable
 returns-in_ok-program-in-Some-clause-runnable c =
-    goal_runs c.args.definitions.now c.in-Some.k _ c.in_ok-program-in-Some.program c.goal_function.result c.in-Some.ensures c.requires
+    goal_runs c.args.definitions.now c.in-Some.k c.in_ok-program-in-Some.program c.goal_function.result
     c.in_ok-program-in-Some.ensures c.goal_function.ensures
 
 pub returns-in_ok-syntax_line-in-None-clause-owes : goal.returns-in_ok-syntax_line-in-None-clause-owes
