@@ -1,6 +1,4 @@
 //! Answers, waiting branches and limits.
-ghost use Rattle.std.specs.Prelude.{◌≡◌, IsTrue};
-ghost use Rattle.cu_machine.specs.Sets.{code_is_without_sets};
 
 use crate::programs::{self, CONS, NIL, TRUE};
 use crate::runs::{expect, expect_within};
@@ -10,9 +8,7 @@ use std::process::Abort;
 
 /// `goal = let x = [] in let y = [x, x] in [y, y]`, whose value has thirteen
 /// cells in seven nodes.
-fn shared<R: Abort>(rt: &R, alloc: Global) -> FlatProgram
-    ensures { IsTrue (code_is_without_sets result) }
-{
+fn shared<R: Abort>(rt: &R, alloc: Global) -> FlatProgram {
     let mut parts = programs::both(rt, alloc);
     parts.constructed(rt, NIL, &[]);
     parts.constructed(rt, CONS, &[ExprId(0), ExprId(4)]);
@@ -42,9 +38,7 @@ fn expect_shared<R: Abort>(rt: &R, alloc: Global) {
 
 /// `goal x = case x of True -> False`, `hidden = let x free in goal x` and
 /// `more x = x + x`, where the case distinction is rigid.
-fn rigid<R: Abort>(rt: &R, alloc: Global) -> FlatProgram
-    ensures { IsTrue (code_is_without_sets result) }
-{
+fn rigid<R: Abort>(rt: &R, alloc: Global) -> FlatProgram {
     let mut parts = programs::both(rt, alloc);
     let branches = vec![in alloc; programs::branch(rt, alloc, TRUE, &[], ExprId(2))].expect(
         rt, "memory",
@@ -70,9 +64,7 @@ fn expect_rigid<R: Abort>(rt: &R, alloc: Global) {
 
 /// `once x = x : x`, functions that do it 2, 4, 8, 16 and 32 times, each by the
 /// one before it, and `goal = thirty_two_times []`.
-fn doubling<R: Abort>(rt: &R, alloc: Global) -> FlatProgram
-    ensures { IsTrue (code_is_without_sets result) }
-{
+fn doubling<R: Abort>(rt: &R, alloc: Global) -> FlatProgram {
     let mut parts = programs::both(rt, alloc);
     parts.constructed(rt, CONS, &[ExprId(0), ExprId(0)]);
     parts.function(rt, 1, &[0], ExprId(4));

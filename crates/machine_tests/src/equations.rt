@@ -1,6 +1,4 @@
 //! Comparisons, conjunctions and equations.
-ghost use Rattle.std.specs.Prelude.{◌≡◌, IsTrue};
-ghost use Rattle.cu_machine.specs.Sets.{code_is_without_sets};
 
 use crate::programs::{self, CONS, NIL, TRUE};
 use crate::runs::expect;
@@ -9,9 +7,7 @@ use std::alloc::Global;
 use std::process::Abort;
 
 /// `[1] == [1]`, `[] == [1]` and `(&&) == (&&)`.
-fn comparisons<R: Abort>(rt: &R, alloc: Global) -> FlatProgram
-    ensures { IsTrue (code_is_without_sets result) }
-{
+fn comparisons<R: Abort>(rt: &R, alloc: Global) -> FlatProgram {
     let mut parts = programs::both(rt, alloc);
     parts.integer(rt, 1);
     parts.constructed(rt, NIL, &[]);
@@ -44,9 +40,7 @@ fn expect_comparisons<R: Abort>(rt: &R, alloc: Global) {
 }
 
 /// `True & True`, `True & False`, and `let x = True in x & x`.
-fn conjunctions<R: Abort>(rt: &R, alloc: Global) -> FlatProgram
-    ensures { IsTrue (code_is_without_sets result) }
-{
+fn conjunctions<R: Abort>(rt: &R, alloc: Global) -> FlatProgram {
     let mut parts = programs::both(rt, alloc);
     parts.constructed(rt, TRUE, &[]);
     parts.call(rt, FunId(1), &[ExprId(4), ExprId(4)]);
@@ -69,9 +63,7 @@ fn expect_conjunctions<R: Abort>(rt: &R, alloc: Global) {
 }
 
 /// `x =:= x` and `x =:= y`.
-fn variables<R: Abort>(rt: &R, alloc: Global) -> FlatProgram
-    ensures { IsTrue (code_is_without_sets result) }
-{
+fn variables<R: Abort>(rt: &R, alloc: Global) -> FlatProgram {
     let mut parts = programs::both(rt, alloc);
     parts.call(rt, FunId(1), &[ExprId(0), ExprId(0)]);
     parts.free(rt, 0, ExprId(4));
@@ -92,9 +84,7 @@ fn expect_variables<R: Abort>(rt: &R, alloc: Global) {
 }
 
 /// `x =:= 7`.
-fn binding<R: Abort>(rt: &R, alloc: Global) -> FlatProgram
-    ensures { IsTrue (code_is_without_sets result) }
-{
+fn binding<R: Abort>(rt: &R, alloc: Global) -> FlatProgram {
     let mut parts = programs::both(rt, alloc);
     parts.integer(rt, 7);
     parts.call(rt, FunId(1), &[ExprId(0), ExprId(4)]);
@@ -105,9 +95,7 @@ fn binding<R: Abort>(rt: &R, alloc: Global) -> FlatProgram
 }
 
 /// `7 =:= x`.
-fn binding_on_the_left<R: Abort>(rt: &R, alloc: Global) -> FlatProgram
-    ensures { IsTrue (code_is_without_sets result) }
-{
+fn binding_on_the_left<R: Abort>(rt: &R, alloc: Global) -> FlatProgram {
     let mut parts = programs::both(rt, alloc);
     parts.integer(rt, 7);
     parts.call(rt, FunId(1), &[ExprId(4), ExprId(0)]);
@@ -126,9 +114,7 @@ fn expect_bindings<R: Abort>(rt: &R, alloc: Global) {
 }
 
 /// `x =:= []`, `[1] =:= [2]`, `[] =:= [1]`, `1 =:= []` and `(&&) =:= (&&)`.
-fn constructors<R: Abort>(rt: &R, alloc: Global) -> FlatProgram
-    ensures { IsTrue (code_is_without_sets result) }
-{
+fn constructors<R: Abort>(rt: &R, alloc: Global) -> FlatProgram {
     let mut parts = programs::both(rt, alloc);
     parts.integer(rt, 1);
     parts.integer(rt, 2);
@@ -170,9 +156,7 @@ fn expect_constructors<R: Abort>(rt: &R, alloc: Global) {
 }
 
 /// `x =:= [y]`.
-fn imitation<R: Abort>(rt: &R, alloc: Global) -> FlatProgram
-    ensures { IsTrue (code_is_without_sets result) }
-{
+fn imitation<R: Abort>(rt: &R, alloc: Global) -> FlatProgram {
     let mut parts = programs::both(rt, alloc);
     parts.constructed(rt, NIL, &[]);
     parts.constructed(rt, CONS, &[ExprId(1), ExprId(4)]);
@@ -185,9 +169,7 @@ fn imitation<R: Abort>(rt: &R, alloc: Global) -> FlatProgram
 }
 
 /// `[y] =:= x`.
-fn imitation_on_the_left<R: Abort>(rt: &R, alloc: Global) -> FlatProgram
-    ensures { IsTrue (code_is_without_sets result) }
-{
+fn imitation_on_the_left<R: Abort>(rt: &R, alloc: Global) -> FlatProgram {
     let mut parts = programs::both(rt, alloc);
     parts.constructed(rt, NIL, &[]);
     parts.constructed(rt, CONS, &[ExprId(1), ExprId(4)]);
@@ -209,9 +191,7 @@ fn expect_imitations<R: Abort>(rt: &R, alloc: Global) {
 }
 
 /// `x =:= [x]`.
-fn circle<R: Abort>(rt: &R, alloc: Global) -> FlatProgram
-    ensures { IsTrue (code_is_without_sets result) }
-{
+fn circle<R: Abort>(rt: &R, alloc: Global) -> FlatProgram {
     let mut parts = programs::both(rt, alloc);
     parts.constructed(rt, NIL, &[]);
     parts.constructed(rt, CONS, &[ExprId(0), ExprId(4)]);

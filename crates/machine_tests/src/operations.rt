@@ -1,6 +1,4 @@
 //! Built-in operations on numbers and characters.
-ghost use Rattle.std.specs.Prelude.{◌≡◌, IsTrue};
-ghost use Rattle.cu_machine.specs.Sets.{code_is_without_sets};
 
 use crate::programs::{self, TRUE};
 use crate::runs::expect;
@@ -10,9 +8,7 @@ use std::process::Abort;
 
 /// `7 + -2`, the same with `-`, `*`, `div` and `mod`, the least integer `div -1`
 /// and `mod -1`, and `7 div 0`.
-fn sums<R: Abort>(rt: &R, alloc: Global) -> FlatProgram
-    ensures { IsTrue (code_is_without_sets result) }
-{
+fn sums<R: Abort>(rt: &R, alloc: Global) -> FlatProgram {
     let mut parts = programs::both(rt, alloc);
     parts.integer(rt, 7);
     parts.integer(rt, -2);
@@ -72,9 +68,7 @@ fn expect_sums<R: Abort>(rt: &R, alloc: Global) {
 }
 
 /// The sums of 1 with the greatest integers of 64 and of 128 bits.
-fn sums_at_the_ends<R: Abort>(rt: &R, alloc: Global) -> FlatProgram
-    ensures { IsTrue (code_is_without_sets result) }
-{
+fn sums_at_the_ends<R: Abort>(rt: &R, alloc: Global) -> FlatProgram {
     let mut parts = programs::both(rt, alloc);
     parts.integer(rt, 9_223_372_036_854_775_807);
     parts.integer(rt, Int::MAX);
@@ -109,9 +103,7 @@ fn expect_sums_at_the_ends<R: Abort>(rt: &R, alloc: Global) {
 }
 
 /// `1 < 2`, `2 < 2`, `2 <= 2`, `2 <= 1`, `2 > 1`, `2 > 2`, `2 >= 2` and `1 >= 2`.
-fn orders<R: Abort>(rt: &R, alloc: Global) -> FlatProgram
-    ensures { IsTrue (code_is_without_sets result) }
-{
+fn orders<R: Abort>(rt: &R, alloc: Global) -> FlatProgram {
     let mut parts = programs::both(rt, alloc);
     parts.integer(rt, 1);
     parts.integer(rt, 2);
@@ -153,9 +145,7 @@ fn expect_orders<R: Abort>(rt: &R, alloc: Global) {
 
 /// `'a' == 'a'`, `'a' == 'b'`, `97 == True`, `True == 97`, `ord 'a'`, `chr 97`,
 /// `chr 55296`, `97 + 'a'` and `ord 97`.
-fn kinds<R: Abort>(rt: &R, alloc: Global) -> FlatProgram
-    ensures { IsTrue (code_is_without_sets result) }
-{
+fn kinds<R: Abort>(rt: &R, alloc: Global) -> FlatProgram {
     let mut parts = programs::both(rt, alloc);
     parts.character(rt, 'a');
     parts.character(rt, 'b');

@@ -6,7 +6,7 @@ ghost use Rattle.cu_calculus.specs.declared.Head.TheVariants as head;
 ghost use Rattle.cu_calculus.specs.declared.Lit.TheVariants as lit;
 ghost use Rattle.cu_calculus.specs.declared.Mode.TheVariants as mode;
 ghost use Rattle.cu_flat.specs.Meaning.{branch_meaning, expr_meaning};
-ghost use Rattle.machine_tests.specs.Samples.{sample};
+ghost use Rattle.machine_tests.specs.Samples.{sample, sample_with_sets};
 
 use cu_flat::{
     ConId, Entry, Expr, ExprId, FlatBody, FlatConstructor, FlatFunction, FlatProgram, FunId, Head,
@@ -24,6 +24,9 @@ pub(crate) const NIL: ConId = ConId(2);
 
 pub(crate) const CONS: ConId = ConId(3);
 
+/// The constructor of the values of set functions.
+pub(crate) const VALUES: ConId = ConId(4);
+
 /// `&&`
 pub(crate) const BOTH: FunId = FunId(0);
 
@@ -34,6 +37,15 @@ pub(crate) const SPECIAL: Special = Special {
     cons: CONS,
     both: BOTH,
     values: None,
+};
+
+pub(crate) const SPECIAL_WITH_SETS: Special = Special {
+    falsity: FALSE,
+    truth: TRUE,
+    nil: NIL,
+    cons: CONS,
+    both: BOTH,
+    values: Some(VALUES),
 };
 
 /// The functions and the expressions of a program, as far as it is put
@@ -236,6 +248,27 @@ impl Parts {
         ]
         .expect(rt, "memory");
         FlatProgram::new(self.functions, constructors, SPECIAL, self.entries)
+    }
+
+    /// The program of all of them, which may have set functions.
+    pub(crate) fn program_with_sets<R: Abort>(self, rt: &R) -> FlatProgram
+        requires { IsTrue (is_well_formed (sample_with_sets self.0 self.1)) }
+        ensures { result ≡ sample_with_sets self.0 self.1 }
+    {
+        let constructors = vec![in self.alloc;
+            constructor(0, 0),
+            constructor(0, 0),
+            constructor(1, 0),
+            constructor(1, 2),
+            constructor(2, 1),
+        ]
+        .expect(rt, "memory");
+        FlatProgram::new(
+            self.functions,
+            constructors,
+            SPECIAL_WITH_SETS,
+            self.entries,
+        )
     }
 }
 

@@ -1,6 +1,4 @@
 //! Calls, choices, case distinctions and applications.
-ghost use Rattle.std.specs.Prelude.{◌≡◌, IsTrue};
-ghost use Rattle.cu_machine.specs.Sets.{code_is_without_sets};
 
 use crate::programs::{self, CONS, FALSE, NIL, TRUE};
 use crate::runs::{expect, expect_within};
@@ -10,9 +8,7 @@ use std::process::Abort;
 
 /// `not False = True; not True = False`, `goal x = not x`, `both x y = x && y` and
 /// `pick False y z = z; pick True y z = y`.
-fn negation<R: Abort>(rt: &R, alloc: Global) -> FlatProgram
-    ensures { IsTrue (code_is_without_sets result) }
-{
+fn negation<R: Abort>(rt: &R, alloc: Global) -> FlatProgram {
     let mut parts = programs::both(rt, alloc);
     parts.constructed(rt, TRUE, &[]);
     let branches = vec![in alloc;
@@ -78,9 +74,7 @@ fn expect_kept<R: Abort>(rt: &R, alloc: Global) {
 }
 
 /// `coin = 1 ? 2`, `goal = coin`, and `none = failed`.
-fn coin<R: Abort>(rt: &R, alloc: Global) -> FlatProgram
-    ensures { IsTrue (code_is_without_sets result) }
-{
+fn coin<R: Abort>(rt: &R, alloc: Global) -> FlatProgram {
     let mut parts = programs::both(rt, alloc);
     parts.integer(rt, 1);
     parts.integer(rt, 2);
@@ -105,9 +99,7 @@ fn expect_coin<R: Abort>(rt: &R, alloc: Global) {
 }
 
 /// `number = case 7 of 1 -> 7; 7 -> 1` and `goal = case 1 of 7 -> 1`.
-fn numbers<R: Abort>(rt: &R, alloc: Global) -> FlatProgram
-    ensures { IsTrue (code_is_without_sets result) }
-{
+fn numbers<R: Abort>(rt: &R, alloc: Global) -> FlatProgram {
     let mut parts = programs::both(rt, alloc);
     parts.integer(rt, 7);
     parts.integer(rt, 1);
@@ -136,9 +128,7 @@ fn expect_numbers<R: Abort>(rt: &R, alloc: Global) {
 /// `rest = case 5 : [] of [] -> []; x : xs -> xs`,
 /// `goal = let x free in case x of [] -> []; y : ys -> ys` and
 /// `wrong = case [] of True -> []`.
-fn lists<R: Abort>(rt: &R, alloc: Global) -> FlatProgram
-    ensures { IsTrue (code_is_without_sets result) }
-{
+fn lists<R: Abort>(rt: &R, alloc: Global) -> FlatProgram {
     let mut parts = programs::both(rt, alloc);
     parts.integer(rt, 5);
     parts.constructed(rt, NIL, &[]);
@@ -186,9 +176,7 @@ fn expect_lists<R: Abort>(rt: &R, alloc: Global) {
 
 /// `both = (&&) True False`, `goal = case (&&) of False -> False` and
 /// `wrong = True True`.
-fn partials<R: Abort>(rt: &R, alloc: Global) -> FlatProgram
-    ensures { IsTrue (code_is_without_sets result) }
-{
+fn partials<R: Abort>(rt: &R, alloc: Global) -> FlatProgram {
     let mut parts = programs::both(rt, alloc);
     parts.partial(rt, FunId(0), &[]);
     parts.constructed(rt, TRUE, &[]);

@@ -1,19 +1,24 @@
 //! Runs of programs: paths from the start of a search, and what stands at
 //! their end, as a line of text.
-ghost use Rattle.std.specs.Prelude.{◌≡◌, ◌<◌, IfSome, IsTrue, Some, length, slice_get};
+ghost use Rattle.std.specs.Prelude.{◌≡◌, ◌<◌, IfOk, IfSome, IsTrue, Some, length, slice_get};
+ghost use Rattle.std.specs.List.{All};
 ghost use Rattle.cu_calculus.specs.Code.{body_of, is_rule};
-ghost use Rattle.cu_machine.specs.Sets.{code_is_without_sets};
-ghost use Rattle.cu_step.specs.Outcome.{branches_of};
+ghost use Rattle.cu_machine.specs.Validity.{IsValid};
+ghost use Rattle.cu_step.specs.Outcome.{branches_of, state_of};
 
 use cu_flat::{FlatBody, FlatProgram, FunId, Head, Lit, Mode, Prim};
 use cu_graph::{Kind, PlainStore, Store};
-use cu_step::{Branch, Limits, Outcome, Reading, Stop, Waited, start, step};
+use cu_sets::{advance, run};
+use cu_step::{Branch, Limits, Outcome, Reading, SearchLimits, Stop, Waited, start};
 use cu_values::{Cell, Value};
 use std::alloc::{AllocError, Global};
 use std::process::Abort;
 
 /// The most nodes, where the limit isn't what is tried.
 pub(crate) const NODES: u32 = 1000;
+
+/// The steps of a long round.
+const STRIDE: u64 = 1000;
 
 /// The branch of a number among those that go on.
 fn chosen(outcome: Outcome<PlainStore>, choice: usize) -> Option<Branch<PlainStore>>
@@ -32,27 +37,44 @@ fn chosen(outcome: Outcome<PlainStore>, choice: usize) -> Option<Branch<PlainSto
     }
 }
 
+/// What becomes of a branch in so many steps as a round takes.
+fn outcome_after(
+    alloc: Global,
+    program: &FlatProgram,
+    branch: Branch<PlainStore>,
+    limits: &SearchLimits,
+) -> Result<Outcome<PlainStore>, AllocError>
+    requires { IsValid program.now (state_of (λ store. store) branch) }
+    ensures { IfOk result (λ outcome. All (λ branch. IsValid program.now (state_of (λ store. store) branch))
+        (branches_of outcome)) }
+{
+    if limits.stride == 1 {
+        advance(alloc, program, branch, &limits.step)
+    } else {
+        run(alloc, program, branch, &limits.step, limits.stride)
+    }
+}
+
 /// What becomes of the branch at the end of a path from the start, which says
-/// by a digit which branch is taken at each step.
+/// by a digit which branch is taken in each round.
 fn outcome_at(
     alloc: Global,
     program: &FlatProgram,
     goal: FunId,
     path: &[u8],
-    limits: &Limits,
+    limits: &SearchLimits,
 ) -> Result<Outcome<PlainStore>, AllocError>
-    requires code { IsTrue (code_is_without_sets program.now) }
     requires goal { IsTrue (is_rule (body_of program.now goal)) }
 {
     let mut branch = start::<PlainStore>(alloc, program, goal)?;
     for digit in path {
-        let outcome = step(alloc, program, branch, limits)?;
+        let outcome = outcome_after(alloc, program, branch, limits)?;
         match chosen(outcome, usize::from(digit.wrapping_sub(b'0'))) {
             Some(next) => branch = next,
             None => return Err(AllocError),
         }
     }
-    step(alloc, program, branch, limits)
+    outcome_after(alloc, program, branch, limits)
 }
 
 /// The same, where the goal has a rule.
@@ -61,10 +83,8 @@ fn outcome_of(
     program: &FlatProgram,
     goal: usize,
     path: &[u8],
-    limits: &Limits,
-) -> Result<Outcome<PlainStore>, AllocError>
-    requires { IsTrue (code_is_without_sets program.now) }
-{
+    limits: &SearchLimits,
+) -> Result<Outcome<PlainStore>, AllocError> {
     match program.body(FunId(goal)) {
         Some(FlatBody::Rule(_, _)) => outcome_at(alloc, program, FunId(goal), path, limits),
         _ => Err(AllocError),
@@ -233,24 +253,31 @@ fn outcome_text(alloc: Global, outcome: &Outcome<PlainStore>) -> Result<String, 
         Outcome::Fail => format!(in alloc; "fails"),
         Outcome::Wait(names) => waited_text(alloc, names.as_slice()),
         Outcome::Stop(stop) => stop_text(alloc, *stop),
+        Outcome::Inner(_) => format!(in alloc; "inner"),
     }
 }
 
-/// Expects what stands at the end of a path, where graphs have so many nodes
-/// at most.
-pub(crate) fn expect_within<R: Abort>(
+/// Bounds of rounds of so many steps.
+fn bounds(stride: u64, nodes: u32, width: u32) -> SearchLimits {
+    SearchLimits {
+        rounds: 1,
+        answers: None,
+        stride,
+        step: Limits { nodes, width },
+    }
+}
+
+/// Expects what stands at the end of a path, within bounds.
+fn expect_by<R: Abort>(
     rt: &R,
     alloc: Global,
     program: &FlatProgram,
     goal: usize,
     path: &str,
-    nodes: u32,
+    limits: &SearchLimits,
     want: &str,
-)
-    requires { IsTrue (code_is_without_sets program.now) }
-{
-    let limits = Limits { nodes, width: 1 };
-    match outcome_of(alloc, program, goal, path.as_bytes(), &limits) {
+) {
+    match outcome_of(alloc, program, goal, path.as_bytes(), limits) {
         Ok(outcome) => {
             let text = outcome_text(alloc, &outcome).expect(rt, "memory");
             assert_eq!(rt; text.as_str(), want, "f{goal} after {path}");
@@ -259,7 +286,21 @@ pub(crate) fn expect_within<R: Abort>(
     }
 }
 
-/// Expects what stands at the end of a path.
+/// Expects what stands at the end of a path of single steps, where graphs have
+/// so many nodes at most.
+pub(crate) fn expect_within<R: Abort>(
+    rt: &R,
+    alloc: Global,
+    program: &FlatProgram,
+    goal: usize,
+    path: &str,
+    nodes: u32,
+    want: &str,
+) {
+    expect_by(rt, alloc, program, goal, path, &bounds(1, nodes, 1), want);
+}
+
+/// Expects what stands at the end of a path of single steps.
 pub(crate) fn expect<R: Abort>(
     rt: &R,
     alloc: Global,
@@ -267,8 +308,28 @@ pub(crate) fn expect<R: Abort>(
     goal: usize,
     path: &str,
     want: &str,
-)
-    requires { IsTrue (code_is_without_sets program.now) }
-{
+) {
     expect_within(rt, alloc, program, goal, path, NODES, want);
+}
+
+/// Expects what stands at the end of a path of long rounds, where levels have
+/// so many branches at most.
+pub(crate) fn expect_run<R: Abort>(
+    rt: &R,
+    alloc: Global,
+    program: &FlatProgram,
+    goal: usize,
+    path: &str,
+    width: u32,
+    want: &str,
+) {
+    expect_by(
+        rt,
+        alloc,
+        program,
+        goal,
+        path,
+        &bounds(STRIDE, NODES, width),
+        want,
+    );
 }
