@@ -1,8 +1,7 @@
-//! A kernel program for the display of values: the built-in types, `Bool` and
-//! `&&`.
+//! A kernel program: the built-in types, `Bool`, and a few functions.
 use cu_kernel::{
-    Body, ConId, Constructor, DataType, FunId, Function, Head, Mark, ModuleInfo, Pattern,
-    ProgramParts, Rule, Special, Term, TypeId, TypeName, TypeTerm,
+    Body, ConId, Constructor, DataType, FunId, Function, Head, Int, Lit, Mark, Mode, ModuleInfo,
+    Pattern, Prim, ProgramParts, Rule, Special, Term, TypeId, TypeName, TypeTerm,
 };
 use cu_names::{NameId, Names, Place};
 use std::alloc::{AllocError, Global};
@@ -103,18 +102,123 @@ fn both(alloc: Global) -> Result<Function, AllocError> {
     })
 }
 
-fn mark() -> Mark {
-    Mark {
-        module: 0,
-        public: true,
-        declared: None,
-        captured: 0,
-        place: Place {
-            module: NAME,
-            line: 1,
-            column: 1,
-        },
+fn number(n: Int) -> Term {
+    Term::Lit(Lit::Int(n))
+}
+
+fn constant(alloc: Global, constructor: ConId) -> Term {
+    Term::Whole(Head::Con(constructor), Vec::new(alloc))
+}
+
+fn of_rules(arity: u32, rules: Vec<Rule>) -> Function {
+    Function {
+        name: NAME,
+        arity,
+        body: Body::Rules(rules),
     }
+}
+
+fn built_in(arity: u32, operation: Prim) -> Function {
+    Function {
+        name: NAME,
+        arity,
+        body: Body::External(operation),
+    }
+}
+
+/// A rule without parameters.
+fn constant_rule(alloc: Global, body: Term) -> Rule {
+    Rule {
+        params: Vec::new(alloc),
+        body,
+    }
+}
+
+/// A function of no parameters with one rule.
+fn constant_function(alloc: Global, body: Term) -> Result<Function, AllocError> {
+    Ok(of_rules(0, one(alloc, constant_rule(alloc, body))?))
+}
+
+/// `coin = 0` and `coin = 1`
+fn coin(alloc: Global) -> Result<Function, AllocError> {
+    let zero = constant_rule(alloc, number(0));
+    let one = constant_rule(alloc, number(1));
+    Ok(of_rules(0, pair(alloc, zero, one)?))
+}
+
+/// A function without parameters that calls another one.
+fn call(alloc: Global, function: usize) -> Result<Function, AllocError> {
+    constant_function(
+        alloc,
+        Term::Whole(Head::Fun(FunId(function)), Vec::new(alloc)),
+    )
+}
+
+/// A rule from one constructor to another.
+fn turned(alloc: Global, from: ConId, to: ConId) -> Result<Rule, AllocError> {
+    Ok(Rule {
+        params: one(alloc, Pattern::Con(from, Vec::new(alloc)))?,
+        body: constant(alloc, to),
+    })
+}
+
+/// `not False = True` and `not True = False`
+fn not(alloc: Global) -> Result<Function, AllocError> {
+    let no = turned(alloc, FALSE, TRUE)?;
+    let yes = turned(alloc, TRUE, FALSE)?;
+    Ok(of_rules(1, pair(alloc, no, yes)?))
+}
+
+/// `f x = case x of { 0 -> 1 }`
+fn rigid(alloc: Global) -> Result<Function, AllocError> {
+    let alternatives = one(alloc, (Pattern::Lit(Lit::Int(0)), number(1)))?;
+    let scrutinee = Box::new(alloc, Term::Var(0))?;
+    let rule = Rule {
+        params: one(alloc, Pattern::Var(0))?,
+        body: Term::Case(Mode::Rigid, scrutinee, alternatives),
+    };
+    Ok(of_rules(1, one(alloc, rule)?))
+}
+
+/// What lowering asks for, and the functions that the tests search.
+pub(crate) const COIN: usize = 3;
+
+pub(crate) const PICK: usize = 4;
+
+pub(crate) const NOT: usize = 5;
+
+pub(crate) const WAIT: usize = 6;
+
+pub(crate) const LOOP: usize = 7;
+
+fn functions(alloc: Global) -> Result<Vec<Function>, AllocError> {
+    let mut functions = one(alloc, both(alloc)?)?;
+    functions.push(built_in(0, Prim::Failed))?;
+    functions.push(built_in(2, Prim::Equal))?;
+    functions.push(coin(alloc)?)?;
+    functions.push(call(alloc, COIN)?)?;
+    functions.push(not(alloc)?)?;
+    functions.push(rigid(alloc)?)?;
+    functions.push(call(alloc, LOOP)?)?;
+    Ok(functions)
+}
+
+fn marks(alloc: Global, functions: &[Function]) -> Result<Vec<Mark>, AllocError> {
+    let mut marks = Vec::new(alloc);
+    for _ in functions {
+        marks.push(Mark {
+            module: 0,
+            public: true,
+            declared: None,
+            captured: 0,
+            place: Place {
+                module: NAME,
+                line: 1,
+                column: 1,
+            },
+        })?;
+    }
+    Ok(marks)
 }
 
 /// The parts of the program, whose names are in the table.
@@ -124,12 +228,14 @@ pub(crate) fn parts(alloc: Global, names: &mut Names) -> Result<ProgramParts, Al
         imports: Vec::new(alloc),
         operators: Vec::new(alloc),
     };
+    let functions = functions(alloc)?;
+    let marks = marks(alloc, functions.as_slice())?;
     Ok(ProgramParts {
         types: types(alloc, names)?,
-        functions: one(alloc, both(alloc)?)?,
+        functions,
         synonyms: Vec::new(alloc),
         modules: one(alloc, prelude)?,
-        marks: one(alloc, mark())?,
+        marks,
         goal: None,
         special: Special {
             falsity: FALSE,

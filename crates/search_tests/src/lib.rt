@@ -8,6 +8,4 @@ mod kernel;
 #[cfg(test)]
 mod listings;
 #[cfg(test)]
-mod programs;
-#[cfg(test)]
 mod runs;

@@ -1,5 +1,6 @@
 //! Listings of goals.
 use crate::gates::HoldingGate;
+use crate::kernel::{COIN, LOOP, NOT, PICK, WAIT};
 use crate::runs::{AMPLE, Bench, open, written};
 use cu_io::VecSink;
 use cu_machine::{End, Limits, SearchLimits};
@@ -44,113 +45,39 @@ const NARROW: SearchLimits = SearchLimits {
     ..AMPLE
 };
 
-/// The level is too wide where the round limit is reached.
-const NARROW_AND_SHORT: SearchLimits = SearchLimits {
-    rounds: 2,
-    ..NARROW
-};
-
-const SMALL: SearchLimits = SearchLimits {
-    step: Limits {
-        nodes: 1,
-        width: 100,
-    },
-    ..AMPLE
-};
-
 #[test]
 fn listings(rt: HostRuntime) -> Result<(), Fail> {
     let mut bench = Bench::new(&rt, rt.alloc());
-    expect(&rt, &mut bench, 1, &[], AMPLE, "[2] 0\n[2] 1\nno more\n");
-    expect(&rt, &mut bench, 2, &[], AMPLE, "[3] 0\n[3] 1\nno more\n");
-    expect(
-        &rt,
-        &mut bench,
-        2,
-        &[],
-        LONG_STRIDE,
-        "[1] 0\n[1] 1\nno more\n",
-    );
-    expect(
-        &rt,
-        &mut bench,
-        2,
-        &[],
-        ONE_ANSWER,
-        "[3] 0\nstopped at answer 1\n",
-    );
-    expect(&rt, &mut bench, 2, &[], NARROW, "too wide at round 3\n");
-    expect(
-        &rt,
-        &mut bench,
-        2,
-        &[],
-        NARROW_AND_SHORT,
-        "stopped at round 2; 2 open\n",
-    );
-    expect(
-        &rt,
-        &mut bench,
-        6,
-        &[],
-        THREE_ROUNDS,
-        "stopped at round 3; 1 open\n",
-    );
-    expect(
-        &rt,
-        &mut bench,
-        7,
-        &[],
-        THREE_ROUNDS,
-        "[2] 1\nstopped at round 3; 1 open\n",
-    );
-    expect(&rt, &mut bench, 2, &[], SMALL, "too large at round 1\n");
-    expect(
-        &rt,
-        &mut bench,
-        3,
-        &["x", "y"],
-        AMPLE,
-        "[3] {x=False, y=_1} 7\n[3] {x=True, y=_1} _1\nno more\n",
-    );
-    expect(
-        &rt,
-        &mut bench,
-        4,
-        &["x"],
-        AMPLE,
-        "[1] waits on x\nno more; 1 floundered\n",
-    );
-    expect(
-        &rt,
-        &mut bench,
-        5,
-        &["x"],
-        AMPLE,
-        "[3] waits on x\n[3] waits on _1\nno more; 2 floundered\n",
-    );
+    let coins = "[2] 0\n[2] 1\nno more\n";
+    expect(&rt, &mut bench, COIN, &[], AMPLE, coins);
+    let picks = "[3] 0\n[3] 1\nno more\n";
+    expect(&rt, &mut bench, PICK, &[], AMPLE, picks);
+    let first = "[3] 0\nstopped at answer 1\n";
+    expect(&rt, &mut bench, PICK, &[], ONE_ANSWER, first);
+    let strides = "[1] 0\n[1] 1\nno more\n";
+    expect(&rt, &mut bench, PICK, &[], LONG_STRIDE, strides);
+    expect(&rt, &mut bench, PICK, &[], NARROW, "too wide at round 3\n");
+    let narrowed = "[3] {x=False} True\n[3] {x=True} False\nno more\n";
+    expect(&rt, &mut bench, NOT, &["x"], AMPLE, narrowed);
+    let waits = "[1] waits on x\nno more; 1 floundered\n";
+    expect(&rt, &mut bench, WAIT, &["x"], AMPLE, waits);
+    let open = "stopped at round 3; 1 open\n";
+    expect(&rt, &mut bench, LOOP, &[], THREE_ROUNDS, open);
     Ok(())
 }
 
-/// A branch that is held until the other has entered changes nothing.
+/// A branch that is held until the other has entered changes nothing; and a
+/// search that the output breaks off has ended.
 #[test]
-fn held_branches(rt: HostRuntime) -> Result<(), Fail> {
+fn held_branches_and_faults(rt: HostRuntime) -> Result<(), Fail> {
     let mut bench = Bench::new(&rt, rt.alloc());
-    let goal = bench.goal(&rt, 2, &[]);
+    let goal = bench.goal(&rt, COIN, &[]);
     for held in 0..2 {
         let gate = HoldingGate::new(&rt, held, 1);
         let sink = written(&rt, &bench, &goal, AMPLE, 2, &gate);
-        assert_eq!(rt; sink.bytes(), b"[3] 0\n[3] 1\nno more\n".as_slice());
+        assert_eq!(rt; sink.bytes(), b"[2] 0\n[2] 1\nno more\n".as_slice());
         assert!(rt; !gate.ended());
     }
-    Ok(())
-}
-
-/// A search that the output breaks off has ended.
-#[test]
-fn faults_of_the_output(rt: HostRuntime) -> Result<(), Fail> {
-    let mut bench = Bench::new(&rt, rt.alloc());
-    let goal = bench.goal(&rt, 1, &[]);
     let mut failing = Vec::new(rt.alloc());
     failing.push((1, 3))?;
     let mut sink = VecSink::new(rt.alloc(), 100, failing)?;
@@ -165,7 +92,7 @@ fn faults_of_the_output(rt: HostRuntime) -> Result<(), Fail> {
 #[test]
 fn single_rounds(rt: HostRuntime) -> Result<(), Fail> {
     let mut bench = Bench::new(&rt, rt.alloc());
-    let goal = bench.goal(&rt, 4, &["x"]);
+    let goal = bench.goal(&rt, WAIT, &["x"]);
     let mut sink = VecSink::new(rt.alloc(), 100, Vec::new(rt.alloc()))?;
     let mut search = open(&bench, &goal, AMPLE).expect(&rt, "a goal");
     assert!(rt; !search.ended());

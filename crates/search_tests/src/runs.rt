@@ -1,10 +1,10 @@
-//! Searches of the sample, as the text that they write.
+//! Searches of a lowered program, as the text that they write.
 ghost use Rattle.std.specs.Prelude.{◌≤◌, IfSome};
 ghost use Rattle.cu_search.specs.Standing.{IsGoing};
 ghost use Rattle.cu_search.specs.Stands.{standing_of};
 
 use crate::kernel::parts;
-use crate::programs::program;
+use cu_deftree::{has_operations, lower};
 use cu_flat::{FlatBody, FlatProgram, FunId, Head};
 use cu_graph::PlainStore;
 use cu_io::VecSink;
@@ -36,10 +36,12 @@ impl Bench {
         let parts = parts(alloc, &mut names).expect(rt, "memory");
         let valid = parts.valid().expect(rt, "memory");
         assert!(rt; valid);
+        let kernel = Program::new(parts);
+        let code = lowered(alloc, &kernel).expect(rt, "code");
         Bench {
             alloc,
-            code: program(rt, alloc),
-            kernel: Program::new(parts),
+            code,
+            kernel,
             names,
         }
     }
@@ -56,6 +58,14 @@ impl Bench {
             names,
         }
     }
+}
+
+/// The flat program of a program that has `failed` and `==`.
+fn lowered(alloc: Global, program: &Program) -> Option<FlatProgram> {
+    if has_operations(program) {
+        return lower(alloc, program).ok();
+    }
+    None
 }
 
 /// Limits that aren't reached.
@@ -76,7 +86,7 @@ pub(crate) fn open<'p>(
     goal: &'p Goal,
     limits: SearchLimits,
 ) -> Option<Search<'p, PlainStore>>
-    ensures { IfSome result (λ search. IsGoing (standing_of PlainStore.content search)) }
+    ensures { IfSome result (λ search. IsGoing (standing_of (λ store. store) search)) }
 {
     let arity = bench.code.arity_if_known(Head::Fun(goal.function))?;
     let Some(FlatBody::Rule(_, _)) = bench.code.body(goal.function) else {
