@@ -62,7 +62,7 @@ no_interface names s none = record {
   each = λ id known. subst (λ (o : Option (Vec code.Entity Global)). AreEntities names [] (found_items o)) (sym (none id)) (record { are = refl; known = All-nil (EntityIsKnown names) });
 }
 
-exports_more : (before : List Interface) (i : Interface) (text : List ℕ) → exports_of (before ++ i ∷ []) text ≡ exports_of before text ++ (if bytes_eq i.name text then i.entities else [])
+pub exports_more : (before : List Interface) (i : Interface) (text : List ℕ) → exports_of (before ++ i ∷ []) text ≡ exports_of before text ++ (if bytes_eq i.name text then i.entities else [])
 exports_more before i text =
     ap (flat_map (λ (i : Interface). i.entities)) (filter-append (λ (i : Interface). bytes_eq i.name text) before (i ∷ []))
     ∙ flat_map-append (λ (i : Interface). i.entities) (filter (λ (i : Interface). bytes_eq i.name text) before) (filter (λ (i : Interface). bytes_eq i.name text) (i ∷ []))

@@ -5,6 +5,7 @@ pub mod BuiltInTexts
 pub mod EntityLemmas
 pub mod ExportFaultLemmas
 pub mod ExportLemmas
+pub mod FrameLemmas
 pub mod HidingLemmas
 pub mod ImportFaultLemmas
 pub mod ImportLemmas
@@ -22,6 +23,7 @@ pub mod OwnLemmas
 pub mod PathLemmas
 pub mod ReadLemmas
 pub mod ScopingLemmas
+pub mod SeekLemmas
 pub mod StandsLemmas
 pub mod ToldLemmas
 pub mod VisitLemmas

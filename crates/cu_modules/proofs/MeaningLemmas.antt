@@ -122,7 +122,7 @@ has_module {old} {new} grown m has = record {
   owned = (header_known grown m.name m.syntax.header has.owned.0, All-weaker (ItemIsOf m.name old) (ItemIsOf m.name new) (λ item is. parsed_known grown m.name item.parsed is) m.syntax.items.items has.owned.1);
 }
 
-pub module_same : {old new : List (List ℕ)} → Extends old new → (m : Module) → HasModule old m → module_of new m ≡ module_of old m
+module_same : {old new : List (List ℕ)} → Extends old new → (m : Module) → HasModule old m → module_of new m ≡ module_of old m
 module_same grown m has = λ j. record { name = text_of-extends grown m.name has.known j; syntax = meaning_same grown m.name m.syntax has.owned j }
 
 pub modules_same : {old new : List (List ℕ)} → Extends old new → (ms : List Module) → All (HasModule old) ms → modules_of new ms ≡ modules_of old ms

@@ -31,7 +31,8 @@ use Rattle.cu_modules.specs.declared.scope_fault.ScopeFault.TheVariants as answe
 use Rattle.cu_modules.specs.declared.scopes.Scopes.{Scopes}
 use Rattle.cu_uses.specs.declared.fault.Wrong.TheVariants as kind
 use Rattle.cu_modules.proofs.ScopingLemmas as scoping
-use Rattle.cu_modules.specs.Scopes.{Interface, Named, exports_of, interface, interfaces, scope}
+use Rattle.cu_modules.proofs.BindingLemmas.{exports_more}
+use Rattle.cu_modules.specs.Scopes.{Interface, Named, exported, exports_of, interface, interfaces, scope}
 
 -- ---- one module more
 
@@ -97,6 +98,59 @@ new_at before (x ∷ ms) (suc i) m new at =
 pub fresh : (ms : List Named) (i : ℕ) (m : Named) → AllNew [] ms → slice_get ms i ≡ Some m → exports_of (interfaces [] (take i ms)) m.name ≡ []
 fresh ms i m new at =
     none_exported (interfaces [] (take i ms)) m.name (ap (λ names. is_among names m.name) (named_as [] (take i ms)) ∙ new_at [] ms i m new at)
+
+-- ---- what a module exports, among all modules
+
+still_among : (known more : List (List ℕ)) (text : List ℕ) → is_among known text ≡ true → is_among (known ++ more) text ≡ true
+still_among [] more text there = absurd (true≢false (sym there))
+still_among (x ∷ known) more text there = by (bytes_eq text x) there (still_among known more text)
+  where
+    by : (b : Bool) → (b || is_among known text) ≡ true → (is_among known text ≡ true → is_among (known ++ more) text ≡ true) → (b || is_among (known ++ more) text) ≡ true
+    by true there rest = refl
+    by false there rest = rest there
+
+last_among : (known : List (List ℕ)) (text : List ℕ) → is_among (known ++ text ∷ []) text ≡ true
+last_among [] text = ap (λ b. b || false) ((bytes_eq-Decides text text).1 refl)
+last_among (x ∷ known) text = by (bytes_eq text x) (last_among known text)
+  where
+    by : (b : Bool) → is_among (known ++ text ∷ []) text ≡ true → (b || is_among (known ++ text ∷ []) text) ≡ true
+    by true rest = refl
+    by false rest = rest
+
+other_name : (known : List (List ℕ)) (name text : List ℕ) → is_among known text ≡ true → is_among known name ≡ false → bytes_eq name text ≡ false
+other_name known name text there new = by (bytes_eq name text) refl
+  where
+    by : (b : Bool) → bytes_eq name text ≡ b → b ≡ false
+    by false is = refl
+    by true is = absurd (true≢false (sym there ∙ ap (is_among known) (sym ((bytes_eq-Decides name text).0 is)) ∙ new))
+
+-- modules behind others add nothing to what those export
+later_add_none : (known : List (List ℕ)) (before : List Interface) (ms : List Named) (text : List ℕ) → AllNew known ms → is_among known text ≡ true
+    → exports_of (interfaces before ms) text ≡ exports_of before text
+later_add_none known before [] text new there = refl
+later_add_none known before (m ∷ ms) text new there =
+    later_add_none (known ++ m.name ∷ []) (before ++ interface before m ∷ []) ms text new.1 (still_among known (m.name ∷ []) text there)
+    ∙ exports_more before (interface before m) text
+    ∙ ap (λ b. exports_of before text ++ (if b then exported before m else [])) (other_name known m.name text there new.0)
+    ∙ append-nil (exports_of before text)
+
+exported_at : (known : List (List ℕ)) (before : List Interface) (ms : List Named) (k : ℕ) (m : Named) → AllNew known ms → slice_get ms k ≡ Some m
+    → exports_of (interfaces before (take k ms)) m.name ≡ [] → exports_of (interfaces before ms) m.name ≡ exported (interfaces before (take k ms)) m
+exported_at known before [] k m new at none = let no' : ⊥ = cc in absurd no'
+exported_at known before (x ∷ ms) zero m new at none =
+    let same : x ≡ m = cc in
+    subst (λ (m : Named). exports_of before m.name ≡ [] → exports_of (interfaces before (x ∷ ms)) m.name ≡ exported before m) same first none
+  where
+    first : exports_of before x.name ≡ [] → exports_of (interfaces before (x ∷ ms)) x.name ≡ exported before x
+    first none =
+        later_add_none (known ++ x.name ∷ []) (before ++ interface before x ∷ []) ms x.name new.1 (last_among known x.name)
+        ∙ exports_more before (interface before x) x.name
+        ∙ ap (λ b. exports_of before x.name ++ (if b then exported before x else [])) ((bytes_eq-Decides x.name x.name).1 refl)
+        ∙ ap (λ es. es ++ exported before x) none
+exported_at known before (x ∷ ms) (suc k) m new at none = exported_at (known ++ x.name ∷ []) (before ++ interface before x ∷ []) ms k m new.1 at none
+
+pub exports_are : (ms : List Named) (k : ℕ) (m : Named) → AllNew [] ms → slice_get ms k ≡ Some m → exports_of (interfaces [] ms) m.name ≡ exported (interfaces_before ms k) m
+exports_are ms k m new at = exported_at [] [] ms k m new at (fresh ms k m new at)
 
 -- ---- how far a loop has come
 
@@ -205,11 +259,17 @@ pub all_scoped : (names : List (List ℕ)) (modules : List Module) (i : ℕ) (ta
 all_scoped names modules i tables s past done =
     subst (AreScoped []) (take_all i (modules_of names modules) (subst (λ n. n ≤ i) (sym (length-map modules (module_of names))) past)) done.right
 
-pub all_told : (names : List (List ℕ)) (modules : List Module) (i : ℕ) (scopes : Scopes) (s : Interfaces) → length modules ≤ i → i ≤ length modules → Done names (modules_of names modules) i scopes.tables.items s
-    → AreScopes names (modules_of names modules) scopes
-all_told names modules i scopes s past within done =
+pub all_told : (names : List (List ℕ)) (modules : List Module) (i : ℕ) (scopes : Scopes) → AreOrdered (modules_of names modules) → length modules ≤ i → i ≤ length modules
+    → Done names (modules_of names modules) i scopes.tables.items scopes.interfaces → AreScopes names (modules_of names modules) scopes
+all_told names modules i scopes ordered past within done =
     let last : i ≡ length modules = omega (arith, past, within) in
-    record { each = done.counted ∙ last ∙ sym (length-map modules (module_of names)); tells = done.tells }
+    let ms = modules_of names modules in
+    record {
+      each = done.counted ∙ last ∙ sym (length-map modules (module_of names));
+      tells = done.tells;
+      differ = ordered.differ;
+      exports = subst (λ (ms : List Named). AreInterfaces names (interfaces [] ms) scopes.interfaces) (take_all i ms (subst (λ n. n ≤ i) (sym (length-map modules (module_of names))) past)) done.added;
+    }
 
 -- no fault where none is told
 pub none_told : (found : Option told.Fault) → ((f : told.Fault) → found ≡ Some f → ⊥) → found ≡ None

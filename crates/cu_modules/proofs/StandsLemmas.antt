@@ -33,7 +33,7 @@ called ms = map (λ (m : Named). m.name) ms
 
 -- ---- lists with one more at the end
 
-pub any_append : {X : Type 0} (test : X → Bool) (xs ys : List X) → list_any test (xs ++ ys) ≡ (list_any test xs || list_any test ys)
+any_append : {X : Type 0} (test : X → Bool) (xs ys : List X) → list_any test (xs ++ ys) ≡ (list_any test xs || list_any test ys)
 any_append test [] ys = refl
 any_append test (x ∷ xs) ys = ap (λ b. test x || b) (any_append test xs ys) ∙ or_assoc (test x) (list_any test xs) (list_any test ys)
   where
@@ -48,7 +48,7 @@ or_false false = refl
 pub among_push : (path : List (List ℕ)) (name text : List ℕ) → is_among (path ++ name ∷ []) text ≡ (is_among path text || bytes_eq text name)
 among_push path name text = any_append (bytes_eq text) path (name ∷ []) ∙ ap (λ b. is_among path text || b) (or_false (bytes_eq text name))
 
-pub there_push : (ms : List Named) (m : Named) (text : List ℕ) → is_there (ms ++ m ∷ []) text ≡ (is_there ms text || bytes_eq m.name text)
+there_push : (ms : List Named) (m : Named) (text : List ℕ) → is_there (ms ++ m ∷ []) text ≡ (is_there ms text || bytes_eq m.name text)
 there_push ms m text = any_append (has_name text) ms (m ∷ []) ∙ ap (λ b. is_there ms text || b) (or_false (bytes_eq m.name text))
 
 pub there_among : (ms : List Named) (text : List ℕ) → is_there ms text ≡ is_among (called ms) text

@@ -1,32 +1,24 @@
 -- What a visit does.
-use Rattle.std.proofs.Common.{◌≡◌, ◌∙◌, ◌+◌, ◌-◌, ◌*◌, ◌<◌, ◌≤◌, ◌||◌, inl, inr, ℕ, Bool, true, false, List, [], ◌∷◌, ◌++◌, take, Option, Ok, Err, Result, refl, sym, ap, subst, arith, append_assoc, length}
+use Rattle.std.proofs.Common.{◌≡◌, ◌∙◌, ◌+◌, ◌-◌, ◌*◌, ◌<◌, ◌≤◌, inl, inr, ℕ, Bool, true, false, List, [], ◌∷◌, ◌++◌, take, Option, Ok, Err, Result, sym, ap, subst, arith, length}
 use Rattle.std.proofs.Math.Seq.{take-append_seam}
 use Rattle.std.proofs.lemmas.List.{length-append}
-use Rattle.std.proofs.lemmas.List.Elements.{All-map}
-use Rattle.std.proofs.lemmas.Slice.Eq.{bytes_eq-Decides}
 use Rattle.std.specs.List.{All}
-use Rattle.std.specs.Str.{bytes_eq}
 use Rattle.std.specs.Prelude.{IfErr, IfSome, IsErrAnd}
 use Rattle.cu_io.specs.Holdings.{Holdings}
-use Rattle.cu_names.proofs.Growth.{extends-trans, text_of-extends}
 use Rattle.cu_names.specs.declared.names.NameId.{NameId}
 use Rattle.cu_names.specs.Texts.{AllDiffer, Extends, IsKnown, text_of}
-use Rattle.cu_syntax.specs.Answer.{module_meaning}
-use Rattle.cu_syntax.specs.Syntax as syntax
 use Rattle.cu_modules.specs.declared.fault.OrderFault.{OrderFault}
 use Rattle.cu_modules.specs.declared.modules.Module.{Module}
 use Rattle.cu_modules.specs.declared.visits.Progress.{Progress}
 use Rattle.cu_uses.specs.Binders.{is_among}
-use Rattle.cu_modules.specs.Ordering.{IsOwn, Tells, module_of, modules_of, texts_of}
+use Rattle.cu_modules.specs.Ordering.{Tells, modules_of, texts_of}
 use Rattle.cu_modules.specs.BuiltInEntities.{prelude_name, set_functions_name}
 use Rattle.cu_modules.specs.Progress as found
-use Rattle.cu_modules.specs.Progress.{Came, Enters, IsCycle, IsFound, IsFree, IsLacking, Stands, StandsFor, built_in_met, is_met, one_if}
+use Rattle.cu_modules.specs.Progress.{Enters, IsCycle, IsFree, IsLacking, Stands, built_in_met, is_met, one_if}
 use Rattle.cu_modules.specs.Scopes.{Named}
-use Rattle.cu_modules.specs.Walk.{IsNew, IsOpen, Refusal, VisitAll, Visits, cyclic, done, fetched, import_names, is_there, missing, refused, too_many, unread, visited}
+use Rattle.cu_modules.specs.Walk.{IsNew, IsOpen, Refusal, Visits, cyclic, done, fetched, is_there, missing, too_many, unread}
 use Rattle.cu_modules.proofs.LookUpLemmas.{in_some, some_map, tells_map}
-use Rattle.cu_modules.proofs.MeaningLemmas.{has_module, module_same, modules_same, texts_same}
-use Rattle.cu_modules.proofs.StandsLemmas.{modules_push, off_path, stands_at, texts_push, there_push}
-use Rattle.cu_modules.proofs.WalkLemmas.{both_map}
+use Rattle.cu_modules.proofs.MeaningLemmas.{modules_same}
 
 -- ---- before a module is looked up
 
@@ -59,7 +51,7 @@ cycle_told names p name slice o dir fault stands known same not_done told =
 
 -- ---- a module that is new
 
-open_at : (path : List (List ℕ)) (before : List Named) (name : List ℕ) (count : ℕ) → count ≡ fetched path before → IsNew path before name → IsFree count name → IsOpen path before name
+pub open_at : (path : List (List ℕ)) (before : List Named) (name : List ℕ) (count : ℕ) → count ≡ fetched path before → IsNew path before name → IsFree count name → IsOpen path before name
 open_at path before name count is is_new (inl built) = record { new = is_new; few = inl built }
 open_at path before name count is is_new (inr few) = record { new = is_new; few = inr (λ full. few (is ∙ full)) }
 
@@ -81,126 +73,17 @@ lacking_told names new p name o dir fault stands is_new told =
     (λ held. tells_map new (IsLacking (held.module_at dir) p.fetched t) (λ refusal. Visits (held.module_at dir) P M t (Err refusal))
     (λ refusal. lacking_visit (held.module_at dir) P M t p.fetched refusal stands.counted is_new) fault) o told
 
--- ---- behind it, what it imports
+-- ---- the path, and what is done
 
-abbrev pub named : List ℕ → syntax.Module → Named
-named name found = record { name = name; syntax = found }
-
-module_is : {old new : List (List ℕ)} → Extends old new → (name : NameId) (m : Module) → m.name ≡ name → IsKnown old name → module_of new m ≡ named (text_of old name) (module_meaning new m.syntax)
-module_is {old} {new} grown name m same known = λ j. record { name = (ap (text_of new) same ∙ text_of-extends grown name known) j; syntax = module_meaning new m.syntax }
-
-path_is : {old new : List (List ℕ)} → Extends old new → (before : Progress) (path : List NameId) (name : NameId) → Stands old before → IsKnown old name → path ≡ before.path.items ++ name ∷ []
-    → texts_of new path ≡ texts_of old before.path.items ++ text_of old name ∷ []
-path_is {old} {new} grown before path name stands known is =
-    ap (texts_of new) is ∙ texts_push new before.path.items name ∙ (λ j. texts_same grown before.path.items stands.path_known j ++ text_of-extends grown name known j ∷ [])
-
-done_is : {old new : List (List ℕ)} → Extends old new → (before : Progress) (ms : List Module) → Stands old before → ms ≡ before.done.items → modules_of new ms ≡ modules_of old before.done.items
+pub done_is : {old new : List (List ℕ)} → Extends old new → (before : Progress) (ms : List Module) → Stands old before → ms ≡ before.done.items → modules_of new ms ≡ modules_of old before.done.items
 done_is {old} {new} grown before ms stands is = ap (modules_of new) is ∙ modules_same grown before.done.items stands.done_known
 
-imports_are : {old new : List (List ℕ)} → Extends old new → (before after : Progress) (name : NameId) (m : Module) (imports slice : List NameId) → IsKnown old name → slice ≡ imports → Enters new before after name m imports
-    → texts_of new slice ≡ import_names (named (text_of old name) (module_meaning new m.syntax))
-imports_are {old} {new} grown before after name m imports slice known same enters =
-    ap (texts_of new) same ∙ enters.imports.are ∙ ap import_names (module_is grown name m enters.called known)
-
-visits_as : (held : List ℕ → Option (List ℕ)) (path path' : List (List ℕ)) (ms ms' : List Named) (names names' : List (List ℕ)) (outcome : Result (List Named) Refusal) → path ≡ path' → ms ≡ ms' → names ≡ names'
-    → VisitAll held path ms names outcome → VisitAll held path' ms' names' outcome
-visits_as held path path' ms ms' names names' outcome e f g h =
-    subst (λ (p : List (List ℕ)). VisitAll held p ms' names' outcome) e (subst (λ (m : List Named). VisitAll held path m names' outcome) f (subst (λ (n : List (List ℕ)). VisitAll held path ms n outcome) g h))
-
-pub imports_told : {old middle : List (List ℕ)} → Extends old middle → (new : List (List ℕ)) (before after : Progress) (name : NameId) (m : Module) (imports slice : List NameId) (o : Option Holdings) (dir : List ℕ) (fault : OrderFault)
-    → Stands old before → IsKnown old name → slice ≡ imports → IsNew (texts_of old before.path.items) (modules_of old before.done.items) (text_of old name) → Enters middle before after name m imports
-    → IfSome o (λ held. IsFound (held.module_at dir) before.fetched (text_of old name) (module_meaning middle m.syntax))
-    → IfSome o (λ held. Tells new (λ refusal. VisitAll (held.module_at dir) (texts_of middle after.path.items) (modules_of middle after.done.items) (texts_of middle slice) (Err refusal)) fault)
-    → IfSome o (λ held. Tells new (λ refusal. Visits (held.module_at dir) (texts_of old before.path.items) (modules_of old before.done.items) (text_of old name) (Err refusal)) fault)
-imports_told {old} {middle} grown new before after name m imports slice o dir fault stands known same is_new enters looked told =
-    let P = texts_of old before.path.items in
-    let M = modules_of old before.done.items in
-    let t = text_of old name in
-    let found = module_meaning middle m.syntax in
-    both_map (λ (held : Holdings). IsFound (held.module_at dir) before.fetched t found)
-    (λ (held : Holdings). Tells new (λ refusal. VisitAll (held.module_at dir) (texts_of middle after.path.items) (modules_of middle after.done.items) (texts_of middle slice) (Err refusal)) fault)
-    (λ (held : Holdings). Tells new (λ refusal. Visits (held.module_at dir) P M t (Err refusal)) fault)
-    (λ held looked told. tells_map new (λ refusal. VisitAll (held.module_at dir) (texts_of middle after.path.items) (modules_of middle after.done.items) (texts_of middle slice) (Err refusal))
-    (λ refusal. Visits (held.module_at dir) P M t (Err refusal))
-    (λ refusal h. refused P M t looked.text found refusal (open_at P M t before.fetched stands.counted is_new looked.free) looked.is looked.read
-    (visits_as (held.module_at dir) (texts_of middle after.path.items) (P ++ t ∷ []) (modules_of middle after.done.items) M (texts_of middle slice) (import_names (named t found)) (Err refusal)
-    (path_is grown before after.path.items name stands known enters.path) (done_is grown before after.done.items stands enters.done) (imports_are grown before after name m imports slice known same enters) h)) fault told)
-    o looked told
-
--- the module behind all that it imports
-last_is : {old middle new : List (List ℕ)} → Extends old middle → Extends middle new → (before after : Progress) (name : NameId) (m : Module) (imports : List NameId) (ms all : List Module) → IsKnown old name
-    → Enters middle before after name m imports → all ≡ ms ++ m ∷ [] → modules_of new ms ++ named (text_of old name) (module_meaning middle m.syntax) ∷ [] ≡ modules_of new all
-last_is {old} {middle} {new} grown later before after name m imports ms all known enters is =
-    ap (λ n. modules_of new ms ++ n ∷ []) (sym (module_same later m enters.has ∙ module_is grown name m enters.called known)) ∙ sym (modules_push new ms m) ∙ ap (modules_of new) (sym is)
-
-pub module_visited : {old middle new : List (List ℕ)} → Extends old middle → Extends middle new → (before after last : Progress) (name : NameId) (m : Module) (imports slice : List NameId) (all : List Module) (o : Option Holdings) (dir : List ℕ)
-    → Stands old before → IsKnown old name → slice ≡ imports → IsNew (texts_of old before.path.items) (modules_of old before.done.items) (text_of old name) → Enters middle before after name m imports
-    → all ≡ last.done.items ++ m ∷ []
-    → IfSome o (λ held. IsFound (held.module_at dir) before.fetched (text_of old name) (module_meaning middle m.syntax))
-    → IfSome o (λ held. VisitAll (held.module_at dir) (texts_of middle after.path.items) (modules_of middle after.done.items) (texts_of middle slice) (Ok (modules_of new last.done.items)))
-    → IfSome o (λ held. Visits (held.module_at dir) (texts_of old before.path.items) (modules_of old before.done.items) (text_of old name) (Ok (modules_of new all)))
-module_visited {old} {middle} {new} grown later before after last name m imports slice all o dir stands known same is_new enters is looked went =
-    let P = texts_of old before.path.items in
-    let M = modules_of old before.done.items in
-    let t = text_of old name in
-    let found = module_meaning middle m.syntax in
-    both_map (λ (held : Holdings). IsFound (held.module_at dir) before.fetched t found)
-    (λ (held : Holdings). VisitAll (held.module_at dir) (texts_of middle after.path.items) (modules_of middle after.done.items) (texts_of middle slice) (Ok (modules_of new last.done.items)))
-    (λ (held : Holdings). Visits (held.module_at dir) P M t (Ok (modules_of new all)))
-    (λ held looked went. subst (λ (ms : List Named). Visits (held.module_at dir) P M t (Ok ms)) (last_is grown later before after name m imports last.done.items all known enters is)
-    (visited P M (modules_of new last.done.items) t looked.text found (open_at P M t before.fetched stands.counted is_new looked.free) looked.is looked.read
-    (visits_as (held.module_at dir) (texts_of middle after.path.items) (P ++ t ∷ []) (modules_of middle after.done.items) M (texts_of middle slice) (import_names (named t found)) (Ok (modules_of new last.done.items))
-    (path_is grown before after.path.items name stands known enters.path) (done_is grown before after.done.items stands enters.done) (imports_are grown before after name m imports slice known same enters) went)))
-    o looked went
-
-popped : (path old left : List NameId) (id : NameId) (n : ℕ) → old ≡ path ++ id ∷ [] → length old ≡ n → left ≡ take (n - 1) old → left ≡ path
+pub popped : (path old left : List NameId) (id : NameId) (n : ℕ) → old ≡ path ++ id ∷ [] → length old ≡ n → left ≡ take (n - 1) old → left ≡ path
 popped path old left id n is count rest =
     rest ∙ ap (take (n - 1)) is ∙ ap (λ k. take k (path ++ id ∷ [])) (short n (length path) (sym count ∙ ap length is ∙ length-append path (id ∷ []))) ∙ take-append_seam path (id ∷ [])
   where
     short : (n k : ℕ) → n ≡ k + 1 → n - 1 ≡ k
     short n k e = omega arith
-
--- what was there for the module's imports
-imports_there : {middle new : List (List ℕ)} → Extends middle new → (before after : Progress) (name : NameId) (m : Module) (imports slice : List NameId) (ms : List Named) → slice ≡ imports → Enters middle before after name m imports
-    → All (λ id. is_there ms (text_of middle id) ≡ true) slice → All (λ text. is_there ms text ≡ true) (import_names (module_of new m))
-imports_there {middle} {new} later before after name m imports slice ms same enters there =
-    subst (All (λ text. is_there ms text ≡ true)) (ap (texts_of middle) same ∙ enters.imports.are ∙ ap import_names (sym (module_same later m enters.has)))
-    (All-map (λ text. is_there ms text ≡ true) (text_of middle) slice there)
-
-pub comes_back : {old middle new : List (List ℕ)} → Extends old middle → Extends middle new → (before after last final : Progress) (name : NameId) (m : Module) (imports slice : List NameId) (count : ℕ) → Stands old before → IsKnown old name
-    → slice ≡ imports → IsNew (texts_of old before.path.items) (modules_of old before.done.items) (text_of old name) → Enters middle before after name m imports → Came new after last
-    → All (λ id. is_there (modules_of new last.done.items) (text_of middle id) ≡ true) slice
-    → final.prelude ≡ last.prelude → length last.path.items ≡ count → final.path.items ≡ take (count - 1) last.path.items → final.done.items ≡ last.done.items ++ m ∷ [] → final.fetched ≡ last.fetched → Came new before final
-comes_back {old} {middle} {new} grown later before after last final name m imports slice count stands known same is_new enters came there same_prelude long rest is same_count =
-    let to_path = came.path ∙ enters.path in
-    let path = popped before.path.items last.path.items final.path.items name count to_path long rest in
-    let at_last = stands_at new last.prelude last.prelude last.path.items (before.path.items ++ name ∷ []) last.done.items last.done.items last.fetched last.fetched refl (sym to_path) refl refl came.stands in
-    let texts = texts_same (extends-trans grown later) before.path.items stands.path_known in
-    let not_met = (λ j. is_among (texts j) (text_of-extends (extends-trans grown later) name known j)) ∙ is_new.not_met in
-    record {
-      stands = stands_at new last.prelude final.prelude before.path.items final.path.items (last.done.items ++ m ∷ []) final.done.items last.fetched final.fetched same_prelude path is same_count
-          (off_path new last.prelude name before.path.items last.done.items last.fetched m at_last enters.called (has_module later m enters.has) not_met
-          (imports_there later before after name m imports slice (modules_of new last.done.items) same enters there) (subst IsOwn (sym (module_same later m enters.has)) enters.own));
-      path = path;
-      more = came.more ++ m ∷ [];
-      done = is ∙ ap (λ done. done ++ m ∷ []) (came.done ∙ ap (λ done. done ++ came.more) enters.done) ∙ append_assoc before.done.items came.more (m ∷ []);
-    }
-
--- the module itself is done
-pub itself_there : {old middle new : List (List ℕ)} → Extends old middle → Extends middle new → (before after : Progress) (name : NameId) (m : Module) (imports : List NameId) (ms all : List Module) → IsKnown old name
-    → Enters middle before after name m imports → all ≡ ms ++ m ∷ [] → is_there (modules_of new all) (text_of old name) ≡ true
-itself_there {old} {middle} {new} grown later before after name m imports ms all known enters is =
-    let t = text_of old name in
-    let found = module_meaning middle m.syntax in
-    ap (λ modules. is_there modules t) (sym (last_is grown later before after name m imports ms all known enters is))
-    ∙ there_push (modules_of new ms) (named t found) t ∙ ap (λ b. is_there (modules_of new ms) t || b) (itself t) ∙ or_true (is_there (modules_of new ms) t)
-  where
-    itself : (t : List ℕ) → bytes_eq t t ≡ true
-    itself t = (bytes_eq-Decides t t).1 refl
-
-    or_true : (b : Bool) → (b || true) ≡ true
-    or_true true = refl
-    or_true false = refl
 
 -- ---- the measure
 
@@ -219,14 +102,22 @@ room_left names p stands =
     bounded : (n count met : ℕ) → n ≡ count + met → count ≤ 1000 → met ≤ 2 → n ≤ 1002
     bounded n count met e f g = omega arith
 
-pub falls_inside : (names : List (List ℕ)) (before after : Progress) (name : NameId) (m : Module) (imports : List NameId) → Enters names before after name m imports
-    → 2 * (1002 - (length after.path.items + length after.done.items)) + 1 < 2 * (1002 - (length before.path.items + length before.done.items))
-falls_inside names before after name m imports enters =
+pub falls_inside : (names : List (List ℕ)) (before after : Progress) (name : NameId) (m : Module) (imports : List NameId) (frames n deeper : ℕ) → n ≡ frames + 1 → deeper ≡ frames + 2 → Enters names before after name m imports
+    → 2 * (1002 - (length after.path.items + length after.done.items)) + deeper < 2 * (1002 - (length before.path.items + length before.done.items)) + n
+falls_inside names before after name m imports frames n deeper one two enters =
     let longer = ap length enters.path ∙ length-append before.path.items (name ∷ []) in
-    less (length after.path.items) (length before.path.items) (length after.done.items) (length before.done.items) longer (ap length enters.done) (room_left names after enters.stands)
+    less (length after.path.items) (length before.path.items) (length after.done.items) (length before.done.items) frames n deeper longer (ap length enters.done) one two (room_left names after enters.stands)
   where
-    less : (a b c d : ℕ) → a ≡ b + 1 → c ≡ d → a + c ≤ 1002 → 2 * (1002 - (a + c)) + 1 < 2 * (1002 - (b + d))
-    less a b c d e f g = omega arith
+    less : (a b c d frames n deeper : ℕ) → a ≡ b + 1 → c ≡ d → n ≡ frames + 1 → deeper ≡ frames + 2 → a + c ≤ 1002 → 2 * (1002 - (a + c)) + deeper < 2 * (1002 - (b + d)) + n
+    less a b c d frames n deeper e f g h i = omega arith
+
+pub falls_outside : (path less base : List NameId) (name : NameId) (all more : List Module) (m : Module) (n frames : ℕ) → path ≡ base ++ name ∷ [] → less ≡ base → more ≡ all ++ m ∷ [] → n ≡ frames + 1
+    → 2 * (1002 - (length less + length more)) + frames < 2 * (1002 - (length path + length all)) + n
+falls_outside path less base name all more m n frames is are pushed count =
+    fall (length path) (length less) (length all) (length more) n frames (ap length is ∙ length-append base (name ∷ []) ∙ ap (λ ids. length ids + 1) (sym are)) (ap length pushed ∙ length-append all (m ∷ [])) count
+  where
+    fall : (a b c d n frames : ℕ) → a ≡ b + 1 → d ≡ c + 1 → n ≡ frames + 1 → 2 * (1002 - (b + d)) + frames < 2 * (1002 - (a + c)) + n
+    fall a b c d n frames e f g = omega arith
 
 -- ---- answers with the fault of a call
 

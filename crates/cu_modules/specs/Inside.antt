@@ -2,6 +2,7 @@
 pub mod Binding
 pub mod Exporting
 pub mod Exports
+pub mod Frames
 pub mod Imported
 pub mod Lists
 pub mod Outcome

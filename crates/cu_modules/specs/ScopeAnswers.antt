@@ -1,5 +1,5 @@
 -- What the answers of `scope` and `scope_goal` stand for, under a table of names.
-use Rattle.std.specs.Prelude.{◌≡◌, ℕ, List, Option, Some, IfSome, length, slice_get}
+use Rattle.std.specs.Prelude.{◌≡◌, ℕ, List, [], Option, Some, IfSome, length, slice_get}
 use Rattle.std.specs.Option.{option_map}
 use Rattle.cu_entities.specs.declared.name_table.NameTable.{NameTable}
 use Rattle.cu_entities.specs.NameTables.{Tells}
@@ -14,8 +14,10 @@ use Rattle.cu_uses.specs.Faults.{Fault}
 use Rattle.cu_modules.specs.declared.scope_fault.ScopeFault.{ScopeFault}
 use Rattle.cu_modules.specs.declared.scope_fault.ScopeFault.TheVariants as answer
 use Rattle.cu_modules.specs.declared.scopes.Scopes.{Scopes}
+use Rattle.cu_modules.specs.Inside.Exports.{AreInterfaces}
 use Rattle.cu_modules.specs.Means.{interfaces_before}
-use Rattle.cu_modules.specs.Scopes.{Named, scope}
+use Rattle.cu_modules.specs.Ordering.{AllNew}
+use Rattle.cu_modules.specs.Scopes.{Named, interfaces, scope}
 
 abbrev pub fault_at : List (List ℕ) → Wrong → Place → NameId → Fault
 fault_at names wrong place id = record { wrong = wrong; at = position_of place; name = text_of names id }
@@ -43,8 +45,11 @@ pub record IsNamed (names : List (List ℕ)) (qualifier : Option NameId) (base :
   pub qualifier_known : IfSome qualifier (IsKnown names)
   pub base_known : IsKnown names base
 
--- There is a table for each module, which tells what is in scope there.
+-- There is a table for each module, which tells what is in scope there. No two modules have one
+-- name, and each has its exports under its name.
 pub record AreScopes (names : List (List ℕ)) (modules : List Named) (scopes : Scopes) : Type 0 where
   pub each : length scopes.tables.items ≡ length modules
   pub tells : (k : ℕ) (m : Named) (table : NameTable) → slice_get modules k ≡ Some m → slice_get scopes.tables.items k ≡ Some table
       → Tells names (scope (interfaces_before modules k) m) table
+  pub differ : AllNew [] modules
+  pub exports : AreInterfaces names (interfaces [] modules) scopes.interfaces

@@ -18,7 +18,11 @@ use std::alloc::{AllocError, Global};
 
 /// The names of the modules that a module imports, in the order of the text. It
 /// imports the Prelude first of all, unless it is the Prelude or says so itself.
-pub(crate) fn import_names(
+///
+/// # Errors
+///
+/// Want of memory.
+pub fn import_names(
     alloc: Global,
     module: &Module,
     prelude: NameId,

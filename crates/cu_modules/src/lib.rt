@@ -28,6 +28,7 @@ mod telling;
 mod visits;
 
 pub use fault::OrderFault;
+pub use imports::import_names;
 pub use modules::Module;
 pub use ordering::order;
 pub use scope_fault::ScopeFault;

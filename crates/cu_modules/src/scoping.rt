@@ -1,5 +1,5 @@
 //! Scopes of modules, and what names mean there.
-ghost use Rattle.std.specs.Prelude.{◌≡◌, ◌<◌, ◌↔◌, [], List, ℕ, IfErr, IfOk, IfSome, OnOk, Some, length};
+ghost use Rattle.std.specs.Prelude.{◌≡◌, ◌<◌, ◌↔◌, [], List, ℕ, IfErr, IfOk, IfSome, OnOk, Some, length, slice_get};
 ghost use Rattle.std.specs.List.{All};
 ghost use Rattle.std.specs.Option.{option_map};
 ghost use Rattle.cu_entities.specs.Entities as meant;
@@ -9,11 +9,12 @@ ghost use Rattle.cu_modules.specs.BuiltInEntities.{HasBuiltIn};
 ghost use Rattle.cu_modules.specs.Inside.Exports.{AreInterfaces};
 ghost use Rattle.cu_modules.specs.Inside.Outcome.{IsRight, IsWrongIn};
 ghost use Rattle.cu_modules.specs.Inside.Scoping.{only_one, wrong_at};
-ghost use Rattle.cu_modules.specs.Means.{AreScoped, IsGoalScoped, IsGoalWrong, IsWrong, Means};
+ghost use Rattle.cu_modules.specs.Known.{AreEntities};
+ghost use Rattle.cu_modules.specs.Means.{AreScoped, IsGoalScoped, IsGoalWrong, IsWrong, Means, interfaces_before};
 ghost use Rattle.cu_modules.specs.Ordering.{AreOrdered, module_of, modules_of};
 ghost use Rattle.cu_modules.specs.Reading.{HasModule};
 ghost use Rattle.cu_modules.specs.ScopeAnswers.{AreScopes, FaultIsKnown, IsNamed, TellsFault};
-ghost use Rattle.cu_modules.specs.Scopes.{Interface, Named, exports_of};
+ghost use Rattle.cu_modules.specs.Scopes.{Interface, Named, exported, exports_of};
 ghost use Rattle.cu_names.specs.Texts.{AllDiffer, IsKnown, text_of};
 ghost use Rattle.cu_names.specs.declared.names.NameId.{NameId};
 ghost use Rattle.cu_syntax.specs.Answer.{goal_meaning};
@@ -54,7 +55,7 @@ pub fn scope(alloc: Global, names: &Names, modules: &[Module]) -> Result<Scopes,
         let table = scope_module(alloc, names, module, &mut interfaces)?;
         tables.push(table)?;
     }
-    Ok(Scopes { tables })
+    Ok(Scopes { tables, interfaces })
 }
 
 /// What names mean in one module. Its exports are added to the interfaces.
@@ -165,6 +166,16 @@ impl Scopes {
             space,
         };
         alone(table.find(key))
+    }
+
+    /// What the module of a name exports, each entity once.
+    pub fn exports(&self, module: NameId) -> &[Entity]
+        ensures { (names : List (List ℕ)) (modules : List Named) (number : ℕ) (m : Named)
+            → AreScopes names modules self.now → IsKnown names «module»
+            → slice_get modules number ≡ Some m → m.name ≡ text_of names «module»
+            → AreEntities names (exported (interfaces_before modules number) m) result.now }
+    {
+        self.interfaces.of(module)
     }
 }
 

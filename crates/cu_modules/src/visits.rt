@@ -1,11 +1,12 @@
 //! Visits of modules, and of those that they import.
 ghost use Rattle.std.specs.Prelude.{◌≡◌, ◌≤◌, ℕ, Ok, Err, IfErr, IfOk, IfSome, List, MatchResult, OnOk, false, true};
 ghost use Rattle.std.specs.List.{All};
+ghost use Rattle.std.specs.Vec.Iter.{into_iter_items};
 ghost use Rattle.cu_uses.specs.Binders.{is_among};
 ghost use Rattle.cu_modules.specs.Ordering.{FaultCount, IsOwn, Tells, modules_of, texts_of};
 ghost use Rattle.cu_modules.specs.Progress.{fetched_with, Came, Enters, IsCycle, IsFound, IsLacking, Stands};
 ghost use Rattle.cu_modules.specs.Reading.{HasModule};
-ghost use Rattle.cu_modules.specs.Walk.{is_built_in, is_there, most_modules, IsNew, VisitAll, Visits};
+ghost use Rattle.cu_modules.specs.Walk.{is_built_in, is_there, most_modules, IsNew, Visits};
 ghost use Rattle.cu_names.specs.Texts.{text_of, AllDiffer, Extends, IsKnown};
 ghost use Rattle.cu_syntax.specs.Answer.{module_meaning};
 ghost use Rattle.cu_syntax.specs.Owners.{ModuleIsOf};
@@ -17,9 +18,17 @@ use cu_io::{Fetched, Library};
 use cu_names::{NameId, Names};
 use cu_syntax as syntax;
 use std::alloc::{AllocError, Global};
+use std::vec;
 
 /// The most modules that are fetched.
 const MOST_MODULES: usize = 1000;
+
+/// A module on the path, with the imports that come after the one at hand.
+#[derive(Drop)]
+pub(crate) struct Frame {
+    pub(crate) module: Module,
+    pub(crate) left: vec::IntoIter<NameId>,
+}
 
 /// How far a walk has come.
 #[derive(Drop)]
@@ -37,6 +46,8 @@ pub(crate) struct Progress {
 impl Progress {
     ghost use Rattle.std.specs.Prelude.{◌≡◌, [], ℕ, List};
     ghost use Rattle.std.specs.List.{All};
+    ghost use Rattle.std.specs.Vec.Iter.{into_iter_items};
+    ghost use Rattle.cu_modules.specs.Inside.Frames.{Seeks};
     ghost use Rattle.cu_modules.specs.Ordering.{modules_of};
     ghost use Rattle.cu_modules.specs.Reading.{HasModule};
     ghost use Rattle.cu_modules.specs.Walk.{is_there};
@@ -62,6 +73,19 @@ impl Progress {
     {
         self.done.iter().any(|module| module.name == name)
     }
+
+    /// Takes imports up to the first that isn't done.
+    fn first_new(&self, left: &mut vec::IntoIter<NameId>) -> Option<NameId>
+        ensures { (names : List (List ℕ)) → AllDiffer names → All (HasModule names) self.now.done.items → All (IsKnown names) (into_iter_items left.old)
+            → Seeks names self.now.done.items (into_iter_items left.old) result (into_iter_items left.new) }
+    {
+        'left: while let Some(name) = left.next() {
+            if !self.is_done(name) {
+                return Some(name);
+            }
+        }
+        None
+    }
 }
 
 /// Does a module and all that it imports, unless it is done already.
@@ -69,7 +93,6 @@ impl Progress {
 /// # Errors
 ///
 /// The first refusal on the way, `Fetch`, and `NoMemory`.
-#[cycle(visits)]
 pub(crate) fn visit<L: Library>(
     alloc: Global,
     names: &mut Names,
@@ -96,43 +119,51 @@ pub(crate) fn visit<L: Library>(
     if progress.is_done(name) {
         return Ok(());
     }
-    not_met(alloc, progress.path.as_slice(), name)?;
-    let (module, imports) = enter(alloc, names, dir, lib, progress, name)?;
-    visit_all(alloc, names, dir, lib, progress, imports.as_slice())?;
-    progress.path.pop();
-    progress.done.push(module)?;
+    let mut frames = Vec::new(alloc);
+    frames.push(begin(alloc, names, dir, lib, progress, name)?)?;
+    'frames: while let Some(mut frame) = frames.pop() {
+        let Some(import) = progress.first_new(&mut frame.left) else {
+            progress.path.pop();
+            progress.done.push(frame.module)?;
+            continue;
+        };
+        let entered = begin(alloc, names, dir, lib, progress, import)?;
+        frames.push(frame)?;
+        frames.push(entered)?;
+    }
     Ok(())
 }
 
-/// Does modules, one after another.
-#[cycle(visits)]
-fn visit_all<L: Library>(
+/// A module that isn't done, entered, with all of its imports left.
+fn begin<L: Library>(
     alloc: Global,
     names: &mut Names,
     dir: &str,
     lib: &mut L,
     progress: &mut Progress,
-    imports: &[NameId],
-) -> Result<(), OrderFault>
+    name: NameId,
+) -> Result<Frame, OrderFault>
     requires stands { Stands names.old progress.old }
-    requires known { All (IsKnown names.old) imports.now }
-    ensures came { OnOk result (Came names.new progress.old progress.new) }
-    ensures there { OnOk result (All (λ id. is_there (modules_of names.new progress.new.done.items) (text_of names.old id) ≡ true) imports.now) }
-    ensures visited { IfSome (L.holdings lib.old) (λ held. OnOk result
-        (VisitAll (held.module_at dir.now) (texts_of names.old progress.old.path.items) (modules_of names.old progress.old.done.items) (texts_of names.old imports.now)
-        (Ok (modules_of names.new progress.new.done.items)))) }
+    requires known { IsKnown names.old name }
+    requires not_done { is_there (modules_of names.old progress.old.done.items) (text_of names.old name) ≡ false }
+    ensures new { OnOk result (IsNew (texts_of names.old progress.old.path.items) (modules_of names.old progress.old.done.items) (text_of names.old name)) }
+    ensures enters { IfOk result (λ found. Enters names.new progress.old progress.new name found.«module» (into_iter_items found.left)) }
+    ensures found { IfSome (L.holdings lib.old) (λ held. IfOk result (λ found.
+        IsFound (held.module_at dir.now) progress.old.fetched (text_of names.old name) (module_meaning names.new found.«module».syntax))) }
     ensures refused { IfSome (L.holdings lib.old) (λ held. IfErr result (Tells names.new (λ refusal.
-        VisitAll (held.module_at dir.now) (texts_of names.old progress.old.path.items) (modules_of names.old progress.old.done.items) (texts_of names.old imports.now) (Err refusal)))) }
+        Visits (held.module_at dir.now) (texts_of names.old progress.old.path.items) (modules_of names.old progress.old.done.items) (text_of names.old name) (Err refusal)))) }
     ensures names { Extends names.old names.new }
     ensures same { L.holdings lib.new ≡ L.holdings lib.old }
     ensures count { MatchResult result
         (λ _. L.fault_count lib.new ≡ L.fault_count lib.old)
         (λ fault. FaultCount fault (L.fault_count lib.old) (L.fault_count lib.new)) }
 {
-    'imports: for import in imports {
-        visit(alloc, names, dir, lib, progress, *import)?;
-    }
-    Ok(())
+    not_met(alloc, progress.path.as_slice(), name)?;
+    let (module, imports) = enter(alloc, names, dir, lib, progress, name)?;
+    Ok(Frame {
+        module,
+        left: imports.into_iter(),
+    })
 }
 
 /// Nothing, if a module isn't on the path, or else the cycle that it closes.

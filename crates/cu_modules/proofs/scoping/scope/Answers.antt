@@ -27,4 +27,4 @@ returns-clause-right c =
 
 pub returns-clause-scopes : goal.returns-clause-scopes
 returns-clause-scopes c =
-    all_told c.args.names.now c.args.modules.now c.modules.module-index (record { tables = c.modules.tables }) c.modules.interfaces c.modules-test.false c.modules.auto.module-index-end c.modules.invariant
+    all_told c.args.names.now c.args.modules.now c.modules.module-index (record { tables = c.modules.tables; interfaces = c.modules.interfaces }) c.requires.ordered c.modules-test.false c.modules.auto.module-index-end c.modules.invariant

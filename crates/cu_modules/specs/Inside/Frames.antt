@@ -1,0 +1,71 @@
+-- What modules on the path have still to do, the innermost first.
+use Rattle.std.specs.Prelude.{◌≡◌, ℕ, true, false, ◌⊎◌, List, [], ◌∷◌, ◌++◌, Option, None, Some, Result, Ok, Err}
+use Rattle.std.specs.List.{All}
+use Rattle.cu_names.specs.declared.names.NameId.{NameId}
+use Rattle.cu_names.specs.Texts.{text_of}
+use Rattle.cu_syntax.specs.Syntax.{Module}
+use Rattle.cu_uses.specs.Binders.{is_among}
+use Rattle.cu_modules.specs.declared.modules.Module as declared
+use Rattle.cu_modules.specs.Ordering.{IsOwn, modules_of}
+use Rattle.cu_modules.specs.Scopes.{Named}
+use Rattle.cu_modules.specs.Walk.{Refusal, VisitAll, import_names, is_there}
+
+-- ---- imports that are looked at, one after another
+
+-- Those in front of the ones that are left are done.
+pub record Skipped (names : List (List ℕ)) (done : List declared.Module) (all left : List NameId) : Type 0 where
+  pub front : List NameId
+  pub there : All (λ id. is_there (modules_of names done) (text_of names id) ≡ true) front
+  pub whole : all ≡ front ++ left
+
+-- the first that isn't done, and those behind it
+abbrev pub Seeks : List (List ℕ) → List declared.Module → List NameId → Option NameId → List NameId → Type 0
+Seeks names done all None left = Skipped names done all []
+Seeks names done all (Some id) left = Skipped names done all (id ∷ left) × (is_there (modules_of names done) (text_of names id) ≡ false)
+
+-- ---- modules on the path
+
+-- A module on the path, with the imports that come after the one at hand.
+pub record Open : Type 0 where
+  pub name : List ℕ
+  pub syntax : Module
+  pub left : List (List ℕ)
+
+abbrev pub named_of : Open → Named
+named_of m = record { name = m.name; syntax = m.syntax }
+
+abbrev pub path_of : List (List ℕ) → List Open → List (List ℕ)
+path_of base [] = base
+path_of base (m ∷ outer) = path_of base outer ++ m.name ∷ []
+
+-- One of the imports of a module is refused, and so is the whole.
+pub record Stops (held : List ℕ → Option (List ℕ)) (path : List (List ℕ)) (done : List Named) (imports : List (List ℕ)) (outcome : Result (List Named) Refusal) : Type 0 where
+  pub refusal : Refusal
+  pub is : outcome ≡ Err refusal
+  pub refused : VisitAll held path done imports (Err refusal)
+
+-- The imports of a module are done, and the walk goes on from there.
+pub record Ends (held : List ℕ → Option (List ℕ)) (path : List (List ℕ)) (done : List Named) (imports : List (List ℕ)) (GoesOn : List Named → Type 0) : Type 0 where
+  pub after : List Named
+  pub visited : VisitAll held path done imports (Ok after)
+  pub rest : GoesOn after
+
+-- what modules on the path come to, where the path below them and what is done are given
+abbrev pub Finishes : (List ℕ → Option (List ℕ)) → List (List ℕ) → List Open → List Named → Result (List Named) Refusal → Type 0
+Finishes held base [] done outcome = outcome ≡ Ok done
+Finishes held base (m ∷ outer) done outcome =
+    Stops held (path_of base outer ++ m.name ∷ []) done m.left outcome
+    ⊎ Ends held (path_of base outer ++ m.name ∷ []) done m.left (λ after. Finishes held base outer (after ++ named_of m ∷ []) outcome)
+
+-- A module that is on no path below it. Of its imports those that aren't left are met.
+pub record IsPending (path met : List (List ℕ)) (m : Open) : Type 0 where
+  pub front : List (List ℕ)
+  pub imports : import_names (named_of m) ≡ front ++ m.left
+  pub there : All (λ text. is_among met text ≡ true) front
+  pub new : is_among path m.name ≡ false
+  pub own : IsOwn (named_of m)
+
+-- so are all modules on the path, and the root is done at last
+abbrev pub ArePending : List (List ℕ) → List ℕ → List (List ℕ) → List Open → Type 0
+ArePending base root met [] = is_among met root ≡ true
+ArePending base root met (m ∷ outer) = IsPending (path_of base outer) met m × ArePending base root (met ++ m.name ∷ []) outer
