@@ -1,0 +1,8 @@
+use Rattle.cu_uses.specs.Inside.Gathered.{patterns_bind}
+use Rattle.cu_locals.specs.Places.{patterns_place}
+use Rattle.cu_locals.proofs.PatternLemmas.{places_found}
+use Rattle.cu_locals.proofs.declared.places.Goals as goal
+
+pub returns : goal.returns
+returns c t of =
+    places_found t c.new-found.result c.patterns.new.found (patterns_bind t.names c.args.ps.now) (patterns_place t.names c.args.ps.now) c.new-found.ensures.places (c.in_ok-patterns.ensures t of)

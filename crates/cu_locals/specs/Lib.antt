@@ -1,0 +1,4 @@
+pub mod Text
+pub mod Places
+pub mod BegunFound
+pub mod Entries
