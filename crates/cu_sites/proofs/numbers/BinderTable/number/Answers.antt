@@ -1,0 +1,8 @@
+use Rattle.std.proofs.Common.{◌∙◌}
+use Rattle.cu_sites.proofs.TableLemmas.{place_or_all}
+use Rattle.cu_sites.specs.Inside.Counting.{same_binder}
+use Rattle.cu_sites.proofs.numbers.BinderTable.number.Goals as goal
+
+pub returns : goal.returns
+returns c = λ keys has.
+    c.unwrap_or.ensures ∙ place_or_all (same_binder c.args.binder) keys c.copied.result c.args.self.now.count (c.copied.ensures ∙ c.get.ensures.value ∙ has.found c.args.binder) has.counted

@@ -1,0 +1,9 @@
+pub mod RulesFound
+pub mod Entering
+pub mod Walked
+pub mod Counting
+pub mod Relating
+pub mod Using
+pub mod Capturing
+pub mod Defining
+pub mod Needing
