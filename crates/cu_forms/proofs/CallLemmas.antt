@@ -3,8 +3,7 @@ use Rattle.std.proofs.Common.{◌≡◌, ◌∙◌, ◌+◌, ◌-◌, ◌<◌, �
 use Rattle.std.proofs.lemmas.List.{drop_all, length-map, length-append, map-append}
 use Rattle.std.proofs.Math.Seq.{drop-cons}
 use Rattle.std.specs.List.{remove}
-use Rattle.std.proofs.Common.{IfOk, Result, Ok, Err, get_or, add-one}
-use Rattle.std.specs.Option.{option_map}
+use Rattle.std.proofs.Common.{IfOk, OnOk, Result, Ok, Err, get_or, add-one}
 use Rattle.cu_calculus.specs.declared.FunId.{FunId}
 use Rattle.cu_calculus.specs.declared.Head.TheVariants as global
 use Rattle.cu_kernel.specs.LocalTerm as local
@@ -15,7 +14,7 @@ use Rattle.std.specs.Prelude.{if◌then◌else◌, nat_lt}
 use Rattle.cu_kernel.specs.declared.local.LocalTerm.{LocalTerm}
 use Rattle.cu_translation.specs.Around as around
 use Rattle.cu_translation.specs.Around.{Names, Referent}
-use Rattle.cu_translation.specs.Terms.{Operand, applied, built_in, call, no_term, plain, referred, set_call, set_call_of, terms, terms_of}
+use Rattle.cu_translation.specs.Terms.{Operand, applied, call, no_term, plain, referred, set_call_of, terms, terms_of}
 use Rattle.cu_forms.specs.Inside.Calls.{built_in_term, function_named, referred_on, set_call_on}
 
 -- ---- lists of terms
@@ -166,6 +165,13 @@ built_in_by_terms names text ts =
 pub if_ok : {A E : Type 0} {P Q : A → Type 0} (r : Result A E) → ((a : A) → P a → Q a) → IfOk r P → IfOk r Q
 if_ok (Ok a) f p = f a p
 if_ok (Err e) f p = tt
+
+pub on_ok : {A E : Type 0} {P Q : Type 0} (r : Result A E) → (P → Q) → OnOk r P → OnOk r Q
+on_ok (Ok a) f p = f p
+on_ok (Err e) f p = tt
+
+pub ok_is : {A E : Type 0} (P : A → Type 0) (r : Result A E) (a : A) → r ≡ Ok a → P a → IfOk r P
+ok_is P r a is p = subst (λ s. IfOk s P) (sym is) p
 
 -- ---- set functions on arguments
 

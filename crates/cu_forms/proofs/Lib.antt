@@ -1,6 +1,11 @@
 pub mod ScopeLemmas
 pub mod CallLemmas
 pub mod ListLemmas
-pub mod VariableLemmas
 pub mod OrderLemmas
 pub mod PatternLemmas
+pub mod OperatorLemmas
+pub mod BlockLemmas
+pub mod ExpressionLemmas
+pub mod DefinitionLemmas
+pub mod QualifierLemmas
+pub mod FunctionLemmas

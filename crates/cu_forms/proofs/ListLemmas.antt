@@ -19,12 +19,12 @@ use Rattle.cu_syntax.specs.Names.{literal_meaning}
 use Rattle.cu_syntax.specs.declared.name.Literal.{Literal}
 use Rattle.cu_syntax.specs.declared.name.Literal.TheVariants as literal
 use Rattle.cu_translation.specs.declared.referents.Referent as referents
-use Rattle.cu_translation.specs.Around.{Referent, tuple_name}
+use Rattle.cu_translation.specs.Around.{tuple_name}
 use Rattle.cu_translation.specs.Meaning.{referent_meaning}
 use denote.Ref.{Bor}
 use Rattle.cu_kernel.specs.LocalTerm.{LocalTerm}
 use Rattle.cu_translation.specs.Around.{Names}
-use Rattle.cu_translation.specs.Terms.{character, constructor_of, list}
+use Rattle.cu_translation.specs.Terms.{character, constructor_of}
 use Rattle.cu_forms.specs.Inside.Calls.{built_in_term}
 use Rattle.cu_forms.specs.Inside.Lists.{before_list, cons_term, constant_of, distinction, list_term, literal_term, number_term, tuple_term}
 

@@ -1,13 +1,12 @@
 -- Patterns by what they are made of.
-use Rattle.std.proofs.Common.{◌≡◌, ◌∙◌, ◌+◌, ◌<◌, ◌↔◌, ℕ, ℤ, List, [], ◌∷◌, ◌++◌, Option, None, Some, IfSome, IfNone, IfOk, Result, Ok, Err, length, map, refl, sym, ap, ap₂, subst, codes, append_assoc, append-nil, add-one, arith, reverse}
-use Rattle.std.proofs.lemmas.List.{length-map, map-append, reverse-append}
+use Rattle.std.proofs.Common.{◌≡◌, ◌∙◌, ◌+◌, ◌<◌, ℕ, ℤ, List, [], ◌∷◌, ◌++◌, Option, None, Some, IfSome, IfNone, length, map, refl, sym, ap, ap₂, subst, codes, append_assoc, append-nil, add-one, arith, reverse}
+use Rattle.std.proofs.lemmas.List.{map-append, reverse-append}
 use denote.Param.Weighed.{most}
 use denote.Ref.{Bor}
 use Rattle.std.specs.List.{All}
 use Rattle.std.proofs.lemmas.List.Elements.{All-cons, All-head, All-nil, All-tail}
 use Rattle.std.specs.declared.alloc.Global.{Global}
 use Rattle.std.specs.declared.vec.Vec.{Vec}
-use Rattle.std.specs.Option.{option_map}
 use Rattle.cu_calculus.specs.Term as calculus
 use Rattle.cu_calculus.specs.declared.ConId.{ConId}
 use Rattle.cu_calculus.specs.declared.Lit.TheVariants as lit
@@ -15,8 +14,8 @@ use Rattle.cu_fixity.specs.declared.fixity.Fixity.{Fixity}
 use Rattle.cu_fixity.specs.declared.part.Part.{Part}
 use Rattle.cu_fixity.specs.declared.part.Part.TheVariants as part
 use Rattle.cu_fixity.specs.declared.piece.Piece.{Piece}
-use Rattle.cu_fixity.specs.Grouping.{Applied, Between, HasNoTree, Infix, Item, Leaf, Operand, Prefix, Tree}
-use Rattle.cu_fixity.specs.Operators.{IsGrouped, polish}
+use Rattle.cu_fixity.specs.Grouping.{Applied, Between, Infix, Item, Leaf, Operand, Prefix, Tree}
+use Rattle.cu_fixity.specs.Operators.{polish}
 use Rattle.cu_fixity.specs.Owners.{PartIsOf, part_size}
 use Rattle.cu_fixity.specs.Parts.{HasNone, IsOrder, pattern_rest, written_pattern}
 use Rattle.cu_fixity.specs.Pieces.{minus}
@@ -67,7 +66,7 @@ unfolding pattern_form
 forms_are w binder [] = refl
 forms_are w binder (p ∷ ps) = ap (calculus.MorePatterns (table.pattern w.around binder (pattern_meaning w.names p))) (forms_are w binder ps)
 
-count_is : (names : List (List ℕ)) (ps : List Pattern) → pattern_count (patterns_meaning names ps) ≡ length ps
+pub count_is : (names : List (List ℕ)) (ps : List Pattern) → pattern_count (patterns_meaning names ps) ≡ length ps
 count_is names [] = refl
 count_is names (p ∷ ps) = ap (λ n. n + 1) (count_is names ps) ∙ add-one (length ps)
 
@@ -206,11 +205,11 @@ none_order w binder items all e none =
 
 -- ---- what is found, if something is
 
-if_some : {X : Type 0} (P Q : X → Type 0) (o : Option X) → ((x : X) → P x → Q x) → IfSome o P → IfSome o Q
+pub if_some : {X : Type 0} (P Q : X → Type 0) (o : Option X) → ((x : X) → P x → Q x) → IfSome o P → IfSome o Q
 if_some P Q None f h = tt
 if_some P Q (Some x) f h = f x h
 
-if_none : {X : Type 0} (P Q : Type 0) (o : Option X) → (P → Q) → IfNone o P → IfNone o Q
+pub if_none : {X : Type 0} (P Q : Type 0) (o : Option X) → (P → Q) → IfNone o P → IfNone o Q
 if_none P Q None f h = f h
 if_none P Q (Some x) f h = tt
 
@@ -233,7 +232,7 @@ none_placed w binder items ps all found e seen h = if_none _ _ found (λ none. n
 
 -- ---- the stack
 
-pub top_of : {X : Type 0} (f : boxed_type.Pattern → X) (before after : List boxed_type.Pattern) (x : boxed_type.Pattern) → after ≡ before ++ x ∷ [] → map f (reverse after) ≡ f x ∷ map f (reverse before)
+pub top_of : {T X : Type 0} (f : T → X) (before after : List T) (x : T) → after ≡ before ++ x ∷ [] → map f (reverse after) ≡ f x ∷ map f (reverse before)
 top_of f before after x e = ap (λ xs. map f (reverse xs)) e ∙ ap (map f) (reverse-append before (x ∷ []))
 
 -- what parts make of patterns behind them

@@ -1,5 +1,5 @@
 -- Names that are looked up by their numbers, and by their texts.
-use Rattle.std.proofs.Common.{◌≡◌, ◌∙◌, ℕ, Bool, true, false, List, [], ◌∷◌, ◌++◌, Option, None, Some, refl, sym, ap, subst, if◌then◌else◌, map}
+use Rattle.std.proofs.Common.{◌≡◌, ◌∙◌, ℕ, Bool, true, false, List, [], ◌∷◌, ◌++◌, Option, None, Some, refl, sym, ap, subst, if◌then◌else◌}
 use Rattle.std.proofs.lemmas.List.{map-append}
 use Rattle.std.proofs.lemmas.List.Elements.{All-append, All-head, All-tail}
 use Rattle.std.specs.List.{All}
@@ -12,6 +12,8 @@ use Rattle.cu_names.specs.declared.names.NameId.{NameId}
 use Rattle.cu_syntax.specs.Names.{name_meaning}
 use Rattle.cu_syntax.specs.declared.name.Name as code
 use denote.Ref.{Bor}
+use Rattle.cu_locals.specs.Entries.{AreEntries}
+use Rattle.cu_locals.specs.Text.{text}
 use Rattle.cu_forms.specs.Scopes.{EntryIsKnown, Sees, entries_in, entries_in-Inside, entries_in-Outermost, meaning_in}
 use Rattle.cu_forms.specs.declared.scope.Scope.TheVariants as scope
 use Rattle.cu_translation.specs.declared.local_names.Local.{Local}
@@ -94,3 +96,8 @@ sees_inside w local more around inner entries sees known meant is = record {
   entries = ap (entries_meaning w.names) is ∙ map-append (entry_meaning w.names) entries (entries_in around)
       ∙ ap (λ xs. xs ++ entries_meaning w.names (entries_in around)) meant ∙ ap (λ xs. more ++ xs) sees.entries;
 }
+
+-- the same, of names that patterns or blocks declare
+pub sees_entries : (w : Setting) (local more : definitions.Scope) (around inner : Scope) (entries : List Entry) (sees : Sees w local around)
+    → AreEntries (text w.owner w.names sees.differ) more entries → entries_in inner ≡ entries ++ entries_in around → Sees w (more ++ local) inner
+sees_entries w local more around inner entries sees are is = sees_inside w local more around inner entries sees are.known are.meaning is

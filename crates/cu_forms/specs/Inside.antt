@@ -2,3 +2,7 @@
 pub mod Calls
 pub mod Lists
 pub mod PatternParts
+pub mod Operands
+pub mod Blocks
+pub mod Expressions
+pub mod Functions

@@ -1,10 +1,11 @@
 //! Lists, tuples and literals, and distinctions by conditions.
-ghost use Rattle.std.specs.Prelude.{◌≡◌, ◌∷◌, [], IfOk, map};
+ghost use Rattle.std.specs.Prelude.{◌≡◌, IfOk, map};
 ghost use Rattle.cu_kernel.specs.LocalTermsOf.{local_term_of};
 ghost use Rattle.cu_kernel.specs.TermsOf.{pattern_of};
 ghost use Rattle.cu_syntax.specs.Names.{literal_meaning};
 ghost use Rattle.cu_translation.specs.Meaning.{Setting, built_in_text, referent_meaning};
 ghost use Rattle.cu_translation.specs.Terms as definitions;
+ghost use Rattle.cu_forms.specs.Inside.Blocks.{guard_meaning, guards_term};
 ghost use Rattle.cu_forms.specs.Inside.Lists.{cons_term, constant_of, distinction, list_term, literal_term, number_term, tuple_term};
 
 use crate::calls::built_in;
@@ -134,4 +135,23 @@ pub(crate) fn if_then_else<A: Surroundings>(
     let rows = vec![in alloc; (holds, chosen), (fails, other)]?;
     let condition = Box::new(alloc, condition)?;
     Ok(LocalTerm::Case(Mode::Rigid, condition, rows))
+}
+
+/// The expression of the first condition that is True, and `failed` where there
+/// is none.
+pub(crate) fn guarded<A: Surroundings>(
+    alloc: Global,
+    around: &A,
+    rows: Vec<(LocalTerm, LocalTerm)>,
+) -> Result<LocalTerm, AllocError>
+    ensures { (w : Setting) → A.tells around.now w
+        → IfOk result (λ t. local_term_of t
+        ≡ guards_term w.around.names (map guard_meaning rows.items)) }
+{
+    let mut left = rows;
+    let mut other = built_in(alloc, around, BuiltIn::Failed, Vec::new(alloc))?;
+    while let Some(row) = left.pop() {
+        other = if_then_else(alloc, around, row.0, row.1, other)?;
+    }
+    Ok(other)
 }

@@ -1,5 +1,5 @@
 -- What patterns are made of.
-use Rattle.std.specs.Prelude.{ℕ, ℤ, List, [], ◌∷◌, codes}
+use Rattle.std.specs.Prelude.{ℤ, List, [], ◌∷◌, codes}
 use Rattle.cu_calculus.specs.Term as calculus
 use Rattle.cu_calculus.specs.declared.Lit.TheVariants as lit
 use Rattle.cu_fixity.specs.Grouping.{Infix, Item, Operand, Prefix}

@@ -1,4 +1,4 @@
-use Rattle.std.proofs.Common.{◌∙◌, ◌++◌, ◌∷◌, [], ap, ap₂, map, sym, codes}
+use Rattle.std.proofs.Common.{◌∙◌, ◌∷◌, [], ap, map, sym, codes}
 use Rattle.cu_kernel.specs.LocalTermsOf.{local_term_of}
 use Rattle.std.proofs.lemmas.List.{map-append}
 use Rattle.cu_forms.specs.Inside.Calls.{built_in_term}

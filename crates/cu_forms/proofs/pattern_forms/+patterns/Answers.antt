@@ -7,7 +7,7 @@ use Rattle.std.proofs.lemmas.Int.{to_z-of_z}
 use Rattle.std.proofs.lemmas.List.{length-map}
 use Rattle.std.proofs.lemmas.List.Elements.{All-get_or}
 use Rattle.std.specs.List.{All}
-use Rattle.std.specs.Prelude.{IfOk, IfSome, neg_ℤ}
+use Rattle.std.specs.Prelude.{IfSome, neg_ℤ}
 use mir.Syntax.{w128}
 use mir.Val.{SFits}
 use denote.Param.Weighed.{most}

@@ -1,4 +1,4 @@
-use Rattle.std.proofs.Common.{◌∙◌, ◌++◌, ◌∷◌, [], ap, map, sym}
+use Rattle.std.proofs.Common.{◌∙◌, ◌∷◌, [], ap, map, sym}
 use Rattle.cu_kernel.specs.TermsOf.{pattern_of}
 use Rattle.std.proofs.lemmas.List.{map-append}
 use Rattle.cu_forms.specs.Inside.PatternParts.{before_form}

@@ -1,4 +1,4 @@
-use Rattle.std.proofs.Common.{◌∙◌, ap, arith, get_or, map, subst, sym}
+use Rattle.std.proofs.Common.{◌∙◌, ap, arith, map, subst, sym}
 use Rattle.std.proofs.lemmas.List.Elements.{All-get_or}
 use Rattle.cu_fixity.specs.Owners.{PartIsOf}
 use Rattle.cu_syntax.specs.Owners.{PatternIsOf}

@@ -2,7 +2,7 @@ use Rattle.std.specs.Prelude.{IfSome}
 use Rattle.std.proofs.Common.{length, subst}
 use Rattle.cu_fixity.specs.Grouping.{Grouped}
 use Rattle.cu_fixity.specs.Pieces.{fixity_at, items_of}
-use Rattle.cu_forms.proofs.OrderLemmas.{all_within, order_is}
+use Rattle.cu_forms.proofs.OrderLemmas.{all_within}
 use Rattle.cu_forms.proofs.tree_order.in_tree_order.Goals as goal
 
 pub in_order-requires : goal.in_order-requires

@@ -1,0 +1,94 @@
+-- What rules and local functions stand for, under a table of names.
+use Rattle.std.specs.Prelude.{ℕ, zero, suc, List, ◌∷◌, ◌++◌, Option, map}
+use Rattle.std.specs.List.{All}
+use Rattle.cu_kernel.specs.LocalKernel.{LocalFunction, LocalRule}
+use Rattle.cu_kernel.specs.TypeExpr.{TypeExpr}
+use Rattle.cu_lex.specs.Located.{Position}
+use Rattle.cu_names.specs.declared.names.NameId.{NameId}
+use Rattle.cu_syntax.specs.declared.declarations.RightSide.{RightSide}
+use Rattle.cu_syntax.specs.declared.expressions.Expression.{Expression}
+use Rattle.cu_syntax.specs.declared.name.Name as code
+use Rattle.cu_syntax.specs.declared.patterns.Pattern.{Pattern}
+use Rattle.cu_syntax.specs.ExpressionMeaning.{expression_meaning}
+use Rattle.cu_syntax.specs.Owners.{PatternIsOf, RightSideIsOf}
+use Rattle.cu_syntax.specs.Patterns.{pattern_meaning, patterns_meaning}
+use Rattle.cu_syntax.specs.Syntax as syntax
+use Rattle.cu_translation.specs.Around.{place_at}
+use Rattle.cu_translation.specs.Functions.{goal_parameter}
+use Rattle.cu_translation.specs.LocalFunctions as functions
+use Rattle.cu_translation.specs.LocalNames.{At, Scope, variable_entries}
+use Rattle.cu_translation.specs.Meaning.{Setting}
+use Rattle.cu_translation.specs.PatternTable.{patterns, patterns_of}
+use Rattle.cu_translation.specs.Rules.{pattern_count}
+use Rattle.cu_uses.specs.Inside.Gathered.{names_meaning, pattern_binds, patterns_bind}
+use Rattle.cu_forms.specs.declared.local_functions.RuleText.{RuleText}
+use Rattle.cu_forms.specs.Forms.{behind, expression_form, right_form}
+
+-- ---- rules
+
+unfoldable pub rule_form : Setting → Scope → List Pattern → RightSide → LocalRule
+rule_form w local ps right = record {
+  params = patterns w.around At (patterns_meaning w.names ps);
+  body = right_form w (variable_entries (patterns_bind w.names ps) ++ local) right;
+}
+
+abbrev pub text_form : Setting → Scope → RuleText → LocalRule
+text_form w local r = rule_form w local r.parameters.now r.right
+
+abbrev pub RuleTextIsOf : NameId → List (List ℕ) → RuleText → Type 0
+RuleTextIsOf owner names r =
+    All (PatternIsOf owner names) r.parameters.now × RightSideIsOf owner names r.right
+
+-- the rule of a goal with these variables
+unfoldable pub goal_form : Setting → List code.Name → Expression → LocalRule
+goal_form w xs e = record {
+  params = patterns_of (map (goal_parameter w.around) (names_meaning w.names xs));
+  body = expression_form w (variable_entries (names_meaning w.names xs)) e;
+}
+
+-- ---- local functions
+
+-- a function of a block, by its declared type and its rules
+unfoldable pub function_form : Setting → Scope → Position → Option TypeExpr → RuleText
+    → List RuleText → LocalFunction
+function_form w local at declared first others = record {
+  place = place_at w.around.names at;
+  declared = declared;
+  arity = pattern_count (patterns_meaning w.names first.parameters.now);
+  rules = map (text_form w local) (first ∷ others);
+}
+
+unfoldable pub lambda_form : Setting → Scope → Position → List Pattern → Expression → LocalFunction
+lambda_form w local at ps e =
+    functions.lambda_function w.around local at (patterns_meaning w.names ps)
+    (expression_meaning w.names e)
+
+-- the functions that select the variables of a pattern
+unfoldable pub selectors_of : Setting → Pattern → List LocalFunction
+selectors_of w p =
+    map (functions.selector w.around (pattern_meaning w.names p)) (pattern_binds w.names p)
+
+-- ---- functions of qualifiers
+
+-- the qualifiers of a comprehension, and its element
+abbrev pub qualifiers_in : syntax.Expression → syntax.Qualifiers
+qualifiers_in (syntax.Comprehension at element qualifiers) = qualifiers
+qualifiers_in _ = syntax.NoQualifier
+
+abbrev pub element_in : syntax.Expression → syntax.Expression
+element_in (syntax.Comprehension at element qualifiers) = element
+element_in e = e
+
+-- the qualifiers behind the first so many
+abbrev pub behind_first : ℕ → syntax.Qualifiers → syntax.Qualifiers
+behind_first zero qs = qs
+behind_first (suc n) syntax.NoQualifier = syntax.NoQualifier
+behind_first (suc n) (syntax.MoreQualifiers q qs) = behind_first n qs
+
+-- the function of the qualifier that is the last of so many
+unfoldable pub generator_form : Setting → Scope → Position → Pattern → Expression → ℕ
+    → LocalFunction
+generator_form w local at p whole count =
+    functions.generator_function w.around at (pattern_meaning w.names p)
+    (functions.rest_of w.around (behind w local p) (element_in (expression_meaning w.names whole))
+    (behind_first count (qualifiers_in (expression_meaning w.names whole))))
