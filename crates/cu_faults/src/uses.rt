@@ -1,0 +1,116 @@
+//! Names of set functions that aren't followed by the name of a function of
+//! their arity, or that have too many arguments.
+ghost use Rattle.std.specs.Prelude.{◌≡◌, ◌∷◌, IfOk, IfSome, List, OnOk, Option, length};
+ghost use Rattle.std.specs.List.{All};
+ghost use Rattle.std.specs.Option.{option_map};
+ghost use Rattle.cu_syntax.specs.Names.{name_meaning};
+ghost use Rattle.cu_syntax.specs.Owners.{ExpressionIsOf, NameIsOf};
+ghost use Rattle.cu_translation.specs.Around as definitions;
+ghost use Rattle.cu_translation.specs.Around.{referent};
+ghost use Rattle.cu_translation.specs.Faults.{is_set_call, use_faults};
+ghost use Rattle.cu_translation.specs.LocalNames as local_names;
+ghost use Rattle.cu_translation.specs.Meaning.{Setting, referent_meaning};
+ghost use Rattle.cu_forms.specs.Scopes.{Sees};
+ghost use Rattle.cu_faults.specs.Inside.Uses.{argument_name, use_told};
+ghost use Rattle.cu_faults.specs.Telling.{Told};
+
+use crate::first::First;
+use cu_forms::{Scope, name_alone, referent};
+use cu_kernel::{Head, LocalHead};
+use cu_syntax::{Expression, Name};
+use cu_translation::{Fault, Referent, Surroundings, Wrong};
+use std::alloc::{AllocError, Global};
+
+/// Tells a name on arguments that is one of set functions, unless it may stand on
+/// them.
+pub(crate) fn use_at<A: Surroundings>(
+    alloc: Global,
+    around: &A,
+    scope: &Scope<'_>,
+    name: Name,
+    arguments: &[Expression<'_>],
+    first: &mut First,
+) -> Result<(), AllocError>
+    ensures { (w : Setting) (local : local_names.Scope) → A.tells around.now w
+        → Sees w local scope.now → NameIsOf w.owner w.names name
+        → All (ExpressionIsOf w.owner w.names) arguments.now
+        → OnOk result (Told w.owner first.old (use_told w local name arguments.now) first.new) }
+{
+    match arguments {
+        [] => tell_use(alloc, around, scope, name, None, 0, first),
+        [argument, others @ ..] => {
+            tell_use(
+                alloc,
+                around,
+                scope,
+                name,
+                Some(*argument),
+                others.len(),
+                first,
+            )
+        }
+    }
+}
+
+/// Tells a name that is one of set functions, unless its first argument is the
+/// name of a function of their arity, and the others aren't too many.
+pub(crate) fn tell_use<A: Surroundings>(
+    alloc: Global,
+    around: &A,
+    scope: &Scope<'_>,
+    name: Name,
+    argument: Option<Expression<'_>>,
+    others: usize,
+    first: &mut First,
+) -> Result<(), AllocError>
+    ensures { (w : Setting) (local : local_names.Scope) (rest : List (Option definitions.Referent))
+        → A.tells around.now w → Sees w local scope.now → NameIsOf w.owner w.names name
+        → IfSome argument.entry (ExpressionIsOf w.owner w.names) → length rest ≡ others
+        → OnOk result (Told w.owner first.old
+        (use_faults (referent w.around local (name_meaning w.names name))
+        (name_meaning w.names name) (argument_name w local argument.entry ∷ rest)) first.new) }
+{
+    let Referent::SetFunction(count) = referent(around, scope, name) else {
+        return Ok(());
+    };
+    let named = name_of(alloc, around, scope, argument)?;
+    if !is_set_call(count, named, others) {
+        first.tell(Fault {
+            wrong: Wrong::SetName,
+            place: name.place,
+        });
+    }
+    Ok(())
+}
+
+/// What an argument refers to, if it is there and is a name alone.
+fn name_of<A: Surroundings>(
+    alloc: Global,
+    around: &A,
+    scope: &Scope<'_>,
+    argument: Option<Expression<'_>>,
+) -> Result<Option<Referent>, AllocError>
+    ensures { (w : Setting) (local : local_names.Scope) → A.tells around.now w
+        → Sees w local scope.now → IfSome argument.entry (ExpressionIsOf w.owner w.names)
+        → IfOk result (λ found. option_map referent_meaning found
+        ≡ argument_name w local argument.entry) }
+{
+    match argument {
+        Some(e) => name_alone(alloc, around, scope, e),
+        None => Ok(None),
+    }
+}
+
+/// Whether the first argument, of which this is known, is the name of a function
+/// of top level of so many parameters, and no more others follow than these.
+fn is_set_call(count: usize, argument: Option<Referent>, others: usize) -> bool
+    ensures { (rest : List (Option definitions.Referent)) → length rest ≡ others
+        → result ≡ is_set_call count (option_map referent_meaning argument ∷ rest) }
+{
+    match argument {
+        Some(Referent::Callable(LocalHead::Global(Head::Fun(_)), arity)) => {
+            arity == count && others <= count
+        }
+        _ => false,
+    }
+}
