@@ -1,5 +1,5 @@
 -- Tables of what is built in, one entry after another.
-use Rattle.std.proofs.Common.{◌≡◌, ◌∙◌, ℕ, ◌+◌, ◌<◌, ◌≤◌, Bor, List, [], ◌∷◌, ◌++◌, Some, map, take, take_all, get_or, length, sym, ap, subst, append-nil, append_assoc, arith}
+use Rattle.std.proofs.Common.{◌≡◌, ◌∙◌, ℕ, ◌+◌, ◌<◌, ◌≤◌, List, [], ◌∷◌, ◌++◌, Some, map, take, take_all, get_or, length, sym, ap, subst, append-nil, append_assoc, arith}
 use Rattle.std.proofs.lemmas.List.{get_or-map, length-map, map_more}
 use Rattle.std.proofs.lemmas.List.Elements.{All-append, All-cons}
 use Rattle.std.specs.List.{All, Contains}
@@ -10,7 +10,6 @@ use Rattle.cu_names.specs.declared.names.NameId.{NameId}
 use Rattle.cu_names.specs.Texts.{IsKnown, text_of}
 use Rattle.cu_toplevel.specs.declared.listing.Declared as code
 use Rattle.cu_toplevel.specs.declared.listing.Listing.{Listing}
-use Rattle.cu_toplevel.specs.Inside.Given.{given_meaning, given_text}
 use Rattle.cu_toplevel.specs.Listings.{DeclaredIsKnown, IsListing, declared_meaning}
 use Rattle.cu_calculus.specs.Valid.{external_arity}
 use Rattle.cu_translation.specs.Around.{tuple_name}
@@ -20,33 +19,36 @@ use Rattle.cu_translation.specs.Numbered.{Declared, declared, tuple_sizes}
 abbrev pub coded : NameId → NameId → ℕ → code.Declared
 coded owner id arity = record { owner = owner; name = id; arity = arity }
 
-pub there_at : (names : List (List ℕ)) (given : List (Bor (List ℕ) × ℕ)) (i : ℕ) (d : Bor (List ℕ) × ℕ) → i < length given
-    → All (Contains names) (map given_text given) → Contains names (get_or given i d).0.now
-there_at names given i d within there =
-    subst (Contains names) (get_or-map given_text given i d d.0.now within) (there i d.0.now (subst (λ n. i < n) (sym (length-map given given_text)) within))
+pub there_at : {G : Type 0} (text : G → List ℕ) (names : List (List ℕ)) (given : List G) (i : ℕ) (d : G) → i < length given → All (Contains names) (map text given)
+    → Contains names (text (get_or given i d))
+there_at text names given i d within there =
+    subst (Contains names) (get_or-map text given i d (text d) within) (there i (text d) (subst (λ n. i < n) (sym (length-map given text)) within))
 
 pub none_yet : (names : List (List ℕ)) (before : List Declared) (l : Listing) → IsListing names before l → IsListing names (before ++ []) l
 none_yet names before l has = subst (λ ds. IsListing names ds l) (sym (append-nil before)) has
 
-pub given_more : (names : List (List ℕ)) (before : List Declared) (given : List (Bor (List ℕ) × ℕ)) (i : ℕ) (d : Bor (List ℕ) × ℕ) (owner id : NameId) (old new : Listing)
-    → i < length given → IsKnown names owner → slice_get names id.0 ≡ Some (get_or given i d).0.now
-    → ((all : List Declared) → DeclaredIsKnown names (coded owner id (get_or given i d).1) → IsListing names all old
-    → IsListing names (all ++ declared_meaning names (coded owner id (get_or given i d).1) ∷ []) new)
-    → IsListing names (before ++ map (given_meaning (text_of names owner)) (take i given)) old
-    → IsListing names (before ++ map (given_meaning (text_of names owner)) (take (i + 1) given)) new
-given_more names before given i d owner id old new within known at adds has =
-    let f : Bor (List ℕ) × ℕ → Declared = given_meaning (text_of names owner) in
+-- what a table's entry stands for, where it has a text and a number of parameters
+abbrev pub entry_as : {G : Type 0} → (G → List ℕ) → (G → ℕ) → List ℕ → G → Declared
+entry_as text arity owner g = declared owner (text g) (arity g)
+
+pub given_more : {G : Type 0} (text : G → List ℕ) (arity : G → ℕ) (names : List (List ℕ)) (before : List Declared) (given : List G) (i : ℕ) (d : G) (owner id : NameId) (n : ℕ) (old new : Listing)
+    → i < length given → IsKnown names owner → slice_get names id.0 ≡ Some (text (get_or given i d)) → n ≡ arity (get_or given i d)
+    → ((all : List Declared) → DeclaredIsKnown names (coded owner id n) → IsListing names all old → IsListing names (all ++ declared_meaning names (coded owner id n) ∷ []) new)
+    → IsListing names (before ++ map (entry_as text arity (text_of names owner)) (take i given)) old
+    → IsListing names (before ++ map (entry_as text arity (text_of names owner)) (take (i + 1) given)) new
+given_more {G} text arity names before given i d owner id n old new within known at counted adds has =
+    let f : G → Declared = entry_as text arity (text_of names owner) in
     let g = get_or given i d in
     let done = map f (take i given) in
-    let means : declared_meaning names (coded owner id g.1) ≡ f g = ap (λ t. declared (text_of names owner) t g.1) (text_of-at names id g.0.now at) in
-    let whole : (before ++ done) ++ declared_meaning names (coded owner id g.1) ∷ [] ≡ before ++ map f (take (i + 1) given) =
-    append_assoc before done (declared_meaning names (coded owner id g.1) ∷ [])
+    let means : declared_meaning names (coded owner id n) ≡ f g = λ j. declared (text_of names owner) (text_of-at names id (text g) at j) (counted j) in
+    let whole : (before ++ done) ++ declared_meaning names (coded owner id n) ∷ [] ≡ before ++ map f (take (i + 1) given) =
+    append_assoc before done (declared_meaning names (coded owner id n) ∷ [])
     ∙ ap (λ (e : Declared). before ++ (done ++ e ∷ [])) means ∙ ap (λ ds. before ++ ds) (sym (map_more f given i d within)) in
-    subst (λ (ds : List Declared). IsListing names ds new) whole (adds (before ++ done) (record { owner = known; name = known_at names id g.0.now at }) has)
+    subst (λ (ds : List Declared). IsListing names ds new) whole (adds (before ++ done) (record { owner = known; name = known_at names id (text g) at }) has)
 
-pub all_given : (names : List (List ℕ)) (before : List Declared) (given : List (Bor (List ℕ) × ℕ)) (i : ℕ) (owner : List ℕ) (l : Listing) → length given ≤ i
-    → IsListing names (before ++ map (given_meaning owner) (take i given)) l → IsListing names (before ++ map (given_meaning owner) given) l
-all_given names before given i owner l done has = subst (λ given. IsListing names (before ++ map (given_meaning owner) given) l) (take_all i given done) has
+pub all_given : {G : Type 0} (f : G → Declared) (names : List (List ℕ)) (before : List Declared) (given : List G) (i : ℕ) (l : Listing) → length given ≤ i
+    → IsListing names (before ++ map f (take i given)) l → IsListing names (before ++ map f given) l
+all_given f names before given i l done has = subst (λ given. IsListing names (before ++ map f given) l) (take_all i given done) has
 
 -- the same tables, of a module of any name
 abbrev pub types_for : List ℕ → List Declared

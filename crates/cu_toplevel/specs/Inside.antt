@@ -1,4 +1,10 @@
+pub mod Arrows
 pub mod Commas
+pub mod Declared
+pub mod Exports
+pub mod FirstTypes
 pub mod Gathering
 pub mod Given
 pub mod Heads
+pub mod Marks
+pub mod Variables

@@ -6,4 +6,7 @@ pub mod FixityTables
 pub mod TupleTables
 pub mod EntityTables
 pub mod Surrounding
+pub mod Readings
+pub mod SignatureTables
+pub mod Goals
 pub mod Inside

@@ -3,6 +3,7 @@ ghost use Rattle.std.specs.Prelude.{◌≡◌, List, ℕ};
 ghost use Rattle.cu_toplevel.specs.Surrounding.{type_text};
 ghost use Rattle.cu_toplevel.specs.TupleTables.{AreTuples, IsFound};
 ghost use Rattle.cu_translation.specs.Meaning.{built_in_text};
+ghost use Rattle.cu_translation.specs.ModuleNames.{id_of};
 
 use crate::tuples::TupleNames;
 use cu_names::{NameId, Names};
@@ -24,6 +25,18 @@ pub(crate) fn named(names: &Names, text: &str) -> Option<NameId>
     ensures { IsFound names.now text.now result }
 {
     names.find(text)
+}
+
+/// The number of a name that was looked for, or how many names the table has,
+/// where it lacks that.
+pub(crate) fn number_of(names: &Names, found: Option<NameId>) -> NameId
+    ensures { (text : List ℕ) → IsFound names.now text found → result ≡ id_of names.now text }
+{
+    let count = names.count();
+    match found {
+        Some(id) => id,
+        None => NameId(count),
+    }
 }
 
 /// The name of what the translation names, if the table has it.

@@ -11,8 +11,9 @@ ghost use Rattle.cu_syntax.specs.Owners.{ConstructorDeclarationIsOf, ItemIsOf};
 ghost use Rattle.cu_toplevel.specs.Declarations.{AreListed, Lists, and_module, no_lists};
 ghost use Rattle.cu_toplevel.specs.Inside.Gathering.{and_constructors, and_functions, and_given, and_item, and_items};
 
+use crate::externals::{EXTERNALS, add_externals};
 use crate::function_heads::heads;
-use crate::given::{EXTERNALS, FIRST_CONSTRUCTORS, FIRST_TYPES, add_given};
+use crate::given::{FIRST_CONSTRUCTORS, FIRST_TYPES, add_given};
 use crate::listing::{Declared, Listing};
 use cu_modules::Module;
 use cu_names::{NameId, Names};
@@ -88,7 +89,7 @@ impl Declarations {
     {
         add_given(names, owner, &FIRST_TYPES, &mut self.types)?;
         add_given(names, owner, &FIRST_CONSTRUCTORS, &mut self.constructors)?;
-        add_given(names, owner, &EXTERNALS, &mut self.functions)?;
+        add_externals(names, owner, &EXTERNALS, &mut self.functions)?;
         Ok(())
     }
 

@@ -1,5 +1,5 @@
 //! What is built in.
-ghost use Rattle.std.specs.Prelude.{◌≡◌, ◌++◌, List, ℕ, OnOk, Some, map, slice_get};
+ghost use Rattle.std.specs.Prelude.{◌≡◌, ◌++◌, List, OnOk, Some, map, slice_get};
 ghost use Rattle.std.specs.List.{All, Contains};
 ghost use Rattle.cu_names.specs.Texts.{AllDiffer, IsKnown, text_of};
 ghost use Rattle.cu_toplevel.specs.Inside.Given.{given_meaning, given_text};
@@ -8,7 +8,7 @@ ghost use Rattle.cu_translation.specs.Numbered as numbers;
 
 use crate::listing::{Declared, Listing};
 use cu_names::{NameId, Names};
-use std::alloc::{AllocError, Global};
+use std::alloc::AllocError;
 
 /// The types that the Prelude has without a declaration, with the numbers of
 /// their parameters: lists, unit, the tuples, and the types of literals.
@@ -52,25 +52,6 @@ pub(crate) const FIRST_CONSTRUCTORS: [(&str, usize); 17] = [
     ("(,,,,,,,,,,,,)", 13),
     ("(,,,,,,,,,,,,,)", 14),
     ("(,,,,,,,,,,,,,,)", 15),
-];
-
-/// The operations that are built in, with the numbers of their parameters.
-pub(crate) const EXTERNALS: [(&str, usize); 15] = [
-    ("+", 2),
-    ("-", 2),
-    ("*", 2),
-    ("div", 2),
-    ("mod", 2),
-    ("<", 2),
-    ("<=", 2),
-    (">", 2),
-    (">=", 2),
-    ("==", 2),
-    ("=:=", 2),
-    ("&", 2),
-    ("ord", 1),
-    ("chr", 1),
-    ("failed", 0),
 ];
 
 /// The functions that give all values of calls, with the numbers of parameters

@@ -19,7 +19,7 @@ ghost use Rattle.cu_translation.specs.ModuleNames.{entity_meant, id_of, names_in
 ghost use Rattle.cu_translation.specs.Parts.{goal_names};
 
 use crate::Entities;
-use crate::built_in::{BuiltInType, name_of, named, type_name_of};
+use crate::built_in::{BuiltInType, name_of, named, number_of, type_name_of};
 use cu_entities::{Entity, Space};
 use cu_fixity::{Fixity, UNDECLARED};
 use cu_kernel::{TypeId, TypeName};
@@ -45,11 +45,7 @@ pub struct TopNames<'a> {
 fn goal_owner(names: &Names) -> NameId
     ensures { result ≡ id_of names.now goal_name }
 {
-    let count = names.count();
-    match named(names, "goal") {
-        Some(id) => id,
-        None => NameId(count),
-    }
+    number_of(names, named(names, "goal"))
 }
 
 impl<'a> TopNames<'a> {
@@ -65,8 +61,9 @@ impl<'a> TopNames<'a> {
         requires scopes { AreScopes names.now (modules_of names.now modules.now) scopes.now }
         requires has { All (HasModule names.now) modules.now }
         requires number { number < length modules.now }
-        ensures { TellsNames names.now
+        ensures tells { TellsNames names.now
             (names_in names.now (modules_of names.now modules.now) number) result }
+        ensures entities { result.entities.now ≡ entities.now }
     {
         let owner = modules[number as usize].name();
         TopNames {
@@ -90,8 +87,9 @@ impl<'a> TopNames<'a> {
         requires entities { AreEntities names.now (modules_of names.now modules.now) entities.now }
         requires scopes { AreScopes names.now (modules_of names.now modules.now) scopes.now }
         requires root { root < length modules.now }
-        ensures { TellsNames names.now
+        ensures tells { TellsNames names.now
             (goal_names names.now (modules_of names.now modules.now) root) result }
+        ensures entities { result.entities.now ≡ entities.now }
     {
         let owner = goal_owner(names);
         TopNames {
@@ -174,6 +172,27 @@ impl<'a> TopNames<'a> {
             Some(name) => self.entities.type_of(self.entities.prelude, name),
             None => TypeName::Data(TypeId(0)),
         }
+    }
+
+    /// The number of the name of what the Prelude has, or how many names the
+    /// table has, where it lacks that.
+    pub(crate) fn value_number(&self, what: BuiltIn) -> NameId
+        ensures { (names : List (List ℕ)) (top : meant.Names) → TellsNames names top self.now
+            → result ≡ id_of names (built_in_text what) }
+    {
+        number_of(self.names, name_of(self.names, &self.entities.tuples, what))
+    }
+
+    /// The number of the name of a type that the Prelude has, or how many names
+    /// the table has, where it lacks that.
+    pub(crate) fn type_number(&self, what: BuiltInType) -> NameId
+        ensures { (names : List (List ℕ)) (top : meant.Names) → TellsNames names top self.now
+            → result ≡ id_of names (type_text what) }
+    {
+        number_of(
+            self.names,
+            type_name_of(self.names, &self.entities.tuples, what),
+        )
     }
 
     /// The number of the name of the text's module, or of that of goals.

@@ -9,8 +9,8 @@ add_given-requires-clause-there c = types_there c.args.names.now c.requires.buil
 pub add_given-requires-2-clause-there : goal.add_given-requires-2-clause-there
 add_given-requires-2-clause-there c = constructors_there c.args.names.now c.requires.built_in
 
-pub add_given-requires-3-clause-there : goal.add_given-requires-3-clause-there
-add_given-requires-3-clause-there c = c.requires.built_in.externals
+pub add_externals-requires-clause-there : goal.add_externals-requires-clause-there
+add_externals-requires-clause-there c = c.requires.built_in.externals
 
 pub returns : goal.returns
 returns c = λ before differ has.
@@ -20,5 +20,5 @@ returns c = λ before differ has.
       constructors = subst (λ text. IsListing names (before.constructors ++ constructors_for text) c.add_given-2.new.listing) c.requires.prelude
           (c.in_ok-add_given-2.ensures before.constructors differ has.constructors);
       synonyms = has.synonyms;
-      functions = subst (λ text. IsListing names (before.functions ++ externals_for text) c.add_given-3.new.listing) c.requires.prelude (c.in_ok-add_given-3.ensures before.functions differ has.functions);
+      functions = subst (λ text. IsListing names (before.functions ++ externals_for text) c.add_externals.new.listing) c.requires.prelude (c.in_ok-add_externals.ensures before.functions differ has.functions);
     }

@@ -10,8 +10,8 @@ use Rattle.cu_translation.specs.ModuleNames.{names_in}
 use Rattle.cu_toplevel.proofs.TopLemmas.{owned_by, owner_is}
 use Rattle.cu_toplevel.proofs.top_names.TopNames.of.Goals as goal
 
-pub returns : goal.returns
-returns c =
+pub returns-clause-tells : goal.returns-clause-tells
+returns-clause-tells c =
     let names = c.args.names.now in
     let modules = c.args.modules.now in
     let d = c.index-modules-number.result in

@@ -6,8 +6,8 @@ use Rattle.cu_translation.specs.ModuleNames.{id_of, names_in}
 use Rattle.cu_toplevel.proofs.TopLemmas.{owned_as}
 use Rattle.cu_toplevel.proofs.top_names.TopNames.of_goal.Goals as goal
 
-pub returns : goal.returns
-returns c =
+pub returns-clause-tells : goal.returns-clause-tells
+returns-clause-tells c =
     let names = c.args.names.now in
     let modules = c.args.modules.now in
     record {
