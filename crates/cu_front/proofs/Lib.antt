@@ -1,0 +1,4 @@
+mod CycleLemmas
+mod GoalLemmas
+mod RunLemmas
+mod NamedLemmas

@@ -1,0 +1,116 @@
+-- What modules and a goal come to: a refusal, the first by the order of the stages, or a program.
+use Rattle.std.specs.Prelude.{◌≡◌, ℕ, List, [], Option, None, Some, Ok, Err}
+use Rattle.std.specs.List.{position_or_len}
+use Rattle.cu_calculus.specs.Program as calculus
+use Rattle.cu_kernel.specs.Kernel.{Kernel}
+use Rattle.cu_kernel.specs.LocalKernel.{LocalKernel, joined}
+use Rattle.cu_syntax.specs.Syntax.{Goal}
+use Rattle.cu_modules.specs.Means.{AreScoped, IsGoalScoped, IsGoalWrong, IsWrong}
+use Rattle.cu_modules.specs.Scopes.{Named}
+use Rattle.cu_modules.specs.Texts.{TextFault}
+use Rattle.cu_modules.specs.Walk as modules_walk
+use Rattle.cu_modules.specs.Walk.{InText, Walk, has_name}
+use Rattle.cu_translation.specs.FaultOrder.{Fault}
+use Rattle.cu_translation.specs.Parts.{goal_part}
+use Rattle.cu_translation.specs.Translation as translation
+use Rattle.cu_translation.specs.Translation.{goal_translation}
+use Rattle.cu_uses.specs.Faults as uses
+use Rattle.cu_front.specs.GoalTexts.{GoalIsRead}
+use Rattle.cu_front.specs.Names.{IsGoalTable, IsTable}
+use Rattle.cu_front.specs.Programs.{CanRun, CannotRun, IsLifted}
+use Rattle.cu_front.specs.Refusal.{InNames, Refusal, Walked, goal_name, in_functions}
+use Rattle.cu_front.specs.Translated.{modules_program, translation_refusal}
+
+-- the texts of modules that are held under their names
+abbrev pub Held : Type 0
+Held = List ℕ → Option (List ℕ)
+
+-- ---- modules
+
+-- the modules that a root reaches are refused
+pub data ModulesRefused (held : Held) (root : List ℕ) : Refusal → Type 0 where
+  walk : (refusal : modules_walk.Refusal) → Walk held root (Err refusal)
+      → ModulesRefused held root (Walked refusal)
+  names : (modules : List Named) (owner : List ℕ) (fault : uses.Fault)
+      → Walk held root (Ok modules) → IsWrong modules owner fault
+      → ModulesRefused held root (InNames owner fault)
+  functions : (modules : List Named) (table : List (List ℕ)) (refusal : Refusal)
+      → Walk held root (Ok modules) → AreScoped [] modules → IsTable modules table
+      → translation_refusal table modules ≡ Some refusal → ModulesRefused held root refusal
+  program : (modules : List Named) (table names : List (List ℕ)) (program : Kernel)
+      (refusal : Refusal)
+      → Walk held root (Ok modules) → AreScoped [] modules → IsTable modules table
+      → translation_refusal table modules ≡ None
+      → IsLifted table (modules_program table modules) names program
+      → CannotRun names program refusal → ModulesRefused held root refusal
+
+-- the modules that a root reaches, of which nothing is refused
+pub record AreModules (held : Held) (root : List ℕ) (modules : List Named) : Type 0 where
+  pub walked : Walk held root (Ok modules)
+  pub scoped : AreScoped [] modules
+  pub table : List (List ℕ)
+  pub is_table : IsTable modules table
+  pub translated : translation_refusal table modules ≡ None
+  pub names : List (List ℕ)
+  pub program : Kernel
+  pub flat : calculus.Program
+  pub lifted : IsLifted table (modules_program table modules) names program
+  pub can_run : CanRun program flat
+
+-- ---- goals
+
+-- the number of the root among modules
+abbrev pub root_in : List Named → List ℕ → ℕ
+root_in modules root = position_or_len (has_name root) modules
+
+-- the program of modules and a goal in one of them
+abbrev pub whole_program : List (List ℕ) → List Named → ℕ → Goal → LocalKernel
+whole_program table modules k goal =
+    joined (modules_program table modules) (goal_part table modules k goal)
+
+-- a goal in the module of a number is refused
+pub data GoalRefused (modules : List Named) (k : ℕ) (text : List ℕ) : Refusal → Type 0 where
+  unread : (fault : TextFault) → GoalIsRead text (Err fault)
+      → GoalRefused modules k text (Walked (InText goal_name fault))
+  names : (goal : Goal) (fault : uses.Fault) → GoalIsRead text (Ok goal)
+      → IsGoalWrong modules k goal fault → GoalRefused modules k text (InNames goal_name fault)
+  functions : (goal : Goal) (table : List (List ℕ)) (fault : Fault)
+      → GoalIsRead text (Ok goal) → IsGoalScoped modules k goal → IsGoalTable modules goal table
+      → goal_translation table modules k goal ≡ translation.Refused fault
+      → GoalRefused modules k text (in_functions goal_name fault)
+  program : (goal : Goal) (table names : List (List ℕ)) (program : Kernel) (refusal : Refusal)
+      → GoalIsRead text (Ok goal) → IsGoalScoped modules k goal → IsGoalTable modules goal table
+      → goal_translation table modules k goal
+      ≡ translation.Translated (goal_part table modules k goal)
+      → IsLifted table (whole_program table modules k goal) names program
+      → CannotRun names program refusal → GoalRefused modules k text refusal
+
+-- a goal of which nothing is refused, and the program of the modules and the goal
+pub record IsGoal (modules : List Named) (k : ℕ) (text : List ℕ) (names : List (List ℕ))
+    (program : Kernel) (flat : calculus.Program) : Type 0 where
+  pub goal : Goal
+  pub read : GoalIsRead text (Ok goal)
+  pub scoped : IsGoalScoped modules k goal
+  pub table : List (List ℕ)
+  pub is_table : IsGoalTable modules goal table
+  pub translated : goal_translation table modules k goal
+      ≡ translation.Translated (goal_part table modules k goal)
+  pub lifted : IsLifted table (whole_program table modules k goal) names program
+  pub can_run : CanRun program flat
+
+-- ---- both
+
+-- a goal in a module is refused, by the modules or by the goal itself
+pub data Refuses (held : Held) (root text : List ℕ) : Refusal → Type 0 where
+  by_modules : (refusal : Refusal) → ModulesRefused held root refusal
+      → Refuses held root text refusal
+  by_goal : (modules : List Named) (refusal : Refusal) → AreModules held root modules
+      → GoalRefused modules (root_in modules root) text refusal
+      → Refuses held root text refusal
+
+-- the program that a goal in a module comes to, with its table of names
+pub record Compiles (held : Held) (root text : List ℕ) (names : List (List ℕ))
+    (program : Kernel) (flat : calculus.Program) : Type 0 where
+  pub modules : List Named
+  pub are_modules : AreModules held root modules
+  pub is_goal : IsGoal modules (root_in modules root) text names program flat

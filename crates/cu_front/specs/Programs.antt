@@ -1,0 +1,65 @@
+-- Programs with their local functions lifted, and why they can't be run.
+use Rattle.std.specs.Prelude.{ℕ, List, [], ◌∷◌, ◌++◌, Bool, false, Option, None, Some, Ok, Err, codes, if◌then◌else◌, nat_le, slice_get}
+use Rattle.std.specs.Option.{option_map, unwrap_or}
+use Rattle.cu_calculus.specs.Claims.{AreLevels}
+use Rattle.cu_calculus.specs.Program as calculus
+use Rattle.cu_calculus.specs.declared.FunId.{FunId}
+use Rattle.cu_deftree.specs.LoweredProgram.{Lowering}
+use Rattle.cu_kernel.specs.Kernel as kernel
+use Rattle.cu_kernel.specs.Kernel.{Kernel, program_of}
+use Rattle.cu_kernel.specs.LocalKernel.{LocalKernel}
+use Rattle.cu_lift.specs.Lifting.{Lifts}
+use Rattle.cu_lift.specs.SetCycles.{IsSetRecursion}
+use Rattle.cu_names.specs.Texts.{AllDiffer, Extends, text_of}
+use Rattle.cu_front.specs.Refusal.{Refusal, SetRecursion, TreeTooBig}
+
+-- A program whose local functions are lifted, and a table that has the names of these too.
+pub record IsLifted (table : List (List ℕ)) (local : LocalKernel) (names : List (List ℕ))
+    (program : Kernel) : Type 0 where
+  pub more : Extends table names
+  pub differ : AllDiffer names
+  pub lifts : Lifts names local program
+
+-- ---- functions by name
+
+abbrev pub module_name : List (List ℕ) → Kernel → ℕ → List ℕ
+module_name names program k =
+    unwrap_or (option_map (λ (m : kernel.Module). text_of names m.name)
+    (slice_get program.modules k)) []
+
+-- whether a function is the goal's, or is lifted from it; these stand behind all others
+abbrev pub is_of_goal : Option kernel.Goal → FunId → Bool
+is_of_goal None f = false
+is_of_goal (Some goal) f = nat_le goal.function.0 f.0
+
+abbrev pub own_name : List (List ℕ) → Kernel → FunId → List ℕ
+own_name names program f =
+    unwrap_or (option_map (λ (g : kernel.Function). text_of names g.name)
+    (slice_get program.functions f.0)) []
+
+abbrev pub owner_of : Kernel → FunId → ℕ
+owner_of program f =
+    unwrap_or (option_map (λ (m : kernel.Mark). m.«module») (slice_get program.marks f.0)) 0
+
+-- `MODULE.NAME`, and a function of the goal by its name alone
+abbrev pub function_text : List (List ℕ) → Kernel → FunId → List ℕ
+function_text names program f =
+    if is_of_goal program.goal f then own_name names program f
+    else module_name names program (owner_of program f) ++ (codes "." ++ own_name names program f)
+
+-- ---- why a program can't be run
+
+abbrev pub HasLevels : Kernel → Type 0
+HasLevels program = (levels : List ℕ) × AreLevels (program_of program) levels
+
+-- no set levels, or else a function whose definitional tree is too big
+pub data CannotRun (names : List (List ℕ)) (program : Kernel) : Refusal → Type 0 where
+  sets : (first : FunId) (cycle : List FunId) → IsSetRecursion (program_of program) (first ∷ cycle)
+      → CannotRun names program (SetRecursion (function_text names program first))
+  size : (f : FunId) → HasLevels program → Lowering (program_of program) (Err f)
+      → CannotRun names program (TreeTooBig (function_text names program f))
+
+-- A program that can be run, and its flat program.
+pub record CanRun (program : Kernel) (flat : calculus.Program) : Type 0 where
+  pub levels : HasLevels program
+  pub lowered : Lowering (program_of program) (Ok flat)

@@ -1,0 +1,36 @@
+-- Why modules or a goal are refused.
+use Rattle.std.specs.Prelude.{ℕ, List, codes}
+use Rattle.cu_lex.specs.Located.{Position}
+use Rattle.cu_syntax.specs.Parsing as parsing
+use Rattle.cu_modules.specs.Texts as texts
+use Rattle.cu_modules.specs.Walk as walk
+use Rattle.cu_translation.specs.FaultOrder as functions
+use Rattle.cu_uses.specs.Faults as uses
+
+pub data Refusal : Type 0 where
+  -- a fault of the walk over the modules, or in the text of the goal
+  Walked : walk.Refusal → Refusal
+  -- a fault of the names in the text of a module
+  InNames : List ℕ → uses.Fault → Refusal
+  -- a fault of the functions in the text of a module
+  InFunctions : List ℕ → functions.Fault → Refusal
+  -- the first function that stands on a recursion through set functions
+  SetRecursion : List ℕ → Refusal
+  -- the first function whose definitional tree is too big
+  TreeTooBig : List ℕ → Refusal
+
+-- A goal's text stands for that of a module of this name.
+abbrev pub goal_name : List ℕ
+goal_name = codes "goal"
+
+-- ---- functions
+
+-- A rule too many is told by its line alone, as an item that is too long.
+abbrev pub in_functions_at : List ℕ → functions.Wrong → Position → Refusal
+in_functions_at owner functions.TooLong at =
+    Walked (walk.InText owner (texts.Syntax (parsing.TooLong at.line)))
+in_functions_at owner wrong at = InFunctions owner (functions.fault wrong at)
+
+-- the refusal for a fault of the functions in the text of a module
+abbrev pub in_functions : List ℕ → functions.Fault → Refusal
+in_functions owner fault = in_functions_at owner fault.wrong fault.at

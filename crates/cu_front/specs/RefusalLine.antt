@@ -1,0 +1,97 @@
+-- The line of a refused run.
+use Rattle.std.specs.Prelude.{ℕ, List, ◌++◌, codes, decimal}
+use Rattle.std.specs.List.{flat_map}
+use Rattle.cu_lex.specs.Located.{Position}
+use Rattle.cu_lex.specs.Tokens as tokens
+use Rattle.cu_syntax.specs.Parsing as parsing
+use Rattle.cu_modules.specs.Texts as texts
+use Rattle.cu_modules.specs.Texts.{TextFault}
+use Rattle.cu_modules.specs.Walk as walk
+use Rattle.cu_translation.specs.FaultOrder as functions
+use Rattle.cu_translation.specs.FaultOrder.{Wrong}
+use Rattle.cu_uses.specs.Faults as uses
+use Rattle.cu_uses.specs.declared.fault.Wrong as names
+use Rattle.cu_uses.specs.declared.fault.Wrong.TheVariants as name
+use Rattle.cu_front.specs.Refusal.{InFunctions, InNames, Refusal, SetRecursion, TreeTooBig, Walked}
+
+-- `refused NUMBER NAME DETAIL`
+abbrev pub refused : List ℕ → List ℕ → List ℕ
+refused title detail = codes "refused " ++ (title ++ (codes " " ++ (detail ++ codes "\n")))
+
+-- `MODULE:LINE`
+abbrev pub on_line : List ℕ → ℕ → List ℕ
+on_line name line = name ++ (codes ":" ++ decimal line)
+
+-- `MODULE:LINE:COLUMN`
+abbrev pub at_place : List ℕ → Position → List ℕ
+at_place name at = name ++ (codes ":" ++ (decimal at.line ++ (codes ":" ++ decimal at.column)))
+
+-- ---- texts
+
+abbrev pub token_line : List ℕ → tokens.Fault → List ℕ
+token_line name tokens.SourceTooBig = refused (codes "4 SourceTooBig") name
+token_line name (tokens.NotUtf8 offset) =
+    refused (codes "1 NotUtf8") (name ++ (codes " offset " ++ decimal offset))
+token_line name (tokens.BadToken at) = refused (codes "2 BadToken") (at_place name at)
+token_line name (tokens.LiteralRange at) = refused (codes "3 LiteralRange") (at_place name at)
+
+abbrev pub syntax_line : List ℕ → parsing.Fault → List ℕ
+syntax_line name (parsing.Syntax line) = refused (codes "6 Syntax") (on_line name line)
+syntax_line name (parsing.TooLong line) = refused (codes "30 TooLong") (on_line name line)
+
+abbrev pub text_line : List ℕ → TextFault → List ℕ
+text_line name (texts.Tokens fault) = token_line name fault
+text_line name (texts.TooDeep at) = refused (codes "29 TooDeep") (at_place name at)
+text_line name (texts.Syntax fault) = syntax_line name fault
+text_line name texts.HeaderName = refused (codes "10 HeaderName") name
+
+-- ---- the walk over the modules
+
+abbrev pub behind_space : List ℕ → List ℕ
+behind_space text = codes " " ++ text
+
+-- the names of a cycle of imports, each behind a space
+abbrev pub cycle_line : List (List ℕ) → List ℕ
+cycle_line names =
+    codes "refused 9 ImportCycle" ++ (flat_map behind_space names ++ codes "\n")
+
+abbrev pub walk_line : walk.Refusal → List ℕ
+walk_line (walk.InText name fault) = text_line name fault
+walk_line (walk.MissingModule name) = refused (codes "8 MissingModule") name
+walk_line (walk.ImportCycle names) = cycle_line names
+walk_line (walk.TooManyModules name) = refused (codes "28 TooManyModules") name
+
+-- ---- names and functions
+
+abbrev pub name_title : names.Wrong → List ℕ
+name_title name.NotExported = codes "11 NotExported"
+name_title name.UnknownName = codes "12 UnknownName"
+name_title name.Ambiguous = codes "13 Ambiguous"
+name_title name.Duplicate = codes "14 Duplicate"
+
+-- `MODULE:LINE:COLUMN NAME`
+abbrev pub used_at : List ℕ → Position → List ℕ → List ℕ
+used_at owner at name = at_place owner at ++ (codes " " ++ name)
+
+abbrev pub name_line : List ℕ → uses.Fault → List ℕ
+name_line owner fault =
+    refused (name_title fault.wrong) (used_at owner fault.at fault.name)
+
+abbrev pub function_line : List ℕ → Wrong → Position → List ℕ
+function_line owner functions.FixityClash at =
+    refused (codes "7 FixityClash") (at_place owner at)
+function_line owner functions.Arity at = refused (codes "15 Arity") (at_place owner at)
+function_line owner functions.NonLinear at = refused (codes "16 NonLinear") (at_place owner at)
+function_line owner functions.RecursiveLocal at =
+    refused (codes "17 RecursiveLocal") (at_place owner at)
+function_line owner functions.SetName at = refused (codes "18 SetName") (at_place owner at)
+function_line owner functions.TooLong at = refused (codes "30 TooLong") (on_line owner at.line)
+
+-- ---- all
+
+abbrev pub refusal_line : Refusal → List ℕ
+refusal_line (Walked refusal) = walk_line refusal
+refusal_line (InNames owner fault) = name_line owner fault
+refusal_line (InFunctions owner fault) = function_line owner fault.wrong fault.at
+refusal_line (SetRecursion function) = refused (codes "19 SetRecursion") function
+refusal_line (TreeTooBig function) = refused (codes "31 TreeTooBig") function

@@ -1,0 +1,12 @@
+//! What is asked for.
+
+/// A goal in a module.
+#[derive(Clone, Copy, Debug)]
+pub struct Asked<'a> {
+    /// The name of the module.
+    pub root: &'a str,
+    /// The folder that holds it, and the modules that it imports.
+    pub folder: &'a str,
+    /// The text of the goal.
+    pub goal: &'a str,
+}

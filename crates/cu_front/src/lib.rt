@@ -1,0 +1,14 @@
+//! From the texts of modules and of a goal to the program that is run, or to the
+//! refusal due: the walk over the modules, the meaning of names, translation,
+//! lifting, set levels and definitional trees, one after another.
+#![tactic(auto)]
+
+mod asked;
+mod fault;
+mod goal_text;
+mod refusal;
+mod runnable;
+
+pub use asked::Asked;
+pub use refusal::Refusal;
+pub use runnable::Compiled;
