@@ -1,0 +1,21 @@
+use Rattle.std.proofs.Common.{ap, ◌∙◌}
+use Rattle.cu_frozen.specs.Flat.{nodes_of}
+use Rattle.cu_frozen.proofs.Entries.{after_error, kept, within_pushed, pushed_node}
+use Rattle.cu_frozen.proofs.flat.Flat.push.Goals as goal
+
+pub returns-in_err-push-clause-err : goal.returns-in_err-push-clause-err
+returns-in_err-push-clause-err c =
+    after_error c.from_residual-in_err-push.result
+    (ap (nodes_of c.append.new.all.items) c.in_err-push.ensures.items
+    ∙ kept c.self.inside.args.items c.append.new.all.items c.args.args.now c.self.inside.entries.items c.args.self.now
+    c.self.invariant c.in_ok-entry.ensures.ok c.self.view_is)
+
+pub invariant_of-self-2 : goal.invariant_of-self-2
+invariant_of-self-2 c =
+    within_pushed c.self.inside.args.items c.append.new.all.items c.args.args.now c.self.inside.entries.items c.push.new.self.items c.in_ok-entry.entry
+    c.self.invariant c.in_ok-entry.ensures.ok c.in_ok-entry.ensures.within c.in_ok-push.ensures.items
+
+pub returns-clause-ok : goal.returns-clause-ok
+returns-clause-ok c =
+    pushed_node c.self.inside.args.items c.append.new.all.items c.args.args.now c.self.inside.entries.items c.push.new.self.items c.in_ok-entry.entry
+    c.args.self.now _ c.self.invariant c.in_ok-entry.ensures.ok c.in_ok-push.ensures.items c.in_ok-entry.ensures.node c.self.view_is

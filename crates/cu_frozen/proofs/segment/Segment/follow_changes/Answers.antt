@@ -1,0 +1,16 @@
+use Rattle.std.proofs.Common.{◌-◌, ◌∙◌, arith}
+use Rattle.cu_machine.specs.Graph.{node_at}
+use Rattle.cu_frozen.proofs.Overlays.{changes_more, node_again}
+use Rattle.cu_frozen.proofs.segment.Segment.follow_changes.Goals as goal
+
+pub loop-left-preserved : goal.loop-left-preserved
+loop-left-preserved c = record {
+  within = omega arith;
+  amended =
+      changes_more c.args.self.now c.loop-left.self c.put.new.self c.next.inside.changed.keys c.next.inside.changes c.loop-left.left (c.loop-left.left - 1)
+      c.index-id.result.now (record { kind = c.kind.result; args = c.args-in-loop-left.result.now }) (omega arith) c.loop-left.invariant.within
+      c.next.invariant.paired c.index-id.ensures
+      (node_again c.kind.result c.args-in-loop-left.result.now (node_at c.next.inside.changes (c.loop-left.left - 1)) c.kind.ensures c.args-in-loop-left.ensures)
+      c.loop-left.invariant.amended c.in_ok-put.ensures.ok;
+  same = c.in_ok-put.ensures.added ∙ c.loop-left.invariant.same;
+}

@@ -1,0 +1,10 @@
+use Rattle.std.proofs.Common.{[], length, ap, ◌∙◌}
+use Rattle.cu_frozen.specs.Layers.{laid}
+use Rattle.cu_frozen.proofs.Stacks.{none_laid}
+use Rattle.cu_frozen.proofs.store.FrozenStoreStore.empty.Goals as goal
+
+pub over-requires : goal.over-requires
+over-requires c = ap (λ layers. length (laid [] layers)) c.new.ensures ∙ ap length (none_laid [])
+
+pub returns : goal.returns
+returns c = c.over.ensures ∙ ap (laid []) c.new.ensures ∙ none_laid []
