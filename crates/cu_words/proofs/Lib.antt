@@ -1,0 +1,5 @@
+mod CommandLemmas
+mod NameLemmas
+mod NumberLemmas
+mod ReaderLemmas
+mod Spelling

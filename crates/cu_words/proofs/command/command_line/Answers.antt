@@ -1,0 +1,13 @@
+use Rattle.std.proofs.Common.{◌∙◌, ap, ap₂, true}
+use Rattle.std.proofs.lemmas.Result.{IfOk-weaker}
+use Rattle.clap.specs.Simple.{app_of_fields, on_top, with_subcommand}
+use Rattle.cu_words.proofs.command.command_line.Goals as goal
+
+pub returns : goal.returns
+returns c =
+    let unnamed = ap app_of_fields c.no_binary_name.ensures ∙ ap (on_top (λ s. record s { no_binary_name = true })) c.new.ensures.app in
+    let no_flag = ap app_of_fields c.disable_help_flag.ensures ∙ ap (on_top (λ s. record s { disable_help_flag = true })) unnamed in
+    let no_help = ap app_of_fields c.disable_help_subcommand.ensures ∙ ap (on_top (λ s. record s { disable_help_subcommand = true })) no_flag in
+    let no_version = ap app_of_fields c.disable_version_flag.ensures ∙ ap (on_top (λ s. record s { disable_version_flag = true })) no_help in
+    let asked = ap app_of_fields c.subcommand_required.ensures ∙ ap (on_top (λ s. record s { subcommand_required = true })) no_version in
+    IfOk-weaker c.subcommand.result _ _ (λ made adds. adds.shape c.in_ok-solve.ensures.local ∙ ap₂ with_subcommand asked c.in_ok-solve.ensures.shape) c.subcommand.ensures

@@ -1,0 +1,46 @@
+-- The command line, as the library `clap` has it: the names of its commands and of what stands
+-- behind them.
+use Rattle.std.specs.Prelude.{List, [], ◌∷◌, Some, true, false, codes}
+use Rattle.clap.specs.Simple.{App, Shape, new_rule, new_shape}
+use Rattle.clap.specs.Walk.{Rule, Text}
+
+-- `--name value` or `--name=value`
+abbrev pub option : Text → Rule
+option name = record (new_rule name) { long = Some name }
+
+abbrev pub required : Rule → Rule
+required rule = record rule { required = true }
+
+-- what stands for the option where it isn't used
+abbrev pub or : Rule → Text → Rule
+or rule text = record rule { defaults = text ∷ [] }
+
+-- what stands behind `solve`: a word, and options in any order
+abbrev pub solve_rules : List Rule
+solve_rules = required (new_rule (codes "MODULE"))
+    ∷ required (option (codes "goal"))
+    ∷ or (option (codes "dir")) (codes ".")
+    ∷ or (option (codes "workers")) (codes "4")
+    ∷ or (option (codes "rounds")) (codes "100000")
+    ∷ option (codes "answers")
+    ∷ or (option (codes "nodes")) (codes "1000000")
+    ∷ or (option (codes "width")) (codes "65536")
+    ∷ or (option (codes "stride")) (codes "1")
+    ∷ []
+
+abbrev pub solve : Shape
+solve = record (new_shape (codes "solve")) { rules = solve_rules }
+
+-- the whole line, behind the program's name: a command, with no words for help or version
+abbrev pub line : Shape
+line = record (new_shape (codes "curry")) {
+  is_leaf = false;
+  no_binary_name = true;
+  disable_help_flag = true;
+  disable_help_subcommand = true;
+  disable_version_flag = true;
+  subcommand_required = true;
+}
+
+abbrev pub curry : App
+curry = record { top = line; subs = solve ∷ [] }

@@ -1,0 +1,144 @@
+//! The words of the command line.
+ghost use Rattle.std.specs.Prelude.{◌≡◌, ℕ, List, Option, IfNone, IfOk, IfSome, IsTrue};
+ghost use Rattle.std.specs.Prelude.{codes, map, option_map, string_bytes};
+ghost use Rattle.clap.specs.Words.{found_of, rows_of, first_of, subcommand_rows_of};
+ghost use Rattle.cu_words.specs.Names as names;
+ghost use Rattle.cu_words.specs.Words.{Asks, Has, HasLimits, HasNumber, IsCommand, IsMaybeNumber};
+ghost use Rattle.cu_words.specs.Words.{IsInRange, IsSolve, ReadsAs, asked};
+ghost use Rattle.cu_words.specs.Words as spec;
+ghost use Rattle.cu_machine.specs.declared.SearchLimits as machine;
+
+use crate::command::command_line;
+use crate::names::is_module_name;
+use crate::numbers::read_number;
+use crate::solve::Solve;
+use clap::ArgMatches;
+use clap::error::ErrorKind;
+use cu_machine::{Limits, SearchLimits};
+use std::alloc::{AllocError, Global};
+
+/// What the words behind the program's name ask for, or nothing where they
+/// aren't in the grammar. The one error is want of memory.
+pub fn read_words<'a>(alloc: Global, words: &'a [String]) -> Result<Option<Solve<'a>>, AllocError>
+    ensures read { IfOk result (λ found. IfSome found (λ solve.
+        ReadsAs (map string_bytes words.now) (asked solve))) }
+    ensures refused { IfOk result (λ found. IfNone found
+        (IsCommand (map string_bytes words.now) → ⊥)) }
+    ensures ranges { IfOk result (λ found. IfSome found (λ solve. IsInRange (asked solve))) }
+{
+    match command_line(alloc)?.try_get_matches_from(words) {
+        Ok(matches) => Ok(read_command(&matches)),
+        Err(error) if error.kind() == ErrorKind::OutOfMemory => Err(AllocError),
+        Err(_) => Ok(None),
+    }
+}
+
+// What the command that was met asks for.
+fn read_command<'a>(matches: &ArgMatches<'a>) -> Option<Solve<'a>>
+    ensures read { IfSome result (λ solve. Asks (subcommand_rows_of matches.now) (asked solve)) }
+    ensures refused { IfNone result ((solve : spec.Solve) →
+        Asks (subcommand_rows_of matches.now) solve → ⊥) }
+{
+    match matches.subcommand()? {
+        ("solve", found) => read_solve(found),
+        _ => None,
+    }
+}
+
+// What stands behind `solve`.
+fn read_solve<'a>(found: &ArgMatches<'a>) -> Option<Solve<'a>>
+    ensures read { IfSome result (λ solve.
+        IsSolve (rows_of (found_of found.now)) (asked solve)) }
+    ensures refused { IfNone result ((solve : spec.Solve) →
+        IsSolve (rows_of (found_of found.now)) solve → ⊥) }
+{
+    let module = read_module(found)?;
+    let goal = text(found, "goal")?;
+    let folder = text(found, "dir")?;
+    let workers = small_number(found, "workers", 64)?;
+    let limits = read_limits(found)?;
+    Some(Solve {
+        module,
+        goal,
+        folder,
+        workers,
+        limits,
+    })
+}
+
+fn read_module<'a>(found: &ArgMatches<'a>) -> Option<&'a str>
+    ensures read { IfSome result (λ name.
+        Has (rows_of (found_of found.now)) (codes "MODULE") name.now
+        × IsTrue (names.is_module_name name.now)) }
+    ensures refused { IfNone result ((name : List ℕ)
+        → Has (rows_of (found_of found.now)) (codes "MODULE") name
+        → IsTrue (names.is_module_name name) → ⊥) }
+{
+    let name = text(found, "MODULE")?;
+    if is_module_name(name) {
+        Some(name)
+    } else {
+        None
+    }
+}
+
+// Where the search ends.
+fn read_limits(found: &ArgMatches<'_>) -> Option<SearchLimits>
+    ensures read { IfSome result (λ limits. HasLimits (rows_of (found_of found.now)) limits) }
+    ensures refused { IfNone result ((limits : machine.SearchLimits)
+        → HasLimits (rows_of (found_of found.now)) limits → ⊥) }
+{
+    let rounds = number(found, "rounds", 1_000_000_000)?;
+    let answers = read_answers(found)?;
+    let nodes = small_number(found, "nodes", 16_777_216)?;
+    let width = small_number(found, "width", 1_048_576)?;
+    let stride = number(found, "stride", 1_000_000)?;
+    Some(SearchLimits {
+        rounds,
+        answers,
+        stride,
+        step: Limits { nodes, width },
+    })
+}
+
+// The limit on answers, where the words have one.
+fn read_answers(found: &ArgMatches<'_>) -> Option<Option<u64>>
+    ensures read { IfSome result (λ answers. IsMaybeNumber 1000000000
+        (first_of (codes "answers") (rows_of (found_of found.now))) answers) }
+    ensures refused { IfNone result ((answers : Option ℕ) → IsMaybeNumber 1000000000
+        (first_of (codes "answers") (rows_of (found_of found.now))) answers → ⊥) }
+{
+    match text(found, "answers") {
+        Some(text) => Some(Some(read_number(text, 1, 1_000_000_000)?)),
+        None => Some(None),
+    }
+}
+
+// The number that stands under this name, from 1 to `high`.
+fn number(found: &ArgMatches<'_>, name: &str, high: u64) -> Option<u64>
+    ensures read { IfSome result (λ n.
+        HasNumber (rows_of (found_of found.now)) name.now high n) }
+    ensures refused { IfNone result ((n : ℕ) →
+        HasNumber (rows_of (found_of found.now)) name.now high n → ⊥) }
+{
+    read_number(text(found, name)?, 1, high)
+}
+
+// The same where the number is a small one.
+fn small_number(found: &ArgMatches<'_>, name: &str, high: u32) -> Option<u32>
+    ensures read { IfSome result (λ n.
+        HasNumber (rows_of (found_of found.now)) name.now high n) }
+    ensures refused { IfNone result ((n : ℕ) →
+        HasNumber (rows_of (found_of found.now)) name.now high n → ⊥) }
+{
+    let number = number(found, name, u64::from(high))?;
+    Some(number as u32)
+}
+
+// What stands in the words under this name, or else by default.
+fn text<'a>(found: &ArgMatches<'a>, name: &str) -> Option<&'a str>
+    ensures { option_map (λ text. text.now) result
+        ≡ first_of name.now (rows_of (found_of found.now)) }
+{
+    found.get_str(name)
+}

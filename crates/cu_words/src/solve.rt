@@ -1,0 +1,18 @@
+//! What the words ask for.
+use cu_machine::SearchLimits;
+
+/// What a `solve` asks for: the listing of a goal in a module of a folder,
+/// found by so many workers within these limits.
+#[derive(Clone, Copy, Debug)]
+pub struct Solve<'a> {
+    /// The name of the module.
+    pub module: &'a str,
+    /// The text of the goal.
+    pub goal: &'a str,
+    /// The folder that holds the module.
+    pub folder: &'a str,
+    /// How many workers take part, 1 to 64.
+    pub workers: u32,
+    /// Where the search ends.
+    pub limits: SearchLimits,
+}
