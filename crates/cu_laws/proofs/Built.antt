@@ -76,6 +76,17 @@ whole_worth program claims assigned (head.Con c) args v may = may
 whole_worth program claims assigned (head.Set f) args v may = may
 whole_worth program claims assigned (head.Fun f) args v may = call_worth program claims assigned f args v (body_of program f) refl may
 
+-- the alternatives of a case distinction, by either bound on the depth of terms
+pub alternatives_same : (program : Code) (n : ℕ) (variables : List ℕ) (mode : Mode) (kept : List ℕ) (s : ExprId) (branches : List Branch)
+    → n ≤ length program.expressions → fits_expr (fits n program) program variables (Some (code.Case mode kept s branches)) ≡ true
+    → alternatives_of (term_within n program) branches ≡ alternatives_of (term_of program) branches
+alternatives_same program n variables mode kept s branches low fit =
+    let whole : term.Case mode (term_within n program s) (alternatives_of (term_within n program) branches)
+    ≡ term.Case mode (term_of program s) (alternatives_of (term_of program) branches) =
+    over_agrees (fits n program) (term_within n program) (term_of program) program variables (Some (code.Case mode kept s branches))
+    (λ inner x fit_x. within_any program inner n (length program.expressions) x low fit_x) fit in
+    cc
+
 -- ** Scopes
 
 -- the variable that was bound last
@@ -224,11 +235,8 @@ module _ (program : Code) (claims : List Claim) (assigned : Assignment) (all : (
       let u = assigned (place_of next first) in
       let there = list_all (λ x. holds x variables) kept in
       let fit_s = (and_parts there (fits n program variables s) (and_parts (there && fits n program variables s) (fit_branches (fits n program) program kept branches) fit).0).1 in
-      let whole : term.Case mode (term_within n program s) (alternatives_of (term_within n program) branches)
-      ≡ term.Case mode (term_of program s) (alternatives_of (term_of program) branches) =
-      over_agrees (fits n program) (term_within n program) (term_of program) program variables (Some (code.Case mode kept s branches))
-      (λ inner x fit_x. within_any program inner n (length program.expressions) x low fit_x) fit in
-      let same_alternatives : alternatives_of (term_within n program) branches ≡ alternatives_of (term_of program) branches = cc in
+      let same_alternatives : alternatives_of (term_within n program) branches ≡ alternatives_of (term_of program) branches =
+      alternatives_same program n variables mode kept s branches low fit in
       gives_at_most env (term.Case mode (term_within n program s) (alternatives_of (term_within n program) branches))
       (Worth program claims (kind.Case mode e.0) (map assigned (place_of next first ∷ values.ids))) v top
       (λ w d. distinguished w d same_alternatives (part variables scope next s u fit_s at_first.0 at_first.1) (kept_below scope later kept both.1))

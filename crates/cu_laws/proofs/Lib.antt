@@ -23,3 +23,11 @@ pub mod EquationRows
 pub mod BindingRows
 pub mod AllRows
 pub mod Falling
+pub mod FreeVariables
+pub mod TermForms
+pub mod Extended
+pub mod FurtherClaims
+pub mod SetRow
+pub mod Readings
+pub mod Follows
+pub mod AnswersFollow

@@ -1,5 +1,6 @@
 -- Good assignments: a value for each node of a graph, none greater than what the calculus gives from the values of its parts.
 use Rattle.std.specs.Prelude.{◌≡◌, ◌⊎◌, ℕ, ◌<◌, List, [], ◌∷◌, None, Some, IsTrue, length, map, zip}
+use Rattle.cu_calculus.specs.declared.FunId.{FunId}
 use Rattle.cu_calculus.specs.declared.Head.TheVariants as head
 use Rattle.cu_calculus.specs.declared.Mode.{Mode}
 use Rattle.cu_calculus.specs.declared.ExprId.{ExprId}
@@ -14,7 +15,7 @@ use Rattle.cu_calculus.specs.Match.{Bindings, Environment, bind_all, empty}
 use Rattle.cu_calculus.specs.Shape.{is_of, is_total_data}
 use Rattle.cu_calculus.specs.Term.{Term}
 use Rattle.cu_calculus.specs.Value as value
-use Rattle.cu_calculus.specs.Value.{Value, values_of}
+use Rattle.cu_calculus.specs.Value.{Value, Values, values_of}
 use Rattle.cu_machine.specs.declared.Kind.{Kind}
 use Rattle.cu_machine.specs.declared.Kind.TheVariants as kind
 use Rattle.cu_machine.specs.Build.{Scope, place_in}
@@ -88,3 +89,7 @@ env_in assigned scope x = elim (place_in scope x) [ Some id ↦ assigned id | No
 -- an assignment says at least what another one does, at every place
 abbrev pub RisesTo : Assignment → Assignment → Type 0
 RisesTo low high = (id : ℕ) → Below (low id) (high id)
+
+-- the claim that these are all ground values of a function on arguments
+abbrev pub claim_of : FunId → Values → List Value → Claim
+claim_of f arguments values = record { function = f; arguments = arguments; values = values }
