@@ -1,4 +1,13 @@
+mod ClashLemmas
 mod CycleLemmas
+mod FunctionLemmas
 mod GoalLemmas
-mod RunLemmas
+mod GrowthLemmas
+mod ModuleLemmas
 mod NamedLemmas
+mod ReadLemmas
+mod RunLemmas
+mod StageLemmas
+mod TableLemmas
+mod WalkLemmas
+mod WholeLemmas

@@ -1,5 +1,5 @@
 -- Why a program can't be run, told of a function.
-use Rattle.std.proofs.Common.{◌≡◌, ℕ, List, [], ◌∷◌, ◌++◌, Err, sym, subst}
+use Rattle.std.proofs.Common.{◌≡◌, ℕ, List, [], ◌∷◌, ◌++◌, IfErr, IfOk, IsErrAnd, Ok, Err, Result, sym, subst}
 use Rattle.cu_calculus.specs.declared.FunId.{FunId}
 use Rattle.cu_deftree.specs.LoweredProgram.{Lowering}
 use Rattle.cu_deftree.specs.NotLowered.{IsLowerFault}
@@ -18,6 +18,24 @@ pub tells_weaker : (names : List (List ℕ)) (P Q : Refusal → Type 0) (fault :
     → ((refusal : Refusal) → P refusal → Q refusal) → Tells names P fault → Tells names Q fault
 tells_weaker names P Q (stage.Refused refusal) weaker told = (weaker _ told.0, told.1)
 tells_weaker names P Q stage.NoMemory weaker told = tt
+
+-- an error that is passed on
+pub err_same : {A : Type 0} (P : StageFault → Type 0) (result : Result A StageFault) (fault : StageFault) → IsErrAnd result (λ e. e ≡ fault)
+    → P fault → IfErr result P
+err_same P (Ok a) fault is holds = absurd is
+err_same P (Err e) fault is holds = subst P (sym is) holds
+
+-- a value that is passed on
+pub ok_same : {A : Type 0} (P : A → Type 0) (result : Result A StageFault) (found : A) → IfOk result (λ same. same ≡ found) → P found
+    → IfOk result P
+ok_same P (Ok a) found is holds = subst P (sym is) holds
+ok_same P (Err e) found is holds = tt
+
+-- want of memory says nothing
+pub memory_told : {A : Type 0} (names : List (List ℕ)) (P : Refusal → Type 0) (result : Result A StageFault)
+    → IfErr result (λ fault. fault ≡ stage.NoMemory) → IfErr result (Tells names P)
+memory_told names P (Ok a) is = tt
+memory_told names P (Err e) is = subst (Tells names P) (sym is) tt
 
 not_empty : (front : List FunId) (f : FunId) (back : List FunId) → ¬ ([] ≡ front ++ f ∷ back)
 not_empty [] f back e = let no : ⊥ = cc in no

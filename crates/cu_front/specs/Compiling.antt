@@ -64,7 +64,7 @@ abbrev pub root_in : List Named → List ℕ → ℕ
 root_in modules root = position_or_len (has_name root) modules
 
 -- the program of modules and a goal in one of them
-abbrev pub whole_program : List (List ℕ) → List Named → ℕ → Goal → LocalKernel
+unfoldable pub whole_program : List (List ℕ) → List Named → ℕ → Goal → LocalKernel
 whole_program table modules k goal =
     joined (modules_program table modules) (goal_part table modules k goal)
 

@@ -9,3 +9,5 @@ pub mod Translated
 pub mod Programs
 pub mod Compiling
 pub mod Runnable
+pub mod CompileAnswers
+pub mod Inside

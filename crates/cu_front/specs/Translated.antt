@@ -36,7 +36,7 @@ first_from found k (m ∷ ms) = refused_or m.name (found k) (first_from found (k
 
 -- The first clash of the first module with one, or else the first other fault of the first module
 -- with one.
-abbrev pub translation_refusal : List (List ℕ) → List Named → Option Refusal
+unfoldable pub translation_refusal : List (List ℕ) → List Named → Option Refusal
 translation_refusal table modules =
     option_or (first_from (clash_in table modules) 0 modules)
     (first_from (fault_in table modules) 0 modules)
@@ -50,5 +50,5 @@ program_upto table modules (suc k) =
     joined (program_upto table modules k) (module_part table modules (suc k))
 
 -- all parts
-abbrev pub modules_program : List (List ℕ) → List Named → LocalKernel
+unfoldable pub modules_program : List (List ℕ) → List Named → LocalKernel
 modules_program table modules = program_upto table modules (length modules - 1)

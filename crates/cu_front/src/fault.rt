@@ -1,4 +1,4 @@
-//! Why a stage ends early.
+//! Why a stage ends early, and why nothing is compiled.
 ghost use Rattle.std.specs.Prelude.{◌≡◌};
 ghost use Rattle.cu_front.specs.declared.fault.StageFault.TheVariants.{NoMemory};
 
@@ -19,4 +19,13 @@ impl From<AllocError> for StageFault {
     fn from(_error: AllocError) -> StageFault {
         StageFault::NoMemory
     }
+}
+
+/// Why modules and a goal aren't compiled.
+#[derive(Debug, Drop)]
+pub enum CompileFault {
+    Refused(Refusal),
+    /// The library failed, and its count of faults rose.
+    Fetch,
+    NoMemory,
 }

@@ -6,9 +6,16 @@
 mod asked;
 mod fault;
 mod goal_text;
+mod outcome;
+mod programs;
 mod refusal;
+mod run;
 mod runnable;
+mod stages;
+mod translated;
 
 pub use asked::Asked;
+pub use fault::CompileFault;
 pub use refusal::Refusal;
 pub use runnable::Compiled;
+pub use stages::compile;

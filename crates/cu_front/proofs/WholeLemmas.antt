@@ -1,0 +1,118 @@
+-- Programs of modules and a goal that are run, or why they aren't.
+use Rattle.std.proofs.Common.{◌≡◌, ◌∙◌, ℕ, List, Ok, sym, subst}
+use Rattle.cu_calculus.specs.Program as calculus
+use Rattle.cu_kernel.specs.Kernel.{Kernel}
+use Rattle.cu_kernel.specs.LocalKernel.{LocalKernel}
+use Rattle.cu_names.proofs.Growth.{extends-trans}
+use Rattle.cu_names.specs.Texts.{Extends}
+use Rattle.cu_modules.specs.Scopes.{Named}
+use Rattle.cu_modules.specs.Walk.{Walk}
+use Rattle.cu_front.specs.Compiling as meant
+use Rattle.cu_front.specs.Compiling.{AreModules, GoalRefused, Refuses, root_in, whole_program}
+use Rattle.cu_front.specs.declared.fault.StageFault.{StageFault}
+use Rattle.cu_front.specs.declared.fault.StageFault.TheVariants as stage
+use Rattle.cu_front.specs.declared.outcome.Outcome as code
+use Rattle.cu_front.specs.declared.outcome.Outcome.TheVariants as found
+use Rattle.cu_front.specs.declared.programs.Programs.{Programs}
+use Rattle.cu_front.specs.declared.refusal.Refusal as told
+use Rattle.cu_front.specs.Inside.Stages.{ArePrograms, CompileBoth, IsWhole, RefusesBoth}
+use Rattle.cu_front.specs.Programs.{CanRun, IsLifted}
+use Rattle.cu_front.specs.RefusalMeaning.{refusal_meaning}
+use Rattle.cu_front.specs.Runnable.{IsNotRunnable}
+use Rattle.cu_front.specs.StageFaults.{Tells}
+use Rattle.cu_front.proofs.GrowthLemmas.{stays}
+use Rattle.cu_front.proofs.RunLemmas.{tells_weaker}
+
+-- ---- modules alone
+
+pub modules_not_run : (table names : List (List ℕ)) (modules : List Named) (root text : List ℕ) (programs : Programs) (local : LocalKernel)
+    (fault : StageFault) → local ≡ programs.modules → ArePrograms table modules (root_in modules root) text programs
+    → Tells names (IsNotRunnable table local names) fault → Tells names (RefusesBoth modules root text) fault
+modules_not_run table names modules root text programs local fault same are is =
+    tells_weaker names (IsNotRunnable table local names) (RefusesBoth modules root text) fault
+    (λ refusal r held walk.
+    let lifted = subst (λ (p : LocalKernel). IsLifted table p names r.program) (same ∙ are.alone) r.lifted in
+    meant.Refuses.by_modules refusal
+    (meant.ModulesRefused.program modules table names r.program refusal walk are.scoped are.is_table are.translated lifted r.cannot_run)) is
+
+-- what is known of modules whose program can be run
+pub record CanRunAlone (table names : List (List ℕ)) (local : LocalKernel) : Type 0 where
+  pub program : Kernel
+  pub flat : calculus.Program
+  pub lifted : IsLifted table local names program
+  pub can_run : CanRun program flat
+
+are_modules : (table names : List (List ℕ)) (modules : List Named) (root text : List ℕ) (programs : Programs) (local : LocalKernel)
+    (held : meant.Held) → local ≡ programs.modules → ArePrograms table modules (root_in modules root) text programs → CanRunAlone table names local
+    → Walk held root (Ok modules) → AreModules held root modules
+are_modules table names modules root text programs local held same are alone walk = record {
+  walked = walk;
+  scoped = are.scoped;
+  table = table;
+  is_table = are.is_table;
+  translated = are.translated;
+  names = names;
+  program = alone.program;
+  flat = alone.flat;
+  lifted = subst (λ (p : LocalKernel). IsLifted table p names alone.program) (same ∙ are.alone) alone.lifted;
+  can_run = alone.can_run;
+}
+
+-- ---- with a goal
+
+pub goal_not_translated : (table names : List (List ℕ)) (modules : List Named) (root text : List ℕ) (programs : Programs) (local : LocalKernel)
+    (whole : code.Outcome) (refusal : told.Refusal) → local ≡ programs.modules → whole ≡ programs.whole → whole ≡ found.Refused refusal
+    → ArePrograms table modules (root_in modules root) text programs → Extends table names → CanRunAlone table names local
+    → Tells names (RefusesBoth modules root text) (stage.Refused refusal)
+goal_not_translated table names modules root text programs local whole refusal same same_whole is are grown alone =
+    let refused = subst (IsWhole table modules (root_in modules root) text) (sym same_whole ∙ is) are.whole in
+    let stay = stays table names grown refusal refused.1 in (
+      λ held walk.
+          meant.Refuses.by_goal modules (refusal_meaning names refusal) (are_modules table names modules root text programs local held same are alone walk)
+          (subst (GoalRefused modules (root_in modules root) text) (sym stay.0) refused.0),
+      stay.1,
+    )
+
+lifted_from : (table old names : List (List ℕ)) (local : LocalKernel) (program : Kernel) → Extends table old → IsLifted old local names program
+    → IsLifted table local names program
+lifted_from table old names local program grown lifted =
+    record { more = extends-trans grown lifted.more; differ = lifted.differ; lifts = lifted.lifts }
+
+pub goal_not_run : (table old names : List (List ℕ)) (modules : List Named) (root text : List ℕ) (programs : Programs) (local program : LocalKernel)
+    (whole : code.Outcome) (fault : StageFault) → local ≡ programs.modules → whole ≡ programs.whole → whole ≡ found.Program program
+    → ArePrograms table modules (root_in modules root) text programs → Extends table old → CanRunAlone table old local
+    → Tells names (IsNotRunnable old program names) fault → Tells names (RefusesBoth modules root text) fault
+goal_not_run table old names modules root text programs local program whole fault same same_whole is are grown alone told =
+    let goal = subst (IsWhole table modules (root_in modules root) text) (sym same_whole ∙ is) are.whole in
+    let k = root_in modules root in
+    tells_weaker names (IsNotRunnable old program names) (RefusesBoth modules root text) fault
+    (λ refusal r held walk.
+    let lifted =
+    lifted_from table old names (whole_program table modules k goal.goal) r.program grown
+    (subst (λ (p : LocalKernel). IsLifted old p names r.program) goal.is r.lifted) in
+    meant.Refuses.by_goal modules refusal (are_modules table old modules root text programs local held same are alone walk)
+    (meant.GoalRefused.program goal.goal table names r.program refusal goal.read goal.scoped goal.is_table goal.translated lifted r.cannot_run)) told
+
+pub compiles : (table old names : List (List ℕ)) (modules : List Named) (root text : List ℕ) (programs : Programs) (local program : LocalKernel)
+    (whole : code.Outcome) (result : Kernel) (flat : calculus.Program) → local ≡ programs.modules → whole ≡ programs.whole
+    → whole ≡ found.Program program → ArePrograms table modules (root_in modules root) text programs → Extends table old
+    → CanRunAlone table old local → IsLifted old program names result → CanRun result flat → CompileBoth modules root text names result flat
+compiles table old names modules root text programs local program whole result flat same same_whole is are grown alone lifted can_run =
+    let goal = subst (IsWhole table modules (root_in modules root) text) (sym same_whole ∙ is) are.whole in
+    let k = root_in modules root in
+    λ held walk. record {
+      modules = modules;
+      are_modules = are_modules table old modules root text programs local held same are alone walk;
+      is_goal = record {
+        goal = goal.goal;
+        read = goal.read;
+        scoped = goal.scoped;
+        table = table;
+        is_table = goal.is_table;
+        translated = goal.translated;
+        lifted =
+            lifted_from table old names (whole_program table modules k goal.goal) result grown
+            (subst (λ (p : LocalKernel). IsLifted old p names result) goal.is lifted);
+        can_run = can_run;
+      };
+    }

@@ -1,0 +1,99 @@
+-- What the translation of modules, one after another, and of a goal comes to.
+use Rattle.std.specs.Prelude.{◌≡◌, ℕ, zero, suc, Bool, true, false, List, Option, None, Some, Result, Ok, Err, take}
+use Rattle.cu_kernel.specs.LocalKernel.{Follows, LocalKernel, joined}
+use Rattle.cu_modules.specs.Scopes.{Named}
+use Rattle.cu_names.specs.declared.names.NameId.{NameId}
+use Rattle.cu_translation.specs.declared.fault.DesugarFault.{DesugarFault}
+use Rattle.cu_translation.specs.declared.fault.DesugarFault.TheVariants as desugar
+use Rattle.cu_translation.specs.ModuleNames.{module_at}
+use Rattle.cu_translation.specs.Parts.{module_part}
+use Rattle.cu_front.specs.declared.fault.StageFault.{StageFault}
+use Rattle.cu_front.specs.declared.fault.StageFault.TheVariants as stage
+use Rattle.cu_front.specs.declared.outcome.Outcome.{Outcome}
+use Rattle.cu_front.specs.declared.outcome.Outcome.TheVariants as outcome
+use Rattle.cu_front.specs.declared.refusal.Refusal.TheVariants as told
+use Rattle.cu_front.specs.Refusal.{Refusal}
+use Rattle.cu_front.specs.RefusalMeaning.{RefusalIsKnown, refusal_meaning}
+use Rattle.cu_front.specs.Translated.{clash_in, fault_in, first_from, program_upto, refused_or}
+
+-- ---- answers of the translation
+
+abbrev pub fault_of_functions : NameId → DesugarFault → StageFault
+fault_of_functions owner (desugar.FixityClash place) = stage.Refused (told.FixityClash place)
+fault_of_functions owner (desugar.Arity place) = stage.Refused (told.Arity place)
+fault_of_functions owner (desugar.NonLinear place) = stage.Refused (told.NonLinear place)
+fault_of_functions owner (desugar.RecursiveLocal place) = stage.Refused (told.RecursiveLocal place)
+fault_of_functions owner (desugar.SetName place) = stage.Refused (told.SetName place)
+fault_of_functions owner (desugar.TooLong line) = stage.Refused (told.TooLong owner line)
+fault_of_functions owner desugar.NoMemory = stage.NoMemory
+
+abbrev pub is_clash : DesugarFault → Bool
+is_clash (desugar.FixityClash place) = true
+is_clash _ = false
+
+-- a refusal that is told later
+abbrev pub kept : StageFault → Result Outcome StageFault
+kept (stage.Refused refusal) = Ok (outcome.Refused refusal)
+kept stage.NoMemory = Err stage.NoMemory
+
+-- ---- parts in a row
+
+-- a program and a part behind it, or the refusal that is found first
+abbrev pub behind : Outcome → Outcome → Outcome
+behind (outcome.Program first) (outcome.Program second) = outcome.Program (joined first second)
+behind (outcome.Program first) (outcome.Refused refusal) = outcome.Refused refusal
+behind (outcome.Refused refusal) second = outcome.Refused refusal
+
+-- The numbers of a part follow those of a program.
+abbrev pub Follow : Outcome → Outcome → Type 0
+Follow (outcome.Program first) (outcome.Program second) = Follows first second
+Follow _ _ = Unit {0}
+
+-- The program is this one where nothing is refused, or else this refusal is told.
+abbrev pub IsOutcome : List (List ℕ) → Option Refusal → LocalKernel → Outcome → Type 0
+IsOutcome names refused whole (outcome.Program program) = (refused ≡ None) × (program ≡ whole)
+IsOutcome names refused whole (outcome.Refused refusal) =
+    (refused ≡ Some (refusal_meaning names refusal)) × RefusalIsKnown names refusal
+
+-- No clash is told, and it is the outcome for what else is told.
+pub record HasNoClash (names : List (List ℕ)) (clash other : Option Refusal) (whole : LocalKernel)
+    (found : Outcome) : Type 0 where
+  pub no_clash : clash ≡ None
+  pub is : IsOutcome names other whole found
+
+-- ---- modules
+
+-- the refusal of the module of a number for a clash of operators, and for another fault
+unfoldable pub clash_told : List (List ℕ) → List Named → ℕ → Option Refusal
+clash_told table modules k =
+    refused_or (module_at modules k).name (clash_in table modules k) None
+
+unfoldable pub other_told : List (List ℕ) → List Named → ℕ → Option Refusal
+other_told table modules k =
+    refused_or (module_at modules k).name (fault_in table modules k) None
+
+unfoldable pub part_at : List (List ℕ) → List Named → ℕ → LocalKernel
+part_at table modules k = module_part table modules k
+
+-- the outcome for the module of a number, which has no clash
+abbrev pub IsModuleOutcome : List (List ℕ) → List Named → ℕ → Outcome → Type 0
+IsModuleOutcome table modules k found =
+    HasNoClash table (clash_told table modules k) (other_told table modules k)
+    (part_at table modules k) found
+
+-- the same of the first so many modules
+unfoldable pub clashes_told : List (List ℕ) → List Named → ℕ → Option Refusal
+clashes_told table modules n = first_from (clash_in table modules) 0 (take n modules)
+
+unfoldable pub others_told : List (List ℕ) → List Named → ℕ → Option Refusal
+others_told table modules n = first_from (fault_in table modules) 0 (take n modules)
+
+-- that of the first module too where there is none
+unfoldable pub parts_of : List (List ℕ) → List Named → ℕ → LocalKernel
+parts_of table modules zero = program_upto table modules zero
+parts_of table modules (suc k) = program_upto table modules k
+
+abbrev pub IsOutcomeOf : List (List ℕ) → List Named → ℕ → Outcome → Type 0
+IsOutcomeOf table modules n found =
+    HasNoClash table (clashes_told table modules n) (others_told table modules n)
+    (parts_of table modules n) found

@@ -1,0 +1,145 @@
+-- What the stages behind the walk over the modules come to.
+use Rattle.std.specs.Prelude.{◌≡◌, ◌⊎◌, ℕ, List, [], Option, None, Some, Result, Ok, IfErr, IfOk}
+use Rattle.std.specs.List.{All}
+use Rattle.cu_calculus.specs.Program as calculus
+use Rattle.cu_kernel.specs.Kernel.{Kernel}
+use Rattle.cu_kernel.specs.LocalKernel.{LocalKernel}
+use Rattle.cu_names.specs.Texts.{IsKnown}
+use Rattle.cu_syntax.specs.Answer.{goal_meaning}
+use Rattle.cu_syntax.specs.declared.text.GoalText.{GoalText}
+use Rattle.cu_syntax.specs.Syntax.{Goal}
+use Rattle.cu_modules.specs.declared.fault.OrderFault.{OrderFault}
+use Rattle.cu_modules.specs.declared.fault.OrderFault.TheVariants as order
+use Rattle.cu_modules.specs.declared.scope_fault.ScopeFault.{ScopeFault}
+use Rattle.cu_modules.specs.declared.scope_fault.ScopeFault.TheVariants as scope
+use Rattle.cu_modules.specs.Means.{AreScoped, IsGoalScoped}
+use Rattle.cu_modules.specs.Scopes.{Named}
+use Rattle.cu_modules.specs.Walk.{Walk}
+use Rattle.cu_translation.specs.Parts.{goal_part}
+use Rattle.cu_translation.specs.Translation as translation
+use Rattle.cu_translation.specs.Translation.{goal_translation}
+use Rattle.cu_uses.specs.Faults as uses
+use Rattle.cu_front.specs.Compiling.{Compiles, GoalRefused, Held, ModulesRefused, Refuses, whole_program}
+use Rattle.cu_front.specs.declared.fault.CompileFault.{CompileFault}
+use Rattle.cu_front.specs.declared.fault.CompileFault.TheVariants as answer
+use Rattle.cu_front.specs.declared.fault.StageFault.{StageFault}
+use Rattle.cu_front.specs.declared.fault.StageFault.TheVariants as stage
+use Rattle.cu_front.specs.declared.outcome.Outcome.{Outcome}
+use Rattle.cu_front.specs.declared.outcome.Outcome.TheVariants as outcome
+use Rattle.cu_front.specs.declared.programs.Programs.{Programs}
+use Rattle.cu_front.specs.declared.refusal.Refusal as code
+use Rattle.cu_front.specs.declared.refusal.Refusal.TheVariants as told
+use Rattle.cu_front.specs.GoalTexts.{GoalIsRead}
+use Rattle.cu_front.specs.Names.{IsGoalTable, IsTable}
+use Rattle.cu_front.specs.Refusal.{InNames, Refusal, goal_name, in_functions}
+use Rattle.cu_front.specs.RefusalMeaning.{PlaceIsKnown, RefusalIsKnown, refusal_meaning}
+use Rattle.cu_front.specs.StageFaults.{IsUnread, Tells}
+use Rattle.cu_front.specs.Translated.{modules_program, translation_refusal}
+
+-- ---- answers for faults
+
+abbrev pub fault_of_scope : ScopeFault → StageFault
+fault_of_scope (scope.NotExported place id) = stage.Refused (told.NotExported place id)
+fault_of_scope (scope.UnknownName place id) = stage.Refused (told.UnknownName place id)
+fault_of_scope (scope.Ambiguous place id) = stage.Refused (told.Ambiguous place id)
+fault_of_scope (scope.Duplicate place id) = stage.Refused (told.Duplicate place id)
+fault_of_scope scope.NoMemory = stage.NoMemory
+
+abbrev pub answer_of : StageFault → CompileFault
+answer_of (stage.Refused refusal) = answer.Refused refusal
+answer_of stage.NoMemory = answer.NoMemory
+
+-- The refusal is told where its names are known, and else want of memory.
+abbrev pub IsToldIf : Type 0 → code.Refusal → CompileFault → Type 0
+IsToldIf Known refusal result =
+    ((result ≡ answer.Refused refusal) × Known) ⊎ (result ≡ answer.NoMemory)
+
+-- the answer for a fault of the walk over the modules
+abbrev pub IsWalkAnswer : List (List ℕ) → OrderFault → CompileFault → Type 0
+IsWalkAnswer names (order.MissingModule id) = IsToldIf (IsKnown names id) (told.MissingModule id)
+IsWalkAnswer names (order.SourceTooBig id) = IsToldIf (IsKnown names id) (told.SourceTooBig id)
+IsWalkAnswer names (order.NotUtf8 id offset) = IsToldIf (IsKnown names id) (told.NotUtf8 id offset)
+IsWalkAnswer names (order.BadToken place) =
+    IsToldIf (PlaceIsKnown names place) (told.BadToken place)
+IsWalkAnswer names (order.LiteralRange place) =
+    IsToldIf (PlaceIsKnown names place) (told.LiteralRange place)
+IsWalkAnswer names (order.TooDeep place) = IsToldIf (PlaceIsKnown names place) (told.TooDeep place)
+IsWalkAnswer names (order.TooLong id line) = IsToldIf (IsKnown names id) (told.TooLong id line)
+IsWalkAnswer names (order.Syntax id line) = IsToldIf (IsKnown names id) (told.Syntax id line)
+IsWalkAnswer names (order.HeaderName id) = IsToldIf (IsKnown names id) (told.HeaderName id)
+IsWalkAnswer names (order.ImportCycle ids) =
+    IsToldIf (All (IsKnown names) ids.items) (told.ImportCycle ids)
+IsWalkAnswer names (order.TooManyModules id) = IsToldIf (IsKnown names id) (told.TooManyModules id)
+IsWalkAnswer names order.Fetch = λ result. result ≡ answer.Fetch
+IsWalkAnswer names order.NoMemory = λ result. result ≡ answer.NoMemory
+
+-- A refusal is a fault of names with this property.
+pub record IsInNames (P : List ℕ → uses.Fault → Type 0) (refusal : Refusal) : Type 0 where
+  pub owner : List ℕ
+  pub fault : uses.Fault
+  pub wrong : P owner fault
+  pub is : refusal ≡ InNames owner fault
+
+-- ---- modules, wherever they are held
+
+-- The modules that the root reaches are refused so.
+abbrev pub RefusesModules : List Named → List ℕ → Refusal → Type 0
+RefusesModules modules root refusal =
+    (held : Held) → Walk held root (Ok modules) → ModulesRefused held root refusal
+
+-- These modules, or a goal in the root, are refused so.
+abbrev pub RefusesBoth : List Named → List ℕ → List ℕ → Refusal → Type 0
+RefusesBoth modules root text refusal =
+    (held : Held) → Walk held root (Ok modules) → Refuses held root text refusal
+
+-- These modules and a goal in the root come to this program.
+abbrev pub CompileBoth :
+    List Named → List ℕ → List ℕ → List (List ℕ) → Kernel → calculus.Program → Type 0
+CompileBoth modules root text names program flat =
+    (held : Held) → Walk held root (Ok modules) → Compiles held root text names program flat
+
+-- ---- before lifting
+
+-- the refusal of what a text is translated to
+abbrev pub told_by : List ℕ → translation.Outcome → Option Refusal
+told_by owner (translation.Translated part) = None
+told_by owner (translation.Refused fault) = Some (in_functions owner fault)
+
+-- the refusal of a goal in the module of a number, and its part
+unfoldable pub goal_told : List (List ℕ) → List Named → ℕ → Goal → Option Refusal
+goal_told names modules k goal = told_by goal_name (goal_translation names modules k goal)
+
+unfoldable pub part_of_goal : List (List ℕ) → List Named → ℕ → Goal → LocalKernel
+part_of_goal names modules k goal = goal_part names modules k goal
+
+-- What a goal's text is read as, under a table that has the goal's names.
+pub record IsGoalRead (names : List (List ℕ)) (text : List ℕ) (found : Result GoalText StageFault)
+    : Type 0 where
+  pub read : IfOk found (λ goal. GoalIsRead text (Ok (goal_meaning names goal)))
+  pub unread : IfErr found (Tells names (IsUnread goal_name text))
+
+-- A goal in the module of a number is translated to a program behind that of the modules.
+pub record IsTranslated (names : List (List ℕ)) (modules : List Named) (k : ℕ) (text : List ℕ)
+    (program : LocalKernel) : Type 0 where
+  pub goal : Goal
+  pub read : GoalIsRead text (Ok goal)
+  pub scoped : IsGoalScoped modules k goal
+  pub is_table : IsGoalTable modules goal names
+  pub translated : goal_translation names modules k goal
+      ≡ translation.Translated (goal_part names modules k goal)
+  pub is : program ≡ whole_program names modules k goal
+
+-- The program of modules and a goal, or why the goal is refused.
+abbrev pub IsWhole : List (List ℕ) → List Named → ℕ → List ℕ → Outcome → Type 0
+IsWhole names modules k text (outcome.Program program) = IsTranslated names modules k text program
+IsWhole names modules k text (outcome.Refused refusal) =
+    GoalRefused modules k text (refusal_meaning names refusal) × RefusalIsKnown names refusal
+
+-- The programs of modules, and of these and a goal in the module of a number.
+pub record ArePrograms (names : List (List ℕ)) (modules : List Named) (k : ℕ) (text : List ℕ)
+    (found : Programs) : Type 0 where
+  pub scoped : AreScoped [] modules
+  pub is_table : IsTable modules names
+  pub translated : translation_refusal names modules ≡ None
+  pub alone : found.modules ≡ modules_program names modules
+  pub whole : IsWhole names modules k text found.whole
