@@ -6,8 +6,8 @@ use cu_graph::{Kind, PlainStore, Store};
 use std::alloc::{AllocError, Global};
 use std::test::Fail;
 
-/// The number that the only node of a store is.
-fn number<S: Store>(store: &S) -> Option<i128> {
+/// The number that the only node of a store is, which threads may share.
+fn number<S: Store + Sync>(store: &S) -> Option<i128> {
     if store.len() != 1 {
         return None;
     }
@@ -19,7 +19,7 @@ fn number<S: Store>(store: &S) -> Option<i128> {
 
 /// The numbers of the first fork's forks and of the second fork, after the
 /// first fork was changed.
-fn numbers<S: Store>(alloc: Global) -> Result<Vec<Option<i128>>, AllocError> {
+fn numbers<S: Store + Sync>(alloc: Global) -> Result<Vec<Option<i128>>, AllocError> {
     let mut store = S::empty(alloc)?;
     store.push(Kind::Lit(Lit::Int(1)), &[])?;
     let mut found = Vec::new(alloc);
