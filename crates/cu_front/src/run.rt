@@ -8,6 +8,7 @@ ghost use Rattle.cu_front.specs.Compiling.{root_in};
 ghost use Rattle.cu_front.specs.Inside.Stages.{ArePrograms, CompileBoth, RefusesBoth};
 ghost use Rattle.cu_front.specs.StageFaults.{Tells};
 ghost use Rattle.cu_front.specs.declared.fault.StageFault.TheVariants.{NoMemory};
+ghost use Rattle.cu_flat.specs.Layout.{laid_out};
 ghost use Rattle.cu_flat.specs.Meaning.{body_meaning};
 ghost use Rattle.cu_modules.specs.Scopes.{Named};
 ghost use Rattle.cu_names.specs.Texts.{Extends, IsKnown};
@@ -41,6 +42,7 @@ pub(crate) fn run(
         → ArePrograms names.old modules (root_in modules root) text programs
         → IfErr result (Tells names.new (RefusesBoth modules root text)) }
     ensures goal { IfOk result (λ found. HasGoal names.new found.program found.flat) }
+    ensures layout { IfOk result (λ found. found.flat ≡ laid_out (flats.program_of found.flat)) }
     ensures names { Extends names.old names.new }
 {
     let Programs { modules, whole } = programs;

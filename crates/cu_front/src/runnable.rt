@@ -6,6 +6,7 @@ ghost use Rattle.cu_calculus.specs.FlatProgram as flats;
 ghost use Rattle.cu_calculus.specs.declared.FunId.{FunId};
 ghost use Rattle.cu_deftree.specs.LoweredProgram.{Lowering};
 ghost use Rattle.cu_deftree.specs.NotLowered.{IsLowerFault};
+ghost use Rattle.cu_flat.specs.Layout.{laid_out};
 ghost use Rattle.cu_front.specs.Programs.{CanRun, CannotRun, HasLevels, IsLifted};
 ghost use Rattle.cu_front.specs.Programs as programs;
 ghost use Rattle.cu_front.specs.Refusal as meant;
@@ -53,6 +54,7 @@ pub(crate) fn runnable(
         IsLifted names.old local names.new found.program) }
     ensures runs { IfOk result (λ found.
         CanRun found.program (flats.program_of found.flat)) }
+    ensures layout { IfOk result (λ found. found.flat ≡ laid_out (flats.program_of found.flat)) }
     ensures fault { IfErr result (Tells names.new (IsNotRunnable names.old local names.new)) }
     ensures names { Extends names.old names.new }
 {
@@ -133,6 +135,7 @@ fn lowered(alloc: Global, names: &Names, program: &Program) -> Result<FlatProgra
     requires levels { HasLevels program.now }
     ensures flat { IfOk result (λ flat.
         Lowering (program_of program.now) (Ok (flats.program_of flat))) }
+    ensures layout { IfOk result (λ flat. flat ≡ laid_out (flats.program_of flat)) }
     ensures fault { IfErr result (Tells names.now (CannotRun names.now program.now)) }
 {
     if !has_operations(program) {

@@ -2,6 +2,7 @@
 ghost use Rattle.std.specs.Prelude.{◌≡◌, ◌<◌, IfErr, IfOk, IfSome, MatchResult, length, nat_eq};
 ghost use Rattle.std.specs.List.{All, position};
 ghost use Rattle.cu_calculus.specs.FlatProgram as flats;
+ghost use Rattle.cu_flat.specs.Layout.{laid_out};
 ghost use Rattle.cu_front.specs.CompileAnswers.{
   AnswerIsKnown,
   FaultCount,
@@ -60,6 +61,7 @@ pub fn compile<L: Library>(
         asked.entry.root.now asked.entry.goal.now))) }
     ensures known { IfErr result (AnswerIsKnown names.new) }
     ensures goal { IfOk result (λ found. HasGoal names.new found.program found.flat) }
+    ensures layout { IfOk result (λ found. found.flat ≡ laid_out (flats.program_of found.flat)) }
     ensures names { Extends names.old names.new }
     ensures same { L.holdings library.new ≡ L.holdings library.old }
     ensures count { MatchResult result
@@ -91,6 +93,7 @@ fn in_modules(
     ensures fault { IfErr result (Tells names.new (RefusesBoth (modules_of names.old modules.now)
         asked.entry.root.now asked.entry.goal.now)) }
     ensures goal { IfOk result (λ found. HasGoal names.new found.program found.flat) }
+    ensures layout { IfOk result (λ found. found.flat ≡ laid_out (flats.program_of found.flat)) }
     ensures names { Extends names.old names.new }
 {
     let owner = names.intern("goal")?;
