@@ -46,9 +46,10 @@ use Rattle.cu_machine.proofs.Starts.{start_valid, start_without}
 use Rattle.cu_laws.specs.Good.{Assignment, AtMost, Good, MayHave, NoValue}
 use Rattle.cu_laws.proofs.Binding.{length_free, length_numbers}
 use Rattle.cu_laws.proofs.CallRow.{rule_fits}
+use Rattle.cu_laws.proofs.Changed.{Sound}
 use Rattle.cu_laws.proofs.Follows.{ComesFrom, IsOn, comes_from_itself, level_on, reached_on_way}
 use Rattle.cu_laws.proofs.Heads.{all_of, count_at, values_at}
-use Rattle.cu_laws.proofs.Readings.{all_plain_total, read_off, reading_good}
+use Rattle.cu_laws.proofs.Readings.{goals_total, read_off, valid_reading}
 use Rattle.cu_laws.proofs.Rising.{all_total_above, values_rise}
 use Rattle.cu_laws.proofs.Truth.{under_bottom}
 
@@ -132,27 +133,39 @@ start_concludes program claims goal n assigned vs v rule well arity good vs_are 
 
 -- ** Answers
 
-abbrev number_of : Graph → ℕ → List ℕ → ℕ → ℕ
+abbrev pub number_of : Graph → ℕ → List ℕ → ℕ → ℕ
 number_of graph root goals = ordinal (variables_of_all (spelled_all graph root goals))
 
--- a state that comes from the start: the goal concludes what is read off it
-reading_concludes : (program : Code) (claims : List Claim) (goal : FunId) (n : ℕ) (graph : Graph) (root : ℕ) (goals : List ℕ) (search : Search) (number : ℕ → ℕ)
+-- What is read off a state, carried back to the start: the goal concludes it.
+pub reading_concludes : (program : Code) (claims : List Claim) (goal : FunId) (n : ℕ) (graph : Graph) (root : ℕ) (goals : List ℕ) (search : Search) (number : ℕ → ℕ)
     → is_rule (body_of program goal) ≡ true → is_well_formed program ≡ true → function_arity program goal ≡ Some n → IsValid program (Branch graph root goals search)
-    → ComesFrom program claims (start_on program goal n) (Branch graph root goals search)
+    → root ≡ n → goals ≡ numbers 0 n → Sound program claims (graph_of (start_on program goal n)) (read_off number graph)
     → Concludes (program_of program) claims goal (values_at (read_off number graph) goals) (read_off number graph root)
-unfolding IsValid
-reading_concludes program claims goal n graph root goals search number rule well arity valid comes =
-    let branch = valid.0 in
+reading_concludes program claims goal n graph root goals search number rule well arity valid root_is goals_are found =
     let assigned = read_off number graph in
-    let good = reading_good program graph number branch.nodes claims branch.arguments branch.acyclic in
-    let found = comes.back assigned good in
     let earlier = found.0 in
-    let total = all_plain_total program graph number branch.nodes claims branch.arguments branch.acyclic goals branch.goals_plain branch.goals_there in
+    let total = goals_total program graph root goals search number valid in
     let same : values_at assigned goals ≡ values_at earlier goals =
     all_total_above (values_at assigned goals) (values_at earlier goals) (values_rise assigned earlier goals found.2) total in
-    let low : Below (assigned root) (earlier n) = subst (λ (x : ℕ). Below (assigned root) (earlier x)) comes.roots (found.2 root) in
-    start_concludes program claims goal n earlier (values_at assigned goals) (assigned root) rule well arity found.1
-    (same ∙ ap (values_at earlier) comes.goals) low
+    let low : Below (assigned root) (earlier n) = subst (λ (x : ℕ). Below (assigned root) (earlier x)) root_is (found.2 root) in
+    start_concludes program claims goal n earlier (values_at assigned goals) (assigned root) rule well arity found.1 (same ∙ ap (values_at earlier) goals_are) low
+
+-- the start state by the number of the goal's parameters
+pub record Begins (program : Code) (goal : FunId) : Type 0 where
+  pub n : ℕ
+  pub arity : function_arity program goal ≡ Some n
+  pub start_is : start_of program goal ≡ start_on program goal n
+
+pub begins : (program : Code) (goal : FunId) → is_well_formed program ≡ true → is_rule (body_of program goal) ≡ true → Begins program goal
+begins program goal well rule =
+    let there = rule_there (body_of program goal) rule in
+    let fits = rule_fits program goal there.params there.body well there.is in
+    let arity : function_arity program goal ≡ Some fits.function.arity = ap (λ (o : Option code.Function). elim o [ Some function ↦ Some function.arity | None ↦ None ]) fits.at in
+    record {
+      n = fits.function.arity;
+      arity = arity;
+      start_is = ap (λ (o : Option ℕ). start_on program goal (elim o [ Some k ↦ k | None ↦ 0 ])) arity;
+    }
 
 -- ** Programs without set functions
 
@@ -161,11 +174,7 @@ pub answer_follows : (program : Code) (limits : SearchLimits) (goal : FunId) (de
     → reading ≡ reading_at (reached limits.stride program limits.step state) → Concludes (program_of program) [] goal (values_of reading.bindings) reading.value
 answer_follows program limits goal depth state reading well plain rule m read_is =
     let start = start_of program goal in
-    let there = rule_there (body_of program goal) rule in
-    let fits = rule_fits program goal there.params there.body well there.is in
-    let n = fits.function.arity in
-    let arity : function_arity program goal ≡ Some n = ap (λ (o : Option code.Function). elim o [ Some function ↦ Some function.arity | None ↦ None ]) fits.at in
-    let begins : start ≡ start_on program goal n = ap (λ (o : Option ℕ). start_on program goal (elim o [ Some k ↦ k | None ↦ 0 ])) arity in
+    let begun = begins program goal well rule in
     let on : IsOn program [] start start = record {
       valid = start_valid program goal well rule;
       plain = start_without program goal rule;
@@ -175,15 +184,17 @@ answer_follows program limits goal depth state reading well plain rule m read_is
     let last = reached limits.stride program limits.step state in
     let at_last = reached_on_way program [] limits.step start well plain (limits.stride - 1) state at_state in
     subst (λ (r : Reading). Concludes (program_of program) [] goal (values_of r.bindings) r.value) (sym read_is)
-    (by last at_last.plain at_last.valid n (subst (λ (s : State). ComesFrom program [] s last) begins at_last.comes) arity)
+    (by last at_last.plain at_last.valid begun.n (subst (λ (s : State). ComesFrom program [] s last) begun.start_is at_last.comes) begun.arity)
   where
     by : (s : State) → IsWithoutSets s → IsValid program s → (n : ℕ) → ComesFrom program [] (start_on program goal n) s → function_arity program goal ≡ Some n
         → Concludes (program_of program) [] goal (values_of (reading_at s).bindings) (reading_at s).value
     by _ (without graph root goals all) valid n comes arity =
-        reading_concludes program [] goal n graph root goals Idle (number_of graph root goals) rule well arity valid comes
+        let number = number_of graph root goals in
+        reading_concludes program [] goal n graph root goals Idle number rule well arity valid comes.roots comes.goals
+        (comes.back (read_off number graph) (valid_reading program [] graph root goals Idle number valid))
 
 -- a listed answer is read off a state of its level
-listed_at : (program : Code) (limits : SearchLimits) (goal : FunId) (depth : ℕ) (reading : Reading)
+pub listed_at : (program : Code) (limits : SearchLimits) (goal : FunId) (depth : ℕ) (reading : Reading)
     → Among (Answered depth reading) (listing program limits (start_of program goal)).lines
     → (state : State) × Among state (level program limits (start_of program goal) depth) × (reading ≡ reading_at (reached limits.stride program limits.step state))
 unfolding level_by

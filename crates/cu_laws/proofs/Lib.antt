@@ -31,3 +31,8 @@ pub mod SetRow
 pub mod Readings
 pub mod Follows
 pub mod AnswersFollow
+pub mod Collecting
+pub mod InnerLevels
+pub mod TracedStates
+pub mod CameFrom
+pub mod SearchAnswers

@@ -1,19 +1,54 @@
 //! Soundness of what a search lists.
-ghost use Rattle.std.specs.Prelude.{ℕ, IsTrue, []};
+ghost use Rattle.std.specs.Prelude.{◌≡◌, ℕ, IsTrue, List, []};
 ghost use Rattle.cu_calculus.specs.declared.FunId.{FunId};
 ghost use Rattle.cu_calculus.specs.Calls.{call_statement};
 ghost use Rattle.cu_calculus.specs.Claims.{Concludes};
 ghost use Rattle.cu_calculus.specs.Code.{Code, body_of, is_rule};
 ghost use Rattle.cu_calculus.specs.FlatProgram.{program_of};
+ghost use Rattle.cu_calculus.specs.Gives.{Claim};
 ghost use Rattle.cu_calculus.specs.Proved.{IsProved};
 ghost use Rattle.cu_calculus.specs.Value.{values_of};
 ghost use Rattle.cu_calculus.specs.WellFormed.{is_well_formed};
+ghost use Rattle.cu_machine.specs.declared.Limits.{Limits};
 ghost use Rattle.cu_machine.specs.declared.SearchLimits.{SearchLimits};
 ghost use Rattle.cu_machine.specs.Among.{Among};
 ghost use Rattle.cu_machine.specs.Listing.{Answered, listing};
-ghost use Rattle.cu_machine.specs.Next.{Reading};
+ghost use Rattle.cu_machine.specs.Next.{Go, Reading, next};
 ghost use Rattle.cu_machine.specs.Sets.{code_is_without_sets};
-ghost use Rattle.cu_machine.specs.State.{start_of};
+ghost use Rattle.cu_machine.specs.State.{State, start_of};
+ghost use Rattle.cu_machine.specs.Validity.{IsValid};
+ghost use Rattle.cu_laws.specs.Traced.{AreFound, IsTraced};
+
+/// Every answer that is listed follows from the rules and from what searches
+/// for all values have found: over claims each of which a search finds, the
+/// goal, on what its variables are bound to, has the value that is listed, with
+/// call-time choice; some proof that checks over these claims concludes it.
+pub fn answers_follow()
+    ensures concluded { (program : Code) (limits : SearchLimits) (goal : FunId) (depth : ℕ)
+        (reading : Reading) → IsTrue (is_well_formed program)
+        → IsTrue (is_rule (body_of program goal))
+        → Among (Answered depth reading) (listing program limits (start_of program goal)).lines
+        → (claims : List Claim) × AreFound program limits.step claims
+        × Concludes (program_of program) claims goal (values_of reading.bindings) reading.value }
+    ensures proved { (program : Code) (limits : SearchLimits) (goal : FunId) (depth : ℕ)
+        (reading : Reading) → IsTrue (is_well_formed program)
+        → IsTrue (is_rule (body_of program goal))
+        → Among (Answered depth reading) (listing program limits (start_of program goal)).lines
+        → (claims : List Claim) × AreFound program limits.step claims
+        × IsProved (program_of program) claims
+        (call_statement goal (values_of reading.bindings) reading.value) }
+{}
+
+/// Searches stay traced: that of a state that follows is one that has just
+/// begun at a call on ground data, or that goes on at its next level.
+pub fn searches_stay_traced()
+    ensures start { (program : Code) (limits : Limits) (goal : FunId)
+        → IsTraced program limits (start_of program goal) }
+    ensures next { (program : Code) (limits : Limits) (before state : State) (states : List State)
+        → IsValid program before → IsTraced program limits before
+        → next program limits before ≡ Go states → Among state states
+        → IsTraced program limits state }
+{}
 
 /// Every answer that is listed follows from the rules, where the code has no
 /// set functions: the goal, on what its variables are bound to, has the value

@@ -1,0 +1,5 @@
+use Rattle.cu_laws.proofs.SearchAnswers.{listed_by_finds, listed_proved_by_finds}
+use Rattle.cu_laws.proofs.answers.answers_follow.Goals as goal
+
+pub returns : goal.returns
+returns c = record { concluded = listed_by_finds; proved = listed_proved_by_finds }
