@@ -220,8 +220,7 @@ fn know_variables(alloc: Global, goal: &GoalText) -> Result<(), AllocError>
     ensures { (owner : NameId) (names : List (List ℕ)) → GoalIsOf owner names goal.now
         → OnOk result (All (Contains names) (texts (goal_meaning names goal.now).free)) }
 {
-    let variables = goal.free_variables(alloc)?;
-    let _variables = variables;
+    goal.free_variables(alloc)?;
     Ok(())
 }
 
@@ -251,7 +250,7 @@ fn with_goal(
     parts_follow();
     let program = modules_program(alloc, modules)?;
     let part = goal_part(alloc, modules, root, goal)?;
-    Ok(behind(Outcome::Program(program), part)?)
+    behind(Outcome::Program(program), part)
 }
 
 /// The part that a goal is translated to, or its first fault.

@@ -98,6 +98,8 @@ fn in_modules(
 {
     let owner = names.intern("goal")?;
     let goal = read_goal(alloc, names, owner, asked.goal.as_bytes());
+    // A root is one of the modules that it reaches, which is tested here once
+    // more: where it were none, that would be want of memory.
     let Some(root) = root_in(names, modules, asked.root) else {
         return Err(StageFault::NoMemory);
     };
