@@ -36,3 +36,5 @@ pub mod InnerLevels
 pub mod TracedStates
 pub mod CameFrom
 pub mod SearchAnswers
+pub mod AtLevel
+pub mod LevelStates

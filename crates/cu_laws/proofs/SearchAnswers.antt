@@ -34,43 +34,54 @@ use Rattle.cu_machine.proofs.Levels.{found_built}
 use Rattle.cu_machine.proofs.Starts.{start_valid}
 use Rattle.cu_laws.specs.Traced.{AreFound}
 use Rattle.cu_laws.proofs.AnswersFollow.{begins, listed_at, number_of, reading_concludes}
-use Rattle.cu_laws.proofs.CameFrom.{CameFrom, IsUnder, came_itself, level_under, reached_under}
+use Rattle.cu_laws.proofs.CameFrom.{CameFrom, IsUnder, Keeps, came_itself, level_under, reached_under}
 use Rattle.cu_laws.proofs.Readings.{read_off, valid_reading}
 
--- the goal concludes a value over claims that searches have found
-abbrev pub ConcludesByFinds : Code → Limits → FunId → Reading → Type 0
-ConcludesByFinds program limits goal reading =
-    (claims : List Claim) × AreFound program limits claims × Concludes (program_of program) claims goal (values_of reading.bindings) reading.value
+-- the goal concludes a value over claims that searches have found, of functions that pass
+abbrev pub ConcludesByFinds : Code → Limits → (FunId → Type 0) → FunId → Reading → Type 0
+ConcludesByFinds program limits P goal reading =
+    (claims : List Claim) × AreFound program limits claims × ((k : ℕ) (claim : Claim) → slice_get claims k ≡ Some claim → P claim.function)
+    × Concludes (program_of program) claims goal (values_of reading.bindings) reading.value
 
-state_concludes : (program : Code) (limits : Limits) (goal : FunId) (n : ℕ) (state : State) → is_well_formed program ≡ true → is_rule (body_of program goal) ≡ true
-    → function_arity program goal ≡ Some n → IsValid program state → CameFrom program limits (start_on program goal n) state
-    → ConcludesByFinds program limits goal (reading_at state)
-state_concludes program limits goal n (Branch graph root goals search) well rule arity valid came =
+state_concludes : (program : Code) (limits : Limits) (P : FunId → Type 0) (goal : FunId) (n : ℕ) (state : State) → is_well_formed program ≡ true
+    → is_rule (body_of program goal) ≡ true → function_arity program goal ≡ Some n → IsValid program state → CameFrom program limits P (start_on program goal n) state
+    → ConcludesByFinds program limits P goal (reading_at state)
+state_concludes program limits P goal n (Branch graph root goals search) well rule arity valid came =
     let number = number_of graph root goals in
     let carried = came.back [] (read_off number graph) (valid_reading program [] graph root goals search number valid) in (
       carried.further,
       carried.found,
+      carried.passing,
       reading_concludes program carried.further goal n graph root goals search number rule well arity valid came.roots came.goals carried.sound,
     )
 
-pub listed_by_finds : (program : Code) (limits : SearchLimits) (goal : FunId) (depth : ℕ) (reading : Reading) → is_well_formed program ≡ true
-    → is_rule (body_of program goal) ≡ true → Among (Answered depth reading) (listing program limits (start_of program goal)).lines
-    → ConcludesByFinds program limits.step goal reading
-listed_by_finds program limits goal depth reading well rule m =
+pub listed_by_kept : (program : Code) (limits : SearchLimits) (P : FunId → Type 0) (Keep : State → Type 0) (goal : FunId) (depth : ℕ) (reading : Reading)
+    → is_well_formed program ≡ true → is_rule (body_of program goal) ≡ true → Keeps program limits.step P Keep → Keep (start_of program goal)
+    → Among (Answered depth reading) (listing program limits (start_of program goal)).lines → ConcludesByFinds program limits.step P goal reading
+listed_by_kept program limits P Keep goal depth reading well rule keeps kept m =
     let start = start_of program goal in
     let begun = begins program goal well rule in
     let found = listed_at program limits goal depth reading m in
-    let on : IsUnder program limits.step start start = record {
+    let on : IsUnder program limits.step P Keep start start = record {
       valid = start_valid program goal well rule;
       traced = tt;
-      came = came_itself program limits.step start;
+      kept = kept;
+      came = came_itself program limits.step P start;
     } in
-    let at_state = level_under program limits start well on depth found.0 found.1 in
+    let at_state = level_under program limits P Keep start well keeps on depth found.0 found.1 in
     let last = reached limits.stride program limits.step found.0 in
-    let at_last = reached_under program limits.step start well (limits.stride - 1) found.0 at_state in
-    subst (λ (r : Reading). ConcludesByFinds program limits.step goal r) (sym found.2)
-    (state_concludes program limits.step goal begun.n last well rule begun.arity at_last.valid
-    (subst (λ (s : State). CameFrom program limits.step s last) begun.start_is at_last.came))
+    let at_last = reached_under program limits.step P Keep start well keeps (limits.stride - 1) found.0 at_state in
+    subst (λ (r : Reading). ConcludesByFinds program limits.step P goal r) (sym found.2)
+    (state_concludes program limits.step P goal begun.n last well rule begun.arity at_last.valid
+    (subst (λ (s : State). CameFrom program limits.step P s last) begun.start_is at_last.came))
+
+pub listed_by_finds : (program : Code) (limits : SearchLimits) (goal : FunId) (depth : ℕ) (reading : Reading) → is_well_formed program ≡ true
+    → is_rule (body_of program goal) ≡ true → Among (Answered depth reading) (listing program limits (start_of program goal)).lines
+    → (claims : List Claim) × AreFound program limits.step claims × Concludes (program_of program) claims goal (values_of reading.bindings) reading.value
+listed_by_finds program limits goal depth reading well rule m =
+    let found = listed_by_kept program limits (λ f. Unit {0}) (λ s. Unit {0}) goal depth reading well rule
+    (record { next = λ before state states valid kept same at. tt; passes = λ state kept id f args is. tt }) tt m in
+    (found.0, found.1, found.3)
 
 -- ** Claims of the program
 
@@ -109,7 +120,7 @@ found_claim_of program limits claim well found =
     and_from (is_some (function_of P claim.function) && are_of P claim.arguments) (list_all (is_of P) claim.values)
     (and_from (is_some (function_of P claim.function)) (are_of P claim.arguments) known arguments) values
 
-found_claims_of : (program : Code) (limits : Limits) (claims : List Claim) → is_well_formed program ≡ true → AreFound program limits claims
+pub found_claims_of : (program : Code) (limits : Limits) (claims : List Claim) → is_well_formed program ≡ true → AreFound program limits claims
     → list_all (is_claim_of (program_of program)) claims ≡ true
 found_claims_of program limits [] well found = refl
 found_claims_of program limits (claim ∷ claims) well found =

@@ -1,3 +1,4 @@
 pub mod Good
 pub mod Extends
 pub mod Traced
+pub mod AtLevel

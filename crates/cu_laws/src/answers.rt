@@ -2,7 +2,7 @@
 ghost use Rattle.std.specs.Prelude.{◌≡◌, ℕ, IsTrue, List, []};
 ghost use Rattle.cu_calculus.specs.declared.FunId.{FunId};
 ghost use Rattle.cu_calculus.specs.Calls.{call_statement};
-ghost use Rattle.cu_calculus.specs.Claims.{Concludes};
+ghost use Rattle.cu_calculus.specs.Claims.{Concludes, level_of};
 ghost use Rattle.cu_calculus.specs.Code.{Code, body_of, is_rule};
 ghost use Rattle.cu_calculus.specs.FlatProgram.{program_of};
 ghost use Rattle.cu_calculus.specs.Gives.{Claim};
@@ -12,17 +12,21 @@ ghost use Rattle.cu_calculus.specs.WellFormed.{is_well_formed};
 ghost use Rattle.cu_machine.specs.declared.Limits.{Limits};
 ghost use Rattle.cu_machine.specs.declared.SearchLimits.{SearchLimits};
 ghost use Rattle.cu_machine.specs.Among.{Among};
+ghost use Rattle.cu_machine.specs.Graph.{Graph};
 ghost use Rattle.cu_machine.specs.Listing.{Answered, listing};
 ghost use Rattle.cu_machine.specs.Next.{Go, Reading, next};
 ghost use Rattle.cu_machine.specs.Sets.{code_is_without_sets};
 ghost use Rattle.cu_machine.specs.State.{State, start_of};
+ghost use Rattle.cu_machine.specs.Steps.{Steps};
 ghost use Rattle.cu_machine.specs.Validity.{IsValid};
+ghost use Rattle.cu_laws.specs.AtLevel.{AreBelow, AreLevelsOf, IsAtLevel};
 ghost use Rattle.cu_laws.specs.Traced.{AreFound, IsTraced};
 
 /// Every answer that is listed follows from the rules and from what searches
 /// for all values have found: over claims each of which a search finds, the
 /// goal, on what its variables are bound to, has the value that is listed, with
-/// call-time choice; some proof that checks over these claims concludes it.
+/// call-time choice; some proof that checks over these claims concludes it. By
+/// set levels the claims are of functions of lower levels than the goal's.
 pub fn answers_follow()
     ensures concluded { (program : Code) (limits : SearchLimits) (goal : FunId) (depth : ℕ)
         (reading : Reading) → IsTrue (is_well_formed program)
@@ -37,6 +41,23 @@ pub fn answers_follow()
         → (claims : List Claim) × AreFound program limits.step claims
         × IsProved (program_of program) claims
         (call_statement goal (values_of reading.bindings) reading.value) }
+    ensures at_levels { (program : Code) (limits : SearchLimits) (levels : List ℕ) (goal : FunId)
+        (depth : ℕ) (reading : Reading) → IsTrue (is_well_formed program)
+        → IsTrue (is_rule (body_of program goal)) → AreLevelsOf program levels
+        → Among (Answered depth reading) (listing program limits (start_of program goal)).lines
+        → (claims : List Claim) × AreFound program limits.step claims
+        × AreBelow levels (level_of levels goal) claims × IsProved (program_of program) claims
+        (call_statement goal (values_of reading.bindings) reading.value) }
+{}
+
+/// A graph at a set level stays there: each row of the step table leaves nodes
+/// that name functions of at most this level, and collect values of functions
+/// of lower ones.
+pub fn graphs_stay_at_their_level()
+    ensures { (program : Code) (levels : List ℕ) (level : ℕ) (graph after : Graph) (id : ℕ)
+        → IsTrue (is_well_formed program) → AreLevelsOf program levels
+        → IsAtLevel program levels level graph → Steps program graph id after
+        → IsAtLevel program levels level after }
 {}
 
 /// Searches stay traced: that of a state that follows is one that has just
