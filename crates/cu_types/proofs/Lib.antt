@@ -1,0 +1,12 @@
+pub mod ForestLemmas
+pub mod Unifying
+pub mod TableLemmas
+pub mod ClosingLemmas
+pub mod Debts
+pub mod Joins
+pub mod Walks
+pub mod Steps
+pub mod Unfolding
+pub mod Solving
+pub mod ReadTypes
+pub mod ReadingSteps

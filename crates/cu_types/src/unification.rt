@@ -1,0 +1,127 @@
+//! Unification: a most general solution of equations between types, or two
+//! types that the equations make equal and that can't be the same.
+ghost use Rattle.std.specs.Prelude.{◌≡◌, IfErr, IfOk, MatchResult, OnOk, map};
+ghost use Rattle.cu_types.specs.Inside.Reading.{IsReader, Stand, shapes};
+ghost use Rattle.cu_types.specs.Meaning.{Clashes, IsUnifyFault, equation_of, place_in, subst_of, types_of_subst};
+ghost use Rattle.cu_types.specs.Table.{IsTable, shape_of};
+ghost use Rattle.cu_types.specs.Unification.{IsMostGeneral};
+
+use crate::pair::Pair;
+use crate::reader::Reader;
+use crate::solve::{Solved, solve};
+use crate::{Equation, Node};
+use indexmap::IndexMap;
+use std::alloc::{AllocError, Global};
+use thiserror::Error;
+
+/// A substitution: a type for each type variable. Its types stand in a table,
+/// where a type that stands at several places is kept once.
+#[derive(Drop)]
+pub struct Subst {
+    /// The numbers of the variables that have a type.
+    variables: IndexMap<u32, usize>,
+    /// The place of the type, by such a number.
+    places: Vec<usize>,
+    /// The types. The arguments of each stand before it.
+    types: Vec<Node>,
+}
+
+/// Two types that equations make equal, and that no substitution makes the
+/// same.
+#[derive(Debug, Drop)]
+pub struct Clash {
+    /// A table of types. The arguments of each stand before it.
+    pub types: Vec<Node>,
+    /// The place of one of the two types.
+    pub left: usize,
+    /// The place of the other.
+    pub right: usize,
+}
+
+/// Why there is no solution.
+#[derive(Debug, Drop, Error)]
+pub enum UnifyFault {
+    /// The equations have no common solution.
+    #[error("the types are not the same")]
+    Clash(Clash),
+    /// There is no memory left.
+    #[error("no memory left")]
+    NoMemory,
+}
+
+impl Subst {
+    /// The table of types.
+    pub fn types(&self) -> &[Node]
+        ensures { map shape_of result.now ≡ types_of_subst self.now }
+    {
+        self.types.as_slice()
+    }
+
+    /// The place of a variable's type in the table. A variable that has none
+    /// stands for itself.
+    pub fn place(&self, x: u32) -> Option<usize>
+        ensures { result ≡ place_in self.now x }
+    {
+        match self.variables.get(&x) {
+            Some(number) => self.places.get(*number).copied(),
+            None => None,
+        }
+    }
+}
+
+impl Reader {
+    /// Reads equations, each as a pair of places.
+    fn read_all(&mut self, alloc: Global, equations: &[Equation]) -> Result<Vec<Pair>, AllocError>
+        requires { IsReader self.old }
+        ensures reader { OnOk result (IsReader self.new) }
+        ensures read { IfOk result (λ pairs. Stand (shapes self.new) pairs.items
+            (map equation_of equations.now)) }
+    {
+        let mut pairs = Vec::new(alloc);
+        for equation in equations {
+            let left = self.read(alloc, &equation.left)?;
+            let right = self.read(alloc, &equation.right)?;
+            pairs.push(Pair { left, right })?;
+        }
+        Ok(pairs)
+    }
+}
+
+/// Solves equations, where there is memory.
+fn unified(alloc: Global, equations: &[Equation]) -> Result<Result<Subst, Clash>, AllocError>
+    ensures { IfOk result (λ outcome. MatchResult outcome
+        (λ s. IsMostGeneral (subst_of s) (map equation_of equations.now)
+        × IsTable (types_of_subst s))
+        (Clashes (map equation_of equations.now))) }
+{
+    let mut reader = Reader::new(alloc);
+    let pairs = reader.read_all(alloc, equations)?;
+    let Reader { nodes, variables } = reader;
+    match solve(alloc, nodes, pairs)? {
+        Solved::Solution(places, types) => Ok(Ok(Subst {
+            variables,
+            places,
+            types,
+        })),
+        Solved::Clash(types, pair) => Ok(Err(Clash {
+            types,
+            left: pair.left,
+            right: pair.right,
+        })),
+    }
+}
+
+/// A most general solution of equations between types. Takes time nearly in
+/// proportion to the size of the equations, and so do the types that it gives.
+pub fn unify(alloc: Global, equations: &[Equation]) -> Result<Subst, UnifyFault>
+    ensures solution { IfOk result (λ s.
+        IsMostGeneral (subst_of s) (map equation_of equations.now)) }
+    ensures table { IfOk result (λ s. IsTable (types_of_subst s)) }
+    ensures fault { IfErr result (IsUnifyFault (map equation_of equations.now)) }
+{
+    match unified(alloc, equations) {
+        Ok(Ok(solution)) => Ok(solution),
+        Ok(Err(clash)) => Err(UnifyFault::Clash(clash)),
+        Err(_) => Err(UnifyFault::NoMemory),
+    }
+}
