@@ -12,7 +12,7 @@ is_stale() {
 }
 
 build() {
-  echo "curry: proving and building the program; the first time takes some minutes" >&2
+  echo "curry: proving and building the program; the first time takes most of an hour" >&2
   mkdir -p "$(dirname "$stamp")"
   touch "$stamp.begun"
   rm -f "$stamp"

@@ -2,6 +2,8 @@
 #![tactic(auto)]
 
 #[cfg(test)]
+mod answers;
+#[cfg(test)]
 mod commands;
 #[cfg(test)]
 mod files;
@@ -9,3 +11,5 @@ mod files;
 mod memory;
 #[cfg(test)]
 mod output;
+#[cfg(test)]
+mod runs;

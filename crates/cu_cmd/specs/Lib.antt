@@ -1,15 +1,5 @@
-pub mod Asked
-pub mod Builtin
-pub mod Causes
-pub mod Choices
-pub mod Definition
-pub mod Due
-pub mod Faults
-pub mod Layout
-pub mod Line
-pub mod Numbers
-pub mod Program
+-- In the order in which to read them.
 pub mod Report
-pub mod SearchFaults
-pub mod Term
-pub mod Words
+pub mod Causes
+pub mod Numbers
+pub mod Runs

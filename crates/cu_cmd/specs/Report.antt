@@ -1,28 +1,55 @@
--- The report of a run: what it writes and the status that it ends with, by its words and by what the library holds.
-use Rattle.std.specs.Prelude.{◌≡◌, ℕ, zero, suc, ◌≤◌, List, [], ◌∷◌, ◌++◌, Option, None, Some, codes, decimal, take, length, option_map, slice_get}
+-- The report of a run: what it writes and the status that it ends with, by its words and by what
+-- the library holds.
+use Rattle.std.specs.Prelude.{◌≡◌, ℕ, zero, suc, List, [], ◌∷◌, Option, Some, codes, map}
 use Rattle.std.specs.List.{concat}
-use Rattle.cu_cmd.specs.Layout.{code_of}
-use Rattle.cu_io.specs.Fetches.{most_bytes}
+use Rattle.cu_calculus.specs.Program as calculus
+use Rattle.cu_flat.specs.Layout.{laid_out}
+use Rattle.cu_front.specs.Compiling.{Compiles, Refuses}
+use Rattle.cu_front.specs.Refusal.{Refusal}
+use Rattle.cu_front.specs.RefusalLine.{refusal_line}
+use Rattle.cu_kernel.specs.Kernel.{Goal, Kernel}
+use Rattle.cu_machine.specs.Listing.{Listing, listing}
+use Rattle.cu_machine.specs.State.{start_of}
 use Rattle.cu_machine.specs.declared.End.{End}
 use Rattle.cu_machine.specs.declared.End.TheVariants as ends
 use Rattle.cu_machine.specs.declared.SearchLimits.{SearchLimits}
-use Rattle.cu_machine.specs.Listing.{Listing, listing}
-use Rattle.cu_machine.specs.State.{start_of}
+use Rattle.cu_names.specs.Texts.{text_of}
+use Rattle.cu_search.specs.Lines.{Notation, pieces}
+use Rattle.cu_search.specs.Written.{Adds, AddsFront}
+use Rattle.cu_values.specs.ProgramLabels.{labels_of}
+use Rattle.cu_words.specs.Words.{IsCommand, ReadsAs, Solve}
 use Rattle.cu_cmd.specs.declared.status.Status.{Status}
 use Rattle.cu_cmd.specs.declared.status.Status.TheVariants as status
-use Rattle.cu_cmd.specs.Choices.{Accepts, IsAbsent, Refuses, lines_of, names_of}
-use Rattle.cu_cmd.specs.Definition.{Definition}
-use Rattle.cu_cmd.specs.Line.{pieces}
-use Rattle.cu_cmd.specs.Program.{goal_of, program_of}
-use Rattle.cu_cmd.specs.Words.{IsCommand, ReadsAs, Solve}
 
 -- the texts of modules, by folder and name, where they are held
 abbrev pub Held : Type 0
 Held = List ℕ → List ℕ → Option (List ℕ)
 
--- the bounds where the words give none
-abbrev pub default_limits : SearchLimits
-default_limits = record { rounds = 100000; answers = None; stride = 1; step = record { nodes = 1000000; width = 65536 } }
+-- ---- refusals
+
+abbrev pub usage_line : List ℕ
+usage_line = codes "bad command line\n"
+
+-- ---- listings
+
+-- what the listing of a goal calls things, under a table of names
+abbrev pub notation_of : List (List ℕ) → Kernel → Goal → Notation
+notation_of names program goal = record {
+  labels = labels_of names program;
+  variables = map (text_of names) goal.names;
+}
+
+-- what is listed of a goal, by the flat program of its program
+abbrev pub listing_of : SearchLimits → calculus.Program → Goal → Listing
+listing_of limits flat goal =
+    let code = laid_out flat in listing code limits (start_of code goal.function)
+
+-- its pieces, and their bytes
+abbrev pub listing_pieces : List (List ℕ) → Kernel → Goal → Listing → List (List ℕ)
+listing_pieces names program goal found = pieces (notation_of names program goal) found
+
+abbrev pub listing_text : List (List ℕ) → Kernel → Goal → Listing → List ℕ
+listing_text names program goal found = concat (listing_pieces names program goal found)
 
 -- the status of a listing that ends so
 abbrev pub status_of : End → Status
@@ -32,64 +59,44 @@ status_of (ends.Rounds d count) = status.Limit
 status_of (ends.Answers count) = status.Limit
 status_of (ends.Stopped stop d) = status.Stopped
 
-abbrev pub usage_line : List ℕ
-usage_line = codes "bad command line\n"
-
--- a module that isn't held
-abbrev pub missing_line : List ℕ → List ℕ
-missing_line name = codes "refused 8 MissingModule " ++ name ++ codes "\n"
-
--- a line of a text that isn't of its form
-abbrev pub syntax_line : List ℕ → ℕ → List ℕ
-syntax_line name line = codes "refused 6 Syntax " ++ (name ++ (codes ":" ++ (decimal line ++ codes "\n")))
-
--- what a goal is listed as in a module of these definitions, where it names the k-th of them
-abbrev pub answers_of : List Definition → ℕ → Listing
-answers_of definitions k =
-    let code = code_of (program_of definitions k)
-    in listing code default_limits (start_of code (goal_of definitions))
+-- ---- the report
 
 -- The run writes these pieces and ends with this status.
 pub data Report (words : List (List ℕ)) (held : Held) : List (List ℕ) → Status → Type 0 where
   -- words outside the command grammar
-  usage : (written : List (List ℕ)) → (IsCommand words → ⊥) → written ≡ usage_line ∷ [] → Report words held written status.Usage
-  -- a module that isn't held
-  missing : (written : List (List ℕ)) (solve : Solve) → ReadsAs words solve → held solve.folder solve.name ≡ None
-      → written ≡ missing_line solve.name ∷ [] → Report words held written status.Refused
-  -- a module with a wrong line
-  wrong_line : (written : List (List ℕ)) (solve : Solve) (text : List ℕ) (line : ℕ) → ReadsAs words solve
-      → held solve.folder solve.name ≡ Some text → Refuses (lines_of (take most_bytes text)) line
-      → written ≡ syntax_line solve.name line ∷ [] → Report words held written status.Refused
-  -- a goal that names nothing of the module
-  wrong_goal : (written : List (List ℕ)) (solve : Solve) (text : List ℕ) (definitions : List Definition) → ReadsAs words solve
-      → held solve.folder solve.name ≡ Some text → Accepts (lines_of (take most_bytes text)) definitions
-      → IsAbsent (names_of definitions) solve.goal
-      → written ≡ syntax_line (codes "goal") 1 ∷ [] → Report words held written status.Refused
-  -- the listing of the goal
-  listed : (written : List (List ℕ)) (end : Status) (solve : Solve) (text : List ℕ) (definitions : List Definition) (k : ℕ)
-      → ReadsAs words solve → held solve.folder solve.name ≡ Some text → Accepts (lines_of (take most_bytes text)) definitions
-      → slice_get (names_of definitions) k ≡ Some solve.goal
-      → written ≡ pieces (answers_of definitions k) → end ≡ status_of (answers_of definitions k).end
-      → Report words held written end
+  usage : (IsCommand words → ⊥) → Report words held (usage_line ∷ []) status.Usage
+  -- a module or a goal that is refused
+  refused : (solve : Solve) (refusal : Refusal) → ReadsAs words solve
+      → Refuses (held solve.folder) solve.name solve.goal refusal
+      → Report words held (refusal_line refusal ∷ []) status.Refused
+  -- the listing of a goal
+  listed : (solve : Solve) (names : List (List ℕ)) (program : Kernel) (flat : calculus.Program)
+      (goal : Goal) (found : Listing) (written : List (List ℕ)) (answer : Status)
+      → ReadsAs words solve
+      → Compiles (held solve.folder) solve.name solve.goal names program flat
+      → program.goal ≡ Some goal → found ≡ listing_of solve.limits flat goal
+      → written ≡ listing_pieces names program goal found → answer ≡ status_of found.end
+      → Report words held written answer
 
--- after the output held `before`, it holds these bytes too, where the sink tells
-abbrev pub Adds : Option (List ℕ) → Option (List ℕ) → List ℕ → Type 0
-Adds before after bytes = after ≡ option_map (λ told. told ++ bytes) before
+-- A prefix of the report was written: nothing, or a prefix of these bytes.
+pub data WritesPrefix (words : List (List ℕ)) (held : Held) (before after : Option (List ℕ))
+    : Type 0 where
+  nothing : after ≡ before → WritesPrefix words held before after
+  prefix : (written : List (List ℕ)) (answer : Status) → Report words held written answer
+      → AddsFront before after (concat written) → WritesPrefix words held before after
 
--- a front of these bytes was added
-abbrev pub AddsFront : Option (List ℕ) → Option (List ℕ) → List ℕ → Type 0
-AddsFront before after bytes = (n : ℕ) × (n ≤ length bytes) × Adds before after (take n bytes)
+-- the whole report was written, and the run ends with its status
+pub record WritesReport (answer : Status) (words : List (List ℕ)) (held : Held)
+    (before after : Option (List ℕ)) : Type 0 where
+  pub written : List (List ℕ)
+  pub is_report : Report words held written answer
+  pub adds : Adds before after (concat written)
 
--- whatever the report is, a prefix of it was written
-abbrev pub IsFront : List (List ℕ) → Held → Option (List ℕ) → Option (List ℕ) → Type 0
-IsFront words held before after =
-    (written : List (List ℕ)) (end : Status) → Report words held written end → AddsFront before after (concat written)
-
--- A run that answers `answer`: it wrote the pieces of a report that ends so; or, where the outside failed or memory ran
--- out, a prefix of the report. A sink tells bytes and not pieces, so that each line is one piece is left to tests.
-abbrev pub Runs : Status → List (List ℕ) → Held → Option (List ℕ) → Option (List ℕ) → Type 0
-Runs status.ReadFault words held before after = IsFront words held before after
-Runs status.WriteFault words held before after = IsFront words held before after
-Runs status.NoMemory words held before after = IsFront words held before after
-Runs answer words held before after =
-    (written : List (List ℕ)) × Report words held written answer × Adds before after (concat written)
+-- What a run that ends with this status wrote: where the outside failed or memory ran out, a
+-- prefix of the report; otherwise the report. A sink tells bytes and not pieces, so that each line
+-- is one piece is left to tests.
+abbrev pub Writes : Status → List (List ℕ) → Held → Option (List ℕ) → Option (List ℕ) → Type 0
+Writes status.ReadFault words held before after = WritesPrefix words held before after
+Writes status.WriteFault words held before after = WritesPrefix words held before after
+Writes status.NoMemory words held before after = WritesPrefix words held before after
+Writes answer words held before after = WritesReport answer words held before after

@@ -1,19 +1,20 @@
 //! Writing a piece of the output.
 ghost use Rattle.std.specs.Prelude.{OnErr, OnOk};
-ghost use Rattle.cu_cmd.specs.Report.{Adds, AddsFront};
-ghost use Rattle.cu_cmd.specs.SearchFaults.{HasSearchCause};
+ghost use Rattle.cu_cmd.specs.Runs.{HasWriteCause};
+ghost use Rattle.cu_search.specs.Written.{Adds, AddsFront};
 
-use crate::rounds::SearchFault;
+use crate::fault::RunFault;
 use cu_io::{Put, Sink};
 
 /// Writes a piece at the end of the output.
-pub fn write_piece<K: Sink>(sink: &mut K, piece: &str) -> Result<(), SearchFault>
+pub(crate) fn write_piece<K: Sink>(sink: &mut K, piece: &str) -> Result<(), RunFault>
     ensures whole { OnOk result (Adds (K.written sink.old) (K.written sink.new) piece.now) }
-    ensures front { OnErr result (AddsFront (K.written sink.old) (K.written sink.new) piece.now) }
-    ensures cause { HasSearchCause result (K.fault_count sink.old) (K.fault_count sink.new) }
+    ensures prefix { OnErr result
+        (AddsFront (K.written sink.old) (K.written sink.new) piece.now) }
+    ensures cause { HasWriteCause result (K.fault_count sink.old) (K.fault_count sink.new) }
 {
     match sink.put(piece.as_bytes()) {
         Put::Done => Ok(()),
-        Put::Failed => Err(SearchFault::Write),
+        Put::Failed => Err(RunFault::Write),
     }
 }

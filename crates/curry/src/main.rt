@@ -8,6 +8,7 @@ ghost use Rattle.cu_cmd.specs.Numbers.{number_of};
 
 use cu_cmd::{Status, top};
 use cu_io::{FolderLibrary, OutputSink, VecSource};
+use cu_pile::OpenGate;
 use std::alloc::AllocError;
 use std::env;
 use std::io::ErrorKind;
@@ -23,11 +24,13 @@ fn main(rt: HostRuntime) -> ExitCode {
     let mut input = VecSource::new(Vec::new(alloc), Vec::new(alloc));
     let mut output = OutputSink::new(&rt);
     exit_code(top(
+        &rt,
         alloc,
         words.as_slice(),
         &mut library,
         &mut input,
         &mut output,
+        &OpenGate,
     ))
 }
 

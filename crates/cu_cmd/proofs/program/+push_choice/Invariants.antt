@@ -1,5 +1,0 @@
-use Rattle.std.proofs.Common.{length}
-use Rattle.cu_cmd.proofs.program.+push_choice.Given as goal
-
-abbrev pub decreases-push_choice : goal.decreases-push_choice
-decreases-push_choice l = length l.others.now

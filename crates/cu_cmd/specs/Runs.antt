@@ -1,0 +1,57 @@
+-- How the parts of a run end, and what they wrote.
+use Rattle.std.specs.Prelude.{◌≡◌, ℕ, List, Option, Result, Ok, Err}
+use Rattle.cu_io.specs.Rose.{Rose}
+use Rattle.cu_search.specs.declared.fault.SearchFault.{SearchFault}
+use Rattle.cu_search.specs.declared.fault.SearchFault.TheVariants as search
+use Rattle.cu_cmd.specs.Report.{Held, WritesPrefix, WritesReport}
+use Rattle.cu_cmd.specs.declared.fault.RunFault.{RunFault}
+use Rattle.cu_cmd.specs.declared.fault.RunFault.TheVariants.{NoMemory, Read, Write}
+use Rattle.cu_cmd.specs.declared.status.Status.{Status}
+use Rattle.cu_cmd.specs.declared.status.Status.TheVariants as status
+
+abbrev pub fault_of_search : SearchFault → RunFault
+fault_of_search search.Write = Write
+fault_of_search search.NoMemory = NoMemory
+
+-- the status of a run that came to this
+abbrev pub status_after : Result Status RunFault → Status
+status_after (Ok answer) = answer
+status_after (Err Read) = status.ReadFault
+status_after (Err Write) = status.WriteFault
+status_after (Err NoMemory) = status.NoMemory
+
+-- the report was written, or, where the run broke off, a prefix of it
+abbrev pub Ends : Result Status RunFault → List (List ℕ) → Held → Option (List ℕ) → Option (List ℕ)
+    → Type 0
+Ends (Ok answer) words held before after = WritesReport answer words held before after
+Ends (Err fault) words held before after = WritesPrefix words held before after
+
+-- a status with which a solve ends that didn't break off
+abbrev pub IsSolved : Status → Type 0
+IsSolved status.Done = Unit {0}
+IsSolved status.Floundered = Unit {0}
+IsSolved status.Limit = Unit {0}
+IsSolved status.Refused = Unit {0}
+IsSolved status.Stopped = Unit {0}
+IsSolved answer = ⊥
+
+-- ---- counts of faults
+
+-- The output's count rose where it failed, and stands otherwise. The library isn't asked.
+abbrev pub HasWriteCause : {A : Type 0} → Result A RunFault → ℕ → ℕ → Type 0
+HasWriteCause (Ok x) old new = new ≡ old
+HasWriteCause (Err Read) old new = ⊥
+HasWriteCause (Err Write) old new = Rose old new
+HasWriteCause (Err NoMemory) old new = new ≡ old
+
+-- counts of faults of the library and the output
+pub record Faults : Type 0 where
+  pub library : ℕ
+  pub output : ℕ
+
+-- The count of what failed rose, and the other one stands.
+abbrev pub HasRunCause : {A : Type 0} → Result A RunFault → Faults → Faults → Type 0
+HasRunCause (Ok x) old new = new ≡ old
+HasRunCause (Err Read) old new = Rose old.library new.library × (new.output ≡ old.output)
+HasRunCause (Err Write) old new = Rose old.output new.output × (new.library ≡ old.library)
+HasRunCause (Err NoMemory) old new = new ≡ old

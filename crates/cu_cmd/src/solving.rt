@@ -1,0 +1,74 @@
+//! The command `solve`.
+ghost use Rattle.std.specs.Prelude.{◌≡◌, ◌≤◌, IfOk, IfSome, List, OnErr, OnOk, ℕ};
+ghost use Rattle.cu_cmd.specs.Runs.{Ends, HasRunCause, HasWriteCause, IsSolved};
+ghost use Rattle.cu_cmd.specs.declared.status.Status.TheVariants.{Refused};
+ghost use Rattle.cu_front.specs.RefusalLine.{refusal_line};
+ghost use Rattle.cu_front.specs.RefusalMeaning.{RefusalIsKnown, refusal_meaning};
+ghost use Rattle.cu_search.specs.Standing.{widest};
+ghost use Rattle.cu_search.specs.Written.{Adds, AddsFront};
+ghost use Rattle.cu_words.specs.Words.{ReadsAs, asked};
+
+use crate::fault::RunFault;
+use crate::pieces::write_piece;
+use crate::search::{Workers, list};
+use crate::status::Status;
+use cu_front::{Asked, CompileFault, Refusal, compile};
+use cu_io::{Library, Sink};
+use cu_names::Names;
+use cu_pile::Gate;
+use cu_words::Solve;
+use std::alloc::Global;
+use std::thread::Threads;
+
+/// Writes what is due for a solve, the line of the refusal or the listing, and
+/// answers how the run ends.
+pub(crate) fn solve<R: Threads + Sync, G: Gate + Sync, L: Library, S: Sink>(
+    alloc: Global,
+    workers: &Workers<'_, R, G>,
+    solve: Solve<'_>,
+    library: &mut L,
+    output: &mut S,
+) -> Result<Status, RunFault>
+    requires workers { (1 ≤ workers.now.count) × (workers.now.count ≤ 64) }
+    requires width { solve.limits.step.width ≤ widest }
+    ensures ends { IfSome (L.holdings library.old) (λ held. (words : List (List ℕ))
+        → ReadsAs words (asked solve.entry)
+        → Ends result words held.module_at (S.written output.old) (S.written output.new)) }
+    ensures solved { IfOk result IsSolved }
+    ensures cause { HasRunCause result
+        (record { library = L.fault_count library.old; output = S.fault_count output.old })
+        (record { library = L.fault_count library.new; output = S.fault_count output.new }) }
+{
+    let mut names = Names::new(alloc);
+    let asked = Asked {
+        root: solve.module,
+        folder: solve.folder,
+        goal: solve.goal,
+    };
+    match compile(alloc, &mut names, asked, library) {
+        Ok(compiled) => list(alloc, workers, &names, &compiled, solve.limits, output),
+        Err(CompileFault::Refused(refusal)) => refuse(alloc, &names, &refusal, output),
+        Err(CompileFault::Fetch) => Err(RunFault::Read),
+        Err(CompileFault::NoMemory) => Err(RunFault::NoMemory),
+    }
+}
+
+/// Writes the line of a refusal, and answers how the run ends.
+fn refuse<S: Sink>(
+    alloc: Global,
+    names: &Names,
+    refusal: &Refusal,
+    output: &mut S,
+) -> Result<Status, RunFault>
+    requires known { RefusalIsKnown names.now refusal.now }
+    ensures status { IfOk result (λ status. status ≡ Refused) }
+    ensures whole { OnOk result (Adds (S.written output.old) (S.written output.new)
+        (refusal_line (refusal_meaning names.now refusal.now))) }
+    ensures prefix { OnErr result (AddsFront (S.written output.old) (S.written output.new)
+        (refusal_line (refusal_meaning names.now refusal.now))) }
+    ensures cause { HasWriteCause result (S.fault_count output.old) (S.fault_count output.new) }
+{
+    let line = refusal.line(alloc, names)?;
+    write_piece(output, line.as_str())?;
+    Ok(Status::Refused)
+}
