@@ -1,0 +1,28 @@
+-- A family tree, which can be asked in every direction.
+module Family where
+
+data Person = Ada | Ben | Cleo | Dan | Eve | Finn | Gus
+
+-- the mother of a person
+mother :: Person -> Person
+mother Cleo = Ada
+mother Dan  = Ada
+mother Eve  = Cleo
+mother Finn = Cleo
+
+-- the father of a person
+father :: Person -> Person
+father Cleo = Ben
+father Dan  = Ben
+father Gus  = Dan
+
+parent :: Person -> Person
+parent x = mother x ? father x
+
+grandparent :: Person -> Person
+grandparent x = parent (parent x)
+
+-- another child of the same mother
+sibling :: Person -> Person
+sibling x | mother x =:= mother y &> x /= y = y
+  where y free

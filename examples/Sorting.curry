@@ -1,0 +1,13 @@
+-- Sorting by search: a list in an order in which it rises.
+module Sorting where
+
+import Permutation
+
+sorted :: [Int] -> [Int]
+sorted xs | rises ys = ys
+  where ys = permutation xs
+
+rises :: [Int] -> Bool
+rises []           = True
+rises [_]          = True
+rises (x : y : ys) = x <= y && rises (y : ys)

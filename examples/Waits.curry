@@ -1,0 +1,21 @@
+-- Arithmetic waits for the values of variables, which equations and functions by rules give.
+module Waits where
+
+-- a digit, whose value is found by the rules
+isDigit :: Int -> Bool
+isDigit 0 = True
+isDigit 1 = True
+isDigit 2 = True
+isDigit 3 = True
+isDigit 4 = True
+isDigit 5 = True
+isDigit 6 = True
+isDigit 7 = True
+isDigit 8 = True
+isDigit 9 = True
+
+-- a number of one digit or two that is four times the sum of its digits
+fourTimes :: Int
+fourTimes | isDigit t & isDigit u & n =:= 4 * (t + u) = n
+  where t, u free
+        n = 10 * t + u

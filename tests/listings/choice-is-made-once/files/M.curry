@@ -1,0 +1,2 @@
+coin = 0 ? 1
+double x = x + x

@@ -1,0 +1,1 @@
+x = let xs = 1 : xs in xs

@@ -1,0 +1,4 @@
+import B
+import C
+
+y = x

@@ -1,0 +1,3 @@
+import SetFunctions
+
+h x = sortValues (set1 h x)

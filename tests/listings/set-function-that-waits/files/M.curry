@@ -1,0 +1,4 @@
+import SetFunctions
+
+next = x + 1
+  where x free

@@ -1,0 +1,4 @@
+import SetFunctions
+
+coin = 0 ? 1
+f x = x ? x + 10
