@@ -8,6 +8,7 @@ use Rattle.cu_deftree.specs.LoweredProgram.{Lowering}
 use Rattle.cu_kernel.specs.Kernel as kernel
 use Rattle.cu_kernel.specs.Kernel.{Kernel, program_of}
 use Rattle.cu_kernel.specs.LocalKernel.{LocalKernel}
+use Rattle.cu_kernel.specs.Valid.{IsValid}
 use Rattle.cu_lift.specs.Lifting.{Lifts}
 use Rattle.cu_lift.specs.SetCycles.{IsSetRecursion}
 use Rattle.cu_names.specs.Texts.{AllDiffer, Extends, text_of}
@@ -61,5 +62,6 @@ pub data CannotRun (names : List (List ℕ)) (program : Kernel) : Refusal → Ty
 
 -- A program that can be run, and its flat program.
 pub record CanRun (program : Kernel) (flat : calculus.Program) : Type 0 where
+  pub valid : IsValid program
   pub levels : HasLevels program
   pub lowered : Lowering (program_of program) (Ok flat)

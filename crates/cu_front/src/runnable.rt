@@ -61,6 +61,7 @@ pub(crate) fn runnable(
     let program = lifted(alloc, names, local)?;
     test_levels(alloc, names, &program)?;
     let flat = lowered(alloc, names, &program)?;
+    let _functions = program.functions();
     Ok(Compiled { program, flat })
 }
 
