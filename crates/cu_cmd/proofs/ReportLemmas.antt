@@ -1,10 +1,11 @@
 -- What was written, as the report or a prefix of it.
-use Rattle.std.proofs.Common.{◌≡◌, ◌∙◌, ℕ, List, [], ◌∷◌, Option, None, Some, Result, Ok, Err, IfNone, IfOk, IfSome, OnOk, OnErr, refl, sym, ap, subst}
+use Rattle.std.proofs.Common.{◌≡◌, ◌∙◌, ℕ, zero, suc, List, [], ◌∷◌, Option, None, Some, Result, Ok, Err, IfNone, IfOk, IfSome, OnOk, OnErr, refl, sym, ap, subst}
 use Rattle.std.proofs.lemmas.List.{append-nil}
 use Rattle.std.specs.List.{concat}
 use Rattle.cu_calculus.specs.Program as calculus
 use Rattle.cu_front.specs.CompileAnswers.{TellsRefusal}
 use Rattle.cu_front.specs.Compiling.{Compiles, Refuses}
+use Rattle.cu_front.specs.Refusal.{Refusal}
 use Rattle.cu_front.specs.RefusalLine.{refusal_line}
 use Rattle.cu_front.specs.RefusalMeaning.{refusal_meaning}
 use Rattle.cu_front.specs.declared.fault.CompileFault.{CompileFault}
@@ -12,11 +13,15 @@ use Rattle.cu_front.specs.declared.fault.CompileFault.TheVariants as compile
 use Rattle.cu_front.specs.declared.refusal.Refusal as code
 use Rattle.cu_io.specs.Holdings.{Holdings}
 use Rattle.cu_kernel.specs.Kernel.{Goal, Kernel}
+use Rattle.cu_machine.specs.Listing.{Listing}
+use Rattle.cu_machine.specs.declared.End.{End}
+use Rattle.cu_machine.specs.declared.End.TheVariants as ends_so
+use Rattle.cu_search.specs.Lines.{Notation, listing_bytes}
 use Rattle.cu_search.specs.Written.{Adds, AddsFront}
 use Rattle.cu_words.specs.Words.{IsCommand, ReadsAs, Solve}
 use Rattle.cu_cmd.specs.Causes.{IsUsage}
-use Rattle.cu_cmd.specs.Report.{Held, Report, Writes, WritesPrefix, WritesReport, listed, listing_of, listing_pieces, listing_text, prefix, refused, status_of, usage, usage_line}
-use Rattle.cu_cmd.specs.Runs.{Ends, Faults, HasRunCause, HasWriteCause, IsSolved, status_after}
+use Rattle.cu_cmd.specs.Report.{Held, Report, Writes, WritesPrefix, WritesReport, WritesWhole, listed, listing_of, listing_pieces, listing_text, notation_of, prefix, refused, status_of, usage, usage_line}
+use Rattle.cu_cmd.specs.Runs.{Ends, EndsWhole, Faults, HasRunCause, HasWriteCause, IsSolved, status_after}
 use Rattle.cu_cmd.specs.declared.fault.RunFault.{RunFault}
 use Rattle.cu_cmd.specs.declared.fault.RunFault.TheVariants as fault
 use Rattle.cu_cmd.specs.declared.status.Status.{Status}
@@ -147,3 +152,43 @@ reads_so {A = A} found a P is p = subst (λ (x : Option A). IfSome x P) is p
 
 pub none_so : {A : Type 0} (found : Option A) (P : Type 0) → found ≡ None → IfNone found P → P
 none_so {A = A} found P is p = subst (λ (x : Option A). IfNone x P) is p
+
+-- ---- whole lines and listings
+
+listing_whole : (e : End) (notation : Notation) (found : Listing) (before after : Option (List ℕ)) → found.end ≡ e
+    → Adds before after (listing_bytes notation found) → WritesWhole (status_of e) before after
+listing_whole (ends_so.NoMore zero) notation found before after is adds = (notation, found, ap status_of (sym is), adds)
+listing_whole (ends_so.NoMore (suc waits)) notation found before after is adds = (notation, found, ap status_of (sym is), adds)
+listing_whole (ends_so.Rounds d count) notation found before after is adds = (notation, found, ap status_of (sym is), adds)
+listing_whole (ends_so.Answers count) notation found before after is adds = (notation, found, ap status_of (sym is), adds)
+listing_whole (ends_so.Stopped stop d) notation found before after is adds = (notation, found, ap status_of (sym is), adds)
+
+pub listing_ends_whole : (r : Result Status RunFault) (names : List (List ℕ)) (program : Kernel) (goal : Goal) (found : Listing) (before after : Option (List ℕ))
+    (j k : ℕ) → IfOk r (λ answer. answer ≡ status_of found.end) → OnOk r (Adds before after (listing_text names program goal found))
+    → HasWriteCause r j k → EndsWhole r before after
+listing_ends_whole (Ok answer) names program goal found before after j k is adds cause =
+    subst (λ (s : Status). WritesWhole s before after) (sym is) (listing_whole found.end (notation_of names program goal) found before after refl adds)
+listing_ends_whole (Err fault.Read) names program goal found before after j k is adds cause = absurd cause
+listing_ends_whole (Err fault.Write) names program goal found before after j k is adds cause = tt
+listing_ends_whole (Err fault.NoMemory) names program goal found before after j k is adds cause = tt
+
+pub refusal_ends_whole : (r : Result Status RunFault) (refusal : Refusal) (before after : Option (List ℕ)) (j k : ℕ)
+    → IfOk r (λ answer. answer ≡ status.Refused) → OnOk r (Adds before after (refusal_line refusal)) → HasWriteCause r j k
+    → EndsWhole r before after
+refusal_ends_whole (Ok answer) refusal before after j k is adds cause = subst (λ (s : Status). WritesWhole s before after) (sym is) (refusal, adds)
+refusal_ends_whole (Err fault.Read) refusal before after j k is adds cause = absurd cause
+refusal_ends_whole (Err fault.Write) refusal before after j k is adds cause = tt
+refusal_ends_whole (Err fault.NoMemory) refusal before after j k is adds cause = tt
+
+pub usage_whole : (r : Result Status RunFault) (before after : Option (List ℕ)) (j k : ℕ) → IfOk r (λ answer. answer ≡ status.Usage)
+    → OnOk r (Adds before after usage_line) → HasWriteCause r j k → WritesWhole (status_after r) before after
+usage_whole (Ok answer) before after j k is adds cause = subst (λ (s : Status). WritesWhole s before after) (sym is) adds
+usage_whole (Err fault.Read) before after j k is adds cause = absurd cause
+usage_whole (Err fault.Write) before after j k is adds cause = tt
+usage_whole (Err fault.NoMemory) before after j k is adds cause = tt
+
+pub after_whole : (r : Result Status RunFault) (before after : Option (List ℕ)) → EndsWhole r before after → WritesWhole (status_after r) before after
+after_whole (Ok answer) before after whole = whole
+after_whole (Err fault.Read) before after whole = whole
+after_whole (Err fault.Write) before after whole = tt
+after_whole (Err fault.NoMemory) before after whole = tt

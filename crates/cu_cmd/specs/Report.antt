@@ -14,7 +14,7 @@ use Rattle.cu_machine.specs.declared.End.{End}
 use Rattle.cu_machine.specs.declared.End.TheVariants as ends
 use Rattle.cu_machine.specs.declared.SearchLimits.{SearchLimits}
 use Rattle.cu_names.specs.Texts.{text_of}
-use Rattle.cu_search.specs.Lines.{Notation, pieces}
+use Rattle.cu_search.specs.Lines.{Notation, listing_bytes, pieces}
 use Rattle.cu_search.specs.Written.{Adds, AddsFront}
 use Rattle.cu_values.specs.ProgramLabels.{labels_of}
 use Rattle.cu_words.specs.Words.{IsCommand, ReadsAs, Solve}
@@ -91,6 +91,19 @@ pub record WritesReport (answer : Status) (words : List (List ℕ)) (held : Held
   pub written : List (List ℕ)
   pub is_report : Report words held written answer
   pub adds : Adds before after (concat written)
+
+-- A run that ends with this status wrote its line, or a whole listing that ends so: this is said
+-- also where nothing is known of what the library holds. After a fault it says nothing.
+abbrev pub WritesWhole : Status → Option (List ℕ) → Option (List ℕ) → Type 0
+WritesWhole status.Usage before after = Adds before after usage_line
+WritesWhole status.Refused before after =
+    (refusal : Refusal) × Adds before after (refusal_line refusal)
+WritesWhole status.ReadFault before after = after ≡ before
+WritesWhole status.WriteFault before after = Unit {0}
+WritesWhole status.NoMemory before after = Unit {0}
+WritesWhole answer before after =
+    (notation : Notation) × (found : Listing) × (answer ≡ status_of found.end)
+    × Adds before after (listing_bytes notation found)
 
 -- What a run that ends with this status wrote: where the outside failed or memory ran out, a
 -- prefix of the report; otherwise the report. A sink tells bytes and not pieces, so that each line

@@ -3,7 +3,7 @@ use Rattle.std.specs.Prelude.{◌≡◌, ℕ, List, Option, Result, Ok, Err}
 use Rattle.cu_io.specs.Rose.{Rose}
 use Rattle.cu_search.specs.declared.fault.SearchFault.{SearchFault}
 use Rattle.cu_search.specs.declared.fault.SearchFault.TheVariants as search
-use Rattle.cu_cmd.specs.Report.{Held, WritesPrefix, WritesReport}
+use Rattle.cu_cmd.specs.Report.{Held, WritesPrefix, WritesReport, WritesWhole}
 use Rattle.cu_cmd.specs.declared.fault.RunFault.{RunFault}
 use Rattle.cu_cmd.specs.declared.fault.RunFault.TheVariants.{NoMemory, Read, Write}
 use Rattle.cu_cmd.specs.declared.status.Status.{Status}
@@ -25,6 +25,12 @@ abbrev pub Ends : Result Status RunFault → List (List ℕ) → Held → Option
     → Type 0
 Ends (Ok answer) words held before after = WritesReport answer words held before after
 Ends (Err fault) words held before after = WritesPrefix words held before after
+
+-- a whole line or listing was written, where the run didn't break off
+abbrev pub EndsWhole : Result Status RunFault → Option (List ℕ) → Option (List ℕ) → Type 0
+EndsWhole (Ok answer) before after = WritesWhole answer before after
+EndsWhole (Err Read) before after = after ≡ before
+EndsWhole (Err fault) before after = Unit {0}
 
 -- a status with which a solve ends that didn't break off
 abbrev pub IsSolved : Status → Type 0

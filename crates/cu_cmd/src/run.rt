@@ -1,7 +1,7 @@
 //! The public call.
 ghost use Rattle.std.specs.Prelude.{◌≡◌, IfOk, IfSome, List, OnErr, OnOk, map, string_bytes, ℕ};
 ghost use Rattle.cu_cmd.specs.Causes.{HasCause, IsNoUsage, IsUsage};
-ghost use Rattle.cu_cmd.specs.Report.{Held, Writes, usage_line};
+ghost use Rattle.cu_cmd.specs.Report.{Held, Writes, WritesWhole, usage_line};
 ghost use Rattle.cu_cmd.specs.Runs.{HasWriteCause};
 ghost use Rattle.cu_cmd.specs.declared.status.Status.TheVariants.{Usage};
 ghost use Rattle.cu_search.specs.Written.{Adds, AddsFront};
@@ -34,6 +34,9 @@ pub fn top<R: Threads + Sync, L: Library, O: Source, S: Sink, G: Gate + Sync>(
     ensures report { IfSome (L.holdings library.old) (λ held.
         Writes result (map string_bytes words.now) held.module_at
         (S.written output.old) (S.written output.new)) }
+    // A status that says so comes with one whole line, or one whole listing that ends so, also
+    // where the library doesn't tell what it holds.
+    ensures whole { WritesWhole result (S.written output.old) (S.written output.new) }
     // Each status has its cause.
     ensures cause { HasCause result
         (record {
@@ -50,6 +53,8 @@ pub fn top<R: Threads + Sync, L: Library, O: Source, S: Sink, G: Gate + Sync>(
     // Words outside the command grammar, and no others, are answered so, whatever the library
     // holds, and whether it tells that or not.
     ensures usage { (IsCommand (map string_bytes words.now) → ⊥) → IsUsage result }
+    ensures usage_library { (IsCommand (map string_bytes words.now) → ⊥)
+        → library.new ≡ library.old }
     ensures no_usage { IsCommand (map string_bytes words.now) → IsNoUsage result }
     ensures usage_report { (IsCommand (map string_bytes words.now) → ⊥) → (held : Held)
         → Writes result (map string_bytes words.now) held

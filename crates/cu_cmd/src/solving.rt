@@ -1,6 +1,6 @@
 //! The command `solve`.
 ghost use Rattle.std.specs.Prelude.{◌≡◌, ◌≤◌, IfOk, IfSome, List, OnErr, OnOk, ℕ};
-ghost use Rattle.cu_cmd.specs.Runs.{Ends, HasRunCause, HasWriteCause, IsSolved};
+ghost use Rattle.cu_cmd.specs.Runs.{Ends, EndsWhole, HasRunCause, HasWriteCause, IsSolved};
 ghost use Rattle.cu_cmd.specs.declared.status.Status.TheVariants.{Refused};
 ghost use Rattle.cu_front.specs.RefusalLine.{refusal_line};
 ghost use Rattle.cu_front.specs.RefusalMeaning.{RefusalIsKnown, refusal_meaning};
@@ -34,6 +34,7 @@ pub(crate) fn solve<R: Threads + Sync, G: Gate + Sync, L: Library, S: Sink>(
     ensures ends { IfSome (L.holdings library.old) (λ held. (words : List (List ℕ))
         → ReadsAs words (asked solve.entry)
         → Ends result words held.module_at (S.written output.old) (S.written output.new)) }
+    ensures whole { EndsWhole result (S.written output.old) (S.written output.new) }
     ensures solved { IfOk result IsSolved }
     ensures cause { HasRunCause result
         (record { library = L.fault_count library.old; output = S.fault_count output.old })
