@@ -1,6 +1,8 @@
 -- Tables: each type is that of its shape over the whole table, and a push changes no type before it.
-use Rattle.std.proofs.Common.{◌≡◌, ℕ, zero, suc, ◌+◌, ◌<◌, List, [], ◌∷◌, ◌++◌, Some, length, map, slice_get, refl, sym, ap, ◌∙◌, subst, arith, length-append}
+use Rattle.std.proofs.Common.{◌≡◌, ℕ, zero, suc, ◌+◌, ◌<◌, List, [], ◌∷◌, ◌++◌, Option, None, Some, length, map, slice_get, slice_index, refl, sym, ap, ◌∙◌, subst, arith, length-append}
 use Rattle.std.proofs.lemmas.List.{get_or_append_left, get_or_push}
+use Rattle.std.proofs.lemmas.Option.{get_or_from_slice_get, slice_get_within}
+use Rattle.std.specs.Option.{option_and_then}
 use Rattle.cu_kernel.specs.TypeExpr as type
 use Rattle.cu_kernel.specs.TypeExpr.{TypeExpr, TypeExprs}
 use Rattle.cu_kernel.specs.TypesOf.{type_list}
@@ -117,3 +119,13 @@ trees_fit ss i s table is =
     let n : (j : ℕ) → j ≡ 0 + j = λ j. omega arith in
     ap (at (trees_behind [] ss)) (n i)
     ∙ trees_behind_fit [] ss (λ j u e. subst (λ (k : ℕ). MayStand k u) (n j) (table.stand j u e)) i s is
+
+-- a place that a list of places gives is one of theirs
+pub place_within : (found : List ℕ) (o : Option ℕ) (p n m : ℕ) → length found ≡ n → ((k : ℕ) → k < n → slice_index found k < m)
+    → option_and_then (slice_get found) o ≡ Some p → p < m
+place_within found None p n m sized within is = let no : None ≡ Some p = is in let never : ⊥ = cc in absurd never
+place_within found (Some k) p n m sized within is =
+    let inside : k < length found = slice_get_within found k p is in
+    let there : k < n = omega (arith, sized, inside) in
+    let same = get_or_from_slice_get found k p 0 is in
+    subst (λ (j : ℕ). j < m) same (within k there)

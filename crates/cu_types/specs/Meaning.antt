@@ -1,5 +1,5 @@
 -- The equations, solutions and clashes that values of the code stand for.
-use Rattle.std.specs.Prelude.{ℕ, ◌<◌, List, Option, None, Some, length, map, nat_eq, slice_get}
+use Rattle.std.specs.Prelude.{◌≡◌, ℕ, ◌<◌, List, Option, None, Some, length, map, nat_eq, slice_get}
 use Rattle.std.specs.Option.{option_and_then}
 use Rattle.indexmap.specs.IndexMap.{get}
 use Rattle.cu_kernel.specs.TypeExpr as type
@@ -33,6 +33,10 @@ type_at ss x (Some p) = at (trees ss) p
 -- the substitution that a solution stands for
 abbrev pub subst_of : Subst → Substitution
 subst_of s x = type_at (types_of_subst s) x (place_in s x)
+
+-- the places of variables are places of the table
+abbrev pub HasPlaces : Subst → Type 0
+HasPlaces s = (x p : ℕ) → place_in s x ≡ Some p → p < length (types_of_subst s)
 
 -- two types of a table that are a clash of the equations
 pub record Clashes (equations : List Equation) (c : Clash) : Type 0 where

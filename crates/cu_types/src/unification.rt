@@ -2,7 +2,7 @@
 //! types that the equations make equal and that can't be the same.
 ghost use Rattle.std.specs.Prelude.{◌≡◌, IfErr, IfOk, MatchResult, OnOk, map};
 ghost use Rattle.cu_types.specs.Inside.Reading.{IsReader, Stand, shapes};
-ghost use Rattle.cu_types.specs.Meaning.{Clashes, IsUnifyFault, equation_of, place_in, subst_of, types_of_subst};
+ghost use Rattle.cu_types.specs.Meaning.{Clashes, HasPlaces, IsUnifyFault, equation_of, place_in, subst_of, types_of_subst};
 ghost use Rattle.cu_types.specs.Table.{IsTable, shape_of};
 ghost use Rattle.cu_types.specs.Unification.{IsMostGeneral};
 
@@ -91,7 +91,7 @@ impl Reader {
 fn unified(alloc: Global, equations: &[Equation]) -> Result<Result<Subst, Clash>, AllocError>
     ensures { IfOk result (λ outcome. MatchResult outcome
         (λ s. IsMostGeneral (subst_of s) (map equation_of equations.now)
-        × IsTable (types_of_subst s))
+        × IsTable (types_of_subst s) × HasPlaces s)
         (Clashes (map equation_of equations.now))) }
 {
     let mut reader = Reader::new(alloc);
@@ -117,6 +117,7 @@ pub fn unify(alloc: Global, equations: &[Equation]) -> Result<Subst, UnifyFault>
     ensures solution { IfOk result (λ s.
         IsMostGeneral (subst_of s) (map equation_of equations.now)) }
     ensures table { IfOk result (λ s. IsTable (types_of_subst s)) }
+    ensures places { IfOk result HasPlaces }
     ensures fault { IfErr result (IsUnifyFault (map equation_of equations.now)) }
 {
     match unified(alloc, equations) {

@@ -1,8 +1,8 @@
-use Rattle.std.proofs.Common.{◌<◌, ℕ, List, map, nat_eq, subst}
+use Rattle.std.proofs.Common.{◌<◌, ℕ, List, length, map, nat_eq, subst}
 use Rattle.indexmap.specs.IndexMap.{get}
 use Rattle.cu_types.proofs.Joins.{each_within_back}
 use Rattle.cu_types.proofs.ReadTypes.{most_general_places, pairs_equal, stand_within}
-use Rattle.cu_types.proofs.TableLemmas.{mapped_length}
+use Rattle.cu_types.proofs.TableLemmas.{mapped_length, place_within}
 use Rattle.cu_types.proofs.unification.unified.Goals as goal
 use Rattle.cu_types.specs.Inside.Reading.{shapes}
 use Rattle.cu_types.specs.Inside.Solving.{IsCollision, IsSolution, SolvesOr}
@@ -26,6 +26,8 @@ returns-in-Solution c =
       most_general_places (get nat_eq c.read_all.new.self.variables) equations ss c.in_ok-pairs.pairs.items c.in-Solution.places.items
           (map shape_of c.in-Solution.types.items) c.in_ok-pairs.ensures.reader c.in_ok-pairs.ensures.read solution,
       solution.table,
+      λ x p. place_within c.in-Solution.places.items (get nat_eq c.read_all.new.self.variables x) p (length ss) (length (map shape_of c.in-Solution.types.items)) solution.sized
+          solution.within,
     )
 
 pub returns-in-Clash : goal.returns-in-Clash
