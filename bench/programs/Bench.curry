@@ -1,0 +1,29 @@
+module Bench where
+
+import Permutation
+
+-- all numbers of so many bits
+bit :: Int
+bit = 0 ? 1
+
+grow :: Int -> Int -> Int
+grow n x = if n == 0 then x else grow (n - 1) (x + x + bit)
+
+-- naive reverse
+nrev :: [a] -> [a]
+nrev []     = []
+nrev (x:xs) = nrev xs ++ [x]
+
+sorted :: [Int] -> [Int]
+sorted xs | rises ys = ys
+  where ys = permutation xs
+
+rises :: [Int] -> Bool
+rises []           = True
+rises [_]          = True
+rises (x : y : ys) = x <= y && rises (y : ys)
+
+-- a chain of shared pairs, whose tree has 2 ^ n leaves
+deep n = if n == 0 then () else twin (deep (n - 1))
+
+twin x = (x, x)
