@@ -1,0 +1,3 @@
+mod Following
+mod GoalRule
+mod LeastLevels
