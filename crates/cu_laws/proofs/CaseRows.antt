@@ -189,7 +189,7 @@ taken_sound program claims graph after id mode scrutinee scope branches k args b
 
 -- ** Literals and constructors
 
-literal_pattern : (l : Lit) (p : Shallow) → takes_literal l p ≡ true → p ≡ code.Exactly l
+pub literal_pattern : (l : Lit) (p : Shallow) → takes_literal l p ≡ true → p ≡ code.Exactly l
 literal_pattern l (code.Exactly m) is = ap code.Exactly (sym (literal_is l m is))
 literal_pattern l (code.Built c xs) is = absurd (true≢false (sym is))
 
@@ -207,11 +207,11 @@ literal_sound program claims graph after id mode scrutinee scope branches l args
     taken_sound program claims graph after id mode scrutinee scope branches (kind.Lit l) args branch found.place [] (value.Literal l) later well fit at head_is refl found.is
     met matches after_is good
 
-constructor_pattern : (c : ConId) (p : Shallow) → takes_constructor c p ≡ true → (xs : List ℕ) × (p ≡ code.Built c xs)
+pub constructor_pattern : (c : ConId) (p : Shallow) → takes_constructor c p ≡ true → (xs : List ℕ) × (p ≡ code.Built c xs)
 constructor_pattern c (code.Exactly l) is = absurd (true≢false (sym is))
 constructor_pattern c (code.Built d xs) is = (xs, ap (λ (x : ConId). code.Built x xs) (sym (same_is c d is)))
 
-takes_one : (o : Option ℕ) (m n : ℕ) → takes o m ≡ true → takes o n ≡ true → m ≡ n
+pub takes_one : (o : Option ℕ) (m n : ℕ) → takes o m ≡ true → takes o n ≡ true → m ≡ n
 takes_one None m n a b = absurd (true≢false (sym a))
 takes_one (Some k) m n a b = sym (eqb-true k m a) ∙ eqb-true k n b
 

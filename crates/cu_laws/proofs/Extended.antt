@@ -40,7 +40,7 @@ use Rattle.cu_calculus.proofs.ValuesOf.{gives_of}
 use Rattle.cu_calculus.proofs.Weaken.{all_weaken, bind_below, weaken}
 use Rattle.cu_machine.specs.declared.Kind.{Kind}
 use Rattle.cu_machine.specs.declared.Kind.TheVariants as kind
-use Rattle.cu_machine.specs.Build.{Built, BuiltParts, Fresh, Scope, Shared, Top, after, build_alone, build_case, build_expr, build_free, build_let, build_node, build_parts, build_variable, build_within, instead, kind_of_call, kind_of_whole, place_in, place_of, pushed, write}
+use Rattle.cu_machine.specs.Build.{Built, BuiltParts, Fresh, Scope, Shared, Top, after, build_alone, build_case, build_expr, build_free, build_let, build_node, build_parts, build_variable, build_within, instead, kind_of_call, kind_of_whole, place_in, place_of, pushed, write, written}
 use Rattle.cu_machine.specs.Graph.{Graph, Node, alone, node_at, stuck}
 use Rattle.cu_machine.proofs.Building.{all_get}
 use Rattle.cu_machine.proofs.Frames.{at_new, at_same, length_written}
@@ -118,7 +118,7 @@ external_answers program claims f operation us v is app =
     operation_gives (program_of program) claims (head.Fun f) us v app f (function_in program found.0) operation refl there (ap (body_in program) found.2)
 
 -- a head on all its arguments has a node that may have what the calculus gives it
-whole_may : (program : Code) (claims : List Claim) (assigned : Assignment) (h : Head) (args : List ℕ) (v w : Value)
+pub whole_may : (program : Code) (claims : List Claim) (assigned : Assignment) (h : Head) (args : List ℕ) (v w : Value)
     → Applied (program_of program) claims h (values_at assigned args) w → Below v w → MayHave NoValue program claims assigned (kind_of_whole program h) args v
 whole_may program claims assigned (head.Con c) args v w app low = inr (w, app, low)
 whole_may program claims assigned (head.Set f) args v w app low = inr (w, app, low)
@@ -204,7 +204,7 @@ module _ (program : Code) (claims : List Claim) where
 
   -- ** Nodes that stay as they are
 
-  all_may_rise : (low high : Assignment) (of_low : (id : ℕ) → IsTrue (is_of (program_of program) (low id))) (of_high : (id : ℕ) → IsTrue (is_of (program_of program) (high id)))
+  pub all_may_rise : (low high : Assignment) (of_low : (id : ℕ) → IsTrue (is_of (program_of program) (low id))) (of_high : (id : ℕ) → IsTrue (is_of (program_of program) (high id)))
       (place : ℕ) (nodes : List Node) → RisesTo low high → ((x : ℕ) → x < place + length nodes → high x ≡ low x) → AllMay program claims low of_low place nodes
       → AllMay program claims high of_high place nodes
   all_may_rise low high of_low of_high place [] up same may = tt
@@ -214,14 +214,14 @@ module _ (program : Code) (claims : List Claim) where
         all_may_rise low high of_low of_high (suc place) nodes up (λ x below. same x (omega arith)) may.1,
       )
 
-  all_may_join : (assigned : Assignment) (all : (id : ℕ) → IsTrue (is_of (program_of program) (assigned id))) (place : ℕ) (xs ys : List Node)
+  pub all_may_join : (assigned : Assignment) (all : (id : ℕ) → IsTrue (is_of (program_of program) (assigned id))) (place : ℕ) (xs ys : List Node)
       → AllMay program claims assigned all place xs → AllMay program claims assigned all (place + length xs) ys → AllMay program claims assigned all place (xs ++ ys)
   all_may_join assigned all place [] ys may more = subst (λ (n : ℕ). AllMay program claims assigned all n ys) (omega arith) more
   all_may_join assigned all place (x ∷ xs) ys may more =
       (may.0, all_may_join assigned all (suc place) xs ys may.1 (subst (λ (n : ℕ). AllMay program claims assigned all n ys) (omega arith) more))
 
   -- nodes behind nodes
-  pushed_both : (assigned : Assignment) (next : ℕ) (xs ys : List Node) (first : Pushed assigned next xs) → Pushed first.higher (next + length xs) ys
+  unfoldable pub pushed_both : (assigned : Assignment) (next : ℕ) (xs ys : List Node) (first : Pushed assigned next xs) → Pushed first.higher (next + length xs) ys
       → Pushed assigned next (xs ++ ys)
   pushed_both assigned next xs ys first second = record {
     higher = second.higher;
@@ -233,7 +233,7 @@ module _ (program : Code) (claims : List Claim) where
         (all_may_rise first.higher second.higher first.of_program second.of_program next xs second.rises second.same first.may) second.may;
   }
 
-  nothing_pushed : (assigned : Assignment) (next : ℕ) → AllOf assigned → Past assigned next → Pushed assigned next []
+  pub nothing_pushed : (assigned : Assignment) (next : ℕ) → AllOf assigned → Past assigned next → Pushed assigned next []
   nothing_pushed assigned next all past = record {
     higher = assigned;
     of_program = all;
@@ -249,7 +249,7 @@ module _ (program : Code) (claims : List Claim) where
     pub pushes : Pushed assigned next (pushed built)
     pub there : Below v (pushes.higher (place_of next built))
 
-  push_top : (assigned : Assignment) (next : ℕ) (parts : List Node) (top : Top) (v : Value) → IsTrue (is_of (program_of program) v)
+  pub push_top : (assigned : Assignment) (next : ℕ) (parts : List Node) (top : Top) (v : Value) → IsTrue (is_of (program_of program) v)
       → Extended assigned next (record { parts = parts; top = top }) v → PushedTop assigned next (record { parts = parts; top = top }) v
   push_top assigned next parts (Shared id) v of_v e = record {
     pushes = record {
@@ -766,23 +766,19 @@ all_may_at program claims assigned all place (n ∷ nodes) (suc i) may below =
     subst (λ (x : ℕ). MayHave NoValue program claims assigned (get_or nodes i stuck).kind (get_or nodes i stuck).args (assigned x)) (omega arith)
     (all_may_at program claims assigned all (suc place) nodes i may.1 (omega arith))
 
-pub written_has : (program : Code) (claims : List Claim) (graph : Graph) (id : ℕ) (scope : Scope) (variables : List ℕ) (e : ExprId) (assigned : Assignment)
-    → is_well_formed program ≡ true → IsTrue (list_all (is_claim_of (program_of program)) claims) → id < length graph
-    → fits (length program.expressions) program variables e ≡ true → ((x : ℕ) → IsTrue (is_of (program_of program) (assigned x)))
-    → ((x : ℕ) → length graph ≤ x → assigned x ≡ value.Bottom)
-    → Gives (program_of program) claims (env_in assigned scope) (term_of program e) (assigned id)
-    → (extended : Assignment) × Extends program claims graph id (write program scope graph id e) assigned extended
-written_has program claims graph id scope variables e assigned well claimed here fit all past given =
-    let n = length program.expressions in
-    let built = build_within n program scope (length graph) e in
-    let after = write program scope graph id e in
+-- what was extended to the parts of what is built over a node that has the value of its top
+pub written_by : (program : Code) (claims : List Claim) (graph : Graph) (id : ℕ) (built : Built) (assigned : Assignment) → id < length graph
+    → Extended program claims assigned (length graph) built (assigned id)
+    → (extended : Assignment) × Extends program claims graph id (written graph id built) assigned extended
+written_by program claims graph id built assigned here found =
+    let after = written graph id built in
     let long = length_written graph id built in
-    let found = built_has program claims well claimed n (omega arith) variables scope (length graph) e (assigned id) assigned fit all past given in
     let high = found.higher in (
       high,
       record {
         of_program = found.of_program;
         same = found.same;
+        past = λ x behind. found.past x (omega arith);
         each = λ x below new. elim new [
           | inl same ↦
               subst (λ (y : ℕ). MayHave NoValue program claims high (node_at after y).kind (node_at after y).args (high y)) (sym same)
@@ -802,3 +798,14 @@ written_has program claims graph id scope variables e assigned well claimed here
         → MayHave NoValue program claims high (instead top).kind (instead top).args v
     top_of high of_high (Shared other) v may = may
     top_of high of_high (Fresh m) v may = may
+
+pub written_has : (program : Code) (claims : List Claim) (graph : Graph) (id : ℕ) (scope : Scope) (variables : List ℕ) (e : ExprId) (assigned : Assignment)
+    → is_well_formed program ≡ true → IsTrue (list_all (is_claim_of (program_of program)) claims) → id < length graph
+    → fits (length program.expressions) program variables e ≡ true → ((x : ℕ) → IsTrue (is_of (program_of program) (assigned x)))
+    → ((x : ℕ) → length graph ≤ x → assigned x ≡ value.Bottom)
+    → Gives (program_of program) claims (env_in assigned scope) (term_of program e) (assigned id)
+    → (extended : Assignment) × Extends program claims graph id (write program scope graph id e) assigned extended
+written_has program claims graph id scope variables e assigned well claimed here fit all past given =
+    let n = length program.expressions in
+    written_by program claims graph id (build_within n program scope (length graph) e) assigned here
+    (built_has program claims well claimed n (omega arith) variables scope (length graph) e (assigned id) assigned fit all past given)

@@ -238,7 +238,7 @@ by_case_gives program claims x y a b v differ found =
         not_same true same = absurd (differ (eqb-true x y same))
         not_same false other = refl
 
-one_rule : (first : Rule) (k : ℕ) (rule : Rule) → slice_get (first ∷ []) k ≡ Some rule → rule ≡ first
+pub one_rule : (first : Rule) (k : ℕ) (rule : Rule) → slice_get (first ∷ []) k ≡ Some rule → rule ≡ first
 one_rule first zero rule is = let same : first ≡ rule = cc in sym same
 one_rule first (suc k) rule is = let no : ⊥ = cc in absurd no
 

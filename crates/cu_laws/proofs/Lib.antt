@@ -38,3 +38,17 @@ pub mod CameFrom
 pub mod SearchAnswers
 pub mod AtLevel
 pub mod LevelStates
+pub mod Known
+pub mod LooseNodes
+pub mod NeededValues
+pub mod Continuing
+pub mod CallKept
+pub mod CaseKept
+pub mod ApplyKept
+pub mod AnswerKept
+pub mod SetKept
+pub mod BoundKept
+pub mod PairsKept
+pub mod OccursKept
+pub mod InsideKept
+pub mod DirectRows

@@ -56,24 +56,24 @@ value_or assigned v (Some id) = assigned id
 value_or assigned v None = v
 
 -- variables that differ stand for the values of the places beside them
-pub zip_below : (assigned : Assignment) (env : Environment) (xs args : List ℕ) (y : ℕ) → is_linear xs ≡ true
-    → Below (value_or assigned (env y) (place_in (zip xs args) y)) (bind_all env (zip xs (map assigned args)) y)
-zip_below assigned env [] args y linear = below_itself (env y)
-zip_below assigned env (x ∷ xs) [] y linear = below_itself (env y)
-zip_below assigned env (x ∷ xs) (arg ∷ args) y linear =
+pub zip_same : (assigned : Assignment) (env : Environment) (xs args : List ℕ) (y : ℕ) → is_linear xs ≡ true
+    → value_or assigned (env y) (place_in (zip xs args) y) ≡ bind_all env (zip xs (map assigned args)) y
+zip_same assigned env [] args y linear = refl
+zip_same assigned env (x ∷ xs) [] y linear = refl
+zip_same assigned env (x ∷ xs) (arg ∷ args) y linear =
     let parts = and_parts (not (holds x xs)) (is_linear xs) linear in
     let rest = bind_all env (zip xs (map assigned args)) in
-    by_test (nat_eq x y) (λ b. nat_eq x y ≡ b → Below (value_or assigned (env y) (place_in (zip (x ∷ xs) (arg ∷ args)) y)) (if b then assigned arg else rest y))
+    by_test (nat_eq x y) (λ b. nat_eq x y ≡ b → value_or assigned (env y) (place_in (zip (x ∷ xs) (arg ∷ args)) y) ≡ (if b then assigned arg else rest y))
     (λ same e.
     let is : x ≡ y = eqb-true x y e in
     let none : place_in (zip xs args) y ≡ None = no_place xs args y (subst (λ (z : ℕ). holds z xs ≡ false) is (not_true (holds x xs) parts.0)) in
     let place : place_in (zip (x ∷ xs) (arg ∷ args)) y ≡ Some arg =
     ap₂ (λ (o : Option ℕ) (b : Bool). elim o [ Some other ↦ Some other | None ↦ if b then Some arg else None ]) none (nat_eq_comm y x ∙ e) in
-    subst (λ (o : Option ℕ). Below (value_or assigned (env y) o) (assigned arg)) (sym place) (below_itself (assigned arg)))
+    ap (value_or assigned (env y)) place)
     (λ other e.
     let place : place_in (zip (x ∷ xs) (arg ∷ args)) y ≡ place_in (zip xs args) y =
     ap (λ (b : Bool). elim (place_in (zip xs args) y) [ Some o ↦ Some o | None ↦ if b then Some arg else None ]) (nat_eq_comm y x ∙ e) ∙ plain (place_in (zip xs args) y) in
-    subst (λ (o : Option ℕ). Below (value_or assigned (env y) o) (rest y)) (sym place) (zip_below assigned env xs args y parts.1)) refl
+    ap (value_or assigned (env y)) place ∙ zip_same assigned env xs args y parts.1) refl
   where
     not_true : (b : Bool) → not b ≡ true → b ≡ false
     not_true true e = absurd (true≢false (sym e))
@@ -84,16 +84,29 @@ zip_below assigned env (x ∷ xs) (arg ∷ args) y linear =
     plain (Some found) = refl
 
 -- a scope with further variables
+pub env_same : (assigned : Assignment) (scope : Scope) (xs args : List ℕ) (y : ℕ) → is_linear xs ≡ true
+    → env_in assigned (scope ++ zip xs args) y ≡ bind_all (env_in assigned scope) (zip xs (map assigned args)) y
+env_same assigned scope xs args y linear =
+    subst (λ (o : Option ℕ). (elim o [ Some id ↦ assigned id | None ↦ value.Bottom ]) ≡ bind_all (env_in assigned scope) (zip xs (map assigned args)) y)
+    (sym (place_in_both scope (zip xs args) y)) (go (place_in (zip xs args) y) (zip_same assigned (env_in assigned scope) xs args y linear))
+  where
+    go : (found : Option ℕ) → value_or assigned (env_in assigned scope y) found ≡ bind_all (env_in assigned scope) (zip xs (map assigned args)) y
+        → (elim (or_else found (place_in scope y)) [ Some id ↦ assigned id | None ↦ value.Bottom ]) ≡ bind_all (env_in assigned scope) (zip xs (map assigned args)) y
+    go None is = is
+    go (Some id) is = is
+
 pub env_of_both : (assigned : Assignment) (scope : Scope) (xs args : List ℕ) → is_linear xs ≡ true
     → EnvBelow (env_in assigned (scope ++ zip xs args)) (bind_all (env_in assigned scope) (zip xs (map assigned args)))
 env_of_both assigned scope xs args linear y =
-    subst (λ (o : Option ℕ). Below (elim o [ Some id ↦ assigned id | None ↦ value.Bottom ]) (bind_all (env_in assigned scope) (zip xs (map assigned args)) y))
-    (sym (place_in_both scope (zip xs args) y)) (go (place_in (zip xs args) y) (zip_below assigned (env_in assigned scope) xs args y linear))
-  where
-    go : (found : Option ℕ) → Below (value_or assigned (env_in assigned scope y) found) (bind_all (env_in assigned scope) (zip xs (map assigned args)) y)
-        → Below (elim (or_else found (place_in scope y)) [ Some id ↦ assigned id | None ↦ value.Bottom ]) (bind_all (env_in assigned scope) (zip xs (map assigned args)) y)
-    go None low = low
-    go (Some id) low = low
+    subst (λ (v : Value). Below (env_in assigned (scope ++ zip xs args) y) v) (env_same assigned scope xs args y linear)
+    (below_itself (env_in assigned (scope ++ zip xs args) y))
+
+-- and bindings of such variables say no more than the scope
+pub both_of_env : (assigned : Assignment) (scope : Scope) (xs args : List ℕ) → is_linear xs ≡ true
+    → EnvBelow (bind_all (env_in assigned scope) (zip xs (map assigned args))) (env_in assigned (scope ++ zip xs args))
+both_of_env assigned scope xs args linear y =
+    subst (λ (v : Value). Below v (env_in assigned (scope ++ zip xs args) y)) (env_same assigned scope xs args y linear)
+    (below_itself (env_in assigned (scope ++ zip xs args) y))
 
 pub env_of_zip : (assigned : Assignment) (xs args : List ℕ) → is_linear xs ≡ true → EnvBelow (env_in assigned (zip xs args)) (bind_all empty (zip xs (map assigned args)))
 env_of_zip assigned xs args linear = env_of_both assigned [] xs args linear

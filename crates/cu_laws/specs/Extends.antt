@@ -4,6 +4,7 @@ use Rattle.cu_calculus.specs.Code.{Code}
 use Rattle.cu_calculus.specs.FlatProgram.{program_of}
 use Rattle.cu_calculus.specs.Gives.{Claim}
 use Rattle.cu_calculus.specs.Shape.{is_of}
+use Rattle.cu_calculus.specs.Value as value
 use Rattle.cu_machine.specs.Graph.{Graph, node_at}
 use Rattle.cu_laws.specs.Good.{Assignment, MayHave, NoValue}
 
@@ -12,5 +13,7 @@ use Rattle.cu_laws.specs.Good.{Assignment, MayHave, NoValue}
 pub record Extends (program : Code) (claims : List Claim) (graph : Graph) (id : ℕ) (after : Graph) (assigned extended : Assignment) : Type 0 where
   pub of_program : (x : ℕ) → IsTrue (is_of (program_of program) (extended x))
   pub same : (x : ℕ) → x < length graph → extended x ≡ assigned x
+  -- nothing is known past the new nodes
+  pub past : (x : ℕ) → length after ≤ x → extended x ≡ value.Bottom
   pub each : (x : ℕ) → x < length after → (x ≡ id) ⊎ (length graph ≤ x)
       → MayHave NoValue program claims extended (node_at after x).kind (node_at after x).args (extended x)
