@@ -54,7 +54,7 @@ use Rattle.cu_laws.proofs.Scopes.{any_match, both_of_env}
 one_expression : (o : Option code.Expr) (a b : code.Expr) → o ≡ Some a → o ≡ Some b → a ≡ b
 one_expression o a b is are = some_is a b (sym is ∙ are)
 
--- What a case distinction whose scrutinee is at most u gives on u: a branch of the code takes u, and its term gives at least what the node has.
+-- What a case distinction gives on u where its scrutinee has at most that: a branch takes u, and gives at least what the node has.
 pub record Branches (program : Code) (claims : List Claim) (id : ℕ) (branches : List Branch) (kept values : List ℕ) (u : Value) (assigned : Assignment) : Type 0 where
   pub term : Term
   pub bindings : Bindings

@@ -30,9 +30,9 @@ pub fn needed_nodes_have_values()
 {}
 
 /// Where a valid state needs a node that compares no two constructors, and a
-/// row of the step table rewrites it, some row loses nothing: to a loose assignment in which the root
-/// has a total value belongs one that is loose for the graph that follows, and
-/// gives each node the value that it had.
+/// row of the step table rewrites it, some row loses nothing: to a loose
+/// assignment in which the root has a total value belongs one that is loose
+/// for the graph that follows, and gives each node the value that it had.
 pub fn direct_rows_are_complete()
     ensures { (program : Code) (claims : List Claim) (graph after : Graph) (root id : ℕ)
         (goals : List ℕ) (assigned : Assignment) → IsTrue (is_well_formed program)
