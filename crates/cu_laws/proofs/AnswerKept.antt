@@ -213,7 +213,7 @@ literal_kinds program claims graph assigned loose (arg ∷ args) (l ∷ ls) read
     ap₂ (λ k ks. k ∷ ks) (bound_literal program claims graph assigned loose arg l first (head_at graph arg).kind refl parts.0)
     (literal_kinds program claims graph assigned loose args ls parts.1 rest)
 
-pair_most : (a b x y : Value) → Below a x → Below b y
+pub pair_most : (a b x y : Value) → Below a x → Below b y
     → AllBelow (value.MoreValues a (value.MoreValues b value.NoValue)) (value.MoreValues x (value.MoreValues y value.NoValue))
 pair_most a b x y p q = below.more a x (value.MoreValues b value.NoValue) (value.MoreValues y value.NoValue) p (below.more b y value.NoValue value.NoValue q below.none)
 

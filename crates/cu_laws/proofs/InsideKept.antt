@@ -9,29 +9,34 @@ use Rattle.cu_calculus.specs.Builtin.{truth_of}
 use Rattle.cu_calculus.specs.Code.{Code}
 use Rattle.cu_calculus.specs.FlatProgram.{program_of}
 use Rattle.cu_calculus.specs.Gives.{Claim}
+use Rattle.cu_calculus.specs.Match.{same_constructor}
 use Rattle.cu_calculus.specs.Shape.{are_data, are_total, is_total, is_total_data}
 use Rattle.cu_calculus.specs.Value as value
 use Rattle.cu_calculus.specs.Value.{Value, Values, values_of}
 use Rattle.cu_calculus.specs.WellFormed.{is_well_formed}
+use Rattle.cu_calculus.proofs.Comparing.{same_is}
 use Rattle.cu_machine.specs.declared.Kind.{Kind}
 use Rattle.cu_machine.specs.declared.Kind.TheVariants as kind
 use Rattle.cu_machine.specs.Graph.{Graph, Node, head_at, node_at}
-use Rattle.cu_machine.specs.Rewrite.{alone_follows, equated_in_pairs}
+use Rattle.cu_machine.specs.Rewrite.{alone_follows, compared_in_pairs, equated_in_pairs}
 use Rattle.cu_machine.specs.State.{numbers}
 use Rattle.cu_machine.specs.Steps.{FreeBeside, imitating, node}
+use Rattle.cu_machine.specs.Validity.{NodesFit}
 use Rattle.cu_laws.specs.Continues.{NothingPast}
 use Rattle.cu_laws.specs.Good.{Assignment, Loose}
-use Rattle.cu_laws.proofs.AnswerKept.{left_is, right_is, sides_equal}
+use Rattle.cu_laws.proofs.AnswerKept.{left_is, operation_answers, pair_most, right_is, sides_equal}
 use Rattle.cu_laws.proofs.Binding.{imitating_there, length_imitating}
 use Rattle.cu_laws.proofs.BoundKept.{free_there, to_constructor}
+use Rattle.cu_laws.proofs.ComparisonKept.{comparisons_kept, compares_inside, equal_compares}
 use Rattle.cu_laws.proofs.Continuing.{Kept, same_rises}
 use Rattle.cu_laws.proofs.Heads.{made, made_is_most, values_at}
 use Rattle.cu_laws.proofs.Known.{is_known}
-use Rattle.cu_laws.proofs.LooseNodes.{loose_at}
+use Rattle.cu_laws.proofs.LooseNodes.{head_most, loose_at}
 use Rattle.cu_laws.proofs.OccursKept.{constructor_is}
+use Rattle.cu_laws.proofs.PairRows.{as_many_arguments}
 use Rattle.cu_laws.proofs.PairsKept.{equations_kept}
 use Rattle.cu_laws.proofs.Raising.{there_unless_stuck}
-use Rattle.cu_laws.proofs.Rising.{all_total_above, total_above, values_rise}
+use Rattle.cu_laws.proofs.Rising.{all_total_above, answers_rise, total_above, values_rise}
 
 kind_from : (graph : Graph) (x : ℕ) (k : Kind) (args : List ℕ) → head_at graph x ≡ node k args → (head_at graph x).kind ≡ k
 kind_from graph x k args is = ap (λ (n : Node). n.kind) is
@@ -59,6 +64,22 @@ module _ (program : Code) (claims : List Claim) (graph : Graph) (id : ℕ) (assi
       let parts = and_parts (are_total (values_at assigned us)) (are_data (values_at assigned us)) whole in
       equations_kept program claims graph after id us vs assigned well loose past (there_unless_stuck graph id (kind.Prim prim.Unify) (a ∷ b ∷ []) is refl) sides.2 same parts.0
       parts.1 follows
+
+  pub comparison_kept : (after : Graph) (a b : ℕ) (c d : ConId) (us vs : List ℕ) → NodesFit program graph → node_at graph id ≡ node (kind.Prim prim.Equal) (a ∷ b ∷ [])
+      → head_at graph a ≡ node (kind.Cons c) us → head_at graph b ≡ node (kind.Cons d) vs → same_constructor c d ≡ true
+      → compared_in_pairs program.special graph id (zip us vs) ≡ alone_follows after → Kept program claims graph after assigned
+  comparison_kept after a b c d us vs fit is head_a head_b alike follows =
+      let x = value.Constructed c (values_at assigned us) in
+      let y = value.Constructed d (values_at assigned vs) in
+      let both = value.MoreValues x (value.MoreValues y value.NoValue) in
+      let found = operation_answers program claims graph id prim.Equal (a ∷ b ∷ []) assigned loose known is in
+      let answers = answers_rise (program_of program) prim.Equal (values_at assigned (a ∷ b ∷ [])) both found.0 found.1
+      (pair_most (assigned a) (assigned b) x y (head_most program claims graph assigned a (kind.Cons c) us x loose head_a refl)
+      (head_most program claims graph assigned b (kind.Cons d) vs y loose head_b refl)) in
+      let told = equal_compares (program_of program) prim.Equal both found.0 answers refl x y refl in
+      let inside = compares_inside x y told.0 told.1 c d (values_at assigned us) (values_at assigned vs) refl refl alike in
+      comparisons_kept program claims graph after id us vs told.0 assigned well loose past (there_unless_stuck graph id (kind.Prim prim.Equal) (a ∷ b ∷ []) is refl)
+      (subst (λ (w : Value). Below (assigned id) w) told.2 found.2) (as_many_arguments program graph a b c d us vs fit head_a head_b (same_is c d alike)) inside follows
 
   pub imitation_kept : (after : Graph) (a b v other : ℕ) (c : ConId) (arg : ℕ) (args : List ℕ) → node_at graph id ≡ node (kind.Prim prim.Unify) (a ∷ b ∷ [])
       → FreeBeside graph a b v other (kind.Cons c) (arg ∷ args)

@@ -48,7 +48,9 @@ pub mod ApplyKept
 pub mod AnswerKept
 pub mod SetKept
 pub mod BoundKept
+pub mod ConjunctionWorth
 pub mod PairsKept
+pub mod ComparisonKept
 pub mod OccursKept
 pub mod InsideKept
-pub mod DirectRows
+pub mod CompleteRows

@@ -1,12 +1,9 @@
 -- From a graph to one that follows it, no value is lost.
-use Rattle.std.specs.Prelude.{◌≡◌, ℕ, ◌<◌, ◌≤◌, Bool, true, false, not, List, [], ◌∷◌, length}
-use Rattle.cu_calculus.specs.declared.builtin.Primitive.TheVariants as prim
+use Rattle.std.specs.Prelude.{◌≡◌, ℕ, ◌<◌, ◌≤◌, List, length}
 use Rattle.cu_calculus.specs.Code.{Code}
 use Rattle.cu_calculus.specs.Gives.{Claim}
 use Rattle.cu_calculus.specs.Value as value
-use Rattle.cu_machine.specs.declared.Kind.{Kind}
-use Rattle.cu_machine.specs.declared.Kind.TheVariants as kind
-use Rattle.cu_machine.specs.Graph.{Graph, head_at}
+use Rattle.cu_machine.specs.Graph.{Graph}
 use Rattle.cu_laws.specs.Good.{Assignment, Loose}
 
 -- nothing is known past a graph
@@ -18,14 +15,3 @@ pub record Continues (program : Code) (claims : List Claim) (graph after : Graph
   pub loose : Loose program claims after later
   pub past : NothingPast after later
   pub same : (x : ℕ) → x < length graph → later x ≡ assigned x
-
--- ** Rows
-
-abbrev pub are_constructors : Kind → Kind → Bool
-are_constructors (kind.Cons c) (kind.Cons d) = true
-are_constructors _ _ = false
-
--- any node but a comparison of two constructors
-abbrev pub is_direct : Graph → Kind → List ℕ → Bool
-is_direct graph (kind.Prim prim.Equal) (a ∷ b ∷ []) = not (are_constructors (head_at graph a).kind (head_at graph b).kind)
-is_direct graph _ _ = true

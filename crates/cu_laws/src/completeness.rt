@@ -8,12 +8,12 @@ ghost use Rattle.cu_calculus.specs.Proof.{is_claim_of};
 ghost use Rattle.cu_calculus.specs.Shape.{is_total};
 ghost use Rattle.cu_calculus.specs.Value.{Bottom};
 ghost use Rattle.cu_calculus.specs.WellFormed.{is_well_formed};
-ghost use Rattle.cu_machine.specs.Graph.{Graph, node_at};
+ghost use Rattle.cu_machine.specs.Graph.{Graph};
 ghost use Rattle.cu_machine.specs.Need.{At, Dead, need_all};
 ghost use Rattle.cu_machine.specs.State.{Branch, Idle};
 ghost use Rattle.cu_machine.specs.Steps.{Steps};
 ghost use Rattle.cu_machine.specs.Validity.{IsValid};
-ghost use Rattle.cu_laws.specs.Continues.{Continues, NothingPast, is_direct};
+ghost use Rattle.cu_laws.specs.Continues.{Continues, NothingPast};
 ghost use Rattle.cu_laws.specs.Good.{Assignment, Loose};
 
 /// The node that is to be rewritten has a value other than Bottom wherever the
@@ -29,17 +29,16 @@ pub fn needed_nodes_have_values()
         → IsTrue (is_total (assigned root)) → need_all program.special.truth graph root ≡ Dead → ⊥ }
 {}
 
-/// Where a valid state needs a node that compares no two constructors, and a
-/// row of the step table rewrites it, some row loses nothing: to a loose
+/// Where a valid state needs a node, and a row of the step table rewrites it,
+/// some row loses nothing, those that bind variables too: to a loose
 /// assignment in which the root has a total value belongs one that is loose
 /// for the graph that follows, and gives each node the value that it had.
-pub fn direct_rows_are_complete()
+pub fn rows_are_complete()
     ensures { (program : Code) (claims : List Claim) (graph after : Graph) (root id : ℕ)
         (goals : List ℕ) (assigned : Assignment) → IsTrue (is_well_formed program)
         → IsTrue (list_all (is_claim_of (program_of program)) claims)
         → IsValid program (Branch graph root goals Idle)
         → need_all program.special.truth graph root ≡ At id
-        → IsTrue (is_direct graph (node_at graph id).kind (node_at graph id).args)
         → Loose program claims graph assigned → NothingPast graph assigned
         → IsTrue (is_total (assigned root)) → Steps program graph id after
         → (other : Graph) × Steps program graph id other × (later : Assignment)
