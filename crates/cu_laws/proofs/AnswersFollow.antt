@@ -72,7 +72,7 @@ variables_give program claims env x (value.MoreValues v vs) each =
     shift k = omega arith
 
 -- what a function gives on values, or less, it concludes
-applied_concludes : (program : Program) (claims : List Claim) (f : FunId) (vs : Values) (v : Value) → takes (arity_in program (head.Fun f)) (count vs) ≡ true
+pub applied_concludes : (program : Program) (claims : List Claim) (f : FunId) (vs : Values) (v : Value) → takes (arity_in program (head.Fun f)) (count vs) ≡ true
     → IsTrue (are_of program vs) → AtMost (Applied program claims (head.Fun f) vs) v → Concludes program claims f vs v
 applied_concludes program claims f vs v whole known most = (whole, known, by most)
   where

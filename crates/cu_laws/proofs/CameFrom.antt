@@ -30,10 +30,11 @@ use Rattle.cu_machine.proofs.Runs.{run_reaches}
 use Rattle.cu_machine.proofs.Searches.{follows_valid}
 use Rattle.cu_machine.proofs.Successors.{go_if, unless_if}
 use Rattle.cu_laws.specs.Good.{Assignment, Good, claim_of}
+use Rattle.cu_laws.specs.Promises.{goals_of, root_of}
 use Rattle.cu_laws.specs.Traced.{AreFound, IsTraced, TracedSearch, spelled_values}
 use Rattle.cu_laws.proofs.Changed.{Sound}
 use Rattle.cu_laws.proofs.FailureRows.{sticking_sound}
-use Rattle.cu_laws.proofs.Follows.{goals_of, idle_from, root_of}
+use Rattle.cu_laws.proofs.Follows.{idle_from}
 use Rattle.cu_laws.proofs.Heads.{count_at}
 use Rattle.cu_laws.proofs.Raising.{rises_itself, rises_trans, there_unless_stuck}
 use Rattle.cu_laws.proofs.SetRow.{delivered_sound}
@@ -53,7 +54,7 @@ pub record CameFrom (program : Code) (limits : Limits) (P : FunId → Type 0) (b
   pub goals : goals_of state ≡ goals_of before
   pub back : (claims : List Claim) (later : Assignment) → Good program claims (graph_of state) later → Carried program limits P claims (graph_of before) later
 
-none_found : (program : Code) (limits : Limits) → AreFound program limits []
+pub none_found : (program : Code) (limits : Limits) → AreFound program limits []
 none_found program limits k claim at = let no : ⊥ = cc in absurd no
 
 both_found : (program : Code) (limits : Limits) (one two : List Claim) → AreFound program limits one → AreFound program limits two → AreFound program limits (one ++ two)
@@ -107,7 +108,7 @@ came_both program limits P one two three first second = record {
 -- ** A search that ended
 
 mutual
-  built_ground : (program : Code) (v : Value) → is_built program v ≡ true → is_ground v ≡ true
+  pub built_ground : (program : Code) (v : Value) → is_built program v ≡ true → is_ground v ≡ true
   built_ground program value.Bottom built = built
   built_ground program (value.Variable x) built = built
   built_ground program (value.Literal l) built = refl
@@ -115,7 +116,7 @@ mutual
       all_built_ground program vs (and_parts (takes (arity_of program (head.Con c)) (count vs)) (are_built program vs) built).1
   built_ground program (value.Partial h vs) built = built
 
-  all_built_ground : (program : Code) (vs : Values) → are_built program vs ≡ true → are_ground vs ≡ true
+  pub all_built_ground : (program : Code) (vs : Values) → are_built program vs ≡ true → are_ground vs ≡ true
   all_built_ground program value.NoValue built = refl
   all_built_ground program (value.MoreValues v vs) built =
       let parts = and_parts (is_built program v) (are_built program vs) built in
@@ -133,11 +134,11 @@ empty_on program limits start depth (suc more) none =
     let same : suc more + depth ≡ suc (more + depth) = omega arith in
     ap (step_level program limits start) same ∙ ap (flat_map (λ s. go_list (next program limits s))) (empty_on program limits start depth more none)
 
-takes_is : (o : Option ℕ) (n : ℕ) → takes o n ≡ true → o ≡ Some n
+pub takes_is : (o : Option ℕ) (n : ℕ) → takes o n ≡ true → o ≡ Some n
 takes_is None n whole = absurd (true≢false (sym whole))
 takes_is (Some arity) n whole = ap Some (eqb-true arity n whole)
 
-ended_found : (program : Code) (limits : Limits) (graph : Graph) (id : ℕ) (found : List Value) (traced : TracedSearch program limits graph id found NoState)
+pub ended_found : (program : Code) (limits : Limits) (graph : Graph) (id : ℕ) (found : List Value) (traced : TracedSearch program limits graph id found NoState)
     → NodesFit program graph → Found program limits traced.function (spelled_values graph traced.args) (sorted found)
 ended_found program limits graph id found traced fit =
     let f = traced.function in
@@ -164,12 +165,12 @@ ended_found program limits graph id found traced fit =
       collected = ap sorted traced.found_is;
     }
 
-one_found : (program : Code) (limits : Limits) (claim : Claim) → Found program limits claim.function claim.arguments claim.values → AreFound program limits (claim ∷ [])
+pub one_found : (program : Code) (limits : Limits) (claim : Claim) → Found program limits claim.function claim.arguments claim.values → AreFound program limits (claim ∷ [])
 one_found program limits claim found zero other at =
     let same : claim ≡ other = cc in subst (λ (c : Claim). Found program limits c.function c.arguments c.values) same found
 one_found program limits claim found (suc k) other at = let no : ⊥ = cc in absurd no
 
-one_passes : (P : FunId → Type 0) (claim : Claim) → P claim.function → (k : ℕ) (other : Claim) → slice_get (claim ∷ []) k ≡ Some other → P other.function
+pub one_passes : (P : FunId → Type 0) (claim : Claim) → P claim.function → (k : ℕ) (other : Claim) → slice_get (claim ∷ []) k ≡ Some other → P other.function
 one_passes P claim passes zero other at = let same : claim ≡ other = cc in subst (λ (c : Claim). P c.function) same passes
 one_passes P claim passes (suc k) other at = let no : ⊥ = cc in absurd no
 
@@ -247,7 +248,7 @@ pub record IsUnder (program : Code) (limits : Limits) (P : FunId → Type 0) (Ke
 
 module _ (program : Code) (limits : Limits) (P : FunId → Type 0) (Keep : State → Type 0) (start : State) (well : is_well_formed program ≡ true)
     (keeps : Keeps program limits P Keep) where
-  step_under : (before state : State) (states : List State) → IsUnder program limits P Keep start before → next program limits before ≡ Go states → Among state states
+  pub step_under : (before state : State) (states : List State) → IsUnder program limits P Keep start before → next program limits before ≡ Go states → Among state states
       → IsUnder program limits P Keep start state
   step_under before state states on same m = record {
     valid = follows_valid program limits well before state states on.valid same m;

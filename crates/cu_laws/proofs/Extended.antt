@@ -134,7 +134,7 @@ whole_may program claims assigned (head.Fun f) args v w app low = by (body_of pr
         (external_answers program claims f prim.Failed (values_at assigned args) w is app) refl)
     by (Some (code.External operation)) is = inr (w, external_answers program claims f operation (values_at assigned args) w is app, low)
 
-bottom_whole : (program : Code) (claims : List Claim) (assigned : Assignment) (h : Head) (args : List ℕ)
+pub bottom_whole : (program : Code) (claims : List Claim) (assigned : Assignment) (h : Head) (args : List ℕ)
     → MayHave NoValue program claims assigned (kind_of_whole program h) args value.Bottom
 bottom_whole program claims assigned (head.Con c) args = inl refl
 bottom_whole program claims assigned (head.Set f) args = inl refl

@@ -23,15 +23,10 @@ use Rattle.cu_machine.proofs.Runs.{run_reaches}
 use Rattle.cu_machine.proofs.Searches.{follows_valid}
 use Rattle.cu_machine.proofs.Successors.{answered_if, go_if, next_without, unless_if}
 use Rattle.cu_laws.specs.Good.{Assignment, Good}
+use Rattle.cu_laws.specs.Promises.{goals_of, root_of}
 use Rattle.cu_laws.proofs.AllRows.{sound_row}
 use Rattle.cu_laws.proofs.Changed.{Sound}
 use Rattle.cu_laws.proofs.Raising.{rises_itself, rises_trans}
-
-abbrev pub root_of : State → ℕ
-root_of (Branch graph root goals search) = root
-
-abbrev pub goals_of : State → List ℕ
-goals_of (Branch graph root goals search) = goals
 
 -- A state that comes from another one: root and goal variables are the same, and good assignments can be carried back.
 pub record ComesFrom (program : Code) (claims : List Claim) (before state : State) : Type 0 where

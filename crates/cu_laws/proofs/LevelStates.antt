@@ -47,7 +47,7 @@ module _ (program : Code) (levels : List ℕ) (level : ℕ) where
   -- ** Values that are delivered
 
   mutual
-    value_allowed : (next : ℕ) (v : Value) → is_built program v ≡ true → BuiltAllowed program levels level (push_value next v)
+    pub value_allowed : (next : ℕ) (v : Value) → is_built program v ≡ true → BuiltAllowed program levels level (push_value next v)
     value_allowed next value.Bottom built = absurd (true≢false (sym built))
     value_allowed next (value.Variable x) built = absurd (true≢false (sym built))
     value_allowed next (value.Literal l) built = record { parts = tt; top = tt }
@@ -55,7 +55,7 @@ module _ (program : Code) (levels : List ℕ) (level : ℕ) where
         record { parts = values_allowed next vs (and_parts (takes (arity_of program (head.Con c)) (count vs)) (are_built program vs) built).1; top = tt }
     value_allowed next (value.Partial h vs) built = absurd (true≢false (sym built))
 
-    values_allowed : (next : ℕ) (vs : Values) → are_built program vs ≡ true → NodesAllowed program levels level (push_values next vs).nodes
+    pub values_allowed : (next : ℕ) (vs : Values) → are_built program vs ≡ true → NodesAllowed program levels level (push_values next vs).nodes
     values_allowed next value.NoValue built = tt
     values_allowed next (value.MoreValues v vs) built =
         let parts = and_parts (is_built program v) (are_built program vs) built in
@@ -139,7 +139,7 @@ module _ (program : Code) (levels : List ℕ) (level : ℕ) where
     next_by_allowed graph root goals (Wait ids) states state valid needed all same m = let no : ⊥ = cc in absurd no
     next_by_allowed graph root goals (At id) states state valid needed all same m = moved_allowed graph root id goals (move program graph id) states state valid needed refl all same m
 
-    next_allowed : (before state : State) (states : List State) → IsValid program before → StateAllowed before → next program limits before ≡ Go states → Among state states
+    pub next_allowed : (before state : State) (states : List State) → IsValid program before → StateAllowed before → next program limits before ≡ Go states → Among state states
         → StateAllowed state
     unfolding next IsValid
     next_allowed (Branch graph root goals Idle) state states valid all same m =
@@ -168,7 +168,7 @@ module _ (program : Code) (levels : List ℕ) (level : ℕ) where
 
 -- ** The goal's level
 
-start_allowed : (program : Code) (levels : List ℕ) (goal : FunId) → NodesAllowed program levels (level_of levels goal) (graph_of (start_of program goal))
+pub start_allowed : (program : Code) (levels : List ℕ) (goal : FunId) → NodesAllowed program levels (level_of levels goal) (graph_of (start_of program goal))
 start_allowed program levels goal = on (elim (function_arity program goal) [ Some n ↦ n | None ↦ 0 ])
   where
     call : (n : ℕ) (body : Option code.Body) → NodeAllowed program levels (level_of levels goal) (node (kind_of_call goal body) (numbers 0 n))

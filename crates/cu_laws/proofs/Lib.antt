@@ -38,6 +38,8 @@ pub mod CameFrom
 pub mod SearchAnswers
 pub mod AtLevel
 pub mod LevelStates
+pub mod StaysTraced
+pub mod TracedSound
 pub mod Known
 pub mod LooseNodes
 pub mod NeededValues
@@ -54,3 +56,15 @@ pub mod ComparisonKept
 pub mod OccursKept
 pub mod InsideKept
 pub mod CompleteRows
+pub mod MovesOn
+pub mod Delivering
+pub mod SomeNext
+pub mod LevelsKept
+pub mod SearchesKept
+pub mod ListingKept
+pub mod Instances
+pub mod Beginnings
+pub mod SortedValues
+pub mod CallAnswers
+pub mod FoundTrue
+pub mod Solved

@@ -10,12 +10,9 @@ use Rattle.cu_machine.specs.declared.Kind.TheVariants as kind
 use Rattle.cu_machine.specs.Graph.{Graph, Node, head_at, head_of, head_within, node_at}
 use Rattle.cu_machine.specs.Steps.{node}
 use Rattle.cu_laws.specs.Good.{Assignment, Loose, MayHave, NoValue}
+pub use Rattle.cu_laws.specs.Good.{AnyValue}
 use Rattle.cu_laws.proofs.Heads.{made, made_is_most, made_not_stuck, values_at}
 use Rattle.cu_laws.proofs.Raising.{follow, is_itself, is_stuck, leads_on, there_unless_stuck}
-
--- what a stuck node may have in a loose assignment
-abbrev pub AnyValue : Value → Type 0
-AnyValue v = Unit {0}
 
 -- ** Stuck nodes
 

@@ -25,7 +25,7 @@ use Rattle.cu_laws.proofs.Raising.{there_unless_stuck}
 abbrev pub read_off : (ℕ → ℕ) → Graph → Assignment
 read_off number graph id = renumbered number (spelled graph id)
 
-values_renumbered : (number : ℕ → ℕ) (part : ℕ → Value) (args : List ℕ) → all_renumbered number (values_of (map part args)) ≡ values_of (map (λ arg. renumbered number (part arg)) args)
+pub values_renumbered : (number : ℕ → ℕ) (part : ℕ → Value) (args : List ℕ) → all_renumbered number (values_of (map part args)) ≡ values_of (map (λ arg. renumbered number (part arg)) args)
 values_renumbered number part [] = refl
 values_renumbered number part (arg ∷ args) = ap (value.MoreValues (renumbered number (part arg))) (values_renumbered number part args)
 

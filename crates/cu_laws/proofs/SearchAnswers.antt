@@ -43,7 +43,7 @@ ConcludesByFinds program limits P goal reading =
     (claims : List Claim) × AreFound program limits claims × ((k : ℕ) (claim : Claim) → slice_get claims k ≡ Some claim → P claim.function)
     × Concludes (program_of program) claims goal (values_of reading.bindings) reading.value
 
-state_concludes : (program : Code) (limits : Limits) (P : FunId → Type 0) (goal : FunId) (n : ℕ) (state : State) → is_well_formed program ≡ true
+pub state_concludes : (program : Code) (limits : Limits) (P : FunId → Type 0) (goal : FunId) (n : ℕ) (state : State) → is_well_formed program ≡ true
     → is_rule (body_of program goal) ≡ true → function_arity program goal ≡ Some n → IsValid program state → CameFrom program limits P (start_on program goal n) state
     → ConcludesByFinds program limits P goal (reading_at state)
 state_concludes program limits P goal n (Branch graph root goals search) well rule arity valid came =
@@ -86,7 +86,7 @@ listed_by_finds program limits goal depth reading well rule m =
 -- ** Claims of the program
 
 mutual
-  built_of : (program : Code) (v : Value) → is_built program v ≡ true → is_of (program_of program) v ≡ true
+  pub built_of : (program : Code) (v : Value) → is_built program v ≡ true → is_of (program_of program) v ≡ true
   built_of program value.Bottom built = refl
   built_of program (value.Variable x) built = refl
   built_of program (value.Literal l) built = built
@@ -96,7 +96,7 @@ mutual
       (ap (λ (o : Option ℕ). takes o (count vs)) (arity_kept program (head.Con c)) ∙ parts.0) (all_built_of program vs parts.1)
   built_of program (value.Partial h vs) built = absurd (true≢false (sym built))
 
-  all_built_of : (program : Code) (vs : Values) → are_built program vs ≡ true → are_of (program_of program) vs ≡ true
+  pub all_built_of : (program : Code) (vs : Values) → are_built program vs ≡ true → are_of (program_of program) vs ≡ true
   all_built_of program value.NoValue built = refl
   all_built_of program (value.MoreValues v vs) built =
       let parts = and_parts (is_built program v) (are_built program vs) built in

@@ -143,11 +143,11 @@ delivered_low program claims graph id c values later here good =
     value_low program claims later good.of_program (length graph) v (later id) may.0 may.1
 
 -- the graph in which they are delivered, where the program has the constructor of such lists
-abbrev delivered_by : Code → Graph → ℕ → List Value → Option ConId → Graph
+abbrev pub delivered_by : Code → Graph → ℕ → List Value → Option ConId → Graph
 delivered_by program graph id values (Some c) = written graph id (push_value (length graph) (collected (program_of program) c values))
 delivered_by program graph id values None = put graph id stuck
 
-delivered_is : (program : Code) (graph : Graph) (id : ℕ) (found : List Value) (values : Option ConId) → program.special.values ≡ values
+pub delivered_is : (program : Code) (graph : Graph) (id : ℕ) (found : List Value) (values : Option ConId) → program.special.values ≡ values
     → delivered program graph id found ≡ delivered_by program graph id (sorted found) values
 delivered_is program graph id found (Some c) is =
     ap (λ (o : Option ConId). elim o [

@@ -20,7 +20,7 @@ use Rattle.cu_machine.specs.Rewrite.{Become, Collect, Move, Overflows, move, rew
 use Rattle.cu_machine.specs.Spell.{cells_of_all, spelled}
 use Rattle.cu_machine.specs.State.{Branch, Idle, MoreStates, NoState, Running, State, States, call_on, states_of}
 use Rattle.cu_machine.specs.Steps.{node}
-use Rattle.cu_machine.specs.Validity.{IsValid, NodesFit, is_set_call}
+use Rattle.cu_machine.specs.Validity.{IsValid, NodesFit, are_built, is_set_call}
 use Rattle.cu_machine.proofs.Equations.{spelled_fits}
 use Rattle.cu_machine.proofs.Fuel.{at_or_below, both_true}
 use Rattle.cu_machine.proofs.Rows.{fit_values, fits_value}
@@ -32,11 +32,11 @@ use Rattle.cu_laws.proofs.InnerLevels.{stepped_on}
 
 -- ** A search that begins
 
-record Collected (graph : Graph) (id : ℕ) (f : FunId) (arguments : Values) : Type 0 where
-  args : List ℕ
-  is : node_at graph id ≡ node (kind.SetCall f) args
-  same : arguments ≡ spelled_values graph args
-  data_only : are_data (spelled_values graph args) ≡ true
+pub record Collected (graph : Graph) (id : ℕ) (f : FunId) (arguments : Values) : Type 0 where
+  pub args : List ℕ
+  pub is : node_at graph id ≡ node (kind.SetCall f) args
+  pub same : arguments ≡ spelled_values graph args
+  pub data_only : are_data (spelled_values graph args) ≡ true
 
 collected_if : (graph : Graph) (id : ℕ) (g f : FunId) (args : List ℕ) (arguments : Values) (b : Bool) → node_at graph id ≡ node (kind.SetCall g) args
     → are_data (spelled_values graph args) ≡ b → (if b then Collect g (spelled_values graph args) else sticks graph id) ≡ Collect f arguments → Collected graph id f arguments
@@ -51,7 +51,7 @@ no_collect (Become graphs) f arguments quiet same = cc
 no_collect (Overflows operation m n) f arguments quiet same = cc
 no_collect (Collect g values) f arguments quiet same = quiet
 
-collected_at : (program : Code) (graph : Graph) (id : ℕ) (f : FunId) (arguments : Values) (k : Kind) (args : List ℕ) → node_at graph id ≡ node k args
+pub collected_at : (program : Code) (graph : Graph) (id : ℕ) (f : FunId) (arguments : Values) (k : Kind) (args : List ℕ) → node_at graph id ≡ node k args
     → (is_set_call k ≡ true) ⊎ IsNoSearch (rewritten program graph id k args) → rewritten program graph id k args ≡ Collect f arguments → Collected graph id f arguments
 collected_at program graph id f arguments k args is (inr quiet) same = absurd (no_collect (rewritten program graph id k args) f arguments quiet same)
 collected_at program graph id f arguments (kind.SetCall g) args is (inl calls) same =
@@ -64,24 +64,30 @@ values_fit program graph (arg ∷ args) nodes =
     both_true (fits_value program (spelled graph arg)) (fit_values program (spelled_values graph args)) (spelled_fits program graph nodes (length graph) arg)
     (values_fit program graph args nodes)
 
-begun_traced : (program : Code) (limits : Limits) (graph : Graph) (root id : ℕ) (goals : List ℕ) (f : FunId) (arguments : Values)
-    → IsValid program (Branch graph root goals Idle) → need_all program.special.truth graph root ≡ At id → Collected graph id f arguments
-    → TracedSearch program limits graph id [] (MoreStates (call_on program f arguments) NoState)
-unfolding IsValid level_by
-begun_traced program limits graph root id goals f arguments valid needed found =
+-- the arguments of the call are ground data of the program
+pub collected_built : (program : Code) (graph : Graph) (root id : ℕ) (goals : List ℕ) (f : FunId) (arguments : Values) → IsValid program (Branch graph root goals Idle)
+    → need_all program.special.truth graph root ≡ At id → (found : Collected graph id f arguments) → are_built program (spelled_values graph found.args) ≡ true
+unfolding IsValid
+collected_built program graph root id goals f arguments valid needed found =
     let branch = valid.0 in
     let ready = collect_ready program.special.truth graph f found.args id found.is branch.arguments (length graph) Throughout root (lt-ltb root (length graph) branch.root_there) needed in
     let ground = ready_ground program.special.truth graph found.args ready found.data_only in
-    record {
-      function = f;
-      args = found.args;
-      node_is = found.is;
-      built = all_ground_built program (spelled_values graph found.args) ground (values_fit program graph found.args branch.nodes);
-      depth = 0;
-      level_is = ap (λ (vs : Values). MoreStates (call_on program f vs) NoState) found.same;
-      found_is = refl;
-      quiet = λ k below. absurd (omega arith);
-    }
+    all_ground_built program (spelled_values graph found.args) ground (values_fit program graph found.args branch.nodes)
+
+begun_traced : (program : Code) (limits : Limits) (graph : Graph) (root id : ℕ) (goals : List ℕ) (f : FunId) (arguments : Values)
+    → IsValid program (Branch graph root goals Idle) → need_all program.special.truth graph root ≡ At id → Collected graph id f arguments
+    → TracedSearch program limits graph id [] (MoreStates (call_on program f arguments) NoState)
+unfolding level_by
+begun_traced program limits graph root id goals f arguments valid needed found = record {
+  function = f;
+  args = found.args;
+  node_is = found.is;
+  built = collected_built program graph root id goals f arguments valid needed found;
+  depth = 0;
+  level_is = ap (λ (vs : Values). MoreStates (call_on program f vs) NoState) found.same;
+  found_is = refl;
+  quiet = λ k below. absurd (omega arith);
+}
 
 -- ** A search that goes on
 

@@ -11,7 +11,8 @@ use Rattle.cu_machine.specs.Graph.{Graph, node_at}
 
 -- what the branches of a case distinction of the code name
 abbrev pub branch_mentions : Code → Option code.Expr → List Mention
-branch_mentions program (Some (code.Case mode kept scrutinee branches)) = alternative_mentions (alternatives_of (term_of program) branches)
+branch_mentions program (Some (code.Case mode kept scrutinee branches)) =
+    alternative_mentions (alternatives_of (term_of program) branches)
 branch_mentions program _ = []
 
 -- the functions that a node names, or the code that it holds
@@ -24,11 +25,14 @@ named_by program _ = []
 
 abbrev pub AllAllowed : List ℕ → ℕ → List Mention → Type 0
 AllAllowed levels level [] = Unit {0}
-AllAllowed levels level (mention ∷ more) = Allows levels level mention × AllAllowed levels level more
+AllAllowed levels level (mention ∷ more) =
+    Allows levels level mention × AllAllowed levels level more
 
--- a function that a node names has at most the level, and one whose values are collected a lower one
+-- a function that a node names has at most the level, and one whose values are collected a lower
+-- one
 abbrev pub IsAtLevel : Code → List ℕ → ℕ → Graph → Type 0
-IsAtLevel program levels level graph = (id : ℕ) → id < length graph → AllAllowed levels level (named_by program (node_at graph id).kind)
+IsAtLevel program levels level graph = (id : ℕ) → id < length graph
+    → AllAllowed levels level (named_by program (node_at graph id).kind)
 
 -- levels of a program's functions by which `==` may join its comparisons anywhere
 pub record AreLevelsOf (program : Code) (levels : List ℕ) : Type 0 where
@@ -37,4 +41,5 @@ pub record AreLevelsOf (program : Code) (levels : List ℕ) : Type 0 where
 
 -- claims of functions of lower levels
 abbrev pub AreBelow : List ℕ → ℕ → List Claim → Type 0
-AreBelow levels level claims = (k : ℕ) (claim : Claim) → slice_get claims k ≡ Some claim → level_of levels claim.function < level
+AreBelow levels level claims = (k : ℕ) (claim : Claim) → slice_get claims k ≡ Some claim
+    → level_of levels claim.function < level

@@ -10,8 +10,10 @@ use Rattle.cu_laws.specs.Good.{Assignment, Loose}
 abbrev pub NothingPast : Graph → Assignment → Type 0
 NothingPast graph assigned = (x : ℕ) → length graph ≤ x → assigned x ≡ value.Bottom
 
--- An assignment for a graph that follows, which gives each node of the graph before the value that it had.
-pub record Continues (program : Code) (claims : List Claim) (graph after : Graph) (assigned later : Assignment) : Type 0 where
+-- An assignment for a graph that follows, which gives each node of the graph before the value that
+-- it had.
+pub record Continues (program : Code) (claims : List Claim) (graph after : Graph)
+    (assigned later : Assignment) : Type 0 where
   pub loose : Loose program claims after later
   pub past : NothingPast after later
   pub same : (x : ℕ) → x < length graph → later x ≡ assigned x

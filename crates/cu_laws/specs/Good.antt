@@ -1,4 +1,5 @@
--- Good assignments: a value for each node of a graph, none greater than what the calculus gives from the values of its parts.
+-- Good assignments: a value for each node of a graph, none greater than what the calculus gives
+-- from the values of its parts.
 use Rattle.std.specs.Prelude.{◌≡◌, ◌⊎◌, ℕ, ◌<◌, List, [], ◌∷◌, None, Some, IsTrue, length, map, zip}
 use Rattle.cu_calculus.specs.declared.FunId.{FunId}
 use Rattle.cu_calculus.specs.declared.Head.TheVariants as head
@@ -25,9 +26,11 @@ use Rattle.cu_machine.specs.Graph.{Graph, node_at}
 abbrev pub Assignment : Type 0
 Assignment = ℕ → Value
 
--- A case distinction of the code gives v, where its scrutinee is worth u and the variables that it keeps are worth `values`:
--- u takes an alternative, whose term gives v where its pattern's variables stand for what it matched.
-pub record Distinguished (program : Code) (claims : List Claim) (e : ExprId) (u : Value) (values : List Value) (v : Value) : Type 0 where
+-- A case distinction of the code gives v, where its scrutinee is worth u and the variables that it
+-- keeps are worth `values`: u takes an alternative, whose term gives v where its pattern's
+-- variables stand for what it matched.
+pub record Distinguished (program : Code) (claims : List Claim) (e : ExprId) (u : Value)
+    (values : List Value) (v : Value) : Type 0 where
   pub mode : Mode
   pub kept : List ℕ
   pub scrutinee : ExprId
@@ -35,44 +38,61 @@ pub record Distinguished (program : Code) (claims : List Claim) (e : ExprId) (u 
   pub code_is : expr_of program e ≡ Some (code.Case mode kept scrutinee branches)
   pub term : Term
   pub bindings : Bindings
-  pub selects : Selects (program_of program) (alternatives_of (term_of program) branches) u term bindings
-  pub gives : Gives (program_of program) claims (bind_all (bind_all empty (zip kept values)) bindings) term v
+  pub selects : Selects (program_of program) (alternatives_of (term_of program) branches) u term
+      bindings
+  pub gives : Gives (program_of program) claims
+      (bind_all (bind_all empty (zip kept values)) bindings) term v
 
--- The rows of the calculus by kinds: a node of this kind, whose parts are worth these values, is worth v.
+-- The rows of the calculus by kinds: a node of this kind, whose parts are worth these values, is
+-- worth v.
 abbrev pub Worth : Code → List Claim → Kind → List Value → Value → Type 0
-Worth program claims (kind.Cons c) us v = Applied (program_of program) claims (head.Con c) (values_of us) v
+Worth program claims (kind.Cons c) us v =
+    Applied (program_of program) claims (head.Con c) (values_of us) v
 Worth program claims (kind.Lit l) us v = v ≡ value.Literal l
 Worth program claims (kind.Part h) us v = v ≡ value.Partial h (values_of us)
-Worth program claims (kind.Call f) us v = Applied (program_of program) claims (head.Fun f) (values_of us) v
-Worth program claims (kind.Prim operation) us v = Answers (program_of program) operation (values_of us) v
+Worth program claims (kind.Call f) us v =
+    Applied (program_of program) claims (head.Fun f) (values_of us) v
+Worth program claims (kind.Prim operation) us v =
+    Answers (program_of program) operation (values_of us) v
 Worth program claims kind.Apply (w ∷ u ∷ []) v = AppliedTo (program_of program) claims w u v
-Worth program claims (kind.Case mode e) (u ∷ us) v = Distinguished program claims (record { 0 = e }) u us v
+Worth program claims (kind.Case mode e) (u ∷ us) v =
+    Distinguished program claims (record { 0 = e }) u us v
 Worth program claims kind.Or (a ∷ b ∷ []) v = (v ≡ a) ⊎ (v ≡ b)
-Worth program claims (kind.SetCall f) us v = Applied (program_of program) claims (head.Set f) (values_of us) v
+Worth program claims (kind.SetCall f) us v =
+    Applied (program_of program) claims (head.Set f) (values_of us) v
 Worth program claims _ us v = ⊥
 
 -- nothing is known of it, as of every term; or it is such a value, or a lower one
 abbrev pub AtMost : (Value → Type 0) → Value → Type 0
 AtMost IsWorth v = (v ≡ value.Bottom) ⊎ ((w : Value) × IsWorth w × Below v w)
 
--- What the value of a node may be: of a free variable total data, of an Ind at most what its target has, and of any other node
--- at most what a row gives from the values of its parts. `of_stuck` says what that of a stuck node may be.
-abbrev pub MayHave : (Value → Type 0) → Code → List Claim → Assignment → Kind → List ℕ → Value → Type 0
+-- What the value of a node may be: of a free variable total data, of an Ind at most what its target
+-- has, and of any other node at most what a row gives from the values of its parts. `of_stuck` says
+-- what that of a stuck node may be.
+abbrev pub MayHave : (Value → Type 0) → Code → List Claim → Assignment → Kind → List ℕ → Value
+    → Type 0
 MayHave of_stuck program claims assigned kind.Free args v = IsTrue (is_total_data v)
 MayHave of_stuck program claims assigned kind.Ind (target ∷ args) v = Below v (assigned target)
 MayHave of_stuck program claims assigned kind.Fail args v = v ≡ value.Bottom
 MayHave of_stuck program claims assigned kind.Stuck args v = of_stuck v
-MayHave of_stuck program claims assigned k args v = AtMost (Worth program claims k (map assigned args)) v
+MayHave of_stuck program claims assigned k args v =
+    AtMost (Worth program claims k (map assigned args)) v
 
 -- nothing is known of it
 abbrev pub NoValue : Value → Type 0
 NoValue v = v ≡ value.Bottom
 
+-- nothing is asked of it
+abbrev pub AnyValue : Value → Type 0
+AnyValue v = Unit {0}
+
 -- values of the program, each of which its node may have
-pub record Assigns (of_stuck : Value → Type 0) (program : Code) (claims : List Claim) (graph : Graph) (assigned : Assignment) : Type 0 where
+pub record Assigns (of_stuck : Value → Type 0) (program : Code) (claims : List Claim)
+    (graph : Graph) (assigned : Assignment) : Type 0 where
   pub of_program : (id : ℕ) → IsTrue (is_of (program_of program) (assigned id))
   pub each : (id : ℕ) → id < length graph
-      → MayHave of_stuck program claims assigned (node_at graph id).kind (node_at graph id).args (assigned id)
+      → MayHave of_stuck program claims assigned (node_at graph id).kind (node_at graph id).args
+      (assigned id)
 
 -- Good: what is stuck has no value
 abbrev pub Good : Code → List Claim → Graph → Assignment → Type 0
@@ -80,7 +100,7 @@ Good program claims graph assigned = Assigns NoValue program claims graph assign
 
 -- Loose: what is stuck may have any value
 abbrev pub Loose : Code → List Claim → Graph → Assignment → Type 0
-Loose program claims graph assigned = Assigns (λ v. Unit {0}) program claims graph assigned
+Loose program claims graph assigned = Assigns AnyValue program claims graph assigned
 
 -- what the variables of a scope stand for
 abbrev pub env_in : Assignment → Scope → Environment

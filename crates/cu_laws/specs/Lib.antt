@@ -2,4 +2,9 @@ pub mod Good
 pub mod Extends
 pub mod Traced
 pub mod AtLevel
+pub mod TracedAt
+pub mod StepsBack
 pub mod Continues
+pub mod Promises
+pub mod Instance
+pub mod Solution

@@ -18,23 +18,30 @@ use Rattle.cu_machine.specs.Validity.{are_built}
 abbrev pub spelled_values : Graph → List ℕ → Values
 spelled_values graph args = values_of (map (spelled graph) args)
 
--- The search stands at the set function's call on ground data. Its level is one of the levels from the call of the function on
--- these; what it has found was answered in the levels before, in which no event was other than quiet.
-pub record TracedSearch (program : Code) (limits : Limits) (graph : Graph) (id : ℕ) (found : List Value) (level : States) : Type 0 where
+-- The search stands at the set function's call on ground data. Its level is one of the levels from
+-- the call of the function on these; what it has found was answered in the levels before, in which
+-- no event was other than quiet.
+pub record TracedSearch (program : Code) (limits : Limits) (graph : Graph) (id : ℕ)
+    (found : List Value) (level : States) : Type 0 where
   pub function : FunId
   pub args : List ℕ
   pub node_is : node_at graph id ≡ record { kind = kind.SetCall function; args = args }
   pub built : IsTrue (are_built program (spelled_values graph args))
   pub depth : ℕ
-  pub level_is : level ≡ states_of (step_level program limits (call_on program function (spelled_values graph args)) depth)
-  pub found_is : found ≡ answers_before (inner_events program limits function (spelled_values graph args)) depth
-  pub quiet : (k : ℕ) → k < depth → IsTrue (list_all is_quiet (inner_events program limits function (spelled_values graph args) k))
+  pub level_is : level ≡ states_of
+      (step_level program limits (call_on program function (spelled_values graph args)) depth)
+  pub found_is : found
+      ≡ answers_before (inner_events program limits function (spelled_values graph args)) depth
+  pub quiet : (k : ℕ) → k < depth → IsTrue
+      (list_all is_quiet (inner_events program limits function (spelled_values graph args) k))
 
 -- a state whose search, where one runs, is traced
 abbrev pub IsTraced : Code → Limits → State → Type 0
 IsTraced program limits (Branch graph root goals Idle) = Unit {0}
-IsTraced program limits (Branch graph root goals (Running id found level)) = TracedSearch program limits graph id found level
+IsTraced program limits (Branch graph root goals (Running id found level)) =
+    TracedSearch program limits graph id found level
 
 -- claims each of which a search finds
 abbrev pub AreFound : Code → Limits → List Claim → Type 0
-AreFound program limits claims = (k : ℕ) (claim : Claim) → slice_get claims k ≡ Some claim → Found program limits claim.function claim.arguments claim.values
+AreFound program limits claims = (k : ℕ) (claim : Claim) → slice_get claims k ≡ Some claim
+    → Found program limits claim.function claim.arguments claim.values

@@ -1,5 +1,6 @@
 //! Soundness of single steps.
-ghost use Rattle.std.specs.Prelude.{◌≡◌, ◌≢◌, ℕ, ◌<◌, ◌≤◌, Bool, List, [], ◌∷◌, ◌++◌, IsTrue, length, map};
+ghost use Rattle.std.specs.Prelude.{◌≡◌, ◌≢◌, ℕ, ◌<◌, ◌≤◌, Bool, List, [], ◌∷◌, ◌++◌};
+ghost use Rattle.std.specs.Prelude.{IsTrue, length, map};
 ghost use Rattle.std.specs.List.{list_all};
 ghost use Rattle.cu_calculus.specs.declared.ExprId.{ExprId};
 ghost use Rattle.cu_calculus.specs.declared.FunId.{FunId};
@@ -28,10 +29,12 @@ ghost use Rattle.cu_machine.specs.State.{Branch, Idle, Search, State, graph_of};
 ghost use Rattle.cu_machine.specs.Steps.{Steps};
 ghost use Rattle.cu_machine.specs.Validity.{IsValid, NodesFit};
 ghost use Rattle.cu_laws.specs.Extends.{Extends};
-ghost use Rattle.cu_laws.specs.Good.{Assignment, Good, MayHave, NoValue, RisesTo, claim_of, env_in};
+ghost use Rattle.cu_laws.specs.Good.{AnyValue, Assignment, Good, MayHave, NoValue, RisesTo};
+ghost use Rattle.cu_laws.specs.Good.{claim_of, env_in};
 
 /// What a node may have, it may have when its parts are worth more; and it may
-/// have less, unless it is a free variable.
+/// have less, unless it is a free variable. That is so where stuck nodes have
+/// no value, and where they may have any.
 pub fn what_nodes_may_have_is_closed()
     ensures upward { (program : Code) (claims : List Claim) (low high : Assignment) (k : Kind)
         (args : List ℕ) (v : Value) → RisesTo low high → MayHave NoValue program claims low k args v
@@ -39,6 +42,14 @@ pub fn what_nodes_may_have_is_closed()
     ensures downward { (program : Code) (claims : List Claim) (assigned : Assignment) (k : Kind)
         (args : List ℕ) (v w : Value) → k ≢ Free → MayHave NoValue program claims assigned k args v
         → Below w v → MayHave NoValue program claims assigned k args w }
+    ensures loosely_upward { (program : Code) (claims : List Claim) (low high : Assignment)
+        (k : Kind) (args : List ℕ) (v : Value) → RisesTo low high
+        → MayHave AnyValue program claims low k args v
+        → MayHave AnyValue program claims high k args v }
+    ensures loosely_downward { (program : Code) (claims : List Claim) (assigned : Assignment)
+        (k : Kind) (args : List ℕ) (v w : Value) → k ≢ Free
+        → MayHave AnyValue program claims assigned k args v → Below w v
+        → MayHave AnyValue program claims assigned k args w }
 {}
 
 /// An assignment that is good for a graph in which an expression is written
@@ -94,7 +105,8 @@ pub fn deliveries_are_sound()
         → node_at graph id ≡ record { kind = SetCall f; args = args }
         → IsTrue (are_ground (values_of (map (spelled graph) args)))
         → Good program claims (delivered program graph id found) later → (earlier : Assignment)
-        × Good program (claims ++ claim_of f (values_of (map (spelled graph) args)) (sorted found) ∷ [])
+        × Good program
+        (claims ++ claim_of f (values_of (map (spelled graph) args)) (sorted found) ∷ [])
         graph earlier × RisesTo later earlier }
 {}
 

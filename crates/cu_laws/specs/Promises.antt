@@ -1,0 +1,103 @@
+-- States from which a solution can still be reached, and steps and levels that keep it.
+use Rattle.std.specs.Prelude.{◌≡◌, ℕ, ◌<◌, Bool, true, false, List, IsTrue, Some, map, slice_get}
+use Rattle.std.specs.List.{list_all}
+use Rattle.cu_calculus.specs.Code.{Code}
+use Rattle.cu_calculus.specs.FlatProgram.{program_of}
+use Rattle.cu_calculus.specs.Gives.{Claim}
+use Rattle.cu_calculus.specs.Proof.{is_claim_of}
+use Rattle.cu_calculus.specs.Shape.{is_total}
+use Rattle.cu_calculus.specs.Value.{Value}
+use Rattle.cu_machine.specs.declared.Limits.{Limits}
+use Rattle.cu_machine.specs.Among.{Among}
+use Rattle.cu_machine.specs.Found.{Found}
+use Rattle.cu_machine.specs.Level.{level_by}
+use Rattle.cu_machine.specs.Next.{Answer, Fails, Go, Next, Reading, Stops, Waits, next}
+use Rattle.cu_machine.specs.State.{Branch, State, graph_of}
+use Rattle.cu_machine.specs.Validity.{IsValid}
+use Rattle.cu_laws.specs.Continues.{Continues, NothingPast}
+use Rattle.cu_laws.specs.Good.{Assignment, Loose}
+
+-- the node whose value a state seeks, and its goal variables
+abbrev pub root_of : State → ℕ
+root_of (Branch graph root goals search) = root
+
+abbrev pub goals_of : State → List ℕ
+goals_of (Branch graph root goals search) = goals
+
+-- ** Steps
+
+-- An assignment that promises a state an answer: it is loose, nothing is known past the graph, and
+-- the root has a total value.
+pub record Promises (program : Code) (claims : List Claim) (state : State)
+    (assigned : Assignment) : Type 0 where
+  pub loose : Loose program claims (graph_of state) assigned
+  pub past : NothingPast (graph_of state) assigned
+  pub total : IsTrue (is_total (assigned (root_of state)))
+
+-- One of the states that follow loses no value: it has the same root and goal variables, and each
+-- node that was there before keeps its value.
+pub record SomeContinues (program : Code) (claims : List Claim) (before : State)
+    (states : List State) (assigned : Assignment) : Type 0 where
+  pub state : State
+  pub among : Among state states
+  pub roots : root_of state ≡ root_of before
+  pub goals : goals_of state ≡ goals_of before
+  pub later : Assignment
+  pub continues : Continues program claims (graph_of before) (graph_of state) assigned later
+
+-- Claims of the program that agree with what searches find: where the search of a claim's function
+-- on its arguments ends, it has found the claim's values.
+pub record AgreeWithSearches (program : Code) (limits : Limits) (claims : List Claim) : Type 0 where
+  pub of_program : IsTrue (list_all (is_claim_of (program_of program)) claims)
+  pub agree : (k : ℕ) (claim : Claim) (values : List Value) → slice_get claims k ≡ Some claim
+      → Found program limits claim.function claim.arguments values → claim.values ≡ values
+
+-- ** Levels
+
+-- A state that is reached from a start keeps its promise: its root and its goal variables have the
+-- values that those of the start have.
+pub record KeepsPromise (program : Code) (claims : List Claim) (start : State)
+    (assigned : Assignment) (state : State) : Type 0 where
+  pub later : Assignment
+  pub promises : Promises program claims state later
+  pub root : later (root_of state) ≡ assigned (root_of start)
+  pub goals : map later (goals_of state) ≡ map assigned (goals_of start)
+
+-- what becomes of a state is decided where it neither waits nor stops
+abbrev pub is_decided : Next → Bool
+is_decided (Go states) = true
+is_decided (Answer reading) = true
+is_decided Fails = true
+is_decided (Waits names) = false
+is_decided (Stops stop) = false
+
+-- what becomes of the states of all levels before a depth is decided
+abbrev pub AreDecided : (State → Next) → State → ℕ → Type 0
+AreDecided event start depth =
+    (k : ℕ) → k < depth → IsTrue (list_all is_decided (map event (level_by event start k)))
+
+-- an answer that keeps the promise: it is read off a state that does
+pub record AnswersPromise (program : Code) (limits : Limits) (claims : List Claim) (start : State)
+    (assigned : Assignment) (reading : Reading) : Type 0 where
+  pub state : State
+  pub valid : IsValid program state
+  pub answers : next program limits state ≡ Answer reading
+  pub keeps : KeepsPromise program claims start assigned state
+
+-- a state of a level before a depth has such an answer
+pub record KeptByAnswer (program : Code) (limits : Limits) (claims : List Claim)
+    (event : State → Next) (start : State) (assigned : Assignment) (depth : ℕ) : Type 0 where
+  pub level : ℕ
+  pub earlier : level < depth
+  pub state : State
+  pub among : Among state (level_by event start level)
+  pub reading : Reading
+  pub answers : event state ≡ Answer reading
+  pub answered : AnswersPromise program limits claims start assigned reading
+
+-- a state of the level at a depth keeps the promise
+pub record KeptByState (program : Code) (claims : List Claim) (event : State → Next) (start : State)
+    (assigned : Assignment) (depth : ℕ) : Type 0 where
+  pub state : State
+  pub among : Among state (level_by event start depth)
+  pub keeps : KeepsPromise program claims start assigned state

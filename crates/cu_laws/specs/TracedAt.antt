@@ -1,0 +1,34 @@
+-- Traced states: what holds of every state of a search for the values of a goal, at the goal's set
+-- level.
+use Rattle.std.specs.Prelude.{ℕ, List}
+use Rattle.cu_calculus.specs.Claims.{level_of}
+use Rattle.cu_calculus.specs.Code.{Code}
+use Rattle.cu_machine.specs.declared.Limits.{Limits}
+use Rattle.cu_machine.specs.Graph.{Graph}
+use Rattle.cu_machine.specs.State.{Branch, Idle, MoreStates, NoState, Running}
+use Rattle.cu_machine.specs.State.{Search, State, States}
+use Rattle.cu_machine.specs.Validity.{IsValid}
+use Rattle.cu_laws.specs.AtLevel.{IsAtLevel}
+use Rattle.cu_laws.specs.Traced.{TracedSearch}
+
+-- A state is valid. The functions that its nodes and their code name have at most this level, and
+-- those whose values are collected there have lower ones. A search that runs in it can be traced
+-- back to the call at which it began, and each state of its level is traced at the level of the
+-- function whose values it collects.
+unfoldable mutual
+  pub TracedAt : Code → Limits → List ℕ → ℕ → State → Type 0
+  TracedAt program limits levels level (Branch graph root goals search) =
+      IsValid program (Branch graph root goals search)
+      × IsAtLevel program levels level graph
+      × SearchTracedAt program limits levels graph search
+
+  pub SearchTracedAt : Code → Limits → List ℕ → Graph → Search → Type 0
+  SearchTracedAt program limits levels graph Idle = Unit {0}
+  SearchTracedAt program limits levels graph (Running id found states) =
+      (traced : TracedSearch program limits graph id found states)
+      × AllTracedAt program limits levels (level_of levels traced.function) states
+
+  pub AllTracedAt : Code → Limits → List ℕ → ℕ → States → Type 0
+  AllTracedAt program limits levels level NoState = Unit {0}
+  AllTracedAt program limits levels level (MoreStates state states) =
+      TracedAt program limits levels level state × AllTracedAt program limits levels level states
