@@ -5,7 +5,6 @@ use Rattle.std.proofs.lemmas.Bool.{cases_order}
 use Rattle.std.proofs.lemmas.List.{length-map}
 use Rattle.cu_calculus.specs.Claims.{Allows, AreLeastLevels, AreLevels, Collected, Mention, Plain, body_mentions, level_of}
 use Rattle.cu_calculus.specs.Program.{Function, Program}
-use Rattle.cu_theorem.specs.Listed.{IsWithoutSetCalls}
 
 -- ** Lists of numbers
 
@@ -209,26 +208,4 @@ lowest program levels k function least e none =
     let high : slice_index levels k ≤ slice_index (raised program levels) k = least.least (raised program levels) k again in
     let is : slice_index (raised program levels) k ≡ asked levels function = at_function (asked levels) program.functions k function e in
     let nothing : asked levels function ≡ 0 = ap (most levels) none in
-    omega arith
-
--- ** Programs without set calls
-
--- 0 is a level of each function
-none_needed : (program : Program) → IsWithoutSetCalls program → AreLevels program (levels_after program 0)
-none_needed program without = record {
-  each = after_length program 0;
-  allowed = λ k m function mention e g. by k m function mention e g;
-}
-  where
-    by : (k m : ℕ) (function : Function) (mention : Mention) → slice_get program.functions k ≡ Some function
-        → slice_get (body_mentions function.body) m ≡ Some mention
-        → Allows (levels_after program 0) (slice_index (levels_after program 0) k) mention
-    by k m function (Plain f) e g = let none = first_is_zero program f.0 in omega arith
-    by k m function (Collected f) e g = absurd (without k m function f e g)
-
-pub all_lowest : (program : Program) (levels : List ℕ) → IsWithoutSetCalls program → AreLeastLevels program levels → (k : ℕ)
-    → slice_index levels k ≡ 0
-all_lowest program levels without least k =
-    let low : slice_index levels k ≤ slice_index (levels_after program 0) k = least.least (levels_after program 0) k (none_needed program without) in
-    let none = first_is_zero program k in
     omega arith

@@ -1,3 +1,4 @@
-mod Following
+mod CodeLevels
 mod GoalRule
 mod LeastLevels
+mod SameTruth

@@ -1,77 +1,58 @@
--- Listed answers, and what they follow from.
-use Rattle.std.specs.Prelude.{◌≡◌, ℕ, List, Some, slice_get}
-use Rattle.cu_calculus.specs.declared.FunId.{FunId}
-use Rattle.cu_calculus.specs.Calls.{call_statement}
-use Rattle.cu_calculus.specs.Claims.{AreLeastLevels, AreTrue, Collected, Derives, body_mentions, level_of}
-use Rattle.cu_calculus.specs.Gives.{Claim}
-use Rattle.cu_calculus.specs.Program.{Function, Program}
-use Rattle.cu_calculus.specs.Proved.{IsProved}
-use Rattle.cu_calculus.specs.Value.{values_of}
+-- What is listed of a goal in a module, and the solutions that the goal has by the rules.
+use Rattle.std.specs.Prelude.{◌≡◌, ℕ, List, IsTrue, Some}
+use Rattle.cu_calculus.specs.Claims.{Derives}
+use Rattle.cu_calculus.specs.Program.{Program}
+use Rattle.cu_calculus.specs.Shape.{are_ground, is_ground}
+use Rattle.cu_calculus.specs.Value.{Value, Values, values_of}
 use Rattle.cu_flat.specs.Layout.{laid_out}
 use Rattle.cu_front.specs.Compiling.{Compiles, Held}
 use Rattle.cu_kernel.specs.Kernel.{Goal, Kernel, program_of}
-use Rattle.cu_laws.specs.AtLevel.{AreBelow}
-use Rattle.cu_laws.specs.Traced.{AreFound}
+use Rattle.cu_laws.specs.Instance.{Covered, IsExhausted}
 use Rattle.cu_machine.specs.Among.{Among}
-use Rattle.cu_machine.specs.Listing.{Answered, listing}
+use Rattle.cu_machine.specs.Listing.{Answered, Listing, listing}
 use Rattle.cu_machine.specs.Next.{Reading}
 use Rattle.cu_machine.specs.State.{start_of}
 use Rattle.cu_machine.specs.declared.SearchLimits.{SearchLimits}
 
--- A goal in modules, with the program that they come to and its flat program.
-pub record CompiledGoal : Type 0 where
-  pub held : Held
-  pub root : List ℕ
-  pub text : List ℕ
-  pub names : List (List ℕ)
-  pub program : Kernel
-  pub flat : Program
-  pub compiles : Compiles held root text names program flat
-  pub goal : Goal
-  pub has_goal : program.goal ≡ Some goal
+-- ** Solutions
 
--- an answer of a round in the listing of a goal
-abbrev pub IsListed : CompiledGoal → SearchLimits → ℕ → Reading → Type 0
-IsListed compiled limits depth reading =
-    let code = laid_out compiled.flat in
-    Among (Answered depth reading)
-    (listing code limits (start_of code compiled.goal.function)).lines
+-- The goal has a value on values of its variables: by the rules of the program there is a
+-- derivation with call-time choice, in which set calls stand for all their values.
+abbrev pub IsSolution : Kernel → Goal → Values → Value → Type 0
+IsSolution program goal arguments v = Derives (program_of program) goal.function arguments v
 
--- The goal has the value of a reading, on what its variables are bound to there, with call-time
--- choice and over claims each of which a search for all values finds: some proof that checks over
--- them concludes it, by the rules of the modules and the goal. By the least set levels the claims
--- are of functions of lower levels than the goal's.
-pub record FollowsFromSearches (compiled : CompiledGoal) (limits : SearchLimits)
-    (reading : Reading) : Type 0 where
-  pub levels : List ℕ
-  pub least : AreLeastLevels (program_of compiled.program) levels
-  pub claims : List Claim
-  pub found : AreFound (laid_out compiled.flat) limits.step claims
-  pub below : AreBelow levels (level_of levels compiled.goal.function) claims
-  pub is_proved : IsProved (program_of compiled.program) claims
-      (call_statement compiled.goal.function (values_of reading.bindings) reading.value)
+-- a solution in ground data
+pub record IsGroundSolution (program : Kernel) (goal : Goal) (arguments : Values) (v : Value)
+    : Type 0 where
+  pub solution : IsSolution program goal arguments v
+  pub ground_arguments : IsTrue (are_ground arguments)
+  pub ground_value : IsTrue (is_ground v)
 
--- the same over true claims, in which each set call stands for all its values
-abbrev pub IsDerived : CompiledGoal → Reading → Type 0
-IsDerived compiled reading =
-    Derives (program_of compiled.program) compiled.goal.function (values_of reading.bindings)
-    reading.value
+-- ** Listings
 
--- what searches find of functions of lower levels than the goal's is true
-abbrev pub SearchesFindAll : CompiledGoal → SearchLimits → Type 0
-SearchesFindAll compiled limits = (levels : List ℕ) (claims : List Claim)
-    → AreLeastLevels (program_of compiled.program) levels
-    → AreFound (laid_out compiled.flat) limits.step claims
-    → AreBelow levels (level_of levels compiled.goal.function) claims
-    → AreTrue (program_of compiled.program) levels (level_of levels compiled.goal.function) claims
+-- what is listed of a goal, by the flat program of its program
+abbrev pub listing_of : SearchLimits → Program → Goal → Listing
+listing_of limits flat goal =
+    let code = laid_out flat in listing code limits (start_of code goal.function)
 
--- the goal reaches no set call: by the least levels it has the level 0
-abbrev pub IsAtLevelZero : CompiledGoal → Type 0
-IsAtLevelZero compiled = (levels : List ℕ) → AreLeastLevels (program_of compiled.program) levels
-    → level_of levels compiled.goal.function ≡ 0
+-- each answer that is listed is a solution
+abbrev pub AnswersAreSolutions : Kernel → Program → Goal → SearchLimits → Type 0
+AnswersAreSolutions program flat goal limits = (round : ℕ) (reading : Reading)
+    → Among (Answered round reading) (listing_of limits flat goal).lines
+    → IsSolution program goal (values_of reading.bindings) reading.value
 
--- no rule of a program has a set call, whole or in part
-abbrev pub IsWithoutSetCalls : Program → Type 0
-IsWithoutSetCalls program = (k m : ℕ) (function : Function) (f : FunId)
-    → slice_get program.functions k ≡ Some function
-    → slice_get (body_mentions function.body) m ≡ Some (Collected f) → ⊥
+-- each ground solution is an instance of an answer that is listed
+abbrev pub SolutionsAreCovered : Kernel → Program → Goal → SearchLimits → Type 0
+SolutionsAreCovered program flat goal limits = (arguments : Values) (v : Value)
+    → IsGroundSolution program goal arguments v
+    → Covered (laid_out flat) (listing_of limits flat goal) arguments v
+
+-- Whatever program a goal in a module comes to: each answer that is listed is a solution, and where
+-- the listing ends with no more, and no branch waits, each ground solution is an instance of one.
+pub record ListsSolutions (held : Held) (root text : List ℕ) (limits : SearchLimits) : Type 0 where
+  pub answers_are_sound : (names : List (List ℕ)) (program : Kernel) (flat : Program) (goal : Goal)
+      → Compiles held root text names program flat → program.goal ≡ Some goal
+      → AnswersAreSolutions program flat goal limits
+  pub no_more_is_complete : (names : List (List ℕ)) (program : Kernel) (flat : Program)
+      (goal : Goal) → Compiles held root text names program flat → program.goal ≡ Some goal
+      → IsExhausted (listing_of limits flat goal) → SolutionsAreCovered program flat goal limits
