@@ -1,6 +1,7 @@
-mod WrittenLemmas
+pub mod WrittenLemmas
 pub mod OneOutcome
 mod RoundLemmas
 mod ListingLemmas
 mod LineLemmas
 mod BranchLemmas
+mod TotalsLemmas

@@ -26,7 +26,7 @@ then_round-answer true line tally end others = refl
 then_round-answer false line tally end others = refl
 
 -- a round over a first outcome and others
-round_of-cons : (d : ℕ) (limit : Option ℕ) (tally : Tally) (outcome : Next) (outcomes : List Next)
+pub round_of-cons : (d : ℕ) (limit : Option ℕ) (tally : Tally) (outcome : Next) (outcomes : List Next)
     → round_of d limit tally (outcome ∷ outcomes) ≡ then_round (round_of d limit tally (outcome ∷ [])) (λ after. round_of d limit after outcomes)
 unfolding round_of
 round_of-cons d limit tally (Go states) outcomes = refl
@@ -36,7 +36,7 @@ round_of-cons d limit tally Fails outcomes = refl
 round_of-cons d limit tally (Waits names) outcomes = refl
 round_of-cons d limit tally (Stops stop) outcomes = refl
 
-round_of-nil : (d : ℕ) (limit : Option ℕ) (tally : Tally) → round_of d limit tally [] ≡ nothing tally None
+pub round_of-nil : (d : ℕ) (limit : Option ℕ) (tally : Tally) → round_of d limit tally [] ≡ nothing tally None
 unfolding round_of
 round_of-nil d limit tally = refl
 
@@ -50,11 +50,11 @@ lines_bytes-append notation (x ∷ xs) ys =
     ap (λ bytes. line_text notation x ++ bytes) (lines_bytes-append notation xs ys)
     ∙ sym (append_assoc (line_text notation x) (lines_bytes notation xs) (lines_bytes notation ys))
 
-then_round-None : (round : Round) (others : Tally → Round) → round.end ≡ None
+pub then_round-None : (round : Round) (others : Tally → Round) → round.end ≡ None
     → then_round round others ≡ record { lines = round.lines ++ (others round.tally).lines; tally = (others round.tally).tally; end = (others round.tally).end }
 then_round-None round others h = rw h refl
 
-then_round-Some : (round : Round) (others : Tally → Round) (end : End) → round.end ≡ Some end → then_round round others ≡ round
+pub then_round-Some : (round : Round) (others : Tally → Round) (end : End) → round.end ≡ Some end → then_round round others ≡ round
 then_round-Some round others end h = rw h refl
 
 module _ (notation : Notation) where

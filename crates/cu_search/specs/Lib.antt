@@ -3,3 +3,4 @@ pub mod Standing
 pub mod Written
 pub mod Rounds
 pub mod Stands
+pub mod Totals

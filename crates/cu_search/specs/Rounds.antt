@@ -11,7 +11,7 @@ use Rattle.cu_search.specs.Written.{Adds, AddsFront}
 -- Where the search goes on, it stands before the next round, and the lines of this one and what is left then are what was
 -- left before. It ends exactly where the listing ends with this round, with the listing's end; then, or where it broke off,
 -- it has ended.
-abbrev pub Leaves : Result Round SearchFault → Standing → Standing → Type 0
+abbrev pub Leaves : {E : Type 0} → Result Round E → Standing → Standing → Type 0
 Leaves (Ok Going) old new =
     (end_at old ≡ None) × (new ≡ next_of old) × IsGoing new × (left_of old ≡ after_lines (round_at old).lines (left_of new))
 Leaves (Ok (Ended end)) old new = (end_at old ≡ Some end) × (end ≡ (left_of old).end) × (new.ended ≡ true)

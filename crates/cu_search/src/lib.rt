@@ -4,6 +4,8 @@
 #![tactic(auto)]
 
 mod calls;
+mod counted;
+mod counting;
 mod fault;
 mod level;
 mod lines;
@@ -11,8 +13,10 @@ mod outcomes;
 mod page;
 mod search;
 mod tally;
+mod totals;
 mod wording;
 
 pub use cu_machine::{End, SearchLimits};
 pub use fault::SearchFault;
-pub use search::{Round, Search};
+pub use search::{Round, Search, write_last_line};
+pub use totals::Totals;

@@ -113,7 +113,7 @@ fn list_answer<K: Sink>(
 }
 
 /// The end of a listing at its last answer that is wanted.
-fn last_answer(limit: Option<u64>, answers: u64) -> Option<End>
+pub(crate) fn last_answer(limit: Option<u64>, answers: u64) -> Option<End>
     ensures { result ≡ (if is_last limit answers then Some (Answers answers) else None) }
 {
     match limit {

@@ -38,15 +38,15 @@ pub enum Round {
 /// The search for a goal's values, between two rounds.
 #[derive(Drop)]
 pub struct Search<'p, S> {
-    alloc: Global,
-    program: &'p FlatProgram,
-    wording: Wording<'p>,
-    limits: SearchLimits,
-    round: u64,
-    tally: Tally,
-    level: Vec<Branch<S>>,
-    page: Page,
-    ended: bool,
+    pub(crate) alloc: Global,
+    pub(crate) program: &'p FlatProgram,
+    pub(crate) wording: Wording<'p>,
+    pub(crate) limits: SearchLimits,
+    pub(crate) round: u64,
+    pub(crate) tally: Tally,
+    pub(crate) level: Vec<Branch<S>>,
+    pub(crate) page: Page,
+    pub(crate) ended: bool,
 }
 
 impl<'p, S: Store> Search<'p, S> {
@@ -178,7 +178,7 @@ impl<'p, S: Store + Send + Sync> Search<'p, S> {
 
 /// How the listing ends after the lines of a round, if it does, where so many
 /// branches wait and so many follow.
-fn ending(limits: &SearchLimits, round: u64, waits: u64, count: u64) -> Option<End>
+pub(crate) fn ending(limits: &SearchLimits, round: u64, waits: u64, count: u64) -> Option<End>
     requires { round ≤ limits.now.rounds }
     ensures next { IfNone result (round + 1 < 2 ^ 64) }
     ensures end { result ≡ end_after limits.now round waits count }
@@ -202,4 +202,14 @@ fn write_end<K: Sink>(page: &mut Page, end: End, sink: &mut K) -> Result<(), Sea
 {
     end_line(page, end)?;
     page.write(sink)
+}
+
+/// Writes the last line of a listing that ends so, with nothing before it.
+pub fn write_last_line<K: Sink>(alloc: Global, end: End, sink: &mut K) -> Result<(), SearchFault>
+    ensures whole { OnOk result (Adds (K.written sink.old) (K.written sink.new) (end_text end)) }
+    ensures front { OnErr result (AddsFront (K.written sink.old) (K.written sink.new) (end_text end)) }
+    ensures cause { HasCause result (K.fault_count sink.old) (K.fault_count sink.new) }
+{
+    let mut page = Page::with_room(alloc)?;
+    write_end(&mut page, end, sink)
 }

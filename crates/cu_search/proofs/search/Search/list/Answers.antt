@@ -1,4 +1,5 @@
 use Rattle.std.proofs.Common.{Ok, ◌∙◌, subst}
+use Rattle.cu_search.specs.declared.fault.SearchFault.{SearchFault}
 use Rattle.cu_search.specs.declared.search.Round.TheVariants.{Going}
 use Rattle.cu_search.specs.Lines.{listing_bytes}
 use Rattle.cu_search.specs.Rounds.{Leaves, Writes}
@@ -23,7 +24,7 @@ loop-end-preserved g c =
     let first = standing_of g.S.Store.content c.args.self.now in
     let s = standing_of g.S.Store.content c.loop-end.self in
     let after = standing_of g.S.Store.content c.round.new.self in
-    let went : Leaves (Ok Going) s after = subst (λ round. Leaves (Ok round) s after) c.in_default.is c.in_ok-end.ensures.standing in
+    let went : Leaves {E = SearchFault} (Ok Going) s after = subst (λ round. Leaves {E = SearchFault} (Ok round) s after) c.in_default.is c.in_ok-end.ensures.standing in
     let wrote : Writes (Ok Going) s (written c.loop-end.sink) (written c.round.new.sink) =
     subst (λ round. Writes (Ok round) s (written c.loop-end.sink) (written c.round.new.sink)) c.in_default.is c.in_ok-end.ensures.written in
     record {
