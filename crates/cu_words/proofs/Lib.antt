@@ -2,4 +2,5 @@ mod CommandLemmas
 mod NameLemmas
 mod NumberLemmas
 mod ReaderLemmas
+mod OneReading
 mod Spelling

@@ -1,10 +1,10 @@
 -- What readers refuse, and what the matches of the command line say.
-use Rattle.std.proofs.Common.{◌≡◌, ◌∙◌, ap, sym, subst, refl, true, List, [], Option, Some, None, IfNone, IfSome}
-use Rattle.clap.specs.Words.{App, HasMatchesOf, IsAmong, Text, fault_of, is_simple, is_simple_and_free, subcommand_of, subcommand_rows_of}
+use Rattle.std.proofs.Common.{◌≡◌, ◌∙◌, ap, sym, subst, refl, true, get_or, arith, List, [], Option, Some, None, IfNone, IfSome, codes}
+use Rattle.clap.specs.Words.{App, HasMatchesOf, IsAmong, Row, Text, fault_of, is_simple, is_simple_and_free, subcommand_of, subcommand_rows_of}
 use Rattle.clap.specs.declared.error.kind.ErrorKind.{ErrorKind}
 use Rattle.clap.specs.declared.parser.matches.ArgMatches.{ArgMatches}
 use Rattle.cu_words.specs.Command.{curry}
-use Rattle.cu_words.specs.Words.{Asks, IsCommand, ReadsAs, Solve}
+use Rattle.cu_words.specs.Words.{Asks, Command, Compile, Compiling, IsCommand, IsCompile, IsSolve, IsTrial, ReadsAs, Solve, Solving, Trial, Trying}
 
 -- nothing has the property
 pub refuses : {A X : Type 0} (r : Option A) (P : X → Type 0) → ((x : X) → P x → ⊥) → IfNone r ((x : X) → P x → ⊥)
@@ -31,16 +31,45 @@ pub met : (app : App) (words : List Text) (matches : ArgMatches) → app ≡ cur
 met app words matches is has = (has (ap is_simple is ∙ is_plain)).1 ∙ ap (λ (a : App). subcommand_of a words) is
 
 pub reads : (app : App) (words : List Text) (matches : ArgMatches) → app ≡ curry → HasMatchesOf app words matches
-    → (is_simple_and_free app ≡ true → fault_of app words ≡ []) → (solve : Solve) → Asks (subcommand_rows_of matches) solve → ReadsAs words solve
-reads app words matches is has right solve asks = record {
+    → (is_simple_and_free app ≡ true → fault_of app words ≡ []) → (command : Command) → Asks (subcommand_rows_of matches) command → ReadsAs words command
+reads app words matches is has right command asks = record {
   right = sym (ap (λ (a : App). fault_of a words) is) ∙ right (ap is_simple_and_free is ∙ is_known);
-  asks = subst (λ found. Asks found solve) (met app words matches is has) asks;
+  asks = subst (λ found. Asks found command) (met app words matches is has) asks;
 }
 
 pub unread : (app : App) (words : List Text) (matches : ArgMatches) → app ≡ curry → HasMatchesOf app words matches
-    → ((solve : Solve) → Asks (subcommand_rows_of matches) solve → ⊥) → IsCommand words → ⊥
+    → ((command : Command) → Asks (subcommand_rows_of matches) command → ⊥) → IsCommand words → ⊥
 unread app words matches is has nothing command = nothing command.0 (subst (λ found. Asks found command.0) (sym (met app words matches is has)) command.1.asks)
 
 -- words that a parse refuses are outside the grammar
 pub at_fault : (app : App) (words : List Text) (kind : ErrorKind) → app ≡ curry → IsAmong kind (fault_of app words) → IsCommand words → ⊥
 at_fault app words kind is among command = subst (IsAmong kind) (ap (λ (a : App). fault_of a words) is ∙ command.1.right) among
+
+-- the words of commands differ in their first letters
+differ : (one other : Text) → (get_or one 0 0 ≡ get_or other 0 0 → ⊥) → one ≡ other → ⊥
+differ one other apart same = apart (ap (λ (text : Text). get_or text 0 0) same)
+
+pub solve_or_compile : codes "solve" ≡ codes "compile" → ⊥
+solve_or_compile = differ _ _ (λ same. let first : 115 ≡ 99 = same in omega (arith, first))
+
+pub solve_or_trial : codes "solve" ≡ codes "trial" → ⊥
+solve_or_trial = differ _ _ (λ same. let first : 115 ≡ 116 = same in omega (arith, first))
+
+pub compile_or_trial : codes "compile" ≡ codes "trial" → ⊥
+compile_or_trial = differ _ _ (λ same. let first : 99 ≡ 116 = same in omega (arith, first))
+
+-- a command of which nothing stands behind its word
+pub no_solve : (rows : List Row) → ((solve : Solve) → IsSolve rows solve → ⊥) → (command : Command) → Asks (Some (codes "solve", rows)) command → ⊥
+no_solve rows none (Solving solve) asks = none solve asks.1
+no_solve rows none (Compiling compile) asks = solve_or_compile asks.0
+no_solve rows none (Trying trial) asks = solve_or_trial asks.0
+
+pub no_compile : (rows : List Row) → ((compile : Compile) → IsCompile rows compile → ⊥) → (command : Command) → Asks (Some (codes "compile", rows)) command → ⊥
+no_compile rows none (Solving solve) asks = solve_or_compile (sym asks.0)
+no_compile rows none (Compiling compile) asks = none compile asks.1
+no_compile rows none (Trying trial) asks = compile_or_trial asks.0
+
+pub no_trial : (rows : List Row) → ((trial : Trial) → IsTrial rows trial → ⊥) → (command : Command) → Asks (Some (codes "trial", rows)) command → ⊥
+no_trial rows none (Solving solve) asks = solve_or_trial (sym asks.0)
+no_trial rows none (Compiling compile) asks = compile_or_trial (sym asks.0)
+no_trial rows none (Trying trial) asks = none trial asks.1

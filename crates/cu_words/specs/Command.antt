@@ -31,6 +31,26 @@ solve_rules = required (new_rule (codes "MODULE"))
 abbrev pub solve : Shape
 solve = record (new_shape (codes "solve")) { rules = solve_rules }
 
+-- what stands behind `compile`: a word, and an option
+abbrev pub compile_rules : List Rule
+compile_rules = required (new_rule (codes "MODULE"))
+    ∷ or (option (codes "dir")) (codes ".")
+    ∷ []
+
+abbrev pub compile : Shape
+compile = record (new_shape (codes "compile")) { rules = compile_rules }
+
+-- what stands behind `trial`: a number, and options in any order
+abbrev pub trial_rules : List Rule
+trial_rules = required (new_rule (codes "N"))
+    ∷ or (option (codes "workers")) (codes "4")
+    ∷ or (option (codes "width")) (codes "65536")
+    ∷ or (option (codes "stride")) (codes "1")
+    ∷ []
+
+abbrev pub trial : Shape
+trial = record (new_shape (codes "trial")) { rules = trial_rules }
+
 -- the whole line, behind the program's name: a command, with no words for help or version
 abbrev pub line : Shape
 line = record (new_shape (codes "curry")) {
@@ -43,4 +63,4 @@ line = record (new_shape (codes "curry")) {
 }
 
 abbrev pub curry : App
-curry = record { top = line; subs = solve ∷ [] }
+curry = record { top = line; subs = solve ∷ compile ∷ trial ∷ [] }

@@ -2,7 +2,11 @@
 use Rattle.std.specs.Prelude.{◌≡◌, ⊤, ℕ, List, [], Option, Some, None, codes, IfSome, IsTrue}
 use Rattle.clap.specs.Words.{Row, Text, fault_of, first_of, subcommand_of}
 use Rattle.cu_machine.specs.declared.SearchLimits.{SearchLimits}
-use Rattle.cu_words.specs.declared.solve.Solve as words
+use Rattle.cu_words.specs.declared.asked.Asked.{Asked}
+use Rattle.cu_words.specs.declared.asked.Asked.TheVariants as asks
+use Rattle.cu_words.specs.declared.compile.Compile as compiles
+use Rattle.cu_words.specs.declared.solve.Solve as solves
+use Rattle.cu_words.specs.declared.trial.Trial as trials
 use Rattle.cu_words.specs.Command.{curry}
 use Rattle.cu_words.specs.Names.{is_module_name}
 use Rattle.cu_words.specs.Numbers.{IsIn, IsNumber}
@@ -14,6 +18,24 @@ pub record Solve : Type 0 where
   pub folder : List ℕ
   pub workers : ℕ
   pub limits : SearchLimits
+
+-- the text of a module of a folder
+pub record Compile : Type 0 where
+  pub name : List ℕ
+  pub folder : List ℕ
+
+-- a trial of the search to this depth, with so many workers, and two of its limits
+pub record Trial : Type 0 where
+  pub depth : ℕ
+  pub workers : ℕ
+  pub width : ℕ
+  pub stride : ℕ
+
+-- a command of the line
+pub data Command : Type 0 where
+  Solving : Solve → Command
+  Compiling : Compile → Command
+  Trying : Trial → Command
 
 -- what stands in the words under this name, or else by default
 abbrev pub Has : List Row → Text → Text → Type 0
@@ -47,19 +69,38 @@ pub record IsSolve (rows : List Row) (solve : Solve) : Type 0 where
   pub workers : HasNumber rows (codes "workers") 64 solve.workers
   pub limits : HasLimits rows solve.limits
 
--- the command that was met, with what stands behind it, is this `solve`
-abbrev pub Asks : Option (Text × List Row) → Solve → Type 0
-Asks None solve = ⊥
-Asks (Some met) solve = (met.0 ≡ codes "solve") × IsSolve met.1 solve
+-- what stands behind `compile`
+pub record IsCompile (rows : List Row) (compile : Compile) : Type 0 where
+  pub name : Has rows (codes "MODULE") compile.name
+  pub is_name : IsTrue (is_module_name compile.name)
+  pub folder : Has rows (codes "dir") compile.folder
 
--- the words are right by the command line `curry`, and the command that they name is this `solve`
-pub record ReadsAs (words : List Text) (solve : Solve) : Type 0 where
+-- the depth of a trial
+abbrev pub HasDepth : List Row → ℕ → Type 0
+HasDepth rows n = (text : Text) × Has rows (codes "N") text × IsNumber 0 14 text n
+
+-- what stands behind `trial`
+pub record IsTrial (rows : List Row) (trial : Trial) : Type 0 where
+  pub depth : HasDepth rows trial.depth
+  pub workers : HasNumber rows (codes "workers") 64 trial.workers
+  pub width : HasNumber rows (codes "width") 1048576 trial.width
+  pub stride : HasNumber rows (codes "stride") 1000000 trial.stride
+
+-- the command that was met, with what stands behind it, is this one
+abbrev pub Asks : Option (Text × List Row) → Command → Type 0
+Asks None command = ⊥
+Asks (Some met) (Solving solve) = (met.0 ≡ codes "solve") × IsSolve met.1 solve
+Asks (Some met) (Compiling compile) = (met.0 ≡ codes "compile") × IsCompile met.1 compile
+Asks (Some met) (Trying trial) = (met.0 ≡ codes "trial") × IsTrial met.1 trial
+
+-- the words are right by the command line `curry`, and the command that they name is this one
+pub record ReadsAs (words : List Text) (command : Command) : Type 0 where
   pub right : fault_of curry words ≡ []
-  pub asks : Asks (subcommand_of curry words) solve
+  pub asks : Asks (subcommand_of curry words) command
 
 -- some words that ask for something
 abbrev pub IsCommand : List Text → Type 0
-IsCommand words = (solve : Solve) × ReadsAs words solve
+IsCommand words = (command : Command) × ReadsAs words command
 
 -- the range of each number
 pub record IsInRange (solve : Solve) : Type 0 where
@@ -70,12 +111,39 @@ pub record IsInRange (solve : Solve) : Type 0 where
   pub width : IsIn 1 1048576 solve.limits.step.width
   pub stride : IsIn 1 1000000 solve.limits.stride
 
+pub record IsTrialInRange (trial : Trial) : Type 0 where
+  pub depth : IsIn 0 14 trial.depth
+  pub workers : IsIn 1 64 trial.workers
+  pub width : IsIn 1 1048576 trial.width
+  pub stride : IsIn 1 1000000 trial.stride
+
+abbrev pub HasItsRanges : Command → Type 0
+HasItsRanges (Solving solve) = IsInRange solve
+HasItsRanges (Compiling compile) = ⊤
+HasItsRanges (Trying trial) = IsTrialInRange trial
+
 -- what the reader gives
-abbrev pub asked : words.Solve → Solve
-asked solve = record {
+abbrev pub solve_of : solves.Solve → Solve
+solve_of solve = record {
   name = solve.«module».now;
   goal = solve.goal.now;
   folder = solve.folder.now;
   workers = solve.workers;
   limits = solve.limits;
 }
+
+abbrev pub compile_of : compiles.Compile → Compile
+compile_of compile = record { name = compile.«module».now; folder = compile.folder.now }
+
+abbrev pub trial_of : trials.Trial → Trial
+trial_of trial = record {
+  depth = trial.depth;
+  workers = trial.workers;
+  width = trial.width;
+  stride = trial.stride;
+}
+
+abbrev pub asked : Asked → Command
+asked (asks.Solve solve) = Solving (solve_of solve)
+asked (asks.Compile compile) = Compiling (compile_of compile)
+asked (asks.Trial trial) = Trying (trial_of trial)

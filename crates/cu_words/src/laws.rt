@@ -1,11 +1,13 @@
 //! Laws of the definitions.
 ghost use Rattle.std.specs.Prelude.{◌≡◌, ℕ, List, IsTrue};
 ghost use Rattle.cu_words.specs.Names.{is_module_name};
-ghost use Rattle.cu_words.specs.Words.{IsInRange, ReadsAs, Solve};
+ghost use Rattle.cu_words.specs.Words.{Command, Compile, Compiling, IsInRange};
+ghost use Rattle.cu_words.specs.Words.{IsTrialInRange, ReadsAs};
+ghost use Rattle.cu_words.specs.Words.{Solve, Solving, Trial, Trying};
 
 /// Words ask for one thing at most.
 pub fn one_reading()
-    ensures { (words : List (List ℕ)) (one other : Solve)
+    ensures { (words : List (List ℕ)) (one other : Command)
         → ReadsAs words one → ReadsAs words other → one ≡ other }
 {}
 
@@ -13,5 +15,17 @@ pub fn one_reading()
 /// whatever the goal and the folder are.
 pub fn all_can_be_asked()
     ensures { (solve : Solve) → IsTrue (is_module_name solve.name) → IsInRange solve
-        → (words : List (List ℕ)) × ReadsAs words solve }
+        → (words : List (List ℕ)) × ReadsAs words (Solving solve) }
+{}
+
+/// So can the text of a module of any name.
+pub fn all_can_be_compiled()
+    ensures { (compile : Compile) → IsTrue (is_module_name compile.name)
+        → (words : List (List ℕ)) × ReadsAs words (Compiling compile) }
+{}
+
+/// So can a trial whose numbers are in their ranges.
+pub fn all_can_be_tried()
+    ensures { (trial : Trial) → IsTrialInRange trial
+        → (words : List (List ℕ)) × ReadsAs words (Trying trial) }
 {}

@@ -1,17 +1,22 @@
 //! The words of the command line.
-ghost use Rattle.std.specs.Prelude.{◌≡◌, ℕ, List, Option, IfNone, IfOk, IfSome, IsTrue};
+ghost use Rattle.std.specs.Prelude.{◌≡◌, ℕ, List, Option, Some, IfNone, IfOk, IfSome, IsTrue};
 ghost use Rattle.std.specs.Prelude.{codes, map, option_map, string_bytes};
 ghost use Rattle.clap.specs.Words.{found_of, rows_of, first_of, subcommand_rows_of};
 ghost use Rattle.cu_words.specs.Names as names;
-ghost use Rattle.cu_words.specs.Words.{Asks, Has, HasLimits, HasNumber, IsCommand, IsMaybeNumber};
-ghost use Rattle.cu_words.specs.Words.{IsInRange, IsSolve, ReadsAs, asked};
+ghost use Rattle.cu_words.specs.Words.{Asks, Has, HasDepth, HasItsRanges, HasLimits, HasNumber};
+ghost use Rattle.cu_words.specs.Words.{IsCommand, IsCompile, IsMaybeNumber, IsSolve};
+ghost use Rattle.cu_words.specs.Words.{IsTrial, ReadsAs, compile_of};
+ghost use Rattle.cu_words.specs.Words.{asked, solve_of, trial_of};
 ghost use Rattle.cu_words.specs.Words as spec;
 ghost use Rattle.cu_machine.specs.declared.SearchLimits as machine;
 
+use crate::asked::Asked;
 use crate::command::command_line;
+use crate::compile::Compile;
 use crate::names::is_module_name;
 use crate::numbers::read_number;
 use crate::solve::Solve;
+use crate::trial::Trial;
 use clap::ArgMatches;
 use clap::error::ErrorKind;
 use cu_machine::{Limits, SearchLimits};
@@ -19,12 +24,12 @@ use std::alloc::{AllocError, Global};
 
 /// What the words behind the program's name ask for, or nothing where they
 /// aren't in the grammar. The one error is want of memory.
-pub fn read_words<'a>(alloc: Global, words: &'a [String]) -> Result<Option<Solve<'a>>, AllocError>
-    ensures read { IfOk result (λ found. IfSome found (λ solve.
-        ReadsAs (map string_bytes words.now) (asked solve))) }
+pub fn read_words<'a>(alloc: Global, words: &'a [String]) -> Result<Option<Asked<'a>>, AllocError>
+    ensures read { IfOk result (λ found. IfSome found (λ command.
+        ReadsAs (map string_bytes words.now) (asked command))) }
     ensures refused { IfOk result (λ found. IfNone found
         (IsCommand (map string_bytes words.now) → ⊥)) }
-    ensures ranges { IfOk result (λ found. IfSome found (λ solve. IsInRange (asked solve))) }
+    ensures ranges { IfOk result (λ found. IfSome found (λ command. HasItsRanges (asked command))) }
 {
     match command_line(alloc)?.try_get_matches_from(words) {
         Ok(matches) => Ok(read_command(&matches)),
@@ -34,28 +39,60 @@ pub fn read_words<'a>(alloc: Global, words: &'a [String]) -> Result<Option<Solve
 }
 
 // What the command that was met asks for.
-fn read_command<'a>(matches: &ArgMatches<'a>) -> Option<Solve<'a>>
-    ensures read { IfSome result (λ solve. Asks (subcommand_rows_of matches.now) (asked solve)) }
-    ensures refused { IfNone result ((solve : spec.Solve) →
-        Asks (subcommand_rows_of matches.now) solve → ⊥) }
+fn read_command<'a>(matches: &ArgMatches<'a>) -> Option<Asked<'a>>
+    ensures read { IfSome result (λ command. Asks (subcommand_rows_of matches.now) (asked command)) }
+    ensures refused { IfNone result ((command : spec.Command) →
+        Asks (subcommand_rows_of matches.now) command → ⊥) }
 {
     match matches.subcommand()? {
-        ("solve", found) => read_solve(found),
+        ("solve", found) => asked_solve(found),
+        ("compile", found) => asked_compile(found),
+        ("trial", found) => asked_trial(found),
         _ => None,
     }
+}
+
+// What `solve` asks for.
+fn asked_solve<'a>(found: &ArgMatches<'a>) -> Option<Asked<'a>>
+    ensures read { IfSome result (λ command.
+        Asks (Some (codes "solve", rows_of (found_of found.now))) (asked command)) }
+    ensures refused { IfNone result ((command : spec.Command) →
+        Asks (Some (codes "solve", rows_of (found_of found.now))) command → ⊥) }
+{
+    Some(Asked::Solve(read_solve(found)?))
+}
+
+// What `compile` asks for.
+fn asked_compile<'a>(found: &ArgMatches<'a>) -> Option<Asked<'a>>
+    ensures read { IfSome result (λ command.
+        Asks (Some (codes "compile", rows_of (found_of found.now))) (asked command)) }
+    ensures refused { IfNone result ((command : spec.Command) →
+        Asks (Some (codes "compile", rows_of (found_of found.now))) command → ⊥) }
+{
+    Some(Asked::Compile(read_compile(found)?))
+}
+
+// What `trial` asks for.
+fn asked_trial<'a>(found: &ArgMatches<'a>) -> Option<Asked<'a>>
+    ensures read { IfSome result (λ command.
+        Asks (Some (codes "trial", rows_of (found_of found.now))) (asked command)) }
+    ensures refused { IfNone result ((command : spec.Command) →
+        Asks (Some (codes "trial", rows_of (found_of found.now))) command → ⊥) }
+{
+    Some(Asked::Trial(read_trial(found)?))
 }
 
 // What stands behind `solve`.
 fn read_solve<'a>(found: &ArgMatches<'a>) -> Option<Solve<'a>>
     ensures read { IfSome result (λ solve.
-        IsSolve (rows_of (found_of found.now)) (asked solve)) }
+        IsSolve (rows_of (found_of found.now)) (solve_of solve)) }
     ensures refused { IfNone result ((solve : spec.Solve) →
         IsSolve (rows_of (found_of found.now)) solve → ⊥) }
 {
     let module = read_module(found)?;
     let goal = text(found, "goal")?;
     let folder = text(found, "dir")?;
-    let workers = small_number(found, "workers", 64)?;
+    let workers = read_workers(found)?;
     let limits = read_limits(found)?;
     Some(Solve {
         module,
@@ -64,6 +101,47 @@ fn read_solve<'a>(found: &ArgMatches<'a>) -> Option<Solve<'a>>
         workers,
         limits,
     })
+}
+
+// What stands behind `compile`.
+fn read_compile<'a>(found: &ArgMatches<'a>) -> Option<Compile<'a>>
+    ensures read { IfSome result (λ compile.
+        IsCompile (rows_of (found_of found.now)) (compile_of compile)) }
+    ensures refused { IfNone result ((compile : spec.Compile) →
+        IsCompile (rows_of (found_of found.now)) compile → ⊥) }
+{
+    let module = read_module(found)?;
+    let folder = text(found, "dir")?;
+    Some(Compile { module, folder })
+}
+
+// What stands behind `trial`.
+fn read_trial(found: &ArgMatches<'_>) -> Option<Trial>
+    ensures read { IfSome result (λ trial.
+        IsTrial (rows_of (found_of found.now)) (trial_of trial)) }
+    ensures refused { IfNone result ((trial : spec.Trial) →
+        IsTrial (rows_of (found_of found.now)) trial → ⊥) }
+{
+    let depth = read_depth(found)?;
+    let workers = read_workers(found)?;
+    let width = read_width(found)?;
+    let stride = read_stride(found)?;
+    Some(Trial {
+        depth,
+        workers,
+        width,
+        stride,
+    })
+}
+
+// The depth of a trial.
+fn read_depth(found: &ArgMatches<'_>) -> Option<u32>
+    ensures read { IfSome result (λ n. HasDepth (rows_of (found_of found.now)) n) }
+    ensures refused { IfNone result ((n : ℕ) →
+        HasDepth (rows_of (found_of found.now)) n → ⊥) }
+{
+    let depth = read_number(text(found, "N")?, 0, 14)?;
+    Some(depth as u32)
 }
 
 fn read_module<'a>(found: &ArgMatches<'a>) -> Option<&'a str>
@@ -91,8 +169,8 @@ fn read_limits(found: &ArgMatches<'_>) -> Option<SearchLimits>
     let rounds = number(found, "rounds", 1_000_000_000)?;
     let answers = read_answers(found)?;
     let nodes = small_number(found, "nodes", 16_777_216)?;
-    let width = small_number(found, "width", 1_048_576)?;
-    let stride = number(found, "stride", 1_000_000)?;
+    let width = read_width(found)?;
+    let stride = read_stride(found)?;
     Some(SearchLimits {
         rounds,
         answers,
@@ -112,6 +190,36 @@ fn read_answers(found: &ArgMatches<'_>) -> Option<Option<u64>>
         Some(text) => Some(Some(read_number(text, 1, 1_000_000_000)?)),
         None => Some(None),
     }
+}
+
+// How many workers take part.
+fn read_workers(found: &ArgMatches<'_>) -> Option<u32>
+    ensures read { IfSome result (λ n.
+        HasNumber (rows_of (found_of found.now)) (codes "workers") 64 n) }
+    ensures refused { IfNone result ((n : ℕ) →
+        HasNumber (rows_of (found_of found.now)) (codes "workers") 64 n → ⊥) }
+{
+    small_number(found, "workers", 64)
+}
+
+// How many branches a level may have.
+fn read_width(found: &ArgMatches<'_>) -> Option<u32>
+    ensures read { IfSome result (λ n.
+        HasNumber (rows_of (found_of found.now)) (codes "width") 1048576 n) }
+    ensures refused { IfNone result ((n : ℕ) →
+        HasNumber (rows_of (found_of found.now)) (codes "width") 1048576 n → ⊥) }
+{
+    small_number(found, "width", 1_048_576)
+}
+
+// How many steps a round takes a branch on.
+fn read_stride(found: &ArgMatches<'_>) -> Option<u64>
+    ensures read { IfSome result (λ n.
+        HasNumber (rows_of (found_of found.now)) (codes "stride") 1000000 n) }
+    ensures refused { IfNone result ((n : ℕ) →
+        HasNumber (rows_of (found_of found.now)) (codes "stride") 1000000 n → ⊥) }
+{
+    number(found, "stride", 1_000_000)
 }
 
 // The number that stands under this name, from 1 to `high`.

@@ -1,6 +1,6 @@
 //! The grammar of the words, row by row, from both sides.
 use cu_machine::SearchLimits;
-use cu_words::{Solve, read_words};
+use cu_words::{Asked, Compile, Solve, Trial, read_words};
 use std::alloc::{AllocError, Global};
 use std::process::Abort;
 
@@ -90,8 +90,8 @@ impl<'a> Case<'a> {
     fn holds(&self, alloc: Global) -> Result<bool, AllocError> {
         let words = words_of(alloc, self.line)?;
         match read_words(alloc, &words)? {
-            Some(solve) => Ok(self.is(&solve) && self.is_within(&solve.limits)),
-            None => Ok(false),
+            Some(Asked::Solve(solve)) => Ok(self.is(&solve) && self.is_within(&solve.limits)),
+            _ => Ok(false),
         }
     }
 
@@ -216,6 +216,75 @@ fn words_are_read(rt: HostRuntime) {
     expect_greatest(&rt);
 }
 
+/// A line that asks for a trial, and its depth, workers, width and stride.
+type TrialCase = (&'static str, u32, u32, u32, u64);
+
+const TRIALS: [TrialCase; 9] = [
+    ("trial 0", 0, 4, 65_536, 1),
+    ("trial 14", 14, 4, 65_536, 1),
+    ("trial 007", 7, 4, 65_536, 1),
+    ("trial 3 --workers 64", 3, 64, 65_536, 1),
+    ("trial --width=1048576 3", 3, 4, 1_048_576, 1),
+    ("trial --stride 1000000 -- 3", 3, 4, 65_536, 1_000_000),
+    ("trial --workers 1 --width 1 3 --stride 1", 3, 1, 1, 1),
+    ("trial 3 --", 3, 4, 65_536, 1),
+    ("trial 0000000000000000014", 14, 4, 65_536, 1),
+];
+
+/// Whether a line asks for this trial.
+fn tries(alloc: Global, case: &TrialCase) -> Result<bool, AllocError> {
+    let words = words_of(alloc, case.0)?;
+    match read_words(alloc, &words)? {
+        Some(Asked::Trial(trial)) => Ok(is_trial(&trial, case)),
+        _ => Ok(false),
+    }
+}
+
+fn is_trial(trial: &Trial, case: &TrialCase) -> bool {
+    trial.depth == case.1
+        && trial.workers == case.2
+        && trial.width == case.3
+        && trial.stride == case.4
+}
+
+#[test]
+fn trials_are_read(rt: HostRuntime) {
+    for case in &TRIALS {
+        assert!(rt; tries(rt.alloc(), case).ok() == Some(true), "{}", case.0);
+    }
+}
+
+/// Lines that ask for no trial.
+const NO_TRIALS: [&str; 20] = [
+    "trial",
+    "trial 15",
+    "trial -1",
+    "trial +1",
+    "trial --",
+    "trial M",
+    "trial 1 2",
+    "trial ",
+    "trial 00000000000000000014",
+    "trial 3 --workers 0",
+    "trial 3 --workers 65",
+    "trial 3 --width 0",
+    "trial 3 --width 1048577",
+    "trial 3 --stride 0",
+    "trial 3 --stride 1000001",
+    "trial 3 --stride 1 --stride 1",
+    "trial 3 --rounds 1",
+    "trial 3 --dir .",
+    "trial 3 --goal coin",
+    "trials 3",
+];
+
+#[test]
+fn other_trials_are_refused(rt: HostRuntime) {
+    for line in &NO_TRIALS {
+        assert!(rt; refuses(rt.alloc(), line).ok() == Some(true), "{line}");
+    }
+}
+
 /// Lines whose words aren't right: their command, what stands behind it, or
 /// how often.
 const OTHERS: [&str; 50] = [
@@ -321,4 +390,55 @@ fn others_are_refused(rt: HostRuntime) {
     }
     let none = read_words(rt.alloc(), &[]);
     assert!(rt; none.is_ok_and(|found| found.is_none()));
+}
+
+/// A line that asks for the text of a module, the module and its folder.
+type CompileCase = (&'static str, &'static str, &'static str);
+
+const TEXTS: [CompileCase; 5] = [
+    ("compile M", "M", "."),
+    ("compile A.B --dir lib", "A.B", "lib"),
+    ("compile --dir=-x M", "M", "-x"),
+    ("compile -- M", "M", "."),
+    ("compile --dir . -- M'", "M'", "."),
+];
+
+/// Whether a line asks for the text of this module.
+fn compiles(alloc: Global, case: &CompileCase) -> Result<bool, AllocError> {
+    let words = words_of(alloc, case.0)?;
+    match read_words(alloc, &words)? {
+        Some(Asked::Compile(compile)) => Ok(is_compile(&compile, case)),
+        _ => Ok(false),
+    }
+}
+
+fn is_compile(compile: &Compile<'_>, case: &CompileCase) -> bool {
+    compile.module == case.1 && compile.folder == case.2
+}
+
+#[test]
+fn texts_are_read(rt: HostRuntime) {
+    for case in &TEXTS {
+        assert!(rt; compiles(rt.alloc(), case).ok() == Some(true), "{}", case.0);
+    }
+}
+
+/// Lines that ask for no text of a module.
+const NO_TEXTS: [&str; 9] = [
+    "compile",
+    "compile M N",
+    "compile 1M",
+    "compile M --dir",
+    "compile M --dir . --dir .",
+    "compile M --goal coin",
+    "compile M --workers 1",
+    "compile --help",
+    "compiled M",
+];
+
+#[test]
+fn other_texts_are_refused(rt: HostRuntime) {
+    for line in &NO_TEXTS {
+        assert!(rt; refuses(rt.alloc(), line).ok() == Some(true), "{line}");
+    }
 }

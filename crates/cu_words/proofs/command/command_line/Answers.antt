@@ -10,4 +10,6 @@ returns c =
     let no_help = ap app_of_fields c.disable_help_subcommand.ensures ∙ ap (on_top (λ s. record s { disable_help_subcommand = true })) no_flag in
     let no_version = ap app_of_fields c.disable_version_flag.ensures ∙ ap (on_top (λ s. record s { disable_version_flag = true })) no_help in
     let asked = ap app_of_fields c.subcommand_required.ensures ∙ ap (on_top (λ s. record s { subcommand_required = true })) no_version in
-    IfOk-weaker c.subcommand.result _ _ (λ made adds. adds.shape c.in_ok-solve.ensures.local ∙ ap₂ with_subcommand asked c.in_ok-solve.ensures.shape) c.subcommand.ensures
+    let with_solve = c.in_ok-subcommand.ensures.shape c.in_ok-solve.ensures.local ∙ ap₂ with_subcommand asked c.in_ok-solve.ensures.shape in
+    let with_compile = c.in_ok-subcommand-2.ensures.shape c.in_ok-compile.ensures.local ∙ ap₂ with_subcommand with_solve c.in_ok-compile.ensures.shape in
+    IfOk-weaker c.subcommand-3.result _ _ (λ made adds. adds.shape c.in_ok-trial.ensures.local ∙ ap₂ with_subcommand with_compile c.in_ok-trial.ensures.shape) c.subcommand-3.ensures
