@@ -1,3 +1,4 @@
+mod AloneLemmas
 mod ClashLemmas
 mod CycleLemmas
 mod FunctionLemmas

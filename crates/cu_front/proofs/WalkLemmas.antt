@@ -1,8 +1,6 @@
 -- Answers for faults of the walk over the modules.
 use Rattle.std.proofs.Common.{◌≡◌, ℕ, List, Option, None, Some, Ok, Err, IfSome, inl, inr, sym, subst}
-use Rattle.cu_calculus.specs.Program as calculus
 use Rattle.cu_io.specs.Holdings.{Holdings}
-use Rattle.cu_kernel.specs.Kernel.{Kernel}
 use Rattle.cu_modules.specs.declared.fault.OrderFault.{OrderFault}
 use Rattle.cu_modules.specs.declared.fault.OrderFault.TheVariants as order
 use Rattle.cu_modules.specs.Ordering as ordering
@@ -11,12 +9,12 @@ use Rattle.cu_modules.specs.Walk as walk
 use Rattle.cu_modules.specs.Walk.{Walk}
 use Rattle.cu_front.specs.CompileAnswers.{AnswerIsKnown, FaultCount, TellsRefusal}
 use Rattle.cu_front.specs.Compiling as meant
-use Rattle.cu_front.specs.Compiling.{Compiles, Held, Refuses}
+use Rattle.cu_front.specs.Compiling.{Held, Refuses}
 use Rattle.cu_front.specs.declared.fault.CompileFault.{CompileFault}
 use Rattle.cu_front.specs.declared.fault.StageFault.{StageFault}
 use Rattle.cu_front.specs.declared.fault.StageFault.TheVariants as stage
 use Rattle.cu_front.specs.declared.refusal.Refusal as code
-use Rattle.cu_front.specs.Inside.Stages.{CompileBoth, IsToldIf, IsWalkAnswer, RefusesBoth, answer_of}
+use Rattle.cu_front.specs.Inside.Stages.{IsToldIf, IsWalkAnswer, answer_of}
 use Rattle.cu_front.specs.Refusal.{Refusal, Walked}
 use Rattle.cu_front.specs.RefusalMeaning.{RefusalIsKnown, refusal_meaning}
 use Rattle.cu_front.specs.StageFaults.{Tells}
@@ -29,31 +27,36 @@ told_if : (Known : Type 0) (names : List (List ℕ)) (refusal : code.Refusal) (r
 told_if Known names refusal result P (inl is) told = subst (TellsRefusal names P) (sym is.0) told
 told_if Known names refusal result P (inr is) told = subst (TellsRefusal names P) (sym is) tt
 
-refuses : (held : Held) (root text : List ℕ) (refusal : walk.Refusal) → Walk held root (Err refusal) → Refuses held root text (Walked refusal)
-refuses held root text refusal is = meant.Refuses.by_modules (Walked refusal) (meant.ModulesRefused.walk refusal is)
+walk_by : (names : List (List ℕ)) (held : Held) (root : List ℕ) (P : Refusal → Type 0)
+    → ((refusal : walk.Refusal) → Walk held root (Err refusal) → P (Walked refusal)) → (fault : OrderFault) (result : CompileFault)
+    → IsWalkAnswer names fault result → ordering.Tells names (λ refusal. Walk held root (Err refusal)) fault → TellsRefusal names P result
+walk_by names held root P by (order.MissingModule id) result is told = told_if _ names _ result P is (by _ told)
+walk_by names held root P by (order.SourceTooBig id) result is told = told_if _ names _ result P is (by _ told)
+walk_by names held root P by (order.NotUtf8 id offset) result is told = told_if _ names _ result P is (by _ told)
+walk_by names held root P by (order.BadToken place) result is told = told_if _ names _ result P is (by _ told)
+walk_by names held root P by (order.LiteralRange place) result is told = told_if _ names _ result P is (by _ told)
+walk_by names held root P by (order.TooDeep place) result is told = told_if _ names _ result P is (by _ told)
+walk_by names held root P by (order.TooLong id line) result is told = told_if _ names _ result P is (by _ told)
+walk_by names held root P by (order.Syntax id line) result is told = told_if _ names _ result P is (by _ told)
+walk_by names held root P by (order.HeaderName id) result is told = told_if _ names _ result P is (by _ told)
+walk_by names held root P by (order.ImportCycle ids) result is told = told_if _ names _ result P is (by _ told)
+walk_by names held root P by (order.TooManyModules id) result is told = told_if _ names _ result P is (by _ told)
+walk_by names held root P by order.Fetch result is told = subst (TellsRefusal names P) (sym is) tt
+walk_by names held root P by order.NoMemory result is told = subst (TellsRefusal names P) (sym is) tt
 
-walk_by : (names : List (List ℕ)) (held : Held) (root text : List ℕ) (fault : OrderFault) (result : CompileFault) → IsWalkAnswer names fault result
-    → ordering.Tells names (λ refusal. Walk held root (Err refusal)) fault → TellsRefusal names (Refuses held root text) result
-walk_by names held root text (order.MissingModule id) result is told = told_if _ names _ result (Refuses held root text) is (refuses held root text _ told)
-walk_by names held root text (order.SourceTooBig id) result is told = told_if _ names _ result (Refuses held root text) is (refuses held root text _ told)
-walk_by names held root text (order.NotUtf8 id offset) result is told = told_if _ names _ result (Refuses held root text) is (refuses held root text _ told)
-walk_by names held root text (order.BadToken place) result is told = told_if _ names _ result (Refuses held root text) is (refuses held root text _ told)
-walk_by names held root text (order.LiteralRange place) result is told = told_if _ names _ result (Refuses held root text) is (refuses held root text _ told)
-walk_by names held root text (order.TooDeep place) result is told = told_if _ names _ result (Refuses held root text) is (refuses held root text _ told)
-walk_by names held root text (order.TooLong id line) result is told = told_if _ names _ result (Refuses held root text) is (refuses held root text _ told)
-walk_by names held root text (order.Syntax id line) result is told = told_if _ names _ result (Refuses held root text) is (refuses held root text _ told)
-walk_by names held root text (order.HeaderName id) result is told = told_if _ names _ result (Refuses held root text) is (refuses held root text _ told)
-walk_by names held root text (order.ImportCycle ids) result is told = told_if _ names _ result (Refuses held root text) is (refuses held root text _ told)
-walk_by names held root text (order.TooManyModules id) result is told = told_if _ names _ result (Refuses held root text) is (refuses held root text _ told)
-walk_by names held root text order.Fetch result is told = subst (TellsRefusal names (Refuses held root text)) (sym is) tt
-walk_by names held root text order.NoMemory result is told = subst (TellsRefusal names (Refuses held root text)) (sym is) tt
-
-pub walk_told : (names : List (List ℕ)) (o : Option Holdings) (folder root text : List ℕ) (fault : OrderFault) (result : CompileFault)
-    → IsWalkAnswer names fault result
+-- by a property that refusals of the walk have
+pub walk_told : (names : List (List ℕ)) (o : Option Holdings) (folder root : List ℕ) (P : Held → Refusal → Type 0)
+    → ((held : Held) (refusal : walk.Refusal) → Walk held root (Err refusal) → P held (Walked refusal)) → (fault : OrderFault)
+    (result : CompileFault) → IsWalkAnswer names fault result
     → IfSome o (λ held. ordering.Tells names (λ refusal. Walk (held.module_at folder) root (Err refusal)) fault)
-    → IfSome o (λ held. TellsRefusal names (Refuses (held.module_at folder) root text) result)
-walk_told names None folder root text fault result is told = tt
-walk_told names (Some held) folder root text fault result is told = walk_by names (held.module_at folder) root text fault result is told
+    → IfSome o (λ held. TellsRefusal names (P (held.module_at folder)) result)
+walk_told names None folder root P by fault result is told = tt
+walk_told names (Some held) folder root P by fault result is told =
+    let at = held.module_at folder in walk_by names at root (P at) (by at) fault result is told
+
+pub walk_refuses : (root text : List ℕ) (held : Held) (refusal : walk.Refusal) → Walk held root (Err refusal)
+    → Refuses held root text (Walked refusal)
+walk_refuses root text held refusal is = meant.Refuses.by_modules (Walked refusal) (meant.ModulesRefused.walk refusal is)
 
 -- ---- known names
 
@@ -106,23 +109,22 @@ stage_by : (names : List (List ℕ)) (P : Refusal → Type 0) (fault : StageFaul
 stage_by names P (stage.Refused refusal) told = told.0
 stage_by names P stage.NoMemory told = tt
 
-pub stage_told : (names : List (List ℕ)) (o : Option Holdings) (folder root text : List ℕ) (modules : List Named) (fault : StageFault)
-    (result : CompileFault) → result ≡ answer_of fault → IfSome o (λ held. Walk (held.module_at folder) root (Ok modules))
-    → Tells names (RefusesBoth modules root text) fault
-    → IfSome o (λ held. TellsRefusal names (Refuses (held.module_at folder) root text) result)
-stage_told names None folder root text modules fault result is walked told = tt
-stage_told names (Some held) folder root text modules fault result is walked told =
+pub stage_told : (names : List (List ℕ)) (o : Option Holdings) (folder root : List ℕ) (P : Held → Refusal → Type 0) (modules : List Named)
+    (fault : StageFault) (result : CompileFault) → result ≡ answer_of fault → IfSome o (λ held. Walk (held.module_at folder) root (Ok modules))
+    → Tells names (λ refusal. (held : Held) → Walk held root (Ok modules) → P held refusal) fault
+    → IfSome o (λ held. TellsRefusal names (P (held.module_at folder)) result)
+stage_told names None folder root P modules fault result is walked told = tt
+stage_told names (Some held) folder root P modules fault result is walked told =
     let at = held.module_at folder in
-    subst (TellsRefusal names (Refuses at root text)) (sym is)
-    (stage_by names (Refuses at root text) fault
-    (tells_weaker names (RefusesBoth modules root text) (Refuses at root text) fault (λ refusal both. both at walked) told))
+    subst (TellsRefusal names (P at)) (sym is)
+    (stage_by names (P at) fault
+    (tells_weaker names (λ refusal. (h : Held) → Walk h root (Ok modules) → P h refusal) (P at) fault (λ refusal all. all at walked) told))
 
-pub stage_compiles : (names : List (List ℕ)) (o : Option Holdings) (folder root text : List ℕ) (modules : List Named) (program : Kernel)
-    (flat : calculus.Program) → IfSome o (λ held. Walk (held.module_at folder) root (Ok modules))
-    → CompileBoth modules root text names program flat
-    → IfSome o (λ held. Compiles (held.module_at folder) root text names program flat)
-stage_compiles names None folder root text modules program flat walked both = tt
-stage_compiles names (Some held) folder root text modules program flat walked both = both (held.module_at folder) walked
+pub stage_comes : (o : Option Holdings) (folder root : List ℕ) (P : Held → Type 0) (modules : List Named)
+    → IfSome o (λ held. Walk (held.module_at folder) root (Ok modules)) → ((held : Held) → Walk held root (Ok modules) → P held)
+    → IfSome o (λ held. P (held.module_at folder))
+stage_comes None folder root P modules walked all = tt
+stage_comes (Some held) folder root P modules walked all = all (held.module_at folder) walked
 
 pub stage_known : (names : List (List ℕ)) (P : Refusal → Type 0) (fault : StageFault) (result : CompileFault) → result ≡ answer_of fault
     → Tells names P fault → AnswerIsKnown names result

@@ -46,16 +46,18 @@ are_modules : (table names : List (List ℕ)) (modules : List Named) (root text 
     (held : meant.Held) → local ≡ programs.modules → ArePrograms table modules (root_in modules root) text programs → CanRunAlone table names local
     → Walk held root (Ok modules) → AreModules held root modules
 are_modules table names modules root text programs local held same are alone walk = record {
-  walked = walk;
-  scoped = are.scoped;
-  table = table;
-  is_table = are.is_table;
-  translated = are.translated;
   names = names;
   program = alone.program;
   flat = alone.flat;
-  lifted = subst (λ (p : LocalKernel). IsLifted table p names alone.program) (same ∙ are.alone) alone.lifted;
-  can_run = alone.can_run;
+  compile = record {
+    walked = walk;
+    scoped = are.scoped;
+    table = table;
+    is_table = are.is_table;
+    translated = are.translated;
+    lifted = subst (λ (p : LocalKernel). IsLifted table p names alone.program) (same ∙ are.alone) alone.lifted;
+    can_run = alone.can_run;
+  };
 }
 
 -- ---- with a goal

@@ -44,18 +44,29 @@ pub data ModulesRefused (held : Held) (root : List ℕ) : Refusal → Type 0 whe
       → IsLifted table (modules_program table modules) names program
       → CannotRun names program refusal → ModulesRefused held root refusal
 
--- the modules that a root reaches, of which nothing is refused
-pub record AreModules (held : Held) (root : List ℕ) (modules : List Named) : Type 0 where
+-- modules that a root reaches, and the program that they come to, with its table of names
+pub record ModulesCompile (held : Held) (root : List ℕ) (modules : List Named)
+    (names : List (List ℕ)) (program : Kernel) (flat : calculus.Program) : Type 0 where
   pub walked : Walk held root (Ok modules)
   pub scoped : AreScoped [] modules
   pub table : List (List ℕ)
   pub is_table : IsTable modules table
   pub translated : translation_refusal table modules ≡ None
+  pub lifted : IsLifted table (modules_program table modules) names program
+  pub can_run : CanRun program flat
+
+-- the program that the modules that a root reaches come to, with its table of names
+pub record ModuleCompiles (held : Held) (root : List ℕ) (names : List (List ℕ))
+    (program : Kernel) (flat : calculus.Program) : Type 0 where
+  pub modules : List Named
+  pub compile : ModulesCompile held root modules names program flat
+
+-- the modules that a root reaches, of which nothing is refused
+pub record AreModules (held : Held) (root : List ℕ) (modules : List Named) : Type 0 where
   pub names : List (List ℕ)
   pub program : Kernel
   pub flat : calculus.Program
-  pub lifted : IsLifted table (modules_program table modules) names program
-  pub can_run : CanRun program flat
+  pub compile : ModulesCompile held root modules names program flat
 
 -- ---- goals
 

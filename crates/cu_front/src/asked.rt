@@ -10,3 +10,12 @@ pub struct Asked<'a> {
     /// The text of the goal.
     pub goal: &'a str,
 }
+
+/// A module, with all that it imports.
+#[derive(Clone, Copy, Debug)]
+pub struct AskedModule<'a> {
+    /// The name of the module.
+    pub root: &'a str,
+    /// The folder that holds it, and the modules that it imports.
+    pub folder: &'a str,
+}

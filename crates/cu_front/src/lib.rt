@@ -6,6 +6,7 @@
 mod asked;
 mod fault;
 mod goal_text;
+mod modules_alone;
 mod outcome;
 mod programs;
 mod refusal;
@@ -14,8 +15,9 @@ mod runnable;
 mod stages;
 mod translated;
 
-pub use asked::Asked;
+pub use asked::{Asked, AskedModule};
 pub use fault::CompileFault;
+pub use modules_alone::compile_module;
 pub use refusal::Refusal;
 pub use runnable::Compiled;
 pub use stages::compile;

@@ -113,7 +113,7 @@ pub(crate) fn programs_of(
 ///
 /// The first fault of the names of the first module that has one; want of
 /// memory.
-fn scoped(alloc: Global, names: &Names, modules: &[Module]) -> Result<Scopes, StageFault>
+pub(crate) fn scoped(alloc: Global, names: &Names, modules: &[Module]) -> Result<Scopes, StageFault>
     requires built_in { HasBuiltIn names.now }
     requires known { All (HasModule names.now) modules.now }
     requires ordered { AreOrdered (modules_of names.now modules.now) }

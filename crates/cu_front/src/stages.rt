@@ -137,7 +137,7 @@ fn place_of(modules: &[Module], name: NameId) -> Option<usize>
 }
 
 /// The answer for a fault of the stages behind the walk.
-fn of_stage(fault: StageFault) -> CompileFault
+pub(crate) fn of_stage(fault: StageFault) -> CompileFault
     ensures { result ≡ answer_of fault }
 {
     match fault {
@@ -149,7 +149,7 @@ fn of_stage(fault: StageFault) -> CompileFault
 /// The answer for a fault of the walk over the modules. The table always has
 /// its names, which is tested here once more: others are answered as want of
 /// memory.
-fn of_walk(names: &Names, fault: OrderFault) -> CompileFault
+pub(crate) fn of_walk(names: &Names, fault: OrderFault) -> CompileFault
     ensures { IsWalkAnswer names.now fault result }
 {
     match fault {

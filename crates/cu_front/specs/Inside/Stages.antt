@@ -19,7 +19,7 @@ use Rattle.cu_translation.specs.Parts.{goal_part}
 use Rattle.cu_translation.specs.Translation as translation
 use Rattle.cu_translation.specs.Translation.{goal_translation}
 use Rattle.cu_uses.specs.Faults as uses
-use Rattle.cu_front.specs.Compiling.{Compiles, GoalRefused, Held, ModulesRefused, Refuses, whole_program}
+use Rattle.cu_front.specs.Compiling.{Compiles, GoalRefused, Held, ModulesCompile, ModulesRefused, Refuses, whole_program}
 use Rattle.cu_front.specs.declared.fault.CompileFault.{CompileFault}
 use Rattle.cu_front.specs.declared.fault.CompileFault.TheVariants as answer
 use Rattle.cu_front.specs.declared.fault.StageFault.{StageFault}
@@ -87,6 +87,13 @@ abbrev pub RefusesModules : List Named → List ℕ → Refusal → Type 0
 RefusesModules modules root refusal =
     (held : Held) → Walk held root (Ok modules) → ModulesRefused held root refusal
 
+-- The modules that the root reaches come to this program.
+abbrev pub CompileAlone :
+    List Named → List ℕ → List (List ℕ) → Kernel → calculus.Program → Type 0
+CompileAlone modules root names program flat =
+    (held : Held) → Walk held root (Ok modules)
+    → ModulesCompile held root modules names program flat
+
 -- These modules, or a goal in the root, are refused so.
 abbrev pub RefusesBoth : List Named → List ℕ → List ℕ → Refusal → Type 0
 RefusesBoth modules root text refusal =
@@ -143,3 +150,11 @@ pub record ArePrograms (names : List (List ℕ)) (modules : List Named) (k : ℕ
   pub translated : translation_refusal names modules ≡ None
   pub alone : found.modules ≡ modules_program names modules
   pub whole : IsWhole names modules k text found.whole
+
+-- The program of modules before lifting, of which nothing is refused so far.
+pub record AreTranslated (names : List (List ℕ)) (modules : List Named) (program : LocalKernel)
+    : Type 0 where
+  pub scoped : AreScoped [] modules
+  pub is_table : IsTable modules names
+  pub translated : translation_refusal names modules ≡ None
+  pub is : program ≡ modules_program names modules
