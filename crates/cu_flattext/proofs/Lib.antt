@@ -1,0 +1,15 @@
+mod Numbering
+mod Looks
+mod Restored
+mod Escaping
+mod Sample
+mod ScopeLemmas
+mod WrittenLemmas
+mod CircleLemmas
+mod ElementLemmas
+mod ListLemmas
+mod FieldLemmas
+mod FunctionLemmas
+mod RuleLemmas
+mod TaskLemmas
+mod PrintingLemmas

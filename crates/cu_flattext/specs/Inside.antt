@@ -1,0 +1,6 @@
+pub mod Stands
+pub mod Tasks
+pub mod Circles
+pub mod TypeTasks
+pub mod LineTasks
+pub mod Progress

@@ -1,0 +1,99 @@
+-- What is left to be written of a module, and what it comes to.
+use Rattle.std.specs.Prelude.{ℕ, ◌+◌, Bool, true, false, List, [], ◌∷◌, ◌++◌, codes, drop, length, map, reverse, slice_get}
+use Rattle.cu_calculus.specs.Code as code
+use Rattle.cu_calculus.specs.Code.{Code}
+use Rattle.cu_calculus.specs.FlatProgram.{body_in, term_of}
+use Rattle.cu_calculus.specs.declared.ExprId.{ExprId}
+use Rattle.cu_calculus.specs.declared.FunId.{FunId}
+use Rattle.cu_calculus.specs.declared.Head.TheVariants as head
+use Rattle.cu_flattext.specs.ExpressionTexts.{all_numbered, arity, expression_text, no_numbers}
+use Rattle.cu_kernel.specs.KernelOf.{constructor_meaning, synonym_meaning, type_meaning}
+use Rattle.cu_flattext.specs.Inside.Stands.{lowered_of}
+use Rattle.cu_flattext.specs.Inside.Tasks.{left_of}
+use Rattle.cu_flattext.specs.Inside.TypeTasks.{types_left}
+use Rattle.cu_flattext.specs.Naming.{Lowered, elements, function_entity, in_parentheses, list_text}
+use Rattle.cu_flattext.specs.Text.{data_type_texts, function_text, function_texts, import_text, imports_of, on_a_line, operator_text, operators_of, synonym_texts, type_texts}
+use Rattle.cu_flattext.specs.TypeTexts.{constructor_text, numbers_from}
+use Rattle.cu_flattext.specs.declared.line.Line.{Line}
+use Rattle.cu_flattext.specs.declared.line.Line.TheVariants as line
+use Rattle.cu_flattext.specs.declared.line.Work.{Work}
+use Rattle.cu_flattext.specs.declared.line.Work.TheVariants as work
+use Rattle.cu_flattext.specs.declared.module_text.ModuleText.{ModuleText}
+use Rattle.cu_flattext.specs.declared.writer.Writer.{Writer}
+
+-- the text of the expression of a rule with these parameters
+abbrev pub rule_expression : Lowered → Code → List ℕ → ExprId → List ℕ
+rule_expression program code parameters e =
+    expression_text program (1 + length parameters) (all_numbered parameters 1 no_numbers) (term_of code e)
+
+-- the text of a function that does this
+abbrev pub function_at : Lowered → Code → FunId → Bool → code.Body → List ℕ
+function_at program code f public body =
+    function_text program (function_entity program f) public
+    (record { arity = arity program (head.Fun f); body = body_in code body })
+
+-- the text of a rule with these parameters
+abbrev pub rule_over : Lowered → Code → List ℕ → ExprId → List ℕ
+rule_over program code parameters e =
+    codes "Rule " ++ (list_text (numbers_from 1 (length parameters)) ++ (codes " "
+    ++ in_parentheses (rule_expression program code parameters e)))
+
+-- the lines of the functions from a place on
+abbrev pub function_lines : Lowered → ℕ → ℕ → List (List ℕ)
+function_lines program m k =
+    map on_a_line (function_texts program m k (drop k program.flat.functions) (drop k program.kernel.marks))
+
+-- the text of a part of the module at a place
+abbrev pub line_part : Lowered → ℕ → Line → List ℕ
+line_part program m (line.Text text) = text.now
+line_part program m (line.Imports imports behind) = elements behind (map (import_text program) imports.now)
+line_part program m (line.DataTypes ts behind) =
+    elements behind
+    (map on_a_line (data_type_texts program m (map type_meaning ts.now) ++ synonym_texts program m program.kernel.synonyms))
+line_part program m (line.Synonyms ss behind) =
+    elements behind (map on_a_line (synonym_texts program m (map synonym_meaning ss.now)))
+line_part program m (line.Constructors cs arity behind) =
+    elements behind (map (constructor_text program m arity) (map constructor_meaning cs.now))
+line_part program m (line.Functions k behind) = elements behind (function_lines program m k)
+line_part program m (line.Operators os behind) = elements behind (map on_a_line (map (operator_text program m) os.now))
+
+-- what parts come to, the first first
+abbrev pub line_parts : Lowered → ℕ → List Line → List ℕ
+line_parts program m [] = []
+line_parts program m (l ∷ ls) = line_part program m l ++ line_parts program m ls
+
+-- the module at a place from its imports on
+abbrev pub module_lines : Lowered → ℕ → List ℕ
+module_lines program m =
+    let found = slice_get program.kernel.modules m in
+    elements false (map (import_text program) (imports_of found))
+    ++ (codes "] [" ++ (elements false (map on_a_line (type_texts program m))
+    ++ (codes "] [" ++ (elements false (function_lines program m 0)
+    ++ (codes "] [" ++ (elements false (map on_a_line (map (operator_text program m) (operators_of found)))
+    ++ (codes "]\n" ++ [])))))))
+
+-- what is left of the lines
+abbrev pub lines_left : ModuleText → List ℕ
+lines_left s = line_parts (lowered_of s.wording) s.module (reverse s.lines.items)
+
+-- the same with a part before the others
+abbrev pub lines_left_with : Line → ModuleText → List ℕ
+lines_left_with l s = line_part (lowered_of s.wording) s.module l ++ lines_left s
+
+-- the same with a text before the others
+abbrev pub lines_left_behind : List ℕ → ModuleText → List ℕ
+lines_left_behind text s = text ++ lines_left s
+
+-- what is to be written before the next line
+abbrev pub work_left : Work → List ℕ
+work_left work.Nothing = []
+work_left (work.Types types) = types_left types
+work_left (work.Expressions expressions) = left_of expressions
+
+-- the same, and what is left of the lines
+abbrev pub left_behind : Work → ModuleText → List ℕ
+left_behind w s = work_left w ++ lines_left s
+
+-- what is left of all
+abbrev pub all_left : Writer → List ℕ
+all_left w = left_of w.expressions ++ (types_left w.types ++ lines_left w.lines)

@@ -1,0 +1,19 @@
+-- What was written to a sink, and why printing breaks off.
+use Rattle.std.specs.Prelude.{◌≡◌, ℕ, ◌≤◌, List, ◌++◌, Option, Result, Ok, Err, length, option_map, take}
+use Rattle.cu_io.specs.Rose.{Rose}
+use Rattle.cu_flattext.specs.declared.fault.PrintFault.{PrintFault}
+use Rattle.cu_flattext.specs.declared.fault.PrintFault.TheVariants.{NoMemory, Write}
+
+-- after the output held `before`, it holds this text too, where the sink tells
+abbrev pub Adds : Option (List ℕ) → Option (List ℕ) → List ℕ → Type 0
+Adds before after text = after ≡ option_map (λ told. told ++ text) before
+
+-- a front of this text was added
+abbrev pub AddsFront : Option (List ℕ) → Option (List ℕ) → List ℕ → Type 0
+AddsFront before after text = (n : ℕ) × (n ≤ length text) × Adds before after (take n text)
+
+-- the output's count of faults rose where it failed, and stands otherwise, also where memory ran out
+abbrev pub HasCause : {A : Type 0} → Result A PrintFault → ℕ → ℕ → Type 0
+HasCause (Ok x) old new = new ≡ old
+HasCause (Err Write) old new = Rose old new
+HasCause (Err NoMemory) old new = new ≡ old

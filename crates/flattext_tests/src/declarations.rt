@@ -1,0 +1,194 @@
+//! What the modules `Prelude`, `B` and `A` declare beside their functions. `A`
+//! imports first `B` and then the Prelude.
+use crate::functions::{and, none, one};
+use cu_kernel::{
+    ConId, Constructor, DataType, FunId, ModuleInfo, Operator, Side, Special, Synonym, SynonymId,
+    TypeId, TypeName, TypeTerm,
+};
+use cu_names::{NameId, Names};
+use std::alloc::{AllocError, Global};
+
+/// The texts of the names, by their numbers.
+const TEXTS: [&str; 31] = [
+    "Prelude", "B", "A", "[]", ":", "()", "(,)", "Int", "Char", "Bool", "False", "True", "&&",
+    "failed", "==", "b", "\\\\", "p", "q", "r", "s", "t", "u", "T", "C", "D", "E", "L", "X", "Y",
+    "Z",
+];
+
+pub(crate) const FALSE: ConId = ConId(17);
+
+pub(crate) const TRUE: ConId = ConId(18);
+
+pub(crate) const ENTITIES: Special = Special {
+    falsity: FALSE,
+    truth: TRUE,
+    nil: ConId(0),
+    cons: ConId(1),
+    both: FunId(0),
+    values: Some(ConId(20)),
+};
+
+/// The table of names.
+pub(crate) fn names(alloc: Global) -> Result<Names, AllocError> {
+    let mut names = Names::new(alloc);
+    for text in &TEXTS {
+        let _ = names.intern(text)?;
+    }
+    Ok(names)
+}
+
+fn variable(x: u32) -> Result<TypeTerm, AllocError> {
+    Ok(TypeTerm::Var(x))
+}
+
+fn data(place: usize, types: Result<Vec<TypeTerm>, AllocError>) -> Result<TypeTerm, AllocError> {
+    Ok(TypeTerm::Named(TypeName::Data(TypeId(place)), types?))
+}
+
+fn synonym(place: usize, types: Result<Vec<TypeTerm>, AllocError>) -> Result<TypeTerm, AllocError> {
+    Ok(TypeTerm::Named(TypeName::Synonym(SynonymId(place)), types?))
+}
+
+fn arrow(alloc: Global, from: u32, to: u32) -> Result<TypeTerm, AllocError> {
+    let from = Box::new(alloc, TypeTerm::Var(from))?;
+    let to = Box::new(alloc, TypeTerm::Var(to))?;
+    Ok(TypeTerm::Arrow(from, to))
+}
+
+fn constructor(
+    name: usize,
+    public: bool,
+    fields: Result<Vec<TypeTerm>, AllocError>,
+) -> Result<Constructor, AllocError> {
+    Ok(Constructor {
+        name: NameId(name),
+        public,
+        fields: fields?,
+    })
+}
+
+fn data_type(
+    name: usize,
+    module: u32,
+    arity: u32,
+    constructors: Result<Vec<Constructor>, AllocError>,
+) -> Result<DataType, AllocError> {
+    Ok(DataType {
+        name: NameId(name),
+        module,
+        arity,
+        public: true,
+        constructors: constructors?,
+    })
+}
+
+/// `data [] a = [] | a : [a]`
+fn list_type(alloc: Global) -> Result<DataType, AllocError> {
+    let rest = data(0, one(alloc, variable(0)));
+    let longer = constructor(4, true, and(one(alloc, variable(0)), rest));
+    let empty = constructor(3, true, none(alloc));
+    data_type(3, 0, 1, and(one(alloc, empty), longer))
+}
+
+/// The type of tuples of so many components.
+fn tuple_type(alloc: Global, name: usize, count: u32) -> Result<DataType, AllocError> {
+    let mut fields = Vec::new(alloc);
+    for x in 0..count {
+        fields.push(TypeTerm::Var(x))?;
+    }
+    let whole = constructor(name, true, Ok(fields));
+    data_type(name, 0, count, one(alloc, whole))
+}
+
+/// `data Bool = False | True`
+fn truth_values(alloc: Global) -> Result<DataType, AllocError> {
+    let no = constructor(10, true, none(alloc));
+    let yes = constructor(11, true, none(alloc));
+    data_type(9, 0, 0, and(one(alloc, no), yes))
+}
+
+/// `data T a b = C b (L a) | D (Z Int) | E (L a b) (a -> b)`, of which `D`
+/// isn't exported, and `L` has one argument too many in `E`.
+fn own_type(alloc: Global) -> Result<DataType, AllocError> {
+    let list = synonym(0, one(alloc, variable(0)));
+    let c = constructor(24, true, and(one(alloc, variable(1)), list));
+    let integer = data(16, none(alloc));
+    let d = constructor(25, false, one(alloc, synonym(3, one(alloc, integer))));
+    let both = and(one(alloc, variable(0)), variable(1));
+    let e = constructor(
+        26,
+        true,
+        and(one(alloc, synonym(0, both)), arrow(alloc, 0, 1)),
+    );
+    data_type(23, 2, 2, and(and(one(alloc, c), d), e))
+}
+
+pub(crate) fn types(alloc: Global) -> Result<Vec<DataType>, AllocError> {
+    let mut types = Vec::new(alloc);
+    types.push(list_type(alloc)?)?;
+    types.push(tuple_type(alloc, 5, 0)?)?;
+    for count in 2..16 {
+        types.push(tuple_type(alloc, 6, count)?)?;
+    }
+    types.push(data_type(7, 0, 0, none(alloc))?)?;
+    types.push(data_type(8, 0, 0, none(alloc))?)?;
+    types.push(truth_values(alloc)?)?;
+    types.push(own_type(alloc)?)?;
+    Ok(types)
+}
+
+fn declared_synonym(
+    name: usize,
+    public: bool,
+    arity: u32,
+    body: Result<TypeTerm, AllocError>,
+) -> Result<Synonym, AllocError> {
+    Ok(Synonym {
+        name: NameId(name),
+        module: 2,
+        public,
+        arity,
+        body: body?,
+    })
+}
+
+/// `type L a = [a]`, `type X = Y`, `type Y = X` and `type Z a = (X, a)`. The
+/// second and the third stand on a circle, the last one only leads there.
+pub(crate) fn synonyms(alloc: Global) -> Result<Vec<Synonym>, AllocError> {
+    let list = declared_synonym(27, true, 1, data(0, one(alloc, variable(0))));
+    let first = declared_synonym(28, false, 0, synonym(2, none(alloc)));
+    let second = declared_synonym(29, false, 0, synonym(1, none(alloc)));
+    let components = and(one(alloc, synonym(1, none(alloc))), variable(0));
+    let pair = declared_synonym(30, true, 1, data(2, components));
+    and(and(and(one(alloc, list), first), second), pair)
+}
+
+fn module(
+    alloc: Global,
+    name: usize,
+    imports: Result<Vec<NameId>, AllocError>,
+    operator: Operator,
+) -> Result<ModuleInfo, AllocError> {
+    Ok(ModuleInfo {
+        name: NameId(name),
+        imports: imports?,
+        operators: one(alloc, Ok(operator))?,
+    })
+}
+
+fn operator(name: usize, side: Side, level: u32) -> Operator {
+    Operator {
+        name: NameId(name),
+        side,
+        level,
+    }
+}
+
+pub(crate) fn modules(alloc: Global) -> Result<Vec<ModuleInfo>, AllocError> {
+    let prelude = module(alloc, 0, none(alloc), operator(12, Side::Right, 3));
+    let only = one(alloc, Ok(NameId(0)));
+    let b = module(alloc, 1, only, operator(15, Side::Neither, 4));
+    let imports = and(one(alloc, Ok(NameId(1))), Ok(NameId(0)));
+    let a = module(alloc, 2, imports, operator(16, Side::Left, 6));
+    and(and(one(alloc, prelude), b), a)
+}

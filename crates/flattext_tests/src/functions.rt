@@ -1,0 +1,253 @@
+//! The functions of the modules.
+use crate::declarations::{FALSE, TRUE};
+use cu_kernel::{
+    Body, ConId, FunId, Function, Head, Int, Lit, Mark, Mode, Pattern, Prim, Rule, Term,
+};
+use cu_names::{NameId, Place};
+use std::alloc::{AllocError, Global};
+
+const NIL: ConId = ConId(0);
+
+const CONS: ConId = ConId(1);
+
+/// The functions' places.
+const BACKSLASHES: FunId = FunId(4);
+
+const P: FunId = FunId(5);
+
+const Q: FunId = FunId(6);
+
+pub(crate) fn none<T: Drop>(alloc: Global) -> Result<Vec<T>, AllocError> {
+    Ok(Vec::new(alloc))
+}
+
+/// A list of one.
+pub(crate) fn one<T: Drop>(
+    alloc: Global,
+    item: Result<T, AllocError>,
+) -> Result<Vec<T>, AllocError> {
+    let mut items = Vec::new(alloc);
+    items.push(item?)?;
+    Ok(items)
+}
+
+/// A list, and one more.
+pub(crate) fn and<T: Drop>(
+    items: Result<Vec<T>, AllocError>,
+    item: Result<T, AllocError>,
+) -> Result<Vec<T>, AllocError> {
+    let mut items = items?;
+    items.push(item?)?;
+    Ok(items)
+}
+
+fn boxed(alloc: Global, term: Result<Term, AllocError>) -> Result<Box<Term>, AllocError> {
+    Ok(Box::new(alloc, term?)?)
+}
+
+fn variable(x: u32) -> Result<Term, AllocError> {
+    Ok(Term::Var(x))
+}
+
+fn number(n: Int) -> Result<Term, AllocError> {
+    Ok(Term::Lit(Lit::Int(n)))
+}
+
+fn whole(head: Head, terms: Result<Vec<Term>, AllocError>) -> Result<Term, AllocError> {
+    Ok(Term::Whole(head, terms?))
+}
+
+fn part(head: Head, terms: Result<Vec<Term>, AllocError>) -> Result<Term, AllocError> {
+    Ok(Term::Part(head, terms?))
+}
+
+fn choice(
+    alloc: Global,
+    left: Result<Term, AllocError>,
+    right: Result<Term, AllocError>,
+) -> Result<Term, AllocError> {
+    Ok(Term::Or(boxed(alloc, left)?, boxed(alloc, right)?))
+}
+
+fn application(alloc: Global, f: u32, x: u32) -> Result<Term, AllocError> {
+    let f = boxed(alloc, variable(f))?;
+    Ok(Term::Apply(f, boxed(alloc, variable(x))?))
+}
+
+fn free(alloc: Global, x: u32, term: Result<Term, AllocError>) -> Result<Term, AllocError> {
+    Ok(Term::Free(x, boxed(alloc, term)?))
+}
+
+fn binding(
+    alloc: Global,
+    x: u32,
+    bound: Result<Term, AllocError>,
+    term: Result<Term, AllocError>,
+) -> Result<Term, AllocError> {
+    let bound = boxed(alloc, bound)?;
+    Ok(Term::Let(x, bound, boxed(alloc, term)?))
+}
+
+/// A rule with these parameters.
+fn rule(
+    params: Result<Vec<Pattern>, AllocError>,
+    body: Result<Term, AllocError>,
+) -> Result<Rule, AllocError> {
+    Ok(Rule {
+        params: params?,
+        body: body?,
+    })
+}
+
+/// A list of so many variables.
+fn variables(alloc: Global, count: u32) -> Result<Vec<Pattern>, AllocError> {
+    let mut params = Vec::new(alloc);
+    for x in 0..count {
+        params.push(Pattern::Var(x))?;
+    }
+    Ok(params)
+}
+
+fn of_rules(
+    name: usize,
+    arity: u32,
+    rules: Result<Vec<Rule>, AllocError>,
+) -> Result<Function, AllocError> {
+    Ok(Function {
+        name: NameId(name),
+        arity,
+        body: Body::Rules(rules?),
+    })
+}
+
+/// A function of so many parameters with this body.
+fn defined(
+    alloc: Global,
+    name: usize,
+    arity: u32,
+    body: Result<Term, AllocError>,
+) -> Result<Function, AllocError> {
+    let params = variables(alloc, arity);
+    of_rules(name, arity, one(alloc, rule(params, body)))
+}
+
+fn built_in(name: usize, arity: u32, operation: Prim) -> Result<Function, AllocError> {
+    Ok(Function {
+        name: NameId(name),
+        arity,
+        body: Body::External(operation),
+    })
+}
+
+/// `True && x = x` and `False && _ = False`
+fn both(alloc: Global) -> Result<Function, AllocError> {
+    let yes = Pattern::Con(TRUE, Vec::new(alloc));
+    let no = Pattern::Con(FALSE, Vec::new(alloc));
+    let truth = rule(and(one(alloc, Ok(yes)), Ok(Pattern::Var(0))), variable(0));
+    let falsity = whole(Head::Con(FALSE), none(alloc));
+    let otherwise = rule(and(one(alloc, Ok(no)), Ok(Pattern::Var(0))), falsity);
+    of_rules(12, 2, and(one(alloc, truth), otherwise))
+}
+
+/// `b = [1, 1 ..]`, of so many elements.
+fn ones(alloc: Global, count: u32) -> Result<Function, AllocError> {
+    let mut list = whole(Head::Con(NIL), none(alloc))?;
+    for _ in 0..count {
+        list = whole(Head::Con(CONS), and(one(alloc, number(1)), Ok(list)))?;
+    }
+    defined(alloc, 15, 0, Ok(list))
+}
+
+/// `x \\ y = x ? y`
+fn backslashes(alloc: Global) -> Result<Function, AllocError> {
+    defined(alloc, 16, 2, choice(alloc, variable(0), variable(1)))
+}
+
+/// `q x = case x of { 'a' -> [] }`
+fn by_character(alloc: Global) -> Result<Function, AllocError> {
+    let empty = whole(Head::Con(NIL), none(alloc))?;
+    let alternatives = one(alloc, Ok((Pattern::Lit(Lit::Char('a')), empty)))?;
+    let scrutinee = boxed(alloc, variable(0))?;
+    let body = Term::Case(Mode::Rigid, scrutinee, alternatives);
+    defined(alloc, 18, 1, Ok(body))
+}
+
+/// `r = let y = p in let z free in y z`
+fn applied(alloc: Global) -> Result<Function, AllocError> {
+    let inner = free(alloc, 8, application(alloc, 7, 8));
+    let called = whole(Head::Fun(P), none(alloc));
+    defined(alloc, 19, 0, binding(alloc, 7, called, inner))
+}
+
+/// `s (x : xs) = [x, (\\) xs]`, without types.
+fn by_list(alloc: Global) -> Result<Function, AllocError> {
+    let parts = and(one(alloc, Ok(Pattern::Var(0))), Ok(Pattern::Var(1)))?;
+    let params = one(alloc, Ok(Pattern::Con(CONS, parts)));
+    let partial = part(Head::Fun(BACKSLASHES), one(alloc, variable(1)));
+    let body = whole(Head::Con(CONS), and(one(alloc, variable(0)), partial));
+    of_rules(20, 1, one(alloc, rule(params, body)))
+}
+
+/// `t x = set1 q x`
+fn values(alloc: Global) -> Result<Function, AllocError> {
+    defined(alloc, 21, 1, whole(Head::Set(Q), one(alloc, variable(0))))
+}
+
+/// `u = (:) ? (set0 p ? (x where x free)) ? (y where y free)`
+fn parts(alloc: Global) -> Result<Function, AllocError> {
+    let cons = part(Head::Con(CONS), none(alloc));
+    let set = whole(Head::Set(P), none(alloc));
+    let left = choice(alloc, set, free(alloc, 3, variable(3)));
+    let right = free(alloc, 3, variable(3));
+    let body = choice(alloc, cons, choice(alloc, left, right));
+    defined(alloc, 22, 0, body)
+}
+
+/// The functions of the Prelude, then `b` of `B` with so many elements, then
+/// those of `A`.
+pub(crate) fn functions(alloc: Global, count: u32) -> Result<Vec<Function>, AllocError> {
+    let failed = built_in(13, 0, Prim::Failed);
+    let equal = built_in(14, 2, Prim::Equal);
+    let prelude = and(and(one(alloc, both(alloc)), failed), equal);
+    let first = and(and(prelude, ones(alloc, count)), backslashes(alloc));
+    let second = and(
+        and(first, defined(alloc, 17, 0, number(-5))),
+        by_character(alloc),
+    );
+    let third = and(and(second, applied(alloc)), by_list(alloc));
+    and(and(third, values(alloc)), parts(alloc))
+}
+
+/// The modules of the functions, and whether they are exported: `b` and `p`
+/// aren't.
+const MARKS: [(u32, bool); 11] = [
+    (0, true),
+    (0, true),
+    (0, true),
+    (1, false),
+    (2, true),
+    (2, false),
+    (2, true),
+    (2, true),
+    (2, true),
+    (2, true),
+    (2, true),
+];
+
+pub(crate) fn marks(alloc: Global) -> Result<Vec<Mark>, AllocError> {
+    let mut marks = Vec::new(alloc);
+    for (module, public) in &MARKS {
+        marks.push(Mark {
+            module: *module,
+            public: *public,
+            declared: None,
+            captured: 0,
+            place: Place {
+                module: NameId(0),
+                line: 1,
+                column: 1,
+            },
+        })?;
+    }
+    Ok(marks)
+}
