@@ -1,185 +1,239 @@
--- Comparing by a stack of pairs.
-use Rattle.std.specs.Result.{OnOk}
-use Rattle.std.specs.Option.{IsSome}
-use Rattle.std.specs.declared.alloc.AllocError.{AllocError}
-use Rattle.std.proofs.Common.{◌≡◌, ◌≢◌, ◌↔◌, Result, Ok, Err, ℕ, zero, suc, ◌+◌, ◌<◌, ◌≤◌, Bool, true, false, List, [], ◌∷◌, ◌++◌, Option, None, Some, if◌then◌else◌, length, length-append, take, min, arith, refl, ap, ap₂, sym, ◌∙◌}
+-- Comparing by a walk over the cells of both values.
+use Rattle.std.proofs.Common.{◌≡◌, ◌≢◌, ◌⊎◌, inl, inr, ℕ, zero, suc, ◌+◌, ◌-◌, ◌<◌, ◌≤◌, Bool, true, false, List, ◌∷◌, Option, None, Some, if◌then◌else◌, length, min, drop, get_or, drop-cons, length-drop, add-one, add-suc, add-zero, arith, refl, ap, sym, subst, ◌∙◌}
+use Rattle.std.proofs.Math.Dec.{eqb}
+use Rattle.std.proofs.lemmas.Bool.Decides.{eqb_tells}
 use Rattle.cu_calculus.specs.Compared.{all_compared, and_compared, compared}
 use Rattle.cu_calculus.specs.Literal.{same_literal}
 use Rattle.cu_calculus.specs.Match.{same_constructor}
 use Rattle.cu_calculus.specs.Value as value
-use Rattle.cu_calculus.specs.Value.{Value, Values, list_of, values_of}
-use Rattle.cu_values.specs.Parts.{arguments_of, head_of}
-use Rattle.cu_crwl.specs.Comparing.{all_and, all_weights, answer_of, heads_meet, list_weight, stack_compared, stack_weight, weight}
+use Rattle.cu_calculus.specs.Value.{Value, Values, count}
+use Rattle.cu_values.specs.Cells.{arity_of, back, first, front, put, read_all, spell, IsSpelled}
 use Rattle.cu_values.specs.declared.cell.Cell.{Cell}
+use Rattle.cu_values.specs.declared.cell.Cell.TheVariants as cell
+use Rattle.cu_values.proofs.CellLemmas.{behind, count_read_all, read_all_one, some_cell, spelled_one, Behind}
+use Rattle.cu_values.proofs.OrderLemmas.{put_parts, whole_enough}
+use Rattle.cu_crwl.specs.Comparing.{heads_meet}
 use Rattle.cu_crwl.specs.declared.compare.Met.{Met}
 use Rattle.cu_crwl.specs.declared.compare.Met.TheVariants as met
-use Rattle.cu_crwl.proofs.MatchLoops.{values_back}
 
-literals_met : (b : Bool) (u v : Value) → Some b ≡ answer_of (if b then met.Same else met.Different) u v
-literals_met true u v = refl
-literals_met false u v = refl
+-- the answer where all pairs are the same
+abbrev pub ending : Bool → Option Bool
+ending true = Some true
+ending false = None
 
-arguments_met : (b : Bool) (u v : Value) → (if b then all_compared (arguments_of u) (arguments_of v) else Some false) ≡ answer_of (if b then met.Arguments else met.Different) u v
-arguments_met true u v = refl
-arguments_met false u v = refl
+-- the first pairs of two lists of values, and then what is left
+abbrev pub pairs_compared : ℕ → Values → Values → Option Bool → Option Bool
+pairs_compared zero us vs last = last
+pairs_compared (suc n) value.NoValue vs last = None
+pairs_compared (suc n) (value.MoreValues u us) value.NoValue last = None
+pairs_compared (suc n) (value.MoreValues u us) (value.MoreValues v vs) last = and_compared (compared u v) (pairs_compared n us vs last)
 
-pub met_is : (u v : Value) → compared u v ≡ answer_of (heads_meet (head_of u) (head_of v)) u v
-met_is (value.Literal l) (value.Literal m) = literals_met (same_literal l m) (value.Literal l) (value.Literal m)
-met_is (value.Constructed c us) (value.Constructed d vs) = arguments_met (same_constructor c d) (value.Constructed c us) (value.Constructed d vs)
-met_is _ _ = refl
+abbrev pub answer_of : Met → Values → Values → Option Bool
+answer_of met.Unanswered us vs = None
+answer_of met.Different us vs = Some false
+answer_of met.Alike us vs = all_compared us vs
+
+literals_met : (b : Bool) → Some b ≡ answer_of (if b then met.Alike else met.Different) value.NoValue value.NoValue
+literals_met true = refl
+literals_met false = refl
+
+arguments_met : (b : Bool) (us vs : Values) → (if b then all_compared us vs else Some false) ≡ answer_of (if b then met.Alike else met.Different) us vs
+arguments_met true us vs = refl
+arguments_met false us vs = refl
+
+-- the heads decide first, and then the arguments
+heads_compared : (c d : Cell) (us vs : Values)
+    → compared (first (put c us)) (first (put d vs)) ≡ answer_of (heads_meet c d) (front (arity_of c) us) (front (arity_of d) vs)
+heads_compared (cell.Lit l) (cell.Lit m) us vs = literals_met (same_literal l m)
+heads_compared (cell.Con c m) (cell.Con d n) us vs = arguments_met (same_constructor c d) (front m us) (front n vs)
+heads_compared _ _ us vs = refl
 
 and_assoc : (a b c : Option Bool) → and_compared (and_compared a b) c ≡ and_compared a (and_compared b c)
 and_assoc None b c = refl
 and_assoc (Some true) b c = refl
 and_assoc (Some false) b c = refl
 
-pub stack_last : (ps : List (Value × Value)) (p : Value × Value) (last : Option Bool)
-    → stack_compared (ps ++ p ∷ []) last ≡ and_compared (compared p.0 p.1) (stack_compared ps last)
-stack_last [] p last = refl
-stack_last (q ∷ ps) p last = stack_last ps p (and_compared (compared q.0 q.1) last)
+-- as many arguments, and then what stands behind
+pairs_front : (m q : ℕ) (us vs : Values) (last : Option Bool) → m ≤ count us → m ≤ count vs
+    → and_compared (all_compared (front m us) (front m vs)) (pairs_compared q (back m us) (back m vs) last) ≡ pairs_compared (q + m) us vs last
+pairs_front zero q us vs last e f = rw add-zero refl
+pairs_front (suc m) q value.NoValue vs last e f = absurd (omega (arith, e))
+pairs_front (suc m) q (value.MoreValues u us) value.NoValue last e f = absurd (omega (arith, f))
+pairs_front (suc m) q (value.MoreValues u us) (value.MoreValues v vs) last e f =
+    rw add-suc
+    (and_assoc (compared u v) (all_compared (front m us) (front m vs)) (pairs_compared q (back m us) (back m vs) last)
+    ∙ ap (and_compared (compared u v)) (pairs_front m q us vs last (omega (arith, e)) (omega (arith, f))))
 
-pub all_last : (us vs : List Value) (u v : Value) (last : Option Bool) → length us ≡ length vs
-    → all_and (us ++ u ∷ []) (vs ++ v ∷ []) last ≡ all_and us vs (and_compared (compared u v) last)
-all_last [] [] u v last e = refl
-all_last [] (y ∷ vs) u v last e = absurd (omega arith)
-all_last (x ∷ us) [] u v last e = absurd (omega arith)
-all_last (x ∷ us) (y ∷ vs) u v last e = ap (and_compared (compared x y)) (all_last us vs u v last (omega arith))
+-- more arguments on one side
+pairs_unlike : (m n k : ℕ) (us vs : Values) (rest : Option Bool) → (m ≡ n → ⊥) → k ≡ min m n → m ≤ count us → n ≤ count vs
+    → and_compared (all_compared (front m us) (front n vs)) rest ≡ pairs_compared k us vs None
+pairs_unlike zero zero k us vs rest differ is e f = absurd (differ refl)
+pairs_unlike zero (suc n) k us value.NoValue rest differ is e f = absurd (omega (arith, f))
+pairs_unlike zero (suc n) zero us (value.MoreValues v vs) rest differ is e f = refl
+pairs_unlike zero (suc n) (suc k) us (value.MoreValues v vs) rest differ is e f = absurd (omega (arith, is))
+pairs_unlike (suc m) n k value.NoValue vs rest differ is e f = absurd (omega (arith, e))
+pairs_unlike (suc m) zero zero (value.MoreValues u us) vs rest differ is e f = refl
+pairs_unlike (suc m) zero (suc k) (value.MoreValues u us) vs rest differ is e f = absurd (omega (arith, is))
+pairs_unlike (suc m) (suc n) k (value.MoreValues u us) value.NoValue rest differ is e f = absurd (omega (arith, f))
+pairs_unlike (suc m) (suc n) zero (value.MoreValues u us) (value.MoreValues v vs) rest differ is e f = absurd (omega (arith, is))
+pairs_unlike (suc m) (suc n) (suc k) (value.MoreValues u us) (value.MoreValues v vs) rest differ is e f =
+    and_assoc (compared u v) (all_compared (front m us) (front n vs)) rest
+    ∙ ap (and_compared (compared u v)) (pairs_unlike m n k us vs rest (λ g. differ (ap suc g)) (omega (arith, is)) (omega (arith, e)) (omega (arith, f)))
 
-pub weight_last : (ps : List (Value × Value)) (p : Value × Value) → stack_weight (ps ++ p ∷ []) ≡ stack_weight ps + weight p.0
-weight_last [] p = omega arith
-weight_last (q ∷ ps) p = omega (arith, weight_last ps p)
+pairs_heads : (c d : Cell) (us vs : Values) (q : ℕ) (last : Option Bool)
+    → pairs_compared (suc q) (put c us) (put d vs) last
+    ≡ and_compared (answer_of (heads_meet c d) (front (arity_of c) us) (front (arity_of d) vs)) (pairs_compared q (back (arity_of c) us) (back (arity_of d) vs) last)
+pairs_heads c d us vs q last =
+    ap (λ (x : Values). pairs_compared (suc q) x (put d vs) last) (put_parts c us)
+    ∙ ap (λ (x : Values). pairs_compared (suc q) (value.MoreValues (first (put c us)) (back (arity_of c) us)) x last) (put_parts d vs)
+    ∙ ap (λ x. and_compared x (pairs_compared q (back (arity_of c) us) (back (arity_of d) vs) last)) (heads_compared c d us vs)
 
-pub list_weight_last : (us : List Value) (u : Value) → list_weight (us ++ u ∷ []) ≡ list_weight us + weight u
-list_weight_last [] u = omega arith
-list_weight_last (x ∷ us) u = omega (arith, list_weight_last us u)
+-- cells of values of which some pairs are still to be compared, the answer where these are the same, and what the comparison answers
+pub record Compares (cs ds : List Cell) (left : ℕ) (last answer : Option Bool) : Type 0 where
+  pub spelled : IsSpelled cs
+  pub others : IsSpelled ds
+  pub mine : left ≤ count (read_all cs)
+  pub theirs : left ≤ count (read_all ds)
+  pub decides : answer ≡ pairs_compared left (read_all cs) (read_all ds) last
 
-pub weight_some : (v : Value) → 0 < weight v
-weight_some value.Bottom = omega arith
-weight_some (value.Variable x) = omega arith
-weight_some (value.Literal l) = omega arith
-weight_some (value.Constructed c vs) = omega arith
-weight_some (value.Partial h vs) = omega arith
+-- what the heads of the first pair say
+met_first : (met : Met) (c d : Cell) (cs ds : List Cell) (q : ℕ) (last answer : Option Bool) → met ≡ heads_meet c d
+    → Compares (c ∷ cs) (d ∷ ds) (suc q) last answer
+    → answer
+    ≡ and_compared (answer_of met (front (arity_of c) (read_all cs)) (front (arity_of d) (read_all ds)))
+    (pairs_compared q (back (arity_of c) (read_all cs)) (back (arity_of d) (read_all ds)) last)
+met_first met c d cs ds q last answer is p =
+    p.decides ∙ pairs_heads c d (read_all cs) (read_all ds) q last
+    ∙ ap (λ m. and_compared (answer_of m (front (arity_of c) (read_all cs)) (front (arity_of d) (read_all ds)))
+    (pairs_compared q (back (arity_of c) (read_all cs)) (back (arity_of d) (read_all ds)) last)) (sym is)
 
-pub lists_weigh : (vs : List Value) → all_weights (values_of vs) ≡ list_weight vs
-lists_weigh [] = refl
-lists_weigh (v ∷ vs) = ap (λ n. weight v + n) (lists_weigh vs)
+-- what is left behind heads that are alike
+pub record Left (m n q : ℕ) (whole : Bool) (left : ℕ) (now : Bool) : Type 0 where
+  pub same : m ≡ n → (left ≡ q + m) × (now ≡ whole)
+  pub differ : (m ≡ n → ⊥) → (left ≡ min m n) × (now ≡ false)
 
-pub arguments_weigh : (v : Value) (parts : List Value) → parts ≡ list_of (arguments_of v) → list_weight parts < weight v
-arguments_weigh v parts e = omega (arith, sym (lists_weigh parts), ap all_weights (ap values_of e ∙ values_back (arguments_of v)), below v)
+step_same : (c d : Cell) (cs ds : List Cell) (q : ℕ) (whole : Bool) (answer : Option Bool) (left : ℕ) (now : Bool)
+    → met.Alike ≡ heads_meet c d → Compares (c ∷ cs) (d ∷ ds) (suc q) (ending whole) answer → Left (arity_of c) (arity_of d) q whole left now
+    → arity_of c ≡ arity_of d → Compares cs ds left (ending now) answer
+step_same c d cs ds q whole answer left now alike p l e =
+    let us = read_all cs in
+    let vs = read_all ds in
+    let b : Behind c cs = behind c cs p.spelled in
+    let k : Behind d ds = behind d ds p.others in
+    let n : left ≡ q + arity_of c = (l.same e).0 in
+    let o : now ≡ whole = (l.same e).1 in
+    let mine : arity_of c ≤ count us = whole_enough c cs b in
+    let theirs : arity_of c ≤ count vs = rw e (whole_enough d ds k) in
+    let begun = met_first met.Alike c d cs ds q (ending whole) answer alike p in
+    let even : answer ≡ and_compared (all_compared (front (arity_of c) us) (front (arity_of c) vs)) (pairs_compared q (back (arity_of c) us) (back (arity_of c) vs) (ending whole)) =
+    subst (λ (m : ℕ). answer ≡ and_compared (all_compared (front (arity_of c) us) (front m vs)) (pairs_compared q (back (arity_of c) us) (back m vs) (ending whole))) (sym e) begun in
+    rw (n, o) record {
+      spelled = b.others;
+      others = k.others;
+      mine = omega (arith, b.counted, p.mine);
+      theirs = omega (arith, k.counted, p.theirs, e);
+      decides = even ∙ pairs_front (arity_of c) q us vs (ending whole) mine theirs;
+    }
+
+step_differ : (c d : Cell) (cs ds : List Cell) (q : ℕ) (whole : Bool) (answer : Option Bool) (left : ℕ) (now : Bool)
+    → met.Alike ≡ heads_meet c d → Compares (c ∷ cs) (d ∷ ds) (suc q) (ending whole) answer → Left (arity_of c) (arity_of d) q whole left now
+    → (arity_of c ≡ arity_of d → ⊥) → Compares cs ds left (ending now) answer
+step_differ c d cs ds q whole answer left now alike p l differ =
+    let us = read_all cs in
+    let vs = read_all ds in
+    let b : Behind c cs = behind c cs p.spelled in
+    let k : Behind d ds = behind d ds p.others in
+    let n : left ≡ min (arity_of c) (arity_of d) = (l.differ differ).0 in
+    let o : now ≡ false = (l.differ differ).1 in
+    let mine : arity_of c ≤ count us = whole_enough c cs b in
+    let theirs : arity_of d ≤ count vs = whole_enough d ds k in
+    let begun = met_first met.Alike c d cs ds q (ending whole) answer alike p in
+    rw o record {
+      spelled = b.others;
+      others = k.others;
+      mine = omega (arith, n, mine);
+      theirs = omega (arith, n, theirs);
+      decides =
+          begun
+          ∙ pairs_unlike (arity_of c) (arity_of d) left us vs (pairs_compared q (back (arity_of c) us) (back (arity_of d) vs) (ending whole)) differ n mine theirs;
+    }
+
+step : (c d : Cell) (cs ds : List Cell) (q : ℕ) (whole : Bool) (answer : Option Bool) (left : ℕ) (now : Bool)
+    → met.Alike ≡ heads_meet c d → Compares (c ∷ cs) (d ∷ ds) (suc q) (ending whole) answer → Left (arity_of c) (arity_of d) q whole left now
+    → Compares cs ds left (ending now) answer
+step c d cs ds q whole answer left now alike p l = go (eqb_tells (arity_of c) (arity_of d))
   where
-    below : (u : Value) → all_weights (arguments_of u) < weight u
-    below value.Bottom = omega arith
-    below (value.Variable x) = omega arith
-    below (value.Literal l) = omega arith
-    below (value.Constructed c vs) = omega arith
-    below (value.Partial h vs) = omega arith
+    go : ((eqb (arity_of c) (arity_of d) ≡ true) × (arity_of c ≡ arity_of d)) ⊎ ((eqb (arity_of c) (arity_of d) ≡ false) × (arity_of c ≢ arity_of d))
+        → Compares cs ds left (ending now) answer
+    go (inl e) = step_same c d cs ds q whole answer left now alike p l e.1
+    go (inr e) = step_differ c d cs ds q whole answer left now alike p l e.1
 
-pub front_weighs : (n : ℕ) (us : List Value) → list_weight (take n us) ≤ list_weight us
-front_weighs zero us = omega arith
-front_weighs (suc n) [] = omega arith
-front_weighs (suc n) (u ∷ us) = omega (arith, front_weighs n us)
+-- ** The same at places in lists of cells
 
-pub same_counts : (us vs : List Value) (last : Option Bool) → length us ≡ length vs
-    → and_compared (all_compared (values_of us) (values_of vs)) last ≡ all_and us vs last
-same_counts [] [] last e = refl
-same_counts [] (v ∷ vs) last e = absurd (omega arith)
-same_counts (u ∷ us) [] last e = absurd (omega arith)
-same_counts (u ∷ us) (v ∷ vs) last e =
-    and_assoc (compared u v) (all_compared (values_of us) (values_of vs)) last
-    ∙ ap (and_compared (compared u v)) (same_counts us vs last (omega arith))
+pub begins : (u v : Value) (cs ds : List Cell) → cs ≡ spell u → ds ≡ spell v → Compares cs ds 1 (Some true) (compared u v)
+begins u v cs ds e f =
+    rw (e, f) record {
+      spelled = spelled_one u;
+      others = spelled_one v;
+      mine = rw (read_all_one u) (omega arith);
+      theirs = rw (read_all_one v) (omega arith);
+      decides = rw (read_all_one u, read_all_one v) (only (compared u v));
+    }
+  where
+    only : (o : Option Bool) → o ≡ and_compared o (Some true)
+    only None = refl
+    only (Some true) = refl
+    only (Some false) = refl
 
-pub other_counts : (us vs : List Value) (n : ℕ) (last : Option Bool) → length us ≢ length vs → n ≡ min (length us) (length vs)
-    → and_compared (all_compared (values_of us) (values_of vs)) last ≡ all_and (take n us) (take n vs) None
-other_counts [] [] n last e f = absurd (e refl)
-other_counts [] (v ∷ vs) zero last e f = refl
-other_counts [] (v ∷ vs) (suc n) last e f = absurd (omega arith)
-other_counts (u ∷ us) [] zero last e f = refl
-other_counts (u ∷ us) [] (suc n) last e f = absurd (omega arith)
-other_counts (u ∷ us) (v ∷ vs) zero last e f = absurd (omega arith)
-other_counts (u ∷ us) (v ∷ vs) (suc n) last e f =
-    and_assoc (compared u v) (all_compared (values_of us) (values_of vs)) last
-    ∙ ap (and_compared (compared u v)) (other_counts us vs n last (λ g. e (ap suc g)) (omega arith))
+here : (cells others : List Cell) (i left : ℕ) (d : Cell) (last answer : Option Bool) → 0 < left
+    → Compares (drop i cells) (drop i others) left last answer
+    → Compares (get_or cells i d ∷ drop (suc i) cells) (get_or others i d ∷ drop (suc i) others) (suc (left - 1)) last answer
+here cells others i left d last answer some p =
+    let mine : i < length cells = some_cell cells i (omega (arith, p.mine, some)) in
+    let theirs : i < length others = some_cell others i (omega (arith, p.theirs, some)) in
+    let n : left ≡ suc (left - 1) = omega (arith, some) in
+    subst (λ (x : List Cell). Compares (get_or cells i d ∷ drop (suc i) cells) x (suc (left - 1)) last answer) (drop-cons others i d theirs)
+    (subst (λ (x : List Cell). Compares x (drop i others) (suc (left - 1)) last answer) (drop-cons cells i d mine)
+    (subst (λ (x : ℕ). Compares (drop i cells) (drop i others) x last answer) n p))
 
--- a pair more on the stack
-pub pushed : (values rest others less : List Value) (pairs more : List (Value × Value)) (u v : Value) (last whole : Option Bool)
-    → values ≡ rest ++ u ∷ [] → others ≡ less ++ v ∷ [] → length values ≡ length others → more ≡ pairs ++ (u, v) ∷ []
-    → all_and values others (stack_compared pairs last) ≡ whole → all_and rest less (stack_compared more last) ≡ whole
-pushed values rest others less pairs more u v last whole e f same added before =
-    let counts : length rest ≡ length less = omega (arith, ap length e, ap length f, length-append rest (u ∷ []), length-append less (v ∷ []), same) in
-    ap (λ ps. all_and rest less (stack_compared ps last)) added
-    ∙ ap (all_and rest less) (stack_last pairs (u, v) last)
-    ∙ sym (all_last rest less u v (stack_compared pairs last) counts)
-    ∙ sym (ap₂ (λ (xs ys : List Value). all_and xs ys (stack_compared pairs last)) e f) ∙ before
+pub no_answer : (cells others : List Cell) (i left : ℕ) (d : Cell) (last answer : Option Bool) → 0 < left
+    → Compares (drop i cells) (drop i others) left last answer → met.Unanswered ≡ heads_meet (get_or cells i d) (get_or others i d) → None ≡ answer
+no_answer cells others i left d last answer some p is =
+    sym (met_first met.Unanswered (get_or cells i d) (get_or others i d) (drop (suc i) cells) (drop (suc i) others) (left - 1) last answer is
+    (here cells others i left d last answer some p))
 
-pub pushed_counts : (values rest others less : List Value) (u v : Value) → values ≡ rest ++ u ∷ [] → others ≡ less ++ v ∷ []
-    → length values ≡ length others → length rest ≡ length less
-pushed_counts values rest others less u v e f same =
-    omega (arith, ap length e, ap length f, length-append rest (u ∷ []), length-append less (v ∷ []), same)
+pub differ_at : (cells others : List Cell) (i left : ℕ) (d : Cell) (last answer : Option Bool) → 0 < left
+    → Compares (drop i cells) (drop i others) left last answer → met.Different ≡ heads_meet (get_or cells i d) (get_or others i d) → Some false ≡ answer
+differ_at cells others i left d last answer some p is =
+    sym (met_first met.Different (get_or cells i d) (get_or others i d) (drop (suc i) cells) (drop (suc i) others) (left - 1) last answer is
+    (here cells others i left d last answer some p))
 
-pub pushed_fewer : (values rest : List Value) (u : Value) → values ≡ rest ++ u ∷ [] → length rest < length values
-pushed_fewer values rest u e = omega (arith, ap length e, length-append rest (u ∷ []))
+pub alike_at : (cells others : List Cell) (i left : ℕ) (d : Cell) (whole : Bool) (answer : Option Bool) (n : ℕ) (now : Bool) → 0 < left
+    → Compares (drop i cells) (drop i others) left (ending whole) answer → met.Alike ≡ heads_meet (get_or cells i d) (get_or others i d)
+    → Left (arity_of (get_or cells i d)) (arity_of (get_or others i d)) (left - 1) whole n now
+    → Compares (drop (i + 1) cells) (drop (i + 1) others) n (ending now) answer
+alike_at cells others i left d whole answer n now some p alike l =
+    rw (add-one i)
+    (step (get_or cells i d) (get_or others i d) (drop (suc i) cells) (drop (suc i) others) (left - 1) whole answer n now alike
+    (here cells others i left d (ending whole) answer some p) l)
 
-pub pushed_weight : (values rest : List Value) (pairs more : List (Value × Value)) (u v : Value) (whole : ℕ) → values ≡ rest ++ u ∷ []
-    → more ≡ pairs ++ (u, v) ∷ [] → stack_weight pairs + list_weight values ≡ whole → stack_weight more + list_weight rest ≡ whole
-pushed_weight values rest pairs more u v whole e added before =
-    omega (arith, ap list_weight e, ap stack_weight added, list_weight_last rest u, weight_last pairs (u, v), before)
+-- the arguments of a cell are among those that are left
+pub arity_room : (cells others : List Cell) (i left : ℕ) (d : Cell) (last answer : Option Bool) → 0 < left
+    → Compares (drop i cells) (drop i others) left last answer → left + arity_of (get_or cells i d) ≤ length cells + 1
+arity_room cells others i left d last answer some p =
+    let q = here cells others i left d last answer some p in
+    let b : Behind (get_or cells i d) (drop (suc i) cells) = behind (get_or cells i d) (drop (suc i) cells) q.spelled in
+    omega (arith, b.counted, q.mine, count_read_all (drop (suc i) cells), length-drop (suc i) cells, some)
 
--- what the heads of the pair on top say
-pub by_heads : (met : Met) (a b : Cell) (u v : Value) (old new : List (Value × Value)) (last whole : Option Bool) → met ≡ heads_meet a b
-    → a ≡ head_of u → b ≡ head_of v → old ≡ new ++ (u, v) ∷ [] → stack_compared old last ≡ whole
-    → and_compared (answer_of met u v) (stack_compared new last) ≡ whole
-by_heads met a b u v old new last whole is first second top before =
-    ap (λ m. and_compared (answer_of m u v) (stack_compared new last)) (is ∙ ap₂ heads_meet first second)
-    ∙ ap (λ x. and_compared x (stack_compared new last)) (sym (met_is u v))
-    ∙ sym (ap (λ ps. stack_compared ps last) top ∙ stack_last new (u, v) last) ∙ before
+pub left_from : (m n a b left : ℕ) (whole : Bool) (k : ℕ) (now : Bool) → m ≡ a → n ≡ b → 0 < left
+    → (m ≡ n → (k + 1 ≡ left + m) × (now ≡ whole)) → ((m ≡ n → ⊥) → (k ≡ min m n) × (now ≡ false)) → Left a b (left - 1) whole k now
+left_from m n a b left whole k now e f some same differ =
+    rw (← e, ← f) record {
+      same = λ g. (omega (arith, (same g).0, some), (same g).1);
+      differ = differ;
+    }
 
-pub by_arguments : (us vs : List Value) (u v : Value) (rest answer whole : Option Bool) → us ≡ list_of (arguments_of u) → vs ≡ list_of (arguments_of v)
-    → answer ≡ and_compared (all_compared (values_of us) (values_of vs)) rest
-    → and_compared (all_compared (arguments_of u) (arguments_of v)) rest ≡ whole → answer ≡ whole
-by_arguments us vs u v rest answer whole e f is before =
-    is ∙ ap₂ (λ (xs ys : Values). and_compared (all_compared xs ys) rest) (ap values_of e ∙ values_back (arguments_of u)) (ap values_of f ∙ values_back (arguments_of v))
-    ∙ before
-
-pub top_weight : (old new : List (Value × Value)) (u v : Value) → old ≡ new ++ (u, v) ∷ [] → stack_weight old ≡ stack_weight new + weight u
-top_weight old new u v e = ap stack_weight e ∙ weight_last new (u, v)
-
--- over a result
-
-pub on_ok : {P Q : Type 0} (r : Result (Unit {0}) AllocError) → (P → Q) → OnOk r P → OnOk r Q
-on_ok (Ok u) f h = f h
-on_ok (Err e) f h = tt
-
-pub cut_answer : (r : Result (Unit {0}) AllocError) (found rest : Option Bool) (us vs front others : List Value) (cleared : List (Value × Value)) (n : ℕ)
-    → length us ≢ length vs → n ≡ min (length us) (length vs) → front ≡ take n us → others ≡ take n vs → cleared ≡ []
-    → OnOk r (found ≡ all_and front others (stack_compared cleared None))
-    → OnOk r (found ≡ and_compared (all_compared (values_of us) (values_of vs)) rest)
-cut_answer r found rest us vs front others cleared n differ count e f g h =
-    on_ok r (λ k. k ∙ ap₂ (λ (xs ys : List Value). all_and xs ys (stack_compared cleared None)) e f
-    ∙ ap (λ ps. all_and (take n us) (take n vs) (stack_compared ps None)) g ∙ sym (other_counts us vs n rest differ count)) h
-
-pub whole_answer : (r : Result (Unit {0}) AllocError) (found rest : Option Bool) (us vs : List Value) → length us ≡ length vs
-    → OnOk r (found ≡ all_and us vs rest) → OnOk r (found ≡ and_compared (all_compared (values_of us) (values_of vs)) rest)
-whole_answer r found rest us vs same h = on_ok r (λ k. k ∙ sym (same_counts us vs rest same)) h
-
-pub cut_weight : (r : Result (Unit {0}) AllocError) (found old n : ℕ) (us front : List Value) (cleared : List (Value × Value)) → front ≡ take n us → cleared ≡ []
-    → OnOk r (found ≡ stack_weight cleared + list_weight front) → OnOk r (found ≤ old + list_weight us)
-cut_weight r found old n us front cleared e g h =
-    on_ok r (λ k. omega (arith, k, ap stack_weight g, ap list_weight e, front_weighs n us)) h
-
--- no value is left
-pub finished_answer : (values others : List Value) (found whole : Option Bool) → length values ≡ 0 → all_and values others found ≡ whole → found ≡ whole
-finished_answer [] [] found whole e h = h
-finished_answer [] (v ∷ vs) found whole e h = h
-finished_answer (u ∷ us) others found whole e h = absurd (omega arith)
-
-pub finished_weight : (values : List Value) (found whole : ℕ) → length values ≡ 0 → found + list_weight values ≡ whole → found ≡ whole
-finished_weight [] found whole e h = omega (arith, h)
-finished_weight (u ∷ us) found whole e h = absurd (omega arith)
-
-pub none_left : (r : Option Value) (n : ℕ) → ((v : Value) → r ≡ Some v → ⊥) → IsSome r ↔ (0 < n) → n ≡ 0
-none_left None zero never h = refl
-none_left None (suc n) never h =
-    let some : IsSome {T = Value} None = h.1 (omega arith) in
-    let impossible : ⊥ = cc in
-    absurd impossible
-none_left (Some v) n never h = absurd (never v refl)
+pub ends : (cs ds : List Cell) (left : ℕ) (last answer : Option Bool) → left ≡ 0 → Compares cs ds left last answer → last ≡ answer
+ends cs ds left last answer e p =
+    let q : Compares cs ds 0 last answer = subst (λ (n : ℕ). Compares cs ds n last answer) e p in
+    sym q.decides

@@ -15,3 +15,4 @@ pub mod FollowForms
 pub mod CheckForms
 pub mod CompareLaws
 pub mod CopyLaws
+pub mod ListCells

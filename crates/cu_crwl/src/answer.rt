@@ -108,7 +108,7 @@ fn equal(
     ensures { IfOk result (λ found. found ≡ option_map (truth_of (heads_program heads.now))
         (compared left.now right.now)) }
 {
-    match compare(alloc, left, right)? {
+    match compare(left, right) {
         Some(same) => {
             let answer = truth(alloc, heads, same)?;
             Ok(Some(answer))

@@ -1,11 +1,10 @@
 //! Heads on as many values as they take.
 ghost use Rattle.std.specs.Prelude.{◌≡◌, IfOk, length, map, option_map};
 ghost use Rattle.cu_calculus.specs.Answered.{same_head, same_values};
-ghost use Rattle.cu_calculus.specs.Gives.{collected, listed};
+ghost use Rattle.cu_calculus.specs.Gives.{collected};
 ghost use Rattle.cu_calculus.specs.Program.{function_of};
 ghost use Rattle.cu_calculus.specs.Proof as proof;
 ghost use Rattle.cu_calculus.specs.Shape.{are_ground};
-ghost use Rattle.cu_calculus.specs.Value as value;
 ghost use Rattle.cu_calculus.specs.Value.{values_of};
 ghost use Rattle.cu_kernel.specs.Heads.{heads_program};
 ghost use Rattle.cu_kernel.specs.Kernel.{plain_function};
@@ -208,8 +207,8 @@ pub(crate) fn function<'a>(heads: &Heads<'a>, f: FunId) -> Option<&'a Function>
     }
 }
 
-/// The value of a set call: the list of the values behind its constructor.
-#[tactic(auto, unfolding(cu_kernel::specs::Heads::heads_program))]
+/// The value of a set call: the list of the values behind its constructor. Its
+/// cells are written in one pass.
 fn collected(
     alloc: Global,
     heads: &Heads,
@@ -218,26 +217,14 @@ fn collected(
 ) -> Result<Value, AllocError>
     ensures { IfOk result (λ all. all ≡ collected (heads_program heads.now) constructor values.now) }
 {
-    let mut list = Value::constructed(alloc, heads.special.nil, &[])?;
-    let mut i = values.len();
-    while i > 0 {
-        i -= 1;
-        list = longer(alloc, heads.special.cons, values[i].clone()?, list)?;
+    let mut cells = Vec::new(alloc);
+    cells.push(Cell::Con(constructor, 1))?;
+    for value in values {
+        cells.push(Cell::Con(heads.special.cons, 2))?;
+        cells.extend_from_slice(value.cells())?;
     }
-    let mut parts = Vec::new(alloc);
-    parts.push(list)?;
-    Value::constructed(alloc, constructor, &parts)
-}
-
-/// A constructor on two values.
-fn longer(alloc: Global, cons: ConId, first: Value, rest: Value) -> Result<Value, AllocError>
-    ensures { IfOk result (λ v. v ≡ value.Constructed cons
-        (value.MoreValues first (value.MoreValues rest value.NoValue))) }
-{
-    let mut parts = Vec::new(alloc);
-    parts.push(first)?;
-    parts.push(rest)?;
-    Value::constructed(alloc, cons, &parts)
+    cells.push(Cell::Con(heads.special.nil, 0))?;
+    Ok(Value::spelled(cells))
 }
 
 /// Whether all values are ground data.

@@ -1,11 +1,9 @@
 //! Values compared by `==`.
-ghost use Rattle.std.specs.Prelude.{◌≡◌, ◌+◌, ◌≤◌, IfOk, OnOk, length};
-ghost use Rattle.cu_calculus.specs.Compared.{all_compared, and_compared, compared};
-ghost use Rattle.cu_calculus.specs.Value.{values_of};
-ghost use Rattle.cu_crwl.specs.Comparing.{all_and, ending, heads_meet, list_weight, stack_compared, stack_weight};
+ghost use Rattle.std.specs.Prelude.{◌≡◌};
+ghost use Rattle.cu_calculus.specs.Compared.{compared};
+ghost use Rattle.cu_crwl.specs.Comparing.{heads_meet};
 
 use cu_values::{Cell, Value};
-use std::alloc::{AllocError, Global};
 
 /// What the heads of two values say about them.
 #[derive(Clone, Copy)]
@@ -14,10 +12,8 @@ pub(crate) enum Met {
     Unanswered,
     /// They differ.
     Different,
-    /// They are the same.
-    Same,
-    /// Their arguments decide.
-    Arguments,
+    /// They are as alike as their arguments are.
+    Alike,
 }
 
 /// What two heads say about the values.
@@ -27,7 +23,7 @@ fn heads_meet(left: Cell, right: Cell) -> Met
     match (left, right) {
         (Cell::Lit(literal), Cell::Lit(other)) => {
             if literal == other {
-                Met::Same
+                Met::Alike
             } else {
                 Met::Different
             }
@@ -36,7 +32,7 @@ fn heads_meet(left: Cell, right: Cell) -> Met
         (Cell::Con(_, _), Cell::Lit(_)) => Met::Different,
         (Cell::Con(constructor, _), Cell::Con(other, _)) => {
             if constructor.0 == other.0 {
-                Met::Arguments
+                Met::Alike
             } else {
                 Met::Different
             }
@@ -45,91 +41,64 @@ fn heads_meet(left: Cell, right: Cell) -> Met
     }
 }
 
-/// Pairs that are still to be compared, the last of them first.
-#[derive(Drop)]
-pub(crate) struct Pending {
-    pub(crate) pairs: Vec<(Value, Value)>,
-    /// Whether these pairs are all. If not, there is no answer where each of
-    /// them is the same.
-    pub(crate) whole: bool,
-}
-
-/// Adds pairs, the last first, so that the first is taken first.
-fn push_pairs(
-    pairs: &mut Vec<(Value, Value)>,
-    mut values: Vec<Value>,
-    mut others: Vec<Value>,
+/// The pairs of values, from the left, that are still to be compared.
+#[derive(Clone, Copy)]
+struct Pairs {
+    /// How many there are.
+    left: usize,
+    /// Whether these are all. If not, there is no answer where each of them is
+    /// the same.
     whole: bool,
-) -> Result<(), AllocError>
-    requires { length values.items ≡ length others.items }
-    ensures answer { OnOk result (stack_compared pairs.new.items (ending whole)
-        ≡ all_and values.items others.items (stack_compared pairs.old.items (ending whole))) }
-    ensures weight { OnOk result
-        (stack_weight pairs.new.items ≡ stack_weight pairs.old.items + list_weight values.items) }
-{
-    while let Some(value) = values.pop() {
-        match others.pop() {
-            Some(other) => pairs.push((value, other))?,
-            None => return Ok(()),
-        }
-    }
-    Ok(())
 }
 
-impl Pending {
-    ghost use Rattle.std.specs.Prelude.{◌≡◌, ◌+◌, ◌≤◌, OnOk};
-    ghost use Rattle.cu_calculus.specs.Compared.{all_compared, and_compared};
-    ghost use Rattle.cu_calculus.specs.Value.{values_of};
-    ghost use Rattle.cu_crwl.specs.Comparing.{ending, list_weight, stack_compared, stack_weight};
+impl Pairs {
+    ghost use Rattle.std.specs.Prelude.{◌≡◌, ◌≢◌, ◌+◌, ◌<◌, ◌^◌, false, min};
 
-    /// Puts the arguments of two values before the pairs. Where one has more
-    /// of them, the other pairs don't count, and nor do the arguments that
-    /// have no partner.
-    fn push(&mut self, mut values: Vec<Value>, mut others: Vec<Value>) -> Result<(), AllocError>
-        ensures answer { OnOk result (stack_compared self.new.pairs.items (ending self.new.whole)
-            ≡ and_compared (all_compared (values_of values.items) (values_of others.items))
-            (stack_compared self.old.pairs.items (ending self.old.whole))) }
-        ensures weight { OnOk result
-            (stack_weight self.new.pairs.items ≤ stack_weight self.old.pairs.items + list_weight
-            values.items) }
+    /// What is left after heads that are alike, with these numbers of
+    /// arguments. Where the numbers differ, neither the arguments that have no
+    /// partner nor the pairs behind them count.
+    fn after(self, mine: u32, others: u32) -> Pairs
+        requires some { 0 < self.left }
+        requires fits { self.left + mine < 2 ^ 64 }
+        ensures same { mine ≡ others →
+            (result.left + 1 ≡ self.left + mine) × (result.whole ≡ self.whole) }
+        ensures differ { mine ≢ others → (result.left ≡ min mine others) × (result.whole ≡ false) }
     {
-        if values.len() == others.len() {
-            return push_pairs(&mut self.pairs, values, others, self.whole);
-        }
-        let count = values.len().min(others.len());
-        values.truncate(count);
-        others.truncate(count);
-        self.pairs.clear();
-        self.whole = false;
-        push_pairs(&mut self.pairs, values, others, false)
-    }
-}
-
-/// What `==` answers of two values, where it answers.
-pub(crate) fn compare(
-    alloc: Global,
-    left: &Value,
-    right: &Value,
-) -> Result<Option<bool>, AllocError>
-    ensures { IfOk result (λ answer. answer ≡ compared left.now right.now) }
-{
-    let mut pairs = Vec::new(alloc);
-    pairs.push((left.clone()?, right.clone()?))?;
-    let mut pending = Pending { pairs, whole: true };
-    while let Some((value, other)) = pending.pairs.pop() {
-        match heads_meet(value.head(), other.head()) {
-            Met::Unanswered => return Ok(None),
-            Met::Different => return Ok(Some(false)),
-            Met::Same => continue,
-            Met::Arguments => {
-                pending.push(value.arguments()?, other.arguments()?)?;
-                continue;
+        if mine == others {
+            Pairs {
+                left: self.left - 1 + mine as usize,
+                whole: self.whole,
+            }
+        } else {
+            Pairs {
+                left: mine.min(others) as usize,
+                whole: false,
             }
         }
     }
-    if pending.whole {
-        Ok(Some(true))
-    } else {
-        Ok(None)
+}
+
+/// What `==` answers of two values, where it answers. Takes time in proportion
+/// to the cells of the smaller one, and no memory.
+pub(crate) fn compare(left: &Value, right: &Value) -> Option<bool>
+    ensures { result ≡ compared left.now right.now }
+{
+    let cells = left.cells();
+    let others = right.cells();
+    let mut pairs = Pairs {
+        left: 1,
+        whole: true,
+    };
+    let mut i = 0;
+    while pairs.left > 0 {
+        match heads_meet(cells[i], others[i]) {
+            Met::Unanswered => return None,
+            Met::Different => return Some(false),
+            Met::Alike => {
+                pairs = pairs.after(cells[i].arity(), others[i].arity());
+                i += 1;
+            }
+        }
     }
+    if pairs.whole { Some(true) } else { None }
 }

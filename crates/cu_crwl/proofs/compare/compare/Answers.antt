@@ -1,41 +1,46 @@
-use Rattle.std.proofs.Common.{arith}
-use Rattle.cu_crwl.specs.Comparing.{ending, stack_compared}
-use Rattle.cu_crwl.specs.declared.compare.Met.TheVariants as met
-use Rattle.cu_crwl.proofs.CompareLaws.{arguments_weigh, by_arguments, by_heads, top_weight, weight_some}
+-- The heads of the first pair decide, or leave their arguments to be compared.
+use Rattle.std.proofs.Common.{◌+◌, ◌<◌, ◌≤◌, ◌^◌, arith, ap, drop, get_or, length, sym, ◌∙◌}
+use Rattle.cu_values.specs.Cells.{arity_of}
+use Rattle.cu_values.specs.declared.cell.Cell.TheVariants.{Bottom}
+use Rattle.cu_crwl.proofs.CompareLaws.{alike_at, arity_room, begins, differ_at, ending, ends, left_from, no_answer}
 use Rattle.cu_crwl.proofs.compare.compare.Goals as goal
+
+pub loop-pairs-init : goal.loop-pairs-init
+loop-pairs-init c = begins c.args.left.now c.args.right.now c.cells-cells.result.now c.cells-others.result.now c.cells-cells.ensures c.cells-others.ensures
 
 pub returns-in-Unanswered : goal.returns-in-Unanswered
 returns-in-Unanswered c =
-    by_heads met.Unanswered c.head.result c.head-in-Some.result c.in-Some.value c.in-Some.other c.loop-value.pending.pairs.items c.pop.new.self.items
-    (ending c.loop-value.pending.whole) _ c.in-Unanswered.ensures c.head.ensures c.head-in-Some.ensures c.in-Some.ensures.items c.loop-value.invariant
+    no_answer c.cells-cells.result.now c.cells-others.result.now c.loop-pairs.i c.loop-pairs.pairs.left Bottom (ending c.loop-pairs.pairs.whole) _
+    c.loop-pairs-test.true c.loop-pairs.invariant c.in-Unanswered.ensures
 
 pub returns-in-Different : goal.returns-in-Different
 returns-in-Different c =
-    by_heads met.Different c.head.result c.head-in-Some.result c.in-Some.value c.in-Some.other c.loop-value.pending.pairs.items c.pop.new.self.items
-    (ending c.loop-value.pending.whole) _ c.in-Different.ensures c.head.ensures c.head-in-Some.ensures c.in-Some.ensures.items c.loop-value.invariant
+    differ_at c.cells-cells.result.now c.cells-others.result.now c.loop-pairs.i c.loop-pairs.pairs.left Bottom (ending c.loop-pairs.pairs.whole) _
+    c.loop-pairs-test.true c.loop-pairs.invariant c.in-Different.ensures
 
-pub loop-value-smaller-in-Same : goal.loop-value-smaller-in-Same
-loop-value-smaller-in-Same c =
-    omega (arith, top_weight c.loop-value.pending.pairs.items c.pop.new.self.items c.in-Some.value c.in-Some.other c.in-Some.ensures.items, weight_some c.in-Some.value)
+pub after-pairs-requires-clause-fits : goal.after-pairs-requires-clause-fits
+after-pairs-requires-clause-fits c =
+    let cells = c.cells-cells.result.now in
+    let small : length cells < 2 ^ 63 = omega (arith, c.cells-cells.type_inv) in
+    let room : c.loop-pairs.pairs.left + arity_of (get_or cells c.loop-pairs.i Bottom) ≤ length cells + 1 =
+    arity_room cells c.cells-others.result.now c.loop-pairs.i c.loop-pairs.pairs.left Bottom (ending c.loop-pairs.pairs.whole) _ c.loop-pairs-test.true c.loop-pairs.invariant in
+    omega (arith, room, small, c.arity.ensures)
 
-pub loop-value-preserved-in-Same : goal.loop-value-preserved-in-Same
-loop-value-preserved-in-Same c =
-    by_heads met.Same c.head.result c.head-in-Some.result c.in-Some.value c.in-Some.other c.loop-value.pending.pairs.items c.pop.new.self.items
-    (ending c.loop-value.pending.whole) _ c.in-Same.ensures c.head.ensures c.head-in-Some.ensures c.in-Some.ensures.items c.loop-value.invariant
+pub loop-pairs-preserved : goal.loop-pairs-preserved
+loop-pairs-preserved c =
+    alike_at c.cells-cells.result.now c.cells-others.result.now c.loop-pairs.i c.loop-pairs.pairs.left Bottom c.loop-pairs.pairs.whole _
+    c.after-pairs.result.left c.after-pairs.result.whole c.loop-pairs-test.true c.loop-pairs.invariant c.in-Alike.ensures
+    (left_from c.arity.result c.arity-in-Alike.result _ _ c.loop-pairs.pairs.left c.loop-pairs.pairs.whole _ _ c.arity.ensures c.arity-in-Alike.ensures
+    c.loop-pairs-test.true c.after-pairs.ensures.same c.after-pairs.ensures.differ)
 
-pub loop-value-smaller : goal.loop-value-smaller
-loop-value-smaller c =
-    omega (
-      arith,
-      top_weight c.loop-value.pending.pairs.items c.pop.new.self.items c.in-Some.value c.in-Some.other c.in-Some.ensures.items,
-      arguments_weigh c.in-Some.value c.in_ok-arguments-in-Arguments.field-0.items c.in_ok-arguments-in-Arguments.ensures,
-      c.in_ok-push-in-Arguments.ensures.weight,
-    )
+pub returns-then-pairs : goal.returns-then-pairs
+returns-then-pairs c =
+    sym (ap ending c.if-pairs.true)
+    ∙ ends (drop c.loop-pairs.i c.cells-cells.result.now) (drop c.loop-pairs.i c.cells-others.result.now) c.loop-pairs.pairs.left (ending c.loop-pairs.pairs.whole) _
+    (omega arith) c.loop-pairs.invariant
 
-pub loop-value-preserved : goal.loop-value-preserved
-loop-value-preserved c =
-    by_arguments c.in_ok-arguments-in-Arguments.field-0.items c.in_ok-arguments-in-Arguments-2.field-0.items c.in-Some.value c.in-Some.other
-    (stack_compared c.pop.new.self.items (ending c.loop-value.pending.whole)) _ _ c.in_ok-arguments-in-Arguments.ensures c.in_ok-arguments-in-Arguments-2.ensures
-    c.in_ok-push-in-Arguments.ensures.answer
-    (by_heads met.Arguments c.head.result c.head-in-Some.result c.in-Some.value c.in-Some.other c.loop-value.pending.pairs.items c.pop.new.self.items
-    (ending c.loop-value.pending.whole) _ c.in-Arguments.ensures c.head.ensures c.head-in-Some.ensures c.in-Some.ensures.items c.loop-value.invariant)
+pub returns-else-pairs : goal.returns-else-pairs
+returns-else-pairs c =
+    sym (ap ending c.if-pairs.false)
+    ∙ ends (drop c.loop-pairs.i c.cells-cells.result.now) (drop c.loop-pairs.i c.cells-others.result.now) c.loop-pairs.pairs.left (ending c.loop-pairs.pairs.whole) _
+    (omega arith) c.loop-pairs.invariant

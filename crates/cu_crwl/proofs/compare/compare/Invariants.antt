@@ -1,10 +1,11 @@
-use Rattle.std.proofs.Common.{◌≡◌}
+-- The pairs that are still to be compared decide.
+use Rattle.std.proofs.Common.{◌-◌, drop, length}
 use Rattle.cu_calculus.specs.Compared.{compared}
-use Rattle.cu_crwl.specs.Comparing.{ending, stack_compared, stack_weight}
+use Rattle.cu_crwl.proofs.CompareLaws.{ending, Compares}
 use Rattle.cu_crwl.proofs.compare.compare.Given as goal
 
-abbrev pub invariant-loop-value : goal.invariant-loop-value
-invariant-loop-value l = stack_compared l.pending.pairs.items (ending l.pending.whole) ≡ compared l.left l.right
+abbrev pub invariant-loop-pairs : goal.invariant-loop-pairs
+invariant-loop-pairs l = Compares (drop l.i l.cells) (drop l.i l.others) l.pairs.left (ending l.pairs.whole) (compared l.left l.right)
 
-abbrev pub decreases-loop-value : goal.decreases-loop-value
-decreases-loop-value l = stack_weight l.pending.pairs.items
+abbrev pub decreases-loop-pairs : goal.decreases-loop-pairs
+decreases-loop-pairs l = length l.cells - l.i
