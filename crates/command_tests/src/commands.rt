@@ -1,7 +1,7 @@
 //! Limits, workers, faults of the outside, and words that are no command.
 use crate::runs::{expect, failing, run, whole};
 use cu_cmd::Status;
-use cu_io::{ShelfLibrary, Sink, VecSink};
+use cu_io::{Library, ShelfLibrary, Sink, VecSink};
 use std::alloc::{AllocError, Global};
 use std::process::Abort;
 use std::thread::Threads;
@@ -137,4 +137,103 @@ fn other_words_are_no_command(rt: HostRuntime) {
         expect(&rt, COIN, words, whole(rt.alloc()), USAGE, Status::Usage);
     }
     expect(&rt, COIN, &[], whole(rt.alloc()), USAGE, Status::Usage);
+}
+
+/// The words of a trial, what it writes, and its status.
+type TrialCase = ([&'static str; 6], &'static str, Status);
+
+const FOUND: &str = "answers 16384\nsum 134209536\nno more\n";
+
+const TOO_WIDE: &str = "answers 0\nsum 0\ntoo wide at round 115\n";
+
+const TRIALS: [TrialCase; 6] = [
+    (
+        ["trial", "14", "--width", "16384", "--workers", "1"],
+        FOUND,
+        Status::Done,
+    ),
+    (
+        ["trial", "14", "--width", "16384", "--workers", "3"],
+        FOUND,
+        Status::Done,
+    ),
+    (
+        ["trial", "14", "--width", "16384", "--workers", "64"],
+        FOUND,
+        Status::Done,
+    ),
+    (
+        ["trial", "14", "--width", "16383", "--workers", "1"],
+        TOO_WIDE,
+        Status::Stopped,
+    ),
+    (
+        ["trial", "14", "--width", "16383", "--workers", "3"],
+        TOO_WIDE,
+        Status::Stopped,
+    ),
+    (
+        ["trial", "14", "--width", "16383", "--workers", "64"],
+        TOO_WIDE,
+        Status::Stopped,
+    ),
+];
+
+#[test]
+fn trials_count_answers(rt: HostRuntime) {
+    for (words, written, status) in &TRIALS {
+        expect(&rt, "", words, whole(rt.alloc()), written, *status);
+    }
+    let one = "answers 1\nsum 0\nno more\n";
+    expect(
+        &rt,
+        "",
+        &["trial", "0"],
+        whole(rt.alloc()),
+        one,
+        Status::Done,
+    );
+    let four = "answers 4\nsum 6\nno more\n";
+    let words = ["trial", "2", "--stride", "3"];
+    expect(&rt, "", &words, whole(rt.alloc()), four, Status::Done);
+    let words = ["trial", "15"];
+    expect(&rt, "", &words, whole(rt.alloc()), USAGE, Status::Usage);
+}
+
+/// A piece of a trial's output that fails, after so many bytes, and what was
+/// written.
+const TRIAL_BREAKS: [(u64, usize, &str); 3] = [
+    (0, 3, "ans"),
+    (1, 0, "answers 1\n"),
+    (2, 1, "answers 1\nsum 0\nn"),
+];
+
+#[test]
+fn trials_break_off(rt: HostRuntime) {
+    for (piece, count, written) in &TRIAL_BREAKS {
+        let output = failing(rt.alloc(), *piece, *count);
+        expect(
+            &rt,
+            "",
+            &["trial", "0"],
+            output,
+            written,
+            Status::WriteFault,
+        );
+    }
+}
+
+/// How a trial ends over a library whose first call is to fail, and how many
+/// faults the library has then.
+fn tried_apart<R: Threads + Sync>(rt: &R, alloc: Global) -> Result<(Status, u64), AllocError> {
+    let mut library = ShelfLibrary::new(alloc, vec![in alloc; 0]?);
+    let mut sink = whole(alloc)?;
+    let status = run(rt, alloc, &["trial", "1"], &mut library, &mut sink)?;
+    Ok((status, library.faults()))
+}
+
+#[test]
+fn trials_ask_nothing_of_the_library(rt: HostRuntime) {
+    let found = tried_apart(&rt, rt.alloc());
+    assert_eq!(rt; found.ok(), Some((Status::Done, 0)));
 }

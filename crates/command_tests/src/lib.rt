@@ -13,3 +13,5 @@ mod memory;
 mod output;
 #[cfg(test)]
 mod runs;
+#[cfg(test)]
+mod texts;

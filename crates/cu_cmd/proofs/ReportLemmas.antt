@@ -1,10 +1,13 @@
 -- What was written, as the report or a prefix of it.
-use Rattle.std.proofs.Common.{◌≡◌, ◌∙◌, ℕ, zero, suc, List, [], ◌∷◌, Option, None, Some, Result, Ok, Err, IfNone, IfOk, IfSome, OnOk, OnErr, refl, sym, ap, subst}
+use Rattle.std.proofs.Common.{◌≡◌, ◌∙◌, ℕ, zero, suc, List, [], ◌∷◌, Option, None, Some, Result, Ok, Err, IfNone, IfOk, IfSome, OnOk, OnErr, codes, refl, slice_get, sym, ap, subst}
 use Rattle.std.proofs.lemmas.List.{append-nil}
 use Rattle.std.specs.List.{concat}
 use Rattle.cu_calculus.specs.Program as calculus
+use Rattle.cu_flattext.specs.Naming.{Lowered}
+use Rattle.cu_flattext.specs.Text.{text_of_module}
 use Rattle.cu_front.specs.CompileAnswers.{TellsRefusal}
-use Rattle.cu_front.specs.Compiling.{Compiles, Refuses}
+use Rattle.cu_front.specs.Compiling as compiling
+use Rattle.cu_front.specs.Compiling.{Compiles, ModuleCompiles, ModulesRefused, Refuses}
 use Rattle.cu_front.specs.Refusal.{Refusal}
 use Rattle.cu_front.specs.RefusalLine.{refusal_line}
 use Rattle.cu_front.specs.RefusalMeaning.{refusal_meaning}
@@ -12,15 +15,52 @@ use Rattle.cu_front.specs.declared.fault.CompileFault.{CompileFault}
 use Rattle.cu_front.specs.declared.fault.CompileFault.TheVariants as compile
 use Rattle.cu_front.specs.declared.refusal.Refusal as code
 use Rattle.cu_io.specs.Holdings.{Holdings}
+use Rattle.cu_io.specs.Shelf.{Shelf, shelf_holdings}
 use Rattle.cu_kernel.specs.Kernel.{Goal, Kernel}
 use Rattle.cu_machine.specs.Listing.{Listing}
 use Rattle.cu_machine.specs.declared.End.{End}
 use Rattle.cu_machine.specs.declared.End.TheVariants as ends_so
-use Rattle.cu_search.specs.Lines.{Notation, listing_bytes}
+use Rattle.cu_machine.specs.declared.SearchLimits.{SearchLimits}
+use Rattle.cu_names.specs.declared.names.NameId.{NameId}
+use Rattle.cu_search.specs.Totals.{totals_of}
 use Rattle.cu_search.specs.Written.{Adds, AddsFront}
-use Rattle.cu_words.specs.Words.{IsCommand, ReadsAs, Solve}
-use Rattle.cu_cmd.specs.Causes.{IsUsage}
-use Rattle.cu_cmd.specs.Report.{Held, Report, Writes, WritesPrefix, WritesReport, WritesWhole, listed, listing_of, listing_pieces, listing_text, notation_of, prefix, refused, status_of, usage, usage_line}
+use Rattle.cu_words.specs.Words.{Command, Compile, Compiling, IsCommand, ReadsAs, Solve, Solving, Trial, Trying}
+use Rattle.cu_theorem.specs.Listed.{ListsSolutions, listing_of}
+use Rattle.cu_cmd.specs.Report.{
+  AsksNothing,
+  CommandReport,
+  CompileReport,
+  Held,
+  Report,
+  SolveReport,
+  TrialReport,
+  Writes,
+  WritesReport,
+  WritesResult,
+  WritesWhole,
+  WritesWholly,
+  command,
+  listed,
+  listing_pieces,
+  listing_text,
+  module_refused,
+  notation_of,
+  nothing,
+  prefix,
+  printed,
+  refused,
+  status_of,
+  totals_pieces,
+  totals_text,
+  trial_goal,
+  trial_held,
+  trial_library,
+  trial_limits,
+  trial_refused,
+  tried,
+  usage,
+  usage_line,
+}
 use Rattle.cu_cmd.specs.Runs.{Ends, EndsWhole, Faults, HasRunCause, HasWriteCause, IsSolved, status_after}
 use Rattle.cu_cmd.specs.declared.fault.RunFault.{RunFault}
 use Rattle.cu_cmd.specs.declared.fault.RunFault.TheVariants as fault
@@ -30,15 +70,15 @@ use Rattle.cu_cmd.specs.declared.status.Status.TheVariants as status
 -- ---- one report
 
 -- what was written is the report, or a prefix of it
-ends : (r : Result Status RunFault) (words : List (List ℕ)) (held : Held) (before after : Option (List ℕ)) (written : List (List ℕ)) (answer : Status)
-    → Report words held written answer → IfOk r (λ found. found ≡ answer) → OnOk r (Adds before after (concat written))
-    → OnErr r (AddsFront before after (concat written)) → Ends r words held before after
-ends (Ok found) words held before after written answer report is adds part = record {
+ends : (Due : List (List ℕ) → Status → Type 0) (r : Result Status RunFault) (before after : Option (List ℕ)) (written : List (List ℕ)) (answer : Status)
+    → Due written answer → IfOk r (λ found. found ≡ answer) → OnOk r (Adds before after (concat written))
+    → OnErr r (AddsFront before after (concat written)) → Ends r Due before after
+ends Due (Ok found) before after written answer report is adds part = record {
   written = written;
-  is_report = subst (Report words held written) (sym is) report;
+  is_report = subst (Due written) (sym is) report;
   adds = adds;
 }
-ends (Err f) words held before after written answer report is adds part = prefix written answer report part
+ends Due (Err f) before after written answer report is adds part = prefix written answer report part
 
 -- the bytes of one line
 one_line : (r : Result Status RunFault) (line : List ℕ) (before after : Option (List ℕ)) → OnOk r (Adds before after line)
@@ -53,33 +93,101 @@ part_of_line (Err f) line before after adds = subst (AddsFront before after) (sy
 
 -- ---- a solve
 
-abbrev EndsFor : Result Status RunFault → Solve → Option Holdings → Option (List ℕ) → Option (List ℕ) → Type 0
-EndsFor r s holdings before after =
-    IfSome holdings (λ held. (words : List (List ℕ)) → ReadsAs words s → Ends r words held.module_at before after)
-
 pub refusal_ends : (r : Result Status RunFault) (s : Solve) (holdings : Option Holdings) (names : List (List ℕ)) (told : CompileFault) (refusal : code.Refusal)
     (before after : Option (List ℕ)) → told ≡ compile.Refused refusal
     → IfSome holdings (λ held. TellsRefusal names (Refuses (held.module_at s.folder) s.name s.goal) told)
     → IfOk r (λ found. found ≡ status.Refused) → OnOk r (Adds before after (refusal_line (refusal_meaning names refusal)))
-    → OnErr r (AddsFront before after (refusal_line (refusal_meaning names refusal))) → EndsFor r s holdings before after
+    → OnErr r (AddsFront before after (refusal_line (refusal_meaning names refusal)))
+    → IfSome holdings (λ held. Ends r (SolveReport held.module_at s) before after)
 refusal_ends r s None names told refusal before after same refuses is adds part = tt
-refusal_ends r s (Some held) names told refusal before after same refuses is adds part = λ words reads.
+refusal_ends r s (Some held) names told refusal before after same refuses is adds part =
     let told_so = subst (TellsRefusal names (Refuses (held.module_at s.folder) s.name s.goal)) same refuses in
     let line = refusal_line (refusal_meaning names refusal) in
-    ends r words held.module_at before after (line ∷ []) status.Refused (refused s (refusal_meaning names refusal) reads told_so) is
+    ends (SolveReport held.module_at s) r before after (line ∷ []) status.Refused (refused (refusal_meaning names refusal) told_so) is
     (one_line r line before after adds) (part_of_line r line before after part)
 
 pub listing_ends : (r : Result Status RunFault) (s : Solve) (holdings : Option Holdings) (names : List (List ℕ)) (program : Kernel) (flat : calculus.Program)
     (goal : Goal) (before after : Option (List ℕ)) → IfSome holdings (λ held. Compiles (held.module_at s.folder) s.name s.goal names program flat)
     → program.goal ≡ Some goal → IfOk r (λ found. found ≡ status_of (listing_of s.limits flat goal).end)
     → OnOk r (Adds before after (listing_text names program goal (listing_of s.limits flat goal)))
-    → OnErr r (AddsFront before after (listing_text names program goal (listing_of s.limits flat goal))) → EndsFor r s holdings before after
+    → OnErr r (AddsFront before after (listing_text names program goal (listing_of s.limits flat goal)))
+    → IfSome holdings (λ held. Ends r (SolveReport held.module_at s) before after)
 listing_ends r s None names program flat goal before after compiles has is adds part = tt
-listing_ends r s (Some held) names program flat goal before after compiles has is adds part = λ words reads.
+listing_ends r s (Some held) names program flat goal before after compiles has is adds part =
     let found = listing_of s.limits flat goal in
     let written = listing_pieces names program goal found in
-    ends r words held.module_at before after written (status_of found.end)
-    (listed s names program flat goal found written (status_of found.end) reads compiles has refl refl refl) is adds part
+    ends (SolveReport held.module_at s) r before after written (status_of found.end)
+    (listed names program flat goal found written (status_of found.end) compiles has refl refl refl) is adds part
+
+-- ---- a module
+
+pub module_refusal_ends : (r : Result Status RunFault) (m : Compile) (holdings : Option Holdings) (names : List (List ℕ)) (told : CompileFault)
+    (refusal : code.Refusal) (before after : Option (List ℕ)) → told ≡ compile.Refused refusal
+    → IfSome holdings (λ held. TellsRefusal names (ModulesRefused (held.module_at m.folder) m.name) told)
+    → IfOk r (λ found. found ≡ status.Refused) → OnOk r (Adds before after (refusal_line (refusal_meaning names refusal)))
+    → OnErr r (AddsFront before after (refusal_line (refusal_meaning names refusal)))
+    → IfSome holdings (λ held. Ends r (CompileReport held.module_at m) before after)
+module_refusal_ends r m None names told refusal before after same refuses is adds part = tt
+module_refusal_ends r m (Some held) names told refusal before after same refuses is adds part =
+    let told_so = subst (TellsRefusal names (ModulesRefused (held.module_at m.folder) m.name)) same refuses in
+    let line = refusal_line (refusal_meaning names refusal) in
+    ends (CompileReport held.module_at m) r before after (line ∷ []) status.Refused (module_refused (refusal_meaning names refusal) told_so) is
+    (one_line r line before after adds) (part_of_line r line before after part)
+
+pub text_ends : (r : Result Status RunFault) (m : Compile) (holdings : Option Holdings) (names : List (List ℕ)) (program : Kernel)
+    (flat : calculus.Program) (id : NameId) (before after : Option (List ℕ))
+    → IfSome holdings (λ held. ModuleCompiles (held.module_at m.folder) m.name names program flat) → slice_get names id.0 ≡ Some m.name
+    → IfOk r (λ found. found ≡ status.Done)
+    → OnOk r (Adds before after (text_of_module (record { names = names; kernel = program; flat = flat }) id))
+    → OnErr r (AddsFront before after (text_of_module (record { names = names; kernel = program; flat = flat }) id))
+    → IfSome holdings (λ held. Ends r (CompileReport held.module_at m) before after)
+text_ends r m None names program flat id before after compiles named is adds part = tt
+text_ends r m (Some held) names program flat id before after compiles named is adds part =
+    let text = text_of_module (record { names = names; kernel = program; flat = flat }) id in
+    ends (CompileReport held.module_at m) r before after (text ∷ []) status.Done
+    (printed names program flat id text compiles named refl) is (one_line r text before after adds) (part_of_line r text before after part)
+
+-- ---- a trial
+
+pub trial_refusal_ends : (r : Result Status RunFault) (t : Trial) (names : List (List ℕ)) (told : CompileFault) (refusal : code.Refusal)
+    (before after : Option (List ℕ)) → told ≡ compile.Refused refusal
+    → TellsRefusal names (Refuses trial_held (codes "Trial") (trial_goal t.depth)) told
+    → IfOk r (λ found. found ≡ status.Refused) → OnOk r (Adds before after (refusal_line (refusal_meaning names refusal)))
+    → OnErr r (AddsFront before after (refusal_line (refusal_meaning names refusal))) → Ends r (TrialReport t) before after
+trial_refusal_ends r t names told refusal before after same refuses is adds part =
+    let told_so = subst (TellsRefusal names (Refuses trial_held (codes "Trial") (trial_goal t.depth))) same refuses in
+    let line = refusal_line (refusal_meaning names refusal) in
+    ends (TrialReport t) r before after (line ∷ []) status.Refused (trial_refused (refusal_meaning names refusal) told_so) is
+    (one_line r line before after adds) (part_of_line r line before after part)
+
+pub totals_end : (r : Result Status RunFault) (t : Trial) (limits : SearchLimits) (names : List (List ℕ)) (program : Kernel) (flat : calculus.Program)
+    (goal : Goal) (before after : Option (List ℕ)) → limits ≡ trial_limits t
+    → Compiles trial_held (codes "Trial") (trial_goal t.depth) names program flat
+    → program.goal ≡ Some goal → IfOk r (λ found. found ≡ status_of (listing_of limits flat goal).end)
+    → OnOk r (Adds before after (totals_text (listing_of limits flat goal)))
+    → OnErr r (AddsFront before after (totals_text (listing_of limits flat goal))) → Ends r (TrialReport t) before after
+totals_end r t limits names program flat goal before after same compiles has is adds part =
+    let found = listing_of limits flat goal in
+    let written = totals_pieces (totals_of found) found.end in
+    ends (TrialReport t) r before after written (status_of found.end)
+    (tried names program flat goal found written (status_of found.end) compiles has (ap (λ (l : SearchLimits). listing_of l flat goal) same) refl refl) is adds part
+
+-- what the built-in library holds
+pub trial_compiles : (library : Shelf) (text : List ℕ) (depth : ℕ) (names : List (List ℕ)) (program : Kernel) (flat : calculus.Program)
+    → library ≡ trial_library → text ≡ trial_goal depth
+    → Compiles ((shelf_holdings library).module_at (codes "")) (codes "Trial") text names program flat
+    → Compiles trial_held (codes "Trial") (trial_goal depth) names program flat
+trial_compiles library text depth names program flat is is_goal h =
+    subst (λ (l : Shelf). Compiles ((shelf_holdings l).module_at (codes "")) (codes "Trial") (trial_goal depth) names program flat) is
+    (subst (λ (goal : List ℕ). Compiles ((shelf_holdings library).module_at (codes "")) (codes "Trial") goal names program flat) is_goal h)
+
+pub trial_tells : (library : Shelf) (text : List ℕ) (depth : ℕ) (names : List (List ℕ)) (told : CompileFault)
+    → library ≡ trial_library → text ≡ trial_goal depth
+    → TellsRefusal names (Refuses ((shelf_holdings library).module_at (codes "")) (codes "Trial") text) told
+    → TellsRefusal names (Refuses trial_held (codes "Trial") (trial_goal depth)) told
+trial_tells library text depth names told is is_goal h =
+    subst (λ (l : Shelf). TellsRefusal names (Refuses ((shelf_holdings l).module_at (codes "")) (codes "Trial") (trial_goal depth)) told) is
+    (subst (λ (goal : List ℕ). TellsRefusal names (Refuses ((shelf_holdings library).module_at (codes "")) (codes "Trial") goal) told) is_goal h)
 
 -- ---- counts of faults
 
@@ -100,48 +208,60 @@ run_cause (Err fault.NoMemory) m n j k e cause = same_faults n k m j e cause
 
 -- ---- whole runs
 
--- the status of a run that came to an end of a solve
-solved : (r : Result Status RunFault) (words : List (List ℕ)) (held : Held) (before after : Option (List ℕ)) → IfOk r IsSolved
-    → Ends r words held before after → Writes (status_after r) words held before after
-solved (Ok status.Done) words held before after is e = e
-solved (Ok status.Floundered) words held before after is e = e
-solved (Ok status.Limit) words held before after is e = e
-solved (Ok status.Usage) words held before after is e = absurd is
-solved (Ok status.Refused) words held before after is e = e
-solved (Ok status.Stopped) words held before after is e = e
-solved (Ok status.ReadFault) words held before after is e = absurd is
-solved (Ok status.WriteFault) words held before after is e = absurd is
-solved (Ok status.NoMemory) words held before after is e = absurd is
-solved (Err fault.Read) words held before after is e = e
-solved (Err fault.Write) words held before after is e = e
-solved (Err fault.NoMemory) words held before after is e = e
+-- the report of a command is that of the words that ask for it
+command_ends : (r : Result Status RunFault) (words : List (List ℕ)) (held : Held) (asked : Command) (before after : Option (List ℕ)) → ReadsAs words asked
+    → Ends r (CommandReport held asked) before after → Ends r (Report words held) before after
+command_ends (Ok answer) words held asked before after reads e = record {
+  written = e.written;
+  is_report = command asked e.written answer reads e.is_report;
+  adds = e.adds;
+}
+command_ends (Err f) words held asked before after reads (nothing same) = nothing same
+command_ends (Err f) words held asked before after reads (prefix written answer report part) =
+    prefix written answer (command asked written answer reads report) part
 
-pub solve_writes : (r : Result Status RunFault) (words : List (List ℕ)) (s : Solve) (holdings : Option Holdings) (before after : Option (List ℕ))
-    → ReadsAs words s → IfOk r IsSolved
-    → IfSome holdings (λ held. (words : List (List ℕ)) → ReadsAs words s → Ends r words held.module_at before after)
-    → IfSome holdings (λ held. Writes (status_after r) words held.module_at before after)
-solve_writes r words s None before after reads is e = tt
-solve_writes r words s (Some held) before after reads is e = solved r words held.module_at before after is (e words reads)
+-- the status of a run that came to an end of a command
+solved : (Due : List (List ℕ) → Status → Type 0) (r : Result Status RunFault) (before after : Option (List ℕ)) → IfOk r IsSolved
+    → Ends r Due before after → Writes (status_after r) Due before after
+solved Due (Ok status.Done) before after is e = e
+solved Due (Ok status.Floundered) before after is e = e
+solved Due (Ok status.Limit) before after is e = e
+solved Due (Ok status.Usage) before after is e = absurd is
+solved Due (Ok status.Refused) before after is e = e
+solved Due (Ok status.Stopped) before after is e = e
+solved Due (Ok status.ReadFault) before after is e = absurd is
+solved Due (Ok status.WriteFault) before after is e = absurd is
+solved Due (Ok status.NoMemory) before after is e = absurd is
+solved Due (Err fault.Read) before after is e = e
+solved Due (Err fault.Write) before after is e = e
+solved Due (Err fault.NoMemory) before after is e = e
 
-usage_ends : (r : Result Status RunFault) (words : List (List ℕ)) (held : Held) (before after : Option (List ℕ)) → IfOk r (λ found. found ≡ status.Usage)
-    → Ends r words held before after → Writes (status_after r) words held before after
-usage_ends (Ok found) words held before after is e =
-    subst (λ (answer : Status). Writes answer words held before after) (sym is) (subst (λ (answer : Status). WritesReport answer words held before after) is e)
-usage_ends (Err fault.Read) words held before after is e = e
-usage_ends (Err fault.Write) words held before after is e = e
-usage_ends (Err fault.NoMemory) words held before after is e = e
+pub command_writes : (r : Result Status RunFault) (words : List (List ℕ)) (asked : Command) (holdings : Option Holdings) (before after : Option (List ℕ))
+    → ReadsAs words asked → IfOk r IsSolved → IfSome holdings (λ held. Ends r (CommandReport held.module_at asked) before after)
+    → IfSome holdings (λ held. Writes (status_after r) (Report words held.module_at) before after)
+command_writes r words asked None before after reads is e = tt
+command_writes r words asked (Some held) before after reads is e =
+    solved (Report words held.module_at) r before after is (command_ends r words held.module_at asked before after reads e)
+
+usage_ends : (Due : List (List ℕ) → Status → Type 0) (r : Result Status RunFault) (before after : Option (List ℕ)) → IfOk r (λ found. found ≡ status.Usage)
+    → Ends r Due before after → Writes (status_after r) Due before after
+usage_ends Due (Ok found) before after is e =
+    subst (λ (answer : Status). Writes answer Due before after) (sym is) (subst (λ (answer : Status). WritesReport answer Due before after) is e)
+usage_ends Due (Err fault.Read) before after is e = e
+usage_ends Due (Err fault.Write) before after is e = e
+usage_ends Due (Err fault.NoMemory) before after is e = e
 
 -- words outside the grammar, whatever is held
 pub usage_writes : (r : Result Status RunFault) (words : List (List ℕ)) (held : Held) (before after : Option (List ℕ)) → (IsCommand words → ⊥)
     → IfOk r (λ found. found ≡ status.Usage) → OnOk r (Adds before after usage_line) → OnErr r (AddsFront before after usage_line)
-    → Writes (status_after r) words held before after
+    → Writes (status_after r) (Report words held) before after
 usage_writes r words held before after outside is adds part =
-    usage_ends r words held before after is
-    (ends r words held before after (usage_line ∷ []) status.Usage (usage outside) is (one_line r usage_line before after adds) (part_of_line r usage_line before after part))
+    usage_ends (Report words held) r before after is
+    (ends (Report words held) r before after (usage_line ∷ []) status.Usage (usage outside) is (one_line r usage_line before after adds) (part_of_line r usage_line before after part))
 
 pub usage_writes_held : (r : Result Status RunFault) (words : List (List ℕ)) (holdings : Option Holdings) (before after : Option (List ℕ)) → (IsCommand words → ⊥)
     → IfOk r (λ found. found ≡ status.Usage) → OnOk r (Adds before after usage_line) → OnErr r (AddsFront before after usage_line)
-    → IfSome holdings (λ held. Writes (status_after r) words held.module_at before after)
+    → IfSome holdings (λ held. Writes (status_after r) (Report words held.module_at) before after)
 usage_writes_held r words None before after outside is adds part = tt
 usage_writes_held r words (Some held) before after outside is adds part = usage_writes r words held.module_at before after outside is adds part
 
@@ -153,42 +273,93 @@ reads_so {A = A} found a P is p = subst (λ (x : Option A). IfSome x P) is p
 pub none_so : {A : Type 0} (found : Option A) (P : Type 0) → found ≡ None → IfNone found P → P
 none_so {A = A} found P is p = subst (λ (x : Option A). IfNone x P) is p
 
--- ---- whole lines and listings
+-- ---- whole lines and results
 
-listing_whole : (e : End) (notation : Notation) (found : Listing) (before after : Option (List ℕ)) → found.end ≡ e
-    → Adds before after (listing_bytes notation found) → WritesWhole (status_of e) before after
-listing_whole (ends_so.NoMore zero) notation found before after is adds = (notation, found, ap status_of (sym is), adds)
-listing_whole (ends_so.NoMore (suc waits)) notation found before after is adds = (notation, found, ap status_of (sym is), adds)
-listing_whole (ends_so.Rounds d count) notation found before after is adds = (notation, found, ap status_of (sym is), adds)
-listing_whole (ends_so.Answers count) notation found before after is adds = (notation, found, ap status_of (sym is), adds)
-listing_whole (ends_so.Stopped stop d) notation found before after is adds = (notation, found, ap status_of (sym is), adds)
+result_whole : (asked : Command) (e : End) (before after : Option (List ℕ)) → WritesResult asked (status_of e) before after
+    → WritesWholly asked (status_of e) before after
+result_whole asked (ends_so.NoMore zero) before after result = result
+result_whole asked (ends_so.NoMore (suc waits)) before after result = result
+result_whole asked (ends_so.Rounds d count) before after result = result
+result_whole asked (ends_so.Answers count) before after result = result
+result_whole asked (ends_so.Stopped stop d) before after result = result
 
-pub listing_ends_whole : (r : Result Status RunFault) (names : List (List ℕ)) (program : Kernel) (goal : Goal) (found : Listing) (before after : Option (List ℕ))
-    (j k : ℕ) → IfOk r (λ answer. answer ≡ status_of found.end) → OnOk r (Adds before after (listing_text names program goal found))
-    → HasWriteCause r j k → EndsWhole r before after
-listing_ends_whole (Ok answer) names program goal found before after j k is adds cause =
-    subst (λ (s : Status). WritesWhole s before after) (sym is) (listing_whole found.end (notation_of names program goal) found before after refl adds)
-listing_ends_whole (Err fault.Read) names program goal found before after j k is adds cause = absurd cause
-listing_ends_whole (Err fault.Write) names program goal found before after j k is adds cause = tt
-listing_ends_whole (Err fault.NoMemory) names program goal found before after j k is adds cause = tt
+pub listing_ends_whole : (r : Result Status RunFault) (s : Solve) (names : List (List ℕ)) (program : Kernel) (goal : Goal) (found : Listing)
+    (before after : Option (List ℕ)) (j k : ℕ) → IfOk r (λ answer. answer ≡ status_of found.end)
+    → OnOk r (Adds before after (listing_text names program goal found)) → HasWriteCause r j k → EndsWhole r (Solving s) before after
+listing_ends_whole (Ok answer) s names program goal found before after j k is adds cause =
+    subst (λ (a : Status). WritesWholly (Solving s) a before after) (sym is)
+    (result_whole (Solving s) found.end before after (notation_of names program goal, found, refl, adds))
+listing_ends_whole (Err fault.Read) s names program goal found before after j k is adds cause = absurd cause
+listing_ends_whole (Err fault.Write) s names program goal found before after j k is adds cause = tt
+listing_ends_whole (Err fault.NoMemory) s names program goal found before after j k is adds cause = tt
 
-pub refusal_ends_whole : (r : Result Status RunFault) (refusal : Refusal) (before after : Option (List ℕ)) (j k : ℕ)
+pub text_ends_whole : (r : Result Status RunFault) (m : Compile) (program : Lowered) (id : NameId) (before after : Option (List ℕ)) (j k : ℕ)
+    → IfOk r (λ answer. answer ≡ status.Done) → OnOk r (Adds before after (text_of_module program id)) → HasWriteCause r j k
+    → EndsWhole r (Compiling m) before after
+text_ends_whole (Ok answer) m program id before after j k is adds cause =
+    subst (λ (a : Status). WritesWholly (Compiling m) a before after) (sym is) (program, id, refl, adds)
+text_ends_whole (Err fault.Read) m program id before after j k is adds cause = absurd cause
+text_ends_whole (Err fault.Write) m program id before after j k is adds cause = tt
+text_ends_whole (Err fault.NoMemory) m program id before after j k is adds cause = tt
+
+pub totals_end_whole : (r : Result Status RunFault) (t : Trial) (found : Listing) (before after : Option (List ℕ)) (j k : ℕ)
+    → IfOk r (λ answer. answer ≡ status_of found.end) → OnOk r (Adds before after (totals_text found)) → HasWriteCause r j k
+    → EndsWhole r (Trying t) before after
+totals_end_whole (Ok answer) t found before after j k is adds cause =
+    subst (λ (a : Status). WritesWholly (Trying t) a before after) (sym is) (result_whole (Trying t) found.end before after (found, refl, adds))
+totals_end_whole (Err fault.Read) t found before after j k is adds cause = absurd cause
+totals_end_whole (Err fault.Write) t found before after j k is adds cause = tt
+totals_end_whole (Err fault.NoMemory) t found before after j k is adds cause = tt
+
+pub refusal_ends_whole : (r : Result Status RunFault) (asked : Command) (refusal : Refusal) (before after : Option (List ℕ)) (j k : ℕ)
     → IfOk r (λ answer. answer ≡ status.Refused) → OnOk r (Adds before after (refusal_line refusal)) → HasWriteCause r j k
-    → EndsWhole r before after
-refusal_ends_whole (Ok answer) refusal before after j k is adds cause = subst (λ (s : Status). WritesWhole s before after) (sym is) (refusal, adds)
-refusal_ends_whole (Err fault.Read) refusal before after j k is adds cause = absurd cause
-refusal_ends_whole (Err fault.Write) refusal before after j k is adds cause = tt
-refusal_ends_whole (Err fault.NoMemory) refusal before after j k is adds cause = tt
+    → EndsWhole r asked before after
+refusal_ends_whole (Ok answer) asked refusal before after j k is adds cause =
+    subst (λ (a : Status). WritesWholly asked a before after) (sym is) (refusal, adds)
+refusal_ends_whole (Err fault.Read) asked refusal before after j k is adds cause = absurd cause
+refusal_ends_whole (Err fault.Write) asked refusal before after j k is adds cause = tt
+refusal_ends_whole (Err fault.NoMemory) asked refusal before after j k is adds cause = tt
 
-pub usage_whole : (r : Result Status RunFault) (before after : Option (List ℕ)) (j k : ℕ) → IfOk r (λ answer. answer ≡ status.Usage)
-    → OnOk r (Adds before after usage_line) → HasWriteCause r j k → WritesWhole (status_after r) before after
-usage_whole (Ok answer) before after j k is adds cause = subst (λ (s : Status). WritesWhole s before after) (sym is) adds
-usage_whole (Err fault.Read) before after j k is adds cause = absurd cause
-usage_whole (Err fault.Write) before after j k is adds cause = tt
-usage_whole (Err fault.NoMemory) before after j k is adds cause = tt
+pub usage_whole : (r : Result Status RunFault) (words : List (List ℕ)) (before after : Option (List ℕ)) (j k : ℕ)
+    → IfOk r (λ answer. answer ≡ status.Usage) → OnOk r (Adds before after usage_line) → HasWriteCause r j k
+    → WritesWhole words (status_after r) before after
+usage_whole (Ok answer) words before after j k is adds cause = subst (λ (a : Status). WritesWhole words a before after) (sym is) adds
+usage_whole (Err fault.Read) words before after j k is adds cause = absurd cause
+usage_whole (Err fault.Write) words before after j k is adds cause = tt
+usage_whole (Err fault.NoMemory) words before after j k is adds cause = tt
 
-pub after_whole : (r : Result Status RunFault) (before after : Option (List ℕ)) → EndsWhole r before after → WritesWhole (status_after r) before after
-after_whole (Ok answer) before after whole = whole
-after_whole (Err fault.Read) before after whole = whole
-after_whole (Err fault.Write) before after whole = tt
-after_whole (Err fault.NoMemory) before after whole = tt
+pub command_whole : (r : Result Status RunFault) (words : List (List ℕ)) (asked : Command) (before after : Option (List ℕ)) → ReadsAs words asked
+    → IfOk r IsSolved → EndsWhole r asked before after → WritesWhole words (status_after r) before after
+command_whole (Ok status.Done) words asked before after reads is whole = (asked, reads, whole)
+command_whole (Ok status.Floundered) words asked before after reads is whole = (asked, reads, whole)
+command_whole (Ok status.Limit) words asked before after reads is whole = (asked, reads, whole)
+command_whole (Ok status.Usage) words asked before after reads is whole = absurd is
+command_whole (Ok status.Refused) words asked before after reads is whole = (asked, reads, whole)
+command_whole (Ok status.Stopped) words asked before after reads is whole = (asked, reads, whole)
+command_whole (Ok status.ReadFault) words asked before after reads is whole = absurd is
+command_whole (Ok status.WriteFault) words asked before after reads is whole = absurd is
+command_whole (Ok status.NoMemory) words asked before after reads is whole = absurd is
+command_whole (Err fault.Read) words asked before after reads is whole = whole
+command_whole (Err fault.Write) words asked before after reads is whole = tt
+command_whole (Err fault.NoMemory) words asked before after reads is whole = tt
+
+-- ---- the library
+
+-- a command that is no other one asks as much as that
+pub asks_as : (one other : Command) → one ≡ other → AsksNothing other → AsksNothing one
+asks_as one other same asks = subst (λ (c : Command). AsksNothing c) (sym same) asks
+
+-- ---- solutions
+
+pub solutions_held : (holdings : Option Holdings) (words : List (List ℕ))
+    → ((held : compiling.Held) (root text : List ℕ) (limits : SearchLimits) → ListsSolutions held root text limits)
+    → IfSome holdings (λ held. (solve : Solve) → ReadsAs words (Solving solve)
+    → ListsSolutions (held.module_at solve.folder) solve.name solve.goal solve.limits)
+solutions_held None words all = tt
+solutions_held (Some held) words all = λ solve reads. all (held.module_at solve.folder) solve.name solve.goal solve.limits
+
+-- ---- statuses
+
+pub done_is_solved : (r : Result Status RunFault) → IfOk r (λ answer. answer ≡ status.Done) → IfOk r IsSolved
+done_is_solved (Ok answer) is = subst IsSolved (sym is) tt
+done_is_solved (Err f) is = tt

@@ -1,17 +1,21 @@
 -- What a search lists, as the listing of a compiled goal.
-use Rattle.std.proofs.Common.{◌≡◌, ◌∙◌, ℕ, ◌-◌, List, [], ◌∷◌, Option, Some, Result, Ok, Err, IfErr, IfOk, IsErr, OnErr, OnOk, refl, sym, ap, subst, arith}
+use Rattle.std.proofs.Common.{◌≡◌, ◌∙◌, ℕ, ◌-◌, List, [], ◌∷◌, Option, Some, Result, Ok, Err, OnErr, ap, subst, arith}
 use Rattle.std.specs.List.{concat}
 use Rattle.cu_calculus.specs.Code.{Code}
 use Rattle.cu_calculus.specs.FlatProgram.{program_of}
 use Rattle.cu_flat.specs.Layout.{laid_out}
 use Rattle.cu_kernel.specs.Kernel.{Goal, Kernel}
+use Rattle.cu_machine.specs.declared.End.{End}
 use Rattle.cu_machine.specs.declared.SearchLimits.{SearchLimits}
-use Rattle.cu_machine.specs.Listing.{listing, rounds}
+use Rattle.cu_machine.specs.Listing.{Listing, listing, rounds}
 use Rattle.cu_machine.specs.State.{start_of}
-use Rattle.cu_search.specs.Lines.{Notation, listing_bytes, pieces}
+use Rattle.cu_search.specs.Lines.{Notation, listing_bytes}
 use Rattle.cu_search.specs.Standing.{Standing, left_of, opened}
+use Rattle.cu_search.specs.Totals.{totals_of}
 use Rattle.cu_search.specs.Written.{Adds, AddsFront}
-use Rattle.cu_cmd.specs.Report.{listing_of, listing_text, notation_of}
+use Rattle.cu_search.specs.declared.totals.Totals.{Totals}
+use Rattle.cu_theorem.specs.Listed.{listing_of}
+use Rattle.cu_cmd.specs.Report.{listing_text, notation_of, totals_pieces, totals_text}
 
 -- the goal of a program is one
 one_goal : (one other : Goal) (found : Option Goal) → Some one ≡ found → found ≡ Some other → one ≡ other
@@ -44,6 +48,14 @@ pub bytes_are : (s : Standing) (names : List (List ℕ)) (program : Kernel) (cod
 bytes_are s names program code limits given goal begun has =
     ap (λ (n : Notation). listing_bytes n (left_of s)) (notation_is s names program code limits given goal begun has)
     ∙ ap (listing_bytes (notation_of names program goal)) (left_is s names program code limits given goal begun has)
+
+-- what its lines come to
+pub totals_are : (totals : Totals) (end : End) (left found : Listing) → totals ≡ totals_of left → end ≡ left.end → left ≡ found
+    → concat (totals_pieces totals end) ≡ totals_text found
+totals_are totals end left found is_totals is_end same =
+    ap (λ (t : Totals). concat (totals_pieces t end)) is_totals
+    ∙ ap (λ (e : End). concat (totals_pieces (totals_of left) e)) is_end
+    ∙ ap totals_text same
 
 -- ---- exits
 

@@ -1,13 +1,20 @@
 -- How the parts of a run end, and what they wrote.
 use Rattle.std.specs.Prelude.{◌≡◌, ℕ, List, Option, Result, Ok, Err}
 use Rattle.cu_io.specs.Rose.{Rose}
+use Rattle.cu_flattext.specs.declared.fault.PrintFault.{PrintFault}
+use Rattle.cu_flattext.specs.declared.fault.PrintFault.TheVariants as print
 use Rattle.cu_search.specs.declared.fault.SearchFault.{SearchFault}
 use Rattle.cu_search.specs.declared.fault.SearchFault.TheVariants as search
-use Rattle.cu_cmd.specs.Report.{Held, WritesPrefix, WritesReport, WritesWhole}
+use Rattle.cu_words.specs.Words.{Command}
+use Rattle.cu_cmd.specs.Report.{WritesPrefix, WritesReport, WritesWholly}
 use Rattle.cu_cmd.specs.declared.fault.RunFault.{RunFault}
 use Rattle.cu_cmd.specs.declared.fault.RunFault.TheVariants.{NoMemory, Read, Write}
 use Rattle.cu_cmd.specs.declared.status.Status.{Status}
 use Rattle.cu_cmd.specs.declared.status.Status.TheVariants as status
+
+abbrev pub fault_of_print : PrintFault → RunFault
+fault_of_print print.Write = Write
+fault_of_print print.NoMemory = NoMemory
 
 abbrev pub fault_of_search : SearchFault → RunFault
 fault_of_search search.Write = Write
@@ -21,18 +28,19 @@ status_after (Err Write) = status.WriteFault
 status_after (Err NoMemory) = status.NoMemory
 
 -- the report was written, or, where the run broke off, a prefix of it
-abbrev pub Ends : Result Status RunFault → List (List ℕ) → Held → Option (List ℕ) → Option (List ℕ)
+abbrev pub Ends : Result Status RunFault → (List (List ℕ) → Status → Type 0) → Option (List ℕ)
+    → Option (List ℕ) → Type 0
+Ends (Ok answer) Due before after = WritesReport answer Due before after
+Ends (Err fault) Due before after = WritesPrefix Due before after
+
+-- the whole of what a command comes to was written, where the run didn't break off
+abbrev pub EndsWhole : Result Status RunFault → Command → Option (List ℕ) → Option (List ℕ)
     → Type 0
-Ends (Ok answer) words held before after = WritesReport answer words held before after
-Ends (Err fault) words held before after = WritesPrefix words held before after
+EndsWhole (Ok answer) asked before after = WritesWholly asked answer before after
+EndsWhole (Err Read) asked before after = after ≡ before
+EndsWhole (Err fault) asked before after = Unit {0}
 
--- a whole line or listing was written, where the run didn't break off
-abbrev pub EndsWhole : Result Status RunFault → Option (List ℕ) → Option (List ℕ) → Type 0
-EndsWhole (Ok answer) before after = WritesWhole answer before after
-EndsWhole (Err Read) before after = after ≡ before
-EndsWhole (Err fault) before after = Unit {0}
-
--- a status with which a solve ends that didn't break off
+-- a status with which a command ends that didn't break off
 abbrev pub IsSolved : Status → Type 0
 IsSolved status.Done = Unit {0}
 IsSolved status.Floundered = Unit {0}

@@ -1,9 +1,10 @@
 //! Why a run breaks off.
 ghost use Rattle.std.specs.Prelude.{◌≡◌};
-ghost use Rattle.cu_cmd.specs.Runs.{fault_of_search, status_after};
+ghost use Rattle.cu_cmd.specs.Runs.{fault_of_print, fault_of_search, status_after};
 ghost use Rattle.cu_cmd.specs.declared.fault.RunFault.TheVariants.{NoMemory};
 
 use crate::status::Status;
+use cu_flattext::PrintFault;
 use cu_search::SearchFault;
 use std::alloc::AllocError;
 
@@ -32,6 +33,17 @@ impl From<SearchFault> for RunFault {
         match error {
             SearchFault::Write => RunFault::Write,
             SearchFault::NoMemory => RunFault::NoMemory,
+        }
+    }
+}
+
+impl From<PrintFault> for RunFault {
+    ghost from_gives = { λ error fault. fault ≡ fault_of_print error };
+
+    fn from(error: PrintFault) -> RunFault {
+        match error {
+            PrintFault::Write => RunFault::Write,
+            PrintFault::NoMemory => RunFault::NoMemory,
         }
     }
 }

@@ -1,20 +1,22 @@
 //! The public call.
 ghost use Rattle.std.specs.Prelude.{◌≡◌, IfOk, IfSome, List, OnErr, OnOk, map, string_bytes, ℕ};
 ghost use Rattle.cu_cmd.specs.Causes.{HasCause, IsNoUsage, IsUsage};
-ghost use Rattle.cu_cmd.specs.Report.{Held, Writes, WritesWhole, usage_line};
+ghost use Rattle.cu_cmd.specs.Report.{AsksNothing, Held, Report, Writes, WritesWhole, usage_line};
 ghost use Rattle.cu_cmd.specs.Runs.{HasWriteCause};
 ghost use Rattle.cu_cmd.specs.declared.status.Status.TheVariants.{Usage};
 ghost use Rattle.cu_search.specs.Written.{Adds, AddsFront};
-ghost use Rattle.cu_words.specs.Words.{IsCommand};
+ghost use Rattle.cu_theorem.specs.Listed.{ListsSolutions};
+ghost use Rattle.cu_words.specs.Words.{Command, IsCommand, ReadsAs, Solve, Solving};
 
+use crate::command::{run, workers_of};
 use crate::fault::{RunFault, status_after};
 use crate::pieces::write_piece;
 use crate::search::Workers;
-use crate::solving::solve;
 use crate::status::Status;
 use cu_io::{Library, Sink, Source};
 use cu_pile::Gate;
-use cu_words::read_words;
+use cu_theorem::solutions_are_listed;
+use cu_words::{one_reading, read_words};
 use std::alloc::{AllocError, Global};
 use std::thread::Threads;
 
@@ -32,11 +34,18 @@ pub fn top<R: Threads + Sync, L: Library, O: Source, S: Sink, G: Gate + Sync>(
     // What is written, and the status, are the report's, as far as the library tells what it
     // holds and the sink what it took.
     ensures report { IfSome (L.holdings library.old) (λ held.
-        Writes result (map string_bytes words.now) held.module_at
+        Writes result (Report (map string_bytes words.now) held.module_at)
         (S.written output.old) (S.written output.new)) }
-    // A status that says so comes with one whole line, or one whole listing that ends so, also
-    // where the library doesn't tell what it holds.
-    ensures whole { WritesWhole result (S.written output.old) (S.written output.new) }
+    // What a solve lists are the solutions of its goal by the rules of the modules: each answer has
+    // a derivation with call-time choice, in which set calls stand for all their values, and where
+    // the listing ends with no more, and no branch waits, it covers each ground solution.
+    ensures solutions { IfSome (L.holdings library.old) (λ held. (solve : Solve)
+        → ReadsAs (map string_bytes words.now) (Solving solve)
+        → ListsSolutions (held.module_at solve.folder) solve.name solve.goal solve.limits) }
+    // A status that says so comes with one whole line, or with the whole of what the command that
+    // the words ask for comes to, also where the library doesn't tell what it holds.
+    ensures whole { WritesWhole (map string_bytes words.now) result
+        (S.written output.old) (S.written output.new) }
     // Each status has its cause.
     ensures cause { HasCause result
         (record {
@@ -57,17 +66,22 @@ pub fn top<R: Threads + Sync, L: Library, O: Source, S: Sink, G: Gate + Sync>(
         → library.new ≡ library.old }
     ensures no_usage { IsCommand (map string_bytes words.now) → IsNoUsage result }
     ensures usage_report { (IsCommand (map string_bytes words.now) → ⊥) → (held : Held)
-        → Writes result (map string_bytes words.now) held
+        → Writes result (Report (map string_bytes words.now) held)
         (S.written output.old) (S.written output.new) }
+    // A trial asks nothing of the library.
+    ensures own_library { (asked : Command) → ReadsAs (map string_bytes words.now) asked
+        → AsksNothing asked → library.new ≡ library.old }
 {
+    solutions_are_listed();
     match read_words(alloc, words) {
-        Ok(Some(asked)) => {
+        Ok(Some(command)) => {
+            one_reading();
             let workers = Workers {
                 rt,
                 gate,
-                count: asked.workers,
+                count: workers_of(&command),
             };
-            status_after(solve(alloc, &workers, asked, library, output))
+            status_after(run(alloc, &workers, command, library, output))
         }
         Ok(None) => status_after(write_usage(output)),
         Err(AllocError) => Status::NoMemory,

@@ -2,21 +2,21 @@
 ghost use Rattle.std.specs.Prelude.{◌≡◌, ◌≤◌, IfOk, OnErr, OnOk, Some};
 ghost use Rattle.cu_calculus.specs.FlatProgram as flats;
 ghost use Rattle.cu_cmd.specs.Report as report;
-ghost use Rattle.cu_cmd.specs.Report.{listing_of, listing_text};
+ghost use Rattle.cu_cmd.specs.Report.{listing_text};
 ghost use Rattle.cu_cmd.specs.Runs.{HasWriteCause, IsSolved};
 ghost use Rattle.cu_flat.specs.Layout.{laid_out};
 ghost use Rattle.cu_front.specs.CompileAnswers.{HasGoal};
 ghost use Rattle.cu_kernel.specs.Kernel.{Goal};
 ghost use Rattle.cu_search.specs.Standing.{widest};
 ghost use Rattle.cu_search.specs.Written.{Adds, AddsFront};
+ghost use Rattle.cu_theorem.specs.Listed.{listing_of};
 
 use crate::fault::RunFault;
+use crate::problem::Problem;
 use crate::status::Status;
-use cu_front::Compiled;
 use cu_frozen::FrozenStore;
 use cu_io::Sink;
-use cu_machine::{End, SearchLimits};
-use cu_names::Names;
+use cu_machine::End;
 use cu_pile::Gate;
 use cu_search::Search;
 use std::alloc::Global;
@@ -31,33 +31,34 @@ pub(crate) struct Workers<'a, R, G> {
     pub(crate) count: u32,
 }
 
-/// Writes the listing of a program's goal, and answers how the run ends.
+/// Writes the listing of a goal, and answers how the run ends.
 pub(crate) fn list<R: Threads + Sync, G: Gate + Sync, S: Sink>(
     alloc: Global,
     workers: &Workers<'_, R, G>,
-    names: &Names,
-    compiled: &Compiled,
-    limits: SearchLimits,
+    problem: &Problem<'_>,
     output: &mut S,
 ) -> Result<Status, RunFault>
-    requires goal { HasGoal names.now compiled.now.program compiled.now.flat }
-    requires layout { compiled.now.flat ≡ laid_out (flats.program_of compiled.now.flat) }
+    requires goal { HasGoal problem.now.names.now problem.now.compiled.now.program
+        problem.now.compiled.now.flat }
+    requires layout { problem.now.compiled.now.flat
+        ≡ laid_out (flats.program_of problem.now.compiled.now.flat) }
     requires workers { (1 ≤ workers.now.count) × (workers.now.count ≤ 64) }
-    requires width { limits.step.width ≤ widest }
-    ensures status { (goal : Goal) → compiled.now.program.goal ≡ Some goal
-        → IfOk result (λ status. status ≡ report.status_of
-        (listing_of limits (flats.program_of compiled.now.flat) goal).end) }
+    requires width { problem.now.limits.step.width ≤ widest }
+    ensures status { (goal : Goal) → problem.now.compiled.now.program.goal ≡ Some goal
+        → IfOk result (λ status. status ≡ report.status_of (listing_of problem.now.limits
+        (flats.program_of problem.now.compiled.now.flat) goal).end) }
     ensures solved { IfOk result IsSolved }
-    ensures whole { (goal : Goal) → compiled.now.program.goal ≡ Some goal
+    ensures whole { (goal : Goal) → problem.now.compiled.now.program.goal ≡ Some goal
         → OnOk result (Adds (S.written output.old) (S.written output.new)
-        (listing_text names.now compiled.now.program goal
-        (listing_of limits (flats.program_of compiled.now.flat) goal))) }
-    ensures prefix { (goal : Goal) → compiled.now.program.goal ≡ Some goal
+        (listing_text problem.now.names.now problem.now.compiled.now.program goal
+        (listing_of problem.now.limits (flats.program_of problem.now.compiled.now.flat) goal))) }
+    ensures prefix { (goal : Goal) → problem.now.compiled.now.program.goal ≡ Some goal
         → OnErr result (AddsFront (S.written output.old) (S.written output.new)
-        (listing_text names.now compiled.now.program goal
-        (listing_of limits (flats.program_of compiled.now.flat) goal))) }
+        (listing_text problem.now.names.now problem.now.compiled.now.program goal
+        (listing_of problem.now.limits (flats.program_of problem.now.compiled.now.flat) goal))) }
     ensures cause { HasWriteCause result (S.fault_count output.old) (S.fault_count output.new) }
 {
+    let compiled = problem.compiled;
     let Some(goal) = compiled.program.goal() else {
         return Err(RunFault::NoMemory);
     };
@@ -65,16 +66,16 @@ pub(crate) fn list<R: Threads + Sync, G: Gate + Sync, S: Sink>(
         alloc,
         &compiled.flat,
         &compiled.program,
-        names,
+        problem.names,
         goal,
-        limits,
+        problem.limits,
     )?;
     let end = search.list(workers.rt, workers.count, workers.gate, output)?;
     Ok(status_of(end))
 }
 
 /// How a run ends whose listing ends so.
-fn status_of(end: End) -> Status
+pub(crate) fn status_of(end: End) -> Status
     ensures status { result ≡ report.status_of end }
     ensures solved { IsSolved result }
 {

@@ -1,15 +1,17 @@
 //! The command `solve`.
-ghost use Rattle.std.specs.Prelude.{◌≡◌, ◌≤◌, IfOk, IfSome, List, OnErr, OnOk, ℕ};
+ghost use Rattle.std.specs.Prelude.{◌≡◌, ◌≤◌, IfOk, IfSome, OnErr, OnOk};
+ghost use Rattle.cu_cmd.specs.Report.{SolveReport};
 ghost use Rattle.cu_cmd.specs.Runs.{Ends, EndsWhole, HasRunCause, HasWriteCause, IsSolved};
 ghost use Rattle.cu_cmd.specs.declared.status.Status.TheVariants.{Refused};
 ghost use Rattle.cu_front.specs.RefusalLine.{refusal_line};
 ghost use Rattle.cu_front.specs.RefusalMeaning.{RefusalIsKnown, refusal_meaning};
 ghost use Rattle.cu_search.specs.Standing.{widest};
 ghost use Rattle.cu_search.specs.Written.{Adds, AddsFront};
-ghost use Rattle.cu_words.specs.Words.{ReadsAs, asked};
+ghost use Rattle.cu_words.specs.Words.{Solving, solve_of};
 
 use crate::fault::RunFault;
 use crate::pieces::write_piece;
+use crate::problem::Problem;
 use crate::search::{Workers, list};
 use crate::status::Status;
 use cu_front::{Asked, CompileFault, Refusal, compile};
@@ -31,10 +33,11 @@ pub(crate) fn solve<R: Threads + Sync, G: Gate + Sync, L: Library, S: Sink>(
 ) -> Result<Status, RunFault>
     requires workers { (1 ≤ workers.now.count) × (workers.now.count ≤ 64) }
     requires width { solve.limits.step.width ≤ widest }
-    ensures ends { IfSome (L.holdings library.old) (λ held. (words : List (List ℕ))
-        → ReadsAs words (asked solve.entry)
-        → Ends result words held.module_at (S.written output.old) (S.written output.new)) }
-    ensures whole { EndsWhole result (S.written output.old) (S.written output.new) }
+    ensures ends { IfSome (L.holdings library.old) (λ held.
+        Ends result (SolveReport held.module_at (solve_of solve.entry))
+        (S.written output.old) (S.written output.new)) }
+    ensures whole { EndsWhole result (Solving (solve_of solve.entry))
+        (S.written output.old) (S.written output.new) }
     ensures solved { IfOk result IsSolved }
     ensures cause { HasRunCause result
         (record { library = L.fault_count library.old; output = S.fault_count output.old })
@@ -47,7 +50,14 @@ pub(crate) fn solve<R: Threads + Sync, G: Gate + Sync, L: Library, S: Sink>(
         goal: solve.goal,
     };
     match compile(alloc, &mut names, asked, library) {
-        Ok(compiled) => list(alloc, workers, &names, &compiled, solve.limits, output),
+        Ok(compiled) => {
+            let problem = Problem {
+                names: &names,
+                compiled: &compiled,
+                limits: solve.limits,
+            };
+            list(alloc, workers, &problem, output)
+        }
         Err(CompileFault::Refused(refusal)) => refuse(alloc, &names, &refusal, output),
         Err(CompileFault::Fetch) => Err(RunFault::Read),
         Err(CompileFault::NoMemory) => Err(RunFault::NoMemory),
@@ -55,7 +65,7 @@ pub(crate) fn solve<R: Threads + Sync, G: Gate + Sync, L: Library, S: Sink>(
 }
 
 /// Writes the line of a refusal, and answers how the run ends.
-fn refuse<S: Sink>(
+pub(crate) fn refuse<S: Sink>(
     alloc: Global,
     names: &Names,
     refusal: &Refusal,

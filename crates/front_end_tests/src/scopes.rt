@@ -89,7 +89,7 @@ const NOT_EXPORTED: [Case; 9] = [
     ("import L\nz = r", "UnknownName L:1:5 q"),
 ];
 
-const IMPORTED: [Case; 14] = [
+const IMPORTED: [Case; 16] = [
     ("import B\ny = B.x", RIGHT),
     ("import qualified B\ny = B.x", RIGHT),
     ("import qualified B\ny = x", "UnknownName M:2:5 x"),
@@ -99,6 +99,9 @@ const IMPORTED: [Case; 14] = [
     ("import T (T(P))\ny = Q", "UnknownName M:2:5 Q"),
     ("import T (T)\ny = P", "UnknownName M:2:5 P"),
     ("import T (T(..))\ny = Q", RIGHT),
+    // all constructors that are exported, which are fewer
+    ("import K (T(..))\ny = P", RIGHT),
+    ("import K (T(..))\ny = Q", "UnknownName M:2:5 Q"),
     ("import T (Y(..))\ny :: Y\ny = 1", RIGHT),
     ("import T\ny :: S -> S\ny z = z", RIGHT),
     ("import B hiding (x)\nimport C\ny = x", RIGHT),
@@ -137,10 +140,11 @@ const ALWAYS: [Case; 7] = [
     ("import Prelude ()\ny = 1 + 2", "UnknownName M:2:7 +"),
 ];
 
-const USED: [Case; 14] = [
+const USED: [Case; 15] = [
     ("y = q", "UnknownName M:1:5 q"),
     ("y :: Foo\ny = 1", "UnknownName M:1:6 Foo"),
     ("import B\nimport C\ny = x", "Ambiguous M:3:5 x"),
+    ("import B\nimport C\ny = B.x", RIGHT),
     // one entity by two ways
     ("import B\nimport D\ny = x", RIGHT),
     // the own entities hide imported ones of the unqualified name

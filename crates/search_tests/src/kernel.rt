@@ -12,6 +12,11 @@ const FALSE: ConId = ConId(17);
 
 const TRUE: ConId = ConId(18);
 
+/// The first of four constructors without arguments.
+const NORTH: ConId = ConId(19);
+
+const VALUES: ConId = ConId(23);
+
 fn one<T: Drop>(alloc: Global, item: T) -> Result<Vec<T>, AllocError> {
     let mut items = Vec::new(alloc);
     items.push(item)?;
@@ -70,6 +75,24 @@ fn bool_type(alloc: Global, names: &mut Names) -> Result<DataType, AllocError> {
     Ok(data_type(names.intern("Bool")?, 0, constructors))
 }
 
+/// `data Side = North | East | South | West`
+fn side_type(alloc: Global, names: &mut Names) -> Result<DataType, AllocError> {
+    let mut constructors = Vec::new(alloc);
+    for side in ["North", "East", "South", "West"] {
+        constructors.push(constructor(names.intern(side)?, Vec::new(alloc)))?;
+    }
+    Ok(data_type(names.intern("Side")?, 0, constructors))
+}
+
+/// `data Values a = Values [a]`
+fn values_type(alloc: Global, names: &mut Names) -> Result<DataType, AllocError> {
+    let arguments = one(alloc, TypeTerm::Var(0))?;
+    let list = TypeTerm::Named(TypeName::Data(TypeId(0)), arguments);
+    let name = names.intern("Values")?;
+    let constructors = one(alloc, constructor(name, one(alloc, list)?))?;
+    Ok(data_type(name, 1, constructors))
+}
+
 fn types(alloc: Global, names: &mut Names) -> Result<Vec<DataType>, AllocError> {
     let mut types = one(alloc, list_type(alloc, names)?)?;
     types.push(tuple_type(alloc, names.intern("()")?, 0)?)?;
@@ -80,6 +103,8 @@ fn types(alloc: Global, names: &mut Names) -> Result<Vec<DataType>, AllocError> 
     types.push(data_type(names.intern("Int")?, 0, Vec::new(alloc)))?;
     types.push(data_type(names.intern("Char")?, 0, Vec::new(alloc)))?;
     types.push(bool_type(alloc, names)?)?;
+    types.push(side_type(alloc, names)?)?;
+    types.push(values_type(alloc, names)?)?;
     Ok(types)
 }
 
@@ -180,6 +205,78 @@ fn rigid(alloc: Global) -> Result<Function, AllocError> {
     Ok(of_rules(1, one(alloc, rule)?))
 }
 
+/// A call of a function, or of the set function of one.
+fn whole(head: Head, arguments: Vec<Term>) -> Term {
+    Term::Whole(head, arguments)
+}
+
+/// `number North = 0; number East = 1` and so on
+fn number_of_side(alloc: Global) -> Result<Function, AllocError> {
+    let mut rules = Vec::new(alloc);
+    for n in 0..4u8 {
+        let side = ConId(NORTH.0 + usize::from(n));
+        rules.push(Rule {
+            params: one(alloc, Pattern::Con(side, Vec::new(alloc)))?,
+            body: number(Int::from(n)),
+        })?;
+    }
+    Ok(of_rules(1, rules))
+}
+
+/// A rule of one parameter, the variable 0.
+fn of_variable(alloc: Global, body: Term) -> Result<Rule, AllocError> {
+    Ok(Rule {
+        params: one(alloc, Pattern::Var(0))?,
+        body,
+    })
+}
+
+/// The variable 0 and a number, summed.
+fn sum(alloc: Global, n: Int) -> Result<Term, AllocError> {
+    let arguments = pair(alloc, Term::Var(0), number(n))?;
+    Ok(whole(Head::Fun(FunId(SUM)), arguments))
+}
+
+/// `f x = x` and `f x = x + 10`
+fn raised(alloc: Global) -> Result<Function, AllocError> {
+    let same = of_variable(alloc, Term::Var(0))?;
+    let more = of_variable(alloc, sum(alloc, 10)?)?;
+    Ok(of_rules(1, pair(alloc, same, more)?))
+}
+
+/// `sortValues (Values xs) = xs`
+fn sort_values(alloc: Global) -> Result<Function, AllocError> {
+    let values = Pattern::Con(VALUES, one(alloc, Pattern::Var(0))?);
+    let rule = Rule {
+        params: one(alloc, values)?,
+        body: Term::Var(0),
+    };
+    Ok(of_rules(1, one(alloc, rule)?))
+}
+
+/// The sorted values of a function on these arguments.
+fn sorted(alloc: Global, f: usize, arguments: Vec<Term>) -> Result<Function, AllocError> {
+    let values = whole(Head::Set(FunId(f)), arguments);
+    let list = whole(Head::Fun(FunId(SORT_VALUES)), one(alloc, values)?);
+    constant_function(alloc, list)
+}
+
+fn coin_call(alloc: Global) -> Term {
+    whole(Head::Fun(FunId(COIN)), Vec::new(alloc))
+}
+
+/// `f coin`
+fn raised_coin(alloc: Global) -> Result<Function, AllocError> {
+    let arguments = one(alloc, coin_call(alloc))?;
+    constant_function(alloc, whole(Head::Fun(FunId(RAISED)), arguments))
+}
+
+/// `y + 1 where y free`
+fn open_sum(alloc: Global) -> Result<Function, AllocError> {
+    let body = Box::new(alloc, sum(alloc, 1)?)?;
+    constant_function(alloc, Term::Free(0, body))
+}
+
 /// What lowering asks for, and the functions that the tests search.
 pub(crate) const COIN: usize = 3;
 
@@ -191,6 +288,27 @@ pub(crate) const WAIT: usize = 6;
 
 pub(crate) const LOOP: usize = 7;
 
+const SUM: usize = 8;
+
+pub(crate) const NUMBER: usize = 9;
+
+const RAISED: usize = 10;
+
+const SORT_VALUES: usize = 11;
+
+/// `sortValues (set1 f coin)`
+pub(crate) const SORTED: usize = 12;
+
+const RAISED_COIN: usize = 13;
+
+/// `sortValues (set0 g)`, where `g = f coin`
+pub(crate) const ALL_SORTED: usize = 14;
+
+const OPEN_SUM: usize = 15;
+
+/// `sortValues (set0 p)`, where `p = y + 1 where y free`
+pub(crate) const OPEN_SORTED: usize = 16;
+
 fn functions(alloc: Global) -> Result<Vec<Function>, AllocError> {
     let mut functions = one(alloc, both(alloc)?)?;
     functions.push(built_in(0, Prim::Failed))?;
@@ -200,6 +318,15 @@ fn functions(alloc: Global) -> Result<Vec<Function>, AllocError> {
     functions.push(not(alloc)?)?;
     functions.push(rigid(alloc)?)?;
     functions.push(call(alloc, LOOP)?)?;
+    functions.push(built_in(2, Prim::Add))?;
+    functions.push(number_of_side(alloc)?)?;
+    functions.push(raised(alloc)?)?;
+    functions.push(sort_values(alloc)?)?;
+    functions.push(sorted(alloc, RAISED, one(alloc, coin_call(alloc))?)?)?;
+    functions.push(raised_coin(alloc)?)?;
+    functions.push(sorted(alloc, RAISED_COIN, Vec::new(alloc))?)?;
+    functions.push(open_sum(alloc)?)?;
+    functions.push(sorted(alloc, OPEN_SUM, Vec::new(alloc))?)?;
     Ok(functions)
 }
 
@@ -243,7 +370,7 @@ pub(crate) fn parts(alloc: Global, names: &mut Names) -> Result<ProgramParts, Al
             nil: ConId(0),
             cons: ConId(1),
             both: FunId(0),
-            values: None,
+            values: Some(VALUES),
         },
     })
 }

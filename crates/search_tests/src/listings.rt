@@ -1,7 +1,9 @@
 //! Listings of goals.
 use crate::gates::HoldingGate;
-use crate::kernel::{COIN, LOOP, NOT, PICK, WAIT};
+use crate::kernel::{ALL_SORTED, COIN, LOOP, NOT, NUMBER, OPEN_SORTED, PICK, SORTED, WAIT};
 use crate::runs::{AMPLE, Bench, open, written};
+use cu_frozen::FrozenStore;
+use cu_graph::PlainStore;
 use cu_io::VecSink;
 use cu_machine::{End, Limits, SearchLimits};
 use cu_pile::OpenGate;
@@ -10,7 +12,8 @@ use std::process::Abort;
 use std::test::Fail;
 use std::thread::Threads;
 
-/// Expects what is listed of a goal, by one worker, by three and by 64.
+/// Expects what is listed of a goal, by one worker, by three and by 64, and over
+/// both stores.
 fn expect<R: Threads + Abort + Sync>(
     rt: &R,
     bench: &mut Bench,
@@ -20,12 +23,14 @@ fn expect<R: Threads + Abort + Sync>(
     text: &str,
 ) {
     let goal = bench.goal(rt, function, variables);
-    let one = written(rt, bench, &goal, limits, 1, &OpenGate);
+    let one = written::<PlainStore, _, _>(rt, bench, &goal, limits, 1, &OpenGate);
     assert_eq!(rt; one.bytes(), text.as_bytes());
-    let three = written(rt, bench, &goal, limits, 3, &OpenGate);
+    let three = written::<PlainStore, _, _>(rt, bench, &goal, limits, 3, &OpenGate);
     assert_eq!(rt; three.bytes(), text.as_bytes());
-    let many = written(rt, bench, &goal, limits, 64, &OpenGate);
+    let many = written::<PlainStore, _, _>(rt, bench, &goal, limits, 64, &OpenGate);
     assert_eq!(rt; many.bytes(), text.as_bytes());
+    let shared = written::<FrozenStore, _, _>(rt, bench, &goal, limits, 3, &OpenGate);
+    assert_eq!(rt; shared.bytes(), text.as_bytes());
 }
 
 const THREE_ROUNDS: SearchLimits = SearchLimits { rounds: 3, ..AMPLE };
@@ -66,6 +71,36 @@ fn listings(rt: HostRuntime) -> Result<(), Fail> {
     Ok(())
 }
 
+/// A set function leaves the choices of its argument outside, and takes those of
+/// its function.
+#[test]
+fn set_functions(rt: HostRuntime) -> Result<(), Fail> {
+    let mut bench = Bench::new(&rt, rt.alloc());
+    let outside = "[11] [0,10]\n[11] [1,11]\nno more\n";
+    expect(&rt, &mut bench, SORTED, &[], AMPLE, outside);
+    let inside = "[12] [0,1,10,11]\nno more\n";
+    expect(&rt, &mut bench, ALL_SORTED, &[], AMPLE, inside);
+    let waits = "[5] waits inside a set function\nno more; 1 floundered\n";
+    expect(&rt, &mut bench, OPEN_SORTED, &[], AMPLE, waits);
+    Ok(())
+}
+
+/// Of four branches and two workers each branch is held in turn until the others
+/// have entered.
+#[test]
+fn two_workers_at_four_branches(rt: HostRuntime) -> Result<(), Fail> {
+    let mut bench = Bench::new(&rt, rt.alloc());
+    let goal = bench.goal(&rt, NUMBER, &["x"]);
+    let listing = "[3] {x=North} 0\n[3] {x=East} 1\n[3] {x=South} 2\n[3] {x=West} 3\nno more\n";
+    for held in 0..4 {
+        let gate = HoldingGate::new(&rt, held, 3);
+        let sink = written::<PlainStore, _, _>(&rt, &bench, &goal, AMPLE, 2, &gate);
+        assert_eq!(rt; sink.bytes(), listing.as_bytes());
+        assert!(rt; !gate.ended());
+    }
+    Ok(())
+}
+
 /// A branch that is held until the other has entered changes nothing; and a
 /// search that the output breaks off has ended.
 #[test]
@@ -74,14 +109,14 @@ fn held_branches_and_faults(rt: HostRuntime) -> Result<(), Fail> {
     let goal = bench.goal(&rt, COIN, &[]);
     for held in 0..2 {
         let gate = HoldingGate::new(&rt, held, 1);
-        let sink = written(&rt, &bench, &goal, AMPLE, 2, &gate);
+        let sink = written::<PlainStore, _, _>(&rt, &bench, &goal, AMPLE, 2, &gate);
         assert_eq!(rt; sink.bytes(), b"[2] 0\n[2] 1\nno more\n".as_slice());
         assert!(rt; !gate.ended());
     }
     let mut failing = Vec::new(rt.alloc());
     failing.push((1, 3))?;
     let mut sink = VecSink::new(rt.alloc(), 100, failing)?;
-    let mut search = open(&bench, &goal, AMPLE).expect(&rt, "a goal");
+    let mut search = open::<PlainStore>(&bench, &goal, AMPLE).expect(&rt, "a goal");
     let fault = search.list(&rt, 2, &OpenGate, &mut sink);
     assert!(rt; matches!(fault, Err(SearchFault::Write)) && search.ended());
     assert_eq!(rt; sink.bytes(), b"[2] 0\n[2]".as_slice());
@@ -94,7 +129,7 @@ fn single_rounds(rt: HostRuntime) -> Result<(), Fail> {
     let mut bench = Bench::new(&rt, rt.alloc());
     let goal = bench.goal(&rt, WAIT, &["x"]);
     let mut sink = VecSink::new(rt.alloc(), 100, Vec::new(rt.alloc()))?;
-    let mut search = open(&bench, &goal, AMPLE).expect(&rt, "a goal");
+    let mut search = open::<PlainStore>(&bench, &goal, AMPLE).expect(&rt, "a goal");
     assert!(rt; !search.ended());
     let Ok(Round::Going) = search.round(&rt, 1, &OpenGate, &mut sink) else {
         panic!(rt; "no second round");

@@ -6,7 +6,7 @@ ghost use Rattle.cu_search.specs.Stands.{standing_of};
 use crate::kernel::parts;
 use cu_deftree::{has_operations, lower};
 use cu_flat::{FlatBody, FlatProgram, FunId, Head};
-use cu_graph::PlainStore;
+use cu_graph::Store;
 use cu_io::VecSink;
 use cu_kernel::{Goal, Program};
 use cu_machine::{Limits, SearchLimits};
@@ -81,12 +81,12 @@ pub(crate) const AMPLE: SearchLimits = SearchLimits {
 
 /// The search for a goal, where its function has rules and a parameter for
 /// each of its names.
-pub(crate) fn open<'p>(
+pub(crate) fn open<'p, S: Store>(
     bench: &'p Bench,
     goal: &'p Goal,
     limits: SearchLimits,
-) -> Option<Search<'p, PlainStore>>
-    ensures { IfSome result (λ search. IsGoing (standing_of (λ store. store) search)) }
+) -> Option<Search<'p, S>>
+    ensures { IfSome result (λ search. IsGoing (standing_of S.content search)) }
 {
     let arity = bench.code.arity_if_known(Head::Fun(goal.function))?;
     let Some(FlatBody::Rule(_, _)) = bench.code.body(goal.function) else {
@@ -106,8 +106,8 @@ pub(crate) fn open<'p>(
     .ok()
 }
 
-/// What a search writes by these workers, at a gate.
-pub(crate) fn written<R: Threads + Abort + Sync, G: Gate + Sync>(
+/// What a search over a store writes by these workers, at a gate.
+pub(crate) fn written<S: Store + Send + Sync, R: Threads + Abort + Sync, G: Gate + Sync>(
     rt: &R,
     bench: &Bench,
     goal: &Goal,
@@ -119,7 +119,7 @@ pub(crate) fn written<R: Threads + Abort + Sync, G: Gate + Sync>(
 {
     let failing = Vec::new(bench.alloc);
     let mut sink = VecSink::new(bench.alloc, ROOM, failing).expect(rt, "memory");
-    let mut search = open(bench, goal, limits).expect(rt, "a goal");
+    let mut search = open::<S>(bench, goal, limits).expect(rt, "a goal");
     let end = search.list(rt, workers, gate, &mut sink);
     assert!(rt; end.is_ok() && search.ended());
     sink

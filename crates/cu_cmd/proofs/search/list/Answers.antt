@@ -1,4 +1,4 @@
-use Rattle.std.proofs.Common.{◌≡◌, ◌∙◌, ap}
+use Rattle.std.proofs.Common.{◌∙◌, ap}
 use Rattle.cu_cmd.proofs.SearchLemmas.{all_written, bytes_are, left_is, part_written}
 use Rattle.cu_cmd.specs.Report as report
 use Rattle.cu_kernel.specs.KernelOf.{goal_meaning}
@@ -8,7 +8,7 @@ use Rattle.cu_cmd.proofs.search.list.Goals as goal
 pub returns-in_err-end-clause-prefix : goal.returns-in_err-end-clause-prefix
 returns-in_err-end-clause-prefix g c = λ wanted has.
     part_written _ _ _ _ _
-    (bytes_are _ c.args.names.now c.args.compiled.now.program c.args.compiled.now.flat c.args.limits (goal_meaning c.in-Some.goal.now) wanted
+    (bytes_are _ c.args.problem.now.names.now c.args.problem.now.compiled.now.program c.args.problem.now.compiled.now.flat c.args.problem.now.limits (goal_meaning c.in-Some.goal.now) wanted
     (record { is = c.in_ok-search.ensures.standing; of_program = c.in-Some.ensures.goal; laid = c.requires.layout }) has)
     c.in_err-end.ensures.front
 
@@ -18,13 +18,13 @@ returns-clause-status g c = λ wanted has.
     ∙ ap report.status_of (
     c.in_ok-end.ensures.end
     ∙ ap (λ (found : Listing). found.end)
-    (left_is _ c.args.names.now c.args.compiled.now.program c.args.compiled.now.flat c.args.limits (goal_meaning c.in-Some.goal.now) wanted
+    (left_is _ c.args.problem.now.names.now c.args.problem.now.compiled.now.program c.args.problem.now.compiled.now.flat c.args.problem.now.limits (goal_meaning c.in-Some.goal.now) wanted
     (record { is = c.in_ok-search.ensures.standing; of_program = c.in-Some.ensures.goal; laid = c.requires.layout }) has)
     )
 
 pub returns-clause-whole : goal.returns-clause-whole
 returns-clause-whole g c = λ wanted has.
     all_written _ _ _ _
-    (bytes_are _ c.args.names.now c.args.compiled.now.program c.args.compiled.now.flat c.args.limits (goal_meaning c.in-Some.goal.now) wanted
+    (bytes_are _ c.args.problem.now.names.now c.args.problem.now.compiled.now.program c.args.problem.now.compiled.now.flat c.args.problem.now.limits (goal_meaning c.in-Some.goal.now) wanted
     (record { is = c.in_ok-search.ensures.standing; of_program = c.in-Some.ensures.goal; laid = c.requires.layout }) has)
     c.in_ok-end.ensures.whole

@@ -1,0 +1,58 @@
+//! The commands of the line.
+ghost use Rattle.std.specs.Prelude.{◌≡◌, ◌≤◌, IfOk, IfSome};
+ghost use Rattle.cu_cmd.specs.Report.{AsksNothing, CommandReport};
+ghost use Rattle.cu_cmd.specs.Runs.{Ends, EndsWhole, HasRunCause, IsSolved};
+ghost use Rattle.cu_words.specs.Words.{HasItsRanges, asked};
+
+use crate::compiling::compile;
+use crate::fault::RunFault;
+use crate::search::Workers;
+use crate::solving::solve;
+use crate::status::Status;
+use crate::trying::try_search;
+use cu_io::{Library, Sink};
+use cu_pile::Gate;
+use cu_words::Asked;
+use std::alloc::Global;
+use std::thread::Threads;
+
+/// How many workers a command asks for, 1 to 64; one that searches nothing asks
+/// for one.
+pub(crate) fn workers_of(command: &Asked<'_>) -> u32
+    requires ranges { HasItsRanges (asked command.now) }
+    ensures { (1 ≤ result) × (result ≤ 64) }
+{
+    match command {
+        Asked::Solve(solve) => solve.workers,
+        Asked::Compile(_) => 1,
+        Asked::Trial(trial) => trial.workers,
+    }
+}
+
+/// Writes what is due for a command, and answers how the run ends.
+pub(crate) fn run<R: Threads + Sync, G: Gate + Sync, L: Library, S: Sink>(
+    alloc: Global,
+    workers: &Workers<'_, R, G>,
+    command: Asked<'_>,
+    library: &mut L,
+    output: &mut S,
+) -> Result<Status, RunFault>
+    requires workers { (1 ≤ workers.now.count) × (workers.now.count ≤ 64) }
+    requires ranges { HasItsRanges (asked command) }
+    ensures ends { IfSome (L.holdings library.old) (λ held.
+        Ends result (CommandReport held.module_at (asked command.entry))
+        (S.written output.old) (S.written output.new)) }
+    ensures whole { EndsWhole result (asked command.entry)
+        (S.written output.old) (S.written output.new) }
+    ensures solved { IfOk result IsSolved }
+    ensures cause { HasRunCause result
+        (record { library = L.fault_count library.old; output = S.fault_count output.old })
+        (record { library = L.fault_count library.new; output = S.fault_count output.new }) }
+    ensures library { AsksNothing (asked command.entry) → library.new ≡ library.old }
+{
+    match command {
+        Asked::Solve(asked) => solve(alloc, workers, asked, library, output),
+        Asked::Compile(asked) => compile(alloc, asked, library, output),
+        Asked::Trial(trial) => try_search(alloc, workers, trial, output),
+    }
+}
