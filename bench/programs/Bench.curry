@@ -1,6 +1,7 @@
 module Bench where
 
 import Permutation
+import SetFunctions
 
 -- all numbers of so many bits
 bit :: Int
@@ -27,3 +28,14 @@ rises (x : y : ys) = x <= y && rises (y : ys)
 deep n = if n == 0 then () else twin (deep (n - 1))
 
 twin x = (x, x)
+
+-- all numbers of four digits
+digit :: Int
+digit = 0 ? 1 ? 2 ? 3 ? 4 ? 5 ? 6 ? 7 ? 8 ? 9
+
+number :: Int
+number = ((digit * 10 + digit) * 10 + digit) * 10 + digit
+
+-- a loop, each turn of which leaves four nodes behind
+down :: Int -> Int
+down n = if n == 0 then 0 else down (n - 1)
