@@ -27,4 +27,6 @@ build() {
 }
 
 if is_stale; then build; fi
+# Recursion over one item of a text may take more of the stack than the 8 MiB that are usual.
+ulimit -S -s 65536 2>/dev/null || true
 exec "$program" "$@"
