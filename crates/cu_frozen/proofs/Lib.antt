@@ -1,3 +1,2 @@
-pub mod Entries
 pub mod Overlays
 pub mod Stacks

@@ -1,7 +1,6 @@
 //! Graphs whose forks share what was there.
 #![tactic(auto)]
 
-mod flat;
 mod frozen;
 mod segment;
 mod store;

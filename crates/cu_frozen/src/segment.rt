@@ -4,8 +4,7 @@ ghost use Rattle.std.specs.List.{list_any};
 ghost use Rattle.cu_machine.specs.Graph.{put};
 ghost use Rattle.cu_frozen.specs.Layers.{Amends, Holds, Leaves, layer_of, over, written};
 
-use crate::flat::Flat;
-use cu_graph::Kind;
+use cu_graph::{Kind, NodeVec};
 use indexmap::IndexSet;
 use std::alloc::{AllocError, Global};
 use std::marker::Model;
@@ -13,7 +12,7 @@ use std::marker::Model;
 /// A node in a list.
 #[derive(Clone, Copy)]
 pub(crate) struct Spot<'a> {
-    pub(crate) nodes: &'a Flat,
+    pub(crate) nodes: &'a NodeVec,
     pub(crate) place: usize,
 }
 
@@ -26,9 +25,9 @@ pub(crate) struct Segment {
     base: u32,
     /// The places of the nodes that were changed, and what stands there now.
     changed: IndexSet<u32>,
-    changes: Flat,
+    changes: NodeVec,
     /// The nodes behind those of the graph below.
-    added: Flat,
+    added: NodeVec,
 }
 
 impl Model for Segment {
@@ -50,8 +49,8 @@ impl Segment {
             alloc,
             base,
             changed: IndexSet::new(alloc),
-            changes: Flat::new(alloc),
-            added: Flat::new(alloc),
+            changes: NodeVec::new(alloc),
+            added: NodeVec::new(alloc),
         }
     }
 

@@ -1,7 +1,7 @@
 use Rattle.std.proofs.Common.{ap, ◌∙◌}
-use Rattle.cu_frozen.specs.Flat.{nodes_of}
-use Rattle.cu_frozen.proofs.Entries.{after_error, kept, within_pushed, pushed_node}
-use Rattle.cu_frozen.proofs.flat.Flat.push.Goals as goal
+use Rattle.cu_graph.specs.FlatArrays.{nodes_of}
+use Rattle.cu_graph.proofs.Entries.{after_error, kept, within_pushed, pushed_node}
+use Rattle.cu_graph.proofs.node_vec.NodeVec.push.Goals as goal
 
 pub returns-in_err-push-clause-err : goal.returns-in_err-push-clause-err
 returns-in_err-push-clause-err c =

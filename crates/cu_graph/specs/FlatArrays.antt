@@ -2,7 +2,7 @@
 use Rattle.std.specs.Prelude.{ℕ, ◌+◌, ◌≤◌, List, length, map, take, drop}
 use Rattle.std.specs.List.{All}
 use Rattle.cu_machine.specs.Graph.{Graph, Node}
-use Rattle.cu_frozen.specs.declared.flat.Entry.{Entry}
+use Rattle.cu_graph.specs.declared.node_vec.Entry.{Entry}
 
 -- the node of an entry, among these arguments
 abbrev pub node_of : List ℕ → Entry → Node

@@ -3,8 +3,8 @@ use Rattle.std.proofs.Common.{◌≡◌, ℕ, suc, ◌+◌, ◌≤◌, List, [],
 use Rattle.std.proofs.lemmas.List.{drop-append-le, take-append-le, length-drop, length-append, map_push, map-set}
 use Rattle.std.proofs.lemmas.List.Elements.{All-push}
 use Rattle.cu_machine.specs.Graph.{Node}
-use Rattle.cu_frozen.specs.declared.flat.Entry.{Entry}
-use Rattle.cu_frozen.specs.Flat.{node_of, nodes_of, IsWithin, AreWithin}
+use Rattle.cu_graph.specs.declared.node_vec.Entry.{Entry}
+use Rattle.cu_graph.specs.FlatArrays.{node_of, nodes_of, IsWithin, AreWithin}
 
 -- what holds at any rate holds after an error
 pub after_error : {X E : Type 0} {P : Type 0} (result : Result X E) → P → OnErr result P

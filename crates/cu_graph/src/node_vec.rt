@@ -1,0 +1,192 @@
+//! Lists of nodes in flat arrays.
+ghost use Rattle.std.specs.Prelude.{◌≡◌, ◌<◌, [], ◌∷◌, ◌++◌, IfOk, OnErr, OnOk, length, slice_set};
+ghost use Rattle.cu_machine.specs.Graph.{node_at};
+ghost use Rattle.cu_graph.specs.FlatArrays.{IsWithin, node_of};
+
+use cu_machine::Kind;
+use std::alloc::{AllocError, Global};
+use std::marker::Model;
+
+/// A node: what it is, and where its arguments stand among those of all nodes.
+#[derive(Clone, Copy)]
+struct Entry {
+    kind: Kind,
+    start: usize,
+    arity: u32,
+}
+
+/// A list of nodes in two flat arrays: one has each node's kind and where its
+/// arguments begin, the other one the arguments of all nodes. Nodes are named
+/// by their indices.
+///
+/// A node that is put in the place of another has its arguments written behind
+/// those of all nodes, and the old ones become stale. Before that, `put` drops
+/// the stale arguments if they outnumber both the nodes and the arguments in
+/// use. So a `put` begins to write with no more stale arguments than there are
+/// nodes or arguments in use, whichever is more, and what calls take is
+/// amortised in proportion to what they write.
+#[derive(Drop)]
+pub struct NodeVec {
+    alloc: Global,
+    entries: Vec<Entry>,
+    args: Vec<u32>,
+    /// How many of the arguments are stale.
+    stale: usize,
+}
+
+impl Model for NodeVec {
+    ghost use Rattle.cu_machine.specs.Graph.{Graph};
+
+    ghost Value = { Graph };
+
+    ghost use Rattle.cu_graph.specs.FlatArrays.{AreWithin, nodes_of};
+
+    ghost view = { λ v. nodes_of v.args.items v.entries.items };
+
+    ghost invariant = { λ v. AreWithin v.args.items v.entries.items };
+}
+
+/// Writes a node's arguments behind those of all nodes.
+fn append(all: &mut Vec<u32>, kind: Kind, args: &[u32]) -> Result<Entry, AllocError>
+    ensures node { IfOk result (λ entry. node_of all.new.items entry
+        ≡ record { kind = kind; args = args.now }) }
+    ensures within { IfOk result (IsWithin all.new.items) }
+    ensures ok { OnOk result (all.new.items ≡ all.old.items ++ args.now) }
+    ensures err { OnErr result (all.new.items ≡ all.old.items) }
+{
+    if args.len() > u32::MAX as usize {
+        return Err(AllocError);
+    }
+    let start = all.len();
+    all.extend_from_slice(args)?;
+    Ok(Entry {
+        kind,
+        start,
+        arity: args.len() as u32,
+    })
+}
+
+impl NodeVec {
+    /// No nodes. It takes no memory yet.
+    pub fn new(alloc: Global) -> NodeVec
+        ensures { result ≡ [] }
+    {
+        NodeVec {
+            alloc,
+            entries: Vec::new(alloc),
+            args: Vec::new(alloc),
+            stale: 0,
+        }
+    }
+
+    /// How many nodes there are.
+    pub fn len(&self) -> usize
+        ensures { result ≡ length self.now }
+    {
+        self.entries.len()
+    }
+
+    /// What a node is.
+    pub fn kind(&self, index: usize) -> Kind
+        requires { index < length self.now }
+        ensures { result ≡ (node_at self.now index).kind }
+    {
+        self.entries[index].kind
+    }
+
+    /// How many arguments a node has.
+    pub fn arity(&self, index: usize) -> u32
+        requires { index < length self.now }
+        ensures { result ≡ length (node_at self.now index).args }
+    {
+        self.entries[index].arity
+    }
+
+    /// The arguments of a node.
+    pub fn args(&self, index: usize) -> &[u32]
+        requires { index < length self.now }
+        ensures { result.now ≡ (node_at self.now index).args }
+    {
+        let entry = self.entries[index];
+        &self.args[entry.start..entry.start + entry.arity as usize]
+    }
+
+    /// Adds a node behind the others. An `Err` changes nothing; a node of more
+    /// than 4,294,967,295 arguments gives one too.
+    pub fn push(&mut self, kind: Kind, args: &[u32]) -> Result<(), AllocError>
+        ensures ok { OnOk result (self.new
+            ≡ self.old ++ record { kind = kind; args = args.now } ∷ []) }
+        ensures err { OnErr result (self.new ≡ self.old) }
+    {
+        let entry = append(&mut self.args, kind, args)?;
+        self.entries.push(entry)?;
+        Ok(())
+    }
+
+    /// Puts another node in the place of one. An `Err` changes nothing; a node
+    /// of more than 4,294,967,295 arguments gives one too.
+    pub fn put(&mut self, index: usize, kind: Kind, args: &[u32]) -> Result<(), AllocError>
+        requires { index < length self.old }
+        ensures ok { OnOk result (self.new
+            ≡ slice_set self.old index (record { kind = kind; args = args.now })) }
+        ensures err { OnErr result (self.new ≡ self.old) }
+    {
+        if self.is_sparse() {
+            self.compact()?;
+        }
+        self.write(index, kind, args)
+    }
+
+    /// The same nodes once more: a copy of each array as it is.
+    pub fn copied(&self) -> Result<NodeVec, AllocError>
+        ensures { IfOk result (λ copy. copy ≡ self.now) }
+    {
+        let entries = Vec::from_slice(self.alloc, self.entries.as_slice())?;
+        let args = Vec::from_slice(self.alloc, self.args.as_slice())?;
+        Ok(NodeVec {
+            alloc: self.alloc,
+            entries,
+            args,
+            stale: self.stale,
+        })
+    }
+
+    /// Whether so many arguments are stale that it pays to copy the rest.
+    fn is_sparse(&self) -> bool {
+        self.stale > self.entries.len() && self.stale > self.args.len() / 2
+    }
+
+    /// Drops the stale arguments.
+    fn compact(&mut self) -> Result<(), AllocError>
+        ensures { self.new ≡ self.old }
+    {
+        *self = self.compacted()?;
+        Ok(())
+    }
+
+    /// The same nodes, with no stale arguments.
+    fn compacted(&self) -> Result<NodeVec, AllocError>
+        ensures { IfOk result (λ copy. copy ≡ self.now) }
+    {
+        let mut copy = NodeVec::new(self.alloc);
+        for index in 0..self.len() {
+            copy.push(self.kind(index), self.args(index))?;
+        }
+        Ok(copy)
+    }
+
+    /// Writes another node in the place of one, and its arguments behind those
+    /// of all nodes. The old ones become stale.
+    fn write(&mut self, index: usize, kind: Kind, args: &[u32]) -> Result<(), AllocError>
+        requires { index < length self.old }
+        ensures ok { OnOk result (self.new
+            ≡ slice_set self.old index (record { kind = kind; args = args.now })) }
+        ensures err { OnErr result (self.new ≡ self.old) }
+    {
+        let entry = append(&mut self.args, kind, args)?;
+        let old = self.entries[index].arity as usize;
+        self.stale = self.stale.saturating_add(old);
+        self.entries[index] = entry;
+        Ok(())
+    }
+}
