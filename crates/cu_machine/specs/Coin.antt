@@ -4,19 +4,19 @@
 --     x ? y = x
 --     x ? y = y
 --     loop = loop
--- and the goals `coin`, `0 ? 1` and `loop ? 1`.
-use Rattle.std.specs.Prelude.{ℕ, List, [], ◌∷◌, None, pos}
+-- and the goals `coin`, `0 ? 1`, `loop ? 1` and `set0 coin`.
+use Rattle.std.specs.Prelude.{ℕ, List, [], ◌∷◌, None, Some, pos}
 use Rattle.cu_calculus.specs.declared.ConId.{ConId}
 use Rattle.cu_calculus.specs.declared.ExprId.{ExprId}
 use Rattle.cu_calculus.specs.declared.FunId.{FunId}
-use Rattle.cu_calculus.specs.declared.Head.TheVariants.{Con, Fun}
+use Rattle.cu_calculus.specs.declared.Head.TheVariants.{Con, Fun, Set}
 use Rattle.cu_calculus.specs.declared.Lit.TheVariants.{Int}
 use Rattle.cu_calculus.specs.declared.Mode.TheVariants.{Flex}
 use Rattle.cu_calculus.specs.declared.builtin.Special.{Special}
 use Rattle.cu_calculus.specs.Code.{Built, Case, Code, Expr, Function, Literal, Or, Rule, Variable, Whole}
 use Rattle.cu_calculus.specs.Program.{Constructor}
 use Rattle.cu_calculus.specs.Value as value
-use Rattle.cu_calculus.specs.Value.{Value}
+use Rattle.cu_calculus.specs.Value.{Constructed, MoreValues, NoValue, Value}
 use Rattle.cu_machine.specs.declared.SearchLimits.{SearchLimits}
 use Rattle.cu_machine.specs.Listing.{Answered, Line}
 
@@ -29,7 +29,7 @@ function n = record { 0 = n }
 abbrev constructor : ℕ → ConId
 constructor n = record { 0 = n }
 
--- the functions coin, `?`, loop and `&&`, and the three goals
+-- the functions coin, `?`, loop and `&&`, and the four goals
 abbrev functions : List Function
 functions =
     record { arity = 0; body = Rule [] (e 2) }
@@ -39,13 +39,14 @@ functions =
     ∷ record { arity = 0; body = Rule [] (e 9) }
     ∷ record { arity = 0; body = Rule [] (e 10) }
     ∷ record { arity = 0; body = Rule [] (e 11) }
+    ∷ record { arity = 0; body = Rule [] (e 12) }
     ∷ []
 
--- the constructors False, True, [] and (:)
+-- the constructors False, True, [], (:), and Values, which holds the list of all values that a search found
 abbrev constructors : List Constructor
 constructors =
     record { of_type = 0; arity = 0 } ∷ record { of_type = 0; arity = 0 } ∷ record { of_type = 1; arity = 0 }
-    ∷ record { of_type = 1; arity = 2 } ∷ []
+    ∷ record { of_type = 1; arity = 2 } ∷ record { of_type = 2; arity = 1 } ∷ []
 
 abbrev special : Special
 special = record {
@@ -54,7 +55,7 @@ special = record {
   nil = constructor 2;
   cons = constructor 3;
   both = function 3;
-  values = None;
+  values = Some (constructor 4);
 }
 
 -- parts before what they are parts of
@@ -73,6 +74,7 @@ expressions =
     ∷ Whole (Fun (function 0)) []
     ∷ Whole (Fun (function 1)) (e 0 ∷ e 1 ∷ [])
     ∷ Whole (Fun (function 1)) (e 6 ∷ e 1 ∷ [])
+    ∷ Whole (Set (function 0)) []
     ∷ []
 
 abbrev pub coin_code : Code
@@ -92,6 +94,9 @@ zero_or_one = function 5
 abbrev pub loop_or_one : FunId
 loop_or_one = function 6
 
+abbrev pub all_of_the_coin : FunId
+all_of_the_coin = function 7
+
 -- so many rounds of so many steps
 abbrev pub small_limits : ℕ → ℕ → SearchLimits
 small_limits rounds stride = record {
@@ -107,3 +112,12 @@ number n = value.Literal (Int (pos n))
 -- the answer of a number in a round, of a goal without variables
 abbrev pub number_at : ℕ → ℕ → Line
 number_at round n = Answered round (record { bindings = []; value = number n })
+
+-- a list of values, as a value
+abbrev pub list_of : List Value → Value
+list_of [] = Constructed (constructor 2) NoValue
+list_of (v ∷ vs) = Constructed (constructor 3) (MoreValues v (MoreValues (list_of vs) NoValue))
+
+-- the answer of all values that a set function's call has, in a round, of a goal without variables
+abbrev pub all_at : ℕ → List Value → Line
+all_at round values = Answered round (record { bindings = []; value = Constructed (constructor 4) (MoreValues (list_of values) NoValue) })

@@ -1,4 +1,5 @@
--- What a search for all values of a function finds.
+-- What a search for all values of a function finds. It is told as a whole, when the search is exhausted: a set function's
+-- values are not read lazily.
 use Rattle.std.specs.Prelude.{◌≡◌, ℕ, zero, suc, Bool, true, false, List, [], ◌++◌, ◌∷◌, Some, IsTrue, flat_map, map}
 use Rattle.std.specs.List.{list_all}
 use Rattle.cu_calculus.specs.declared.FunId.{FunId}

@@ -1,5 +1,7 @@
--- What the value of a node needs: the node that is to be rewritten next, found from the node on. It is the strategy of
--- needed narrowing (Antoy, Echahed and Hanus, A needed narrowing strategy, 2000) with residuation for what is rigid.
+-- What the value of a node needs: the node that is to be rewritten next, found from the node on. It follows the strategy of
+-- needed narrowing (Antoy, Echahed and Hanus, A needed narrowing strategy, 2000) with residuation for what is rigid. Beyond
+-- the paper, rules may overlap, by a choice; a variable is bound in one step and the call rewritten in the next; and a value
+-- is needed whole, not to its head alone.
 use Rattle.std.specs.Prelude.{ℕ, zero, suc, List, [], ◌∷◌, Bool, true, false, map, length, if◌then◌else◌}
 use Rattle.cu_calculus.specs.declared.Mode.{Mode}
 use Rattle.cu_calculus.specs.declared.Mode.TheVariants.{Flex, Rigid}

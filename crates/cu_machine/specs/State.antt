@@ -1,5 +1,5 @@
--- States of a branch of the search. A state may hold an inner search, of all values of a set function, whose level is a
--- list of states.
+-- States of a branch of the search. A state may hold an inner search for all values of a function, begun by a call of its
+-- set function, whose level is a list of states.
 use Rattle.std.specs.Prelude.{ℕ, zero, suc, ◌+◌, List, [], ◌∷◌, ◌++◌, None, Some, length}
 use Rattle.cu_calculus.specs.declared.FunId.{FunId}
 use Rattle.cu_calculus.specs.Value.{Value, Values}

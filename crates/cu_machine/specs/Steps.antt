@@ -1,5 +1,6 @@
--- The step table as a relation, one constructor for each row: which graphs follow where the node at a place is rewritten. It
--- says the same as the function of Rewrite wherever the node is needed in a valid state.
+-- The step table as a relation, one constructor for each row that gives graphs: which graphs follow where the node at a place
+-- is rewritten. It says the same as the function of Rewrite wherever the node is needed in a valid state. Rows that end a
+-- branch or begin a search have none.
 use Rattle.std.specs.Prelude.{◌≡◌, ◌≢◌, ◌<◌, ℕ, ◌+◌, Bool, true, false, ◌&&◌, ◌||◌, List, [], ◌∷◌, ◌++◌, Option, None, Some, IsTrue, IsFalse, if◌then◌else◌, length, map, zip, ℤ, pos, ◌+ℤ◌, ◌-ℤ◌, ◌*ℤ◌, int_lt, int_le}
 use Rattle.std.specs.Ordering.{int_eq}
 use Rattle.cu_calculus.specs.declared.ConId.{ConId}

@@ -8,7 +8,7 @@ ghost use Rattle.cu_calculus.specs.Value.{NoValue, Value, Values};
 ghost use Rattle.cu_calculus.specs.Code.{Code, body_of, is_rule};
 ghost use Rattle.cu_calculus.specs.WellFormed.{is_well_formed};
 ghost use Rattle.cu_machine.specs.Among.{Among};
-ghost use Rattle.cu_machine.specs.Coin.{coin, coin_code, coin_function, loop_or_one, number, number_at, small_limits, zero_or_one};
+ghost use Rattle.cu_machine.specs.Coin.{all_at, all_of_the_coin, coin, coin_code, coin_function, loop_or_one, number, number_at, small_limits, zero_or_one};
 ghost use Rattle.cu_machine.specs.Earlier.{EndedBefore, IsListed, IsReached, earlier};
 ghost use Rattle.cu_machine.specs.Found.{Found};
 ghost use Rattle.cu_machine.specs.Graph.{Graph, followed, head_at, head_of, head_within, node_at};
@@ -199,7 +199,8 @@ pub fn answers_are_listed()
 
 /// Listings by definition: of two rules for a coin in rounds of one step, two
 /// and three; of a choice, which is a function's call; and of a choice beside
-/// what never ends. A search for all values of the coin finds both.
+/// what never ends. A search for all values of the coin finds both, and a call
+/// of its set function has them as one answer.
 pub fn coins_are_listed()
     ensures code { IsTrue (is_well_formed coin_code) }
     ensures one { listing coin_code (small_limits 10 1) (start_of coin_code coin)
@@ -212,6 +213,8 @@ pub fn coins_are_listed()
         ≡ record { lines = number_at 3 0 ∷ number_at 3 1 ∷ []; end = NoMore 0 } }
     ensures endless { listing coin_code (small_limits 100 10) (start_of coin_code loop_or_one)
         ≡ record { lines = number_at 1 1 ∷ []; end = Rounds 100 1 } }
+    ensures all { listing coin_code (small_limits 10 1) (start_of coin_code all_of_the_coin)
+        ≡ record { lines = all_at 6 (number 0 ∷ number 1 ∷ []) ∷ []; end = NoMore 0 } }
     ensures found { Found coin_code (small_limits 10 1).step coin_function NoValue
         (number 0 ∷ number 1 ∷ []) }
 {}

@@ -11,7 +11,7 @@ use Rattle.cu_sets.specs.declared.level.Level as code
 use Rattle.cu_sets.specs.declared.level.Stepped as code_event
 use Rattle.cu_sets.specs.declared.level.Stepped.TheVariants as stepped
 
--- the values that were found, and the states that follow
+-- What is gathered so far of a level that is being stepped: the values that were found, and the states of the next level.
 pub record Level : Type 0 where
   pub values : List Value
   pub states : List State

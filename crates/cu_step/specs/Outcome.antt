@@ -42,7 +42,8 @@ is_running (state.Branch graph root goals (state.Running id found level)) = true
 abbrev pub reading_of : Reading → next.Reading
 reading_of reading = record { bindings = reading.bindings.items; value = reading.value }
 
--- The event of an outcome. A branch that is as it was goes on so.
+-- The event of an outcome. A branch in which a search runs is given back as it was, and goes on so; what follows it is told
+-- by whoever steps the search.
 abbrev pub next_of : {S : Type 0} → (S → Graph) → Outcome S → Next
 next_of content (outcome.Go branches) = next.Go (map (state_of content) branches.items)
 next_of content (outcome.Answer reading) = next.Answer (reading_of reading)

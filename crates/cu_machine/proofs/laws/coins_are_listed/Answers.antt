@@ -12,4 +12,4 @@ use Rattle.cu_machine.proofs.laws.coins_are_listed.Goals as goal
 
 pub returns : goal.returns
 unfolding build_within head_within round_of rounds need_within next run_on spelled_within
-returns c = record { code = refl; one = refl; two = refl; three = refl; choice = refl; endless = refl; found = coin_found }
+returns c = record { code = refl; one = refl; two = refl; three = refl; choice = refl; endless = refl; all = refl; found = coin_found }
