@@ -22,7 +22,7 @@ abbrev pub reads : List TypeExpr → List Step
 reads ts = map (λ t. step.Read t) ts
 
 -- types stand as they did in a longer table
-kept_types : (ss after more : List Shape) (ps : List ℕ) → after ≡ ss ++ more → ((k a : ℕ) → slice_get ps k ≡ Some a → a < length ss)
+pub kept_types : (ss after more : List Shape) (ps : List ℕ) → after ≡ ss ++ more → ((k a : ℕ) → slice_get ps k ≡ Some a → a < length ss)
     → map (at (trees after)) ps ≡ map (at (trees ss)) ps
 kept_types ss after more [] is within = refl
 kept_types ss after more (p ∷ ps) is within =
@@ -31,7 +31,7 @@ kept_types ss after more (p ∷ ps) is within =
     cc
 
 -- members of a list with one more at its end, and of its reverse
-pushed_member : (ps : List ℕ) (p n k a : ℕ) (P : ℕ → Type 0) → ((j b : ℕ) → slice_get ps j ≡ Some b → P b) → P p
+pub pushed_member : (ps : List ℕ) (p n k a : ℕ) (P : ℕ → Type 0) → ((j b : ℕ) → slice_get ps j ≡ Some b → P b) → P p
     → slice_get (ps ++ p ∷ []) k ≡ Some a → P a
 pushed_member [] p n zero a P all last is = let e : p ≡ a = cc in subst P e last
 pushed_member [] p n (suc k) a P all last is = let none : ⊥ = cc in absurd none

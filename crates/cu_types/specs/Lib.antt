@@ -1,6 +1,14 @@
+pub mod BuiltInTypes
+pub mod Equations
+pub mod Inference
 pub mod Inside
 pub mod Laws
 pub mod Meaning
+pub mod Numbered
+pub mod Samples
+pub mod SharedTypes
+pub mod Synonyms
 pub mod Table
+pub mod TypeFaults
 pub mod Types
 pub mod Unification

@@ -1,9 +1,10 @@
 //! Unification: a most general solution of equations between types, or two
 //! types that the equations make equal and that can't be the same.
-ghost use Rattle.std.specs.Prelude.{◌≡◌, IfErr, IfOk, MatchResult, OnOk, map};
+ghost use Rattle.std.specs.Prelude.{◌≡◌, IfErr, IfOk, List, MatchResult, OnOk, map};
 ghost use Rattle.cu_types.specs.Inside.Reading.{IsReader, Stand, shapes};
 ghost use Rattle.cu_types.specs.Meaning.{Clashes, HasPlaces, IsUnifyFault, equation_of, place_in, subst_of, types_of_subst};
 ghost use Rattle.cu_types.specs.Table.{IsTable, shape_of};
+ghost use Rattle.cu_types.specs.Unification as made;
 ghost use Rattle.cu_types.specs.Unification.{IsMostGeneral};
 
 use crate::pair::Pair;
@@ -19,11 +20,11 @@ use thiserror::Error;
 #[derive(Drop)]
 pub struct Subst {
     /// The numbers of the variables that have a type.
-    variables: IndexMap<u32, usize>,
+    pub(crate) variables: IndexMap<u32, usize>,
     /// The place of the type, by such a number.
-    places: Vec<usize>,
+    pub(crate) places: Vec<usize>,
     /// The types. The arguments of each stand before it.
-    types: Vec<Node>,
+    pub(crate) types: Vec<Node>,
 }
 
 /// Two types that equations make equal, and that no substitution makes the
@@ -87,15 +88,22 @@ impl Reader {
     }
 }
 
-/// Solves equations, where there is memory.
-fn unified(alloc: Global, equations: &[Equation]) -> Result<Result<Subst, Clash>, AllocError>
-    ensures { IfOk result (λ outcome. MatchResult outcome
-        (λ s. IsMostGeneral (subst_of s) (map equation_of equations.now)
-        × IsTable (types_of_subst s) × HasPlaces s)
-        (Clashes (map equation_of equations.now))) }
+/// Solves equations that are read, each as a pair of places, where there is
+/// memory.
+pub(crate) fn solved(
+    alloc: Global,
+    reader: Reader,
+    pairs: Vec<Pair>,
+) -> Result<Result<Subst, Clash>, AllocError>
+    requires reader { IsReader reader }
+    requires stand { (equations : List made.Equation)
+        × Stand (shapes reader) pairs.items equations }
+    ensures { IfOk result (λ outcome. (equations : List made.Equation)
+        → Stand (shapes reader) pairs.items equations
+        → MatchResult outcome
+        (λ s. IsMostGeneral (subst_of s) equations × IsTable (types_of_subst s) × HasPlaces s)
+        (Clashes equations)) }
 {
-    let mut reader = Reader::new(alloc);
-    let pairs = reader.read_all(alloc, equations)?;
     let Reader { nodes, variables } = reader;
     match solve(alloc, nodes, pairs)? {
         Solved::Solution(places, types) => Ok(Ok(Subst {
@@ -109,6 +117,19 @@ fn unified(alloc: Global, equations: &[Equation]) -> Result<Result<Subst, Clash>
             right: pair.right,
         })),
     }
+}
+
+/// Solves equations, where there is memory.
+fn unified(alloc: Global, equations: &[Equation]) -> Result<Result<Subst, Clash>, AllocError>
+    ensures { IfOk result (λ outcome. MatchResult outcome
+        (λ s. IsMostGeneral (subst_of s) (map equation_of equations.now)
+        × IsTable (types_of_subst s) × HasPlaces s)
+        (Clashes (map equation_of equations.now))) }
+{
+    let mut reader = Reader::new(alloc);
+    let pairs = reader.read_all(alloc, equations)?;
+    let outcome = solved(alloc, reader, pairs)?;
+    Ok(outcome)
 }
 
 /// A most general solution of equations between types. Takes time nearly in

@@ -1,0 +1,5 @@
+use Rattle.std.proofs.Common.{◌∙◌}
+use Rattle.cu_types.proofs.builtin.external_type.Goals as goal
+
+pub returns : goal.returns
+returns c = c.into_shared.ensures ∙ c.in_ok-place.ensures.read.value ∙ c.signature_of.ensures

@@ -1,0 +1,38 @@
+-- Why a program has no types.
+use Rattle.std.specs.Prelude.{◌≡◌, true, List, ◌∷◌}
+use Rattle.cu_calculus.specs.declared.FunId.{FunId}
+use Rattle.cu_kernel.specs.Kernel.{Kernel}
+use Rattle.cu_kernel.specs.TypeExpr.{TypeExpr}
+use Rattle.cu_types.specs.Equations.{equations}
+use Rattle.cu_types.specs.Inference.{BreaksSignature, ComesTo, PrincipallyTyped, is_functional}
+use Rattle.cu_types.specs.Meaning.{Clashes}
+use Rattle.cu_types.specs.declared.inference.TypeFault.{TypeFault}
+use Rattle.cu_types.specs.declared.inference.TypeFault.TheVariants as fault
+use Rattle.cu_types.specs.declared.unification.Clash.{Clash}
+
+-- The first group without types begins with a function: its equations have a clash.
+pub record HasClash (kernel : Kernel) (f : FunId) (c : Clash) : Type 0 where
+  pub interface : List TypeExpr
+  pub others : List FunId
+  pub comes_to : ComesTo kernel interface (f ∷ others)
+  pub clash : Clashes (equations kernel interface (f ∷ others)) c
+
+-- The first group without types that keep to the declared ones begins with a function.
+pub record HasBrokenSignature (kernel : Kernel) (f : FunId) : Type 0 where
+  pub interface : List TypeExpr
+  pub others : List FunId
+  pub comes_to : ComesTo kernel interface (f ∷ others)
+  pub breaks : BreaksSignature kernel interface (f ∷ others)
+
+-- All functions have types, and the goal or a variable of it holds functions.
+pub record HasFunctionalGoal (kernel : Kernel) : Type 0 where
+  pub interface : List TypeExpr
+  pub types : PrincipallyTyped kernel interface
+  pub functional : is_functional interface kernel.goal ≡ true
+
+-- that there is no memory left is free
+abbrev pub IsTypeFault : Kernel → TypeFault → Type 0
+IsTypeFault kernel (fault.TypeClash f c) = HasClash kernel f c
+IsTypeFault kernel (fault.Signature f) = HasBrokenSignature kernel f
+IsTypeFault kernel fault.GoalFunctional = HasFunctionalGoal kernel
+IsTypeFault kernel fault.NoMemory = Unit {0}
