@@ -1,0 +1,11 @@
+pub mod Lists
+pub mod Places
+pub mod Reaching
+pub mod Weights
+pub mod Entering
+pub mod Joining
+pub mod Closing
+pub mod Forgetting
+pub mod Changes
+pub mod Ranks
+pub mod OnCycles

@@ -1,0 +1,3 @@
+-- What private contracts and invariants of loops say. No public contract speaks of it.
+pub mod Search
+pub mod Ranks

@@ -1,0 +1,253 @@
+//! The strongly connected components of a graph.
+ghost use Rattle.std.specs.Prelude.{◌≡◌, ◌↔◌, ◌+◌, ◌-◌, ◌^◌, ◌<◌, ◌≤◌, ◌++◌, ℕ, [], Some, IfOk, OnOk, IfSome, IfNone, IsTrue, IsFalse, length, map, take, slice_get};
+ghost use Rattle.cu_cycles.specs.Graph.{Graph, IsWhole};
+ghost use Rattle.cu_cycles.specs.Inside.Ranks.{AreRanks};
+ghost use Rattle.cu_cycles.specs.Inside.Search.{AreShut, IsGood, IsLast, IsStart, MayEnter, MayForget, MayJoin, Meets, OnlyParts, Rests, number_of, work};
+
+use std::alloc::{AllocError, Global};
+
+/// Where the search has put a node.
+#[derive(Clone, Copy)]
+enum Place {
+    /// It wasn't met yet.
+    New,
+    /// On the stack of open nodes, at this place.
+    Open(usize),
+    /// In the component with this number.
+    Closed(usize),
+}
+
+/// A part of the stack of open nodes: those from a place on, up to the
+/// next part. They reach each other. Where their edges lead is pending from a
+/// place on, up to the next part's.
+#[derive(Clone, Copy)]
+struct Part {
+    start: usize,
+    pending: usize,
+}
+
+/// A search along a path of parts, each of which leads to the next one
+/// (Gabow, "Path-based depth-first search for strong and biconnected
+/// components", 2000).
+#[derive(Drop)]
+struct Search {
+    places: Vec<Place>,
+    path: Vec<usize>,
+    pending: Vec<usize>,
+    parts: Vec<Part>,
+    closed: usize,
+}
+
+impl Search {
+    /// Opens a node: a part of its own, with all to which it leads pending.
+    fn enter(&mut self, graph: &[Vec<usize>], node: usize) -> Result<(), AllocError>
+        requires { MayEnter graph.now self.old node }
+        ensures good { OnOk result (IsGood graph.now self.new) }
+        ensures falls { OnOk result (work graph.now self.new + 1 ≡ work graph.now self.old) }
+        ensures meets { OnOk result (Meets self.old self.new) }
+        ensures met { OnOk result (slice_get self.new.places.items node ≡ Some Place.New → ⊥) }
+    {
+        self.parts.push(Part {
+            start: self.path.len(),
+            pending: self.pending.len(),
+        })?;
+        self.places[node] = Place::Open(self.path.len());
+        self.path.push(node)?;
+        self.pending.extend_from_slice(&graph[node])?;
+        Ok(())
+    }
+
+    /// Whether the last part begins behind a place of the path.
+    fn begins_behind(&self, at: usize) -> bool
+        ensures behind { IsTrue result → (p : Part) × IsLast self.now.parts.items p × (at < p.start) }
+        ensures before { IsFalse result → (p : Part) → IsLast self.now.parts.items p → p.start ≤ at }
+    {
+        match self.parts.last() {
+            Some(part) => at < part.start,
+            None => false,
+        }
+    }
+
+    /// Makes one part of the last ones, down to that of a place on the path.
+    fn join(&mut self, at: usize)
+        ensures joined { (g : Graph) → MayJoin g self.old at → MayJoin g self.new at }
+        ensures only { OnlyParts self.old self.new }
+        ensures before { (p : Part) → IsLast self.new.parts.items p → p.start ≤ at }
+    {
+        while self.begins_behind(at) {
+            self.parts.pop();
+        }
+    }
+
+    /// Closes the nodes of the path from a place on.
+    fn close_from(&mut self, start: usize)
+        requires start { start ≤ length self.old.path.items }
+        requires open_at { (s v : ℕ) → slice_get self.old.path.items s ≡ Some v → slice_get self.old.places.items v ≡ Some (Place.Open s) }
+        requires at_open { (v s : ℕ) → slice_get self.old.places.items v ≡ Some (Place.Open s) → slice_get self.old.path.items s ≡ Some v }
+        ensures places { AreShut start self.old.closed self.old.places.items self.new.places.items }
+        ensures sized { length self.new.places.items ≡ length self.old.places.items }
+        ensures path { self.new.path.items ≡ take start self.old.path.items }
+        ensures pending { self.new.pending.items ≡ self.old.pending.items }
+        ensures parts { self.new.parts.items ≡ self.old.parts.items }
+        ensures closed { self.new.closed ≡ self.old.closed }
+    {
+        while start < self.path.len() {
+            if let Some(node) = self.path.pop() {
+                self.places[node] = Place::Closed(self.closed);
+            }
+        }
+    }
+
+    /// Closes the last part: it is a component.
+    fn close(&mut self, part: Part)
+        requires last { IsLast self.old.parts.items part }
+        requires start { part.start ≤ length self.old.path.items }
+        requires room { self.old.closed + 1 < 2 ^ 64 }
+        requires open_at { (s v : ℕ) → slice_get self.old.path.items s ≡ Some v → slice_get self.old.places.items v ≡ Some (Place.Open s) }
+        requires at_open { (v s : ℕ) → slice_get self.old.places.items v ≡ Some (Place.Open s) → slice_get self.old.path.items s ≡ Some v }
+        ensures good { (g : Graph) → IsGood g self.old → length self.old.pending.items ≤ part.pending → IsGood g self.new }
+        ensures falls { (g : Graph) → work g self.new + 1 ≡ work g self.old }
+        ensures meets { Meets self.old self.new }
+    {
+        self.parts.pop();
+        self.close_from(part.start);
+        self.closed += 1;
+    }
+
+    /// The last of what is pending from a place on.
+    fn pending_from(&self, start: usize) -> Option<usize>
+        ensures some { IfSome result (λ target. (start < length self.now.pending.items) × IsLast self.now.pending.items target) }
+        ensures none { IfNone result (length self.now.pending.items ≤ start) }
+    {
+        if start < self.pending.len() {
+            self.pending.last().copied()
+        } else {
+            None
+        }
+    }
+
+    /// Forgets what is pending last, which was followed.
+    fn follow(&mut self)
+        ensures good { (g : Graph) → MayForget g self.old → IsGood g self.new }
+        ensures falls { (g : Graph) → MayForget g self.old → work g self.new + 1 ≡ work g self.old }
+        ensures meets { Meets self.old self.new }
+    {
+        self.pending.pop();
+    }
+
+    /// Follows an edge of the last part, or closes the part.
+    fn advance(&mut self, graph: &[Vec<usize>], part: Part) -> Result<(), AllocError>
+        requires whole { IsWhole graph.now }
+        requires good { IsGood graph.now self.old }
+        requires last { IsLast self.old.parts.items part }
+        ensures good { OnOk result (IsGood graph.now self.new) }
+        ensures falls { OnOk result (work graph.now self.new < work graph.now self.old) }
+        ensures meets { OnOk result (Meets self.old self.new) }
+    {
+        let Some(target) = self.pending_from(part.pending) else {
+            self.close(part);
+            return Ok(());
+        };
+        match self.places[target] {
+            Place::New => self.enter(graph, target),
+            Place::Open(at) => {
+                self.join(at);
+                self.follow();
+                Ok(())
+            }
+            Place::Closed(_) => {
+                self.follow();
+                Ok(())
+            }
+        }
+    }
+
+    /// A search that has met no node.
+    fn new(alloc: Global, count: usize) -> Result<Search, AllocError>
+        ensures { IfOk result (λ search. IsStart count search) }
+    {
+        Ok(Search {
+            places: vec![in alloc; Place::New; count]?,
+            path: Vec::new(alloc),
+            pending: Vec::new(alloc),
+            parts: Vec::new(alloc),
+            closed: 0,
+        })
+    }
+
+    /// Takes steps until no part is left.
+    fn run(&mut self, graph: &[Vec<usize>]) -> Result<(), AllocError>
+        requires whole { IsWhole graph.now }
+        requires good { IsGood graph.now self.old }
+        ensures rests { OnOk result (Rests graph.now self.new) }
+        ensures meets { OnOk result (Meets self.old self.new) }
+    {
+        while let Some(part) = self.parts.last().copied() {
+            self.advance(graph, part)?;
+        }
+        Ok(())
+    }
+
+    /// Whether a node wasn't met yet.
+    fn is_new(&self, node: usize) -> bool
+        requires { node < length self.now.places.items }
+        ensures { IsTrue result ↔ slice_get self.now.places.items node ≡ Some Place.New }
+    {
+        match self.places[node] {
+            Place::New => true,
+            Place::Open(_) => false,
+            Place::Closed(_) => false,
+        }
+    }
+
+    /// Closes a node, and all that it reaches.
+    fn visit(&mut self, graph: &[Vec<usize>], node: usize) -> Result<(), AllocError>
+        requires whole { IsWhole graph.now }
+        requires rests { Rests graph.now self.old }
+        requires within { node < length graph.now }
+        ensures rests { OnOk result (Rests graph.now self.new) }
+        ensures meets { OnOk result (Meets self.old self.new) }
+        ensures met { OnOk result (slice_get self.new.places.items node ≡ Some Place.New → ⊥) }
+    {
+        if self.is_new(node) {
+            self.enter(graph, node)?;
+            self.run(graph)?;
+        }
+        Ok(())
+    }
+}
+
+/// The number of a closed node's component, and 0 for others.
+fn number(place: Place) -> usize
+    ensures { result ≡ number_of place }
+{
+    match place {
+        Place::New => 0,
+        Place::Open(_) => 0,
+        Place::Closed(number) => number,
+    }
+}
+
+/// The numbers of these nodes' components.
+fn numbers(alloc: Global, places: &[Place]) -> Result<Vec<usize>, AllocError>
+    ensures { IfOk result (λ found. found.items ≡ map number_of places.now) }
+{
+    let mut found = Vec::new(alloc);
+    for place in places {
+        found.push(number(*place))?;
+    }
+    Ok(found)
+}
+
+/// The numbers of the components of a graph, in time about proportional to its
+/// size: what a component leads to has no greater number.
+pub(crate) fn ranks(alloc: Global, graph: &[Vec<usize>]) -> Result<Vec<usize>, AllocError>
+    requires { IsWhole graph.now }
+    ensures { IfOk result (λ found. AreRanks graph.now found.items) }
+{
+    let mut search = Search::new(alloc, graph.len())?;
+    for node in 0..graph.len() {
+        search.visit(graph, node)?;
+    }
+    numbers(alloc, search.places.as_slice())
+}

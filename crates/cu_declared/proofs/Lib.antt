@@ -1,0 +1,9 @@
+pub mod AddsLemmas
+pub mod UsesLemmas
+pub mod OrderLemmas
+pub mod NumberLemmas
+pub mod ItemLemmas
+pub mod ArityLemmas
+pub mod SynonymLemmas
+pub mod CycleLemmas
+pub mod CallLemmas
