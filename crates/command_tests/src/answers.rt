@@ -205,9 +205,10 @@ const FORMS: [Case; 13] = [
     ),
 ];
 
-/// Refusals. Operators that can't be grouped are told before other faults, and
-/// modules before the goal.
-const REFUSALS: [Case; 26] = [
+/// Refusals. Types are looked at behind names, and before operators; operators
+/// that can't be grouped are told before other faults, and modules before the
+/// goal.
+const REFUSALS: [Case; 37] = [
     ("x = 1 == 2 == 3", "1", "refused 7 FixityClash M:1:5\n"),
     (
         "f x x = 1\ng = 1 < 2 < 3",
@@ -269,6 +270,53 @@ const REFUSALS: [Case; 26] = [
         "",
         "let xs = 1 : xs in xs",
         "refused 17 RecursiveLocal goal:1:5\n",
+    ),
+    (
+        "data T a = C a\nf :: T -> Int\nf _ = 0",
+        "1",
+        "refused 22 TypeArity M:2:6\n",
+    ),
+    ("type A = B\ntype B = A", "1", "refused 23 SynonymCycle A\n"),
+    (
+        "",
+        "let f :: Maybe -> Int; f _ = 0 in f Nothing",
+        "refused 22 TypeArity goal:1:10\n",
+    ),
+    ("f :: Maybe\nf = q", "1", "refused 12 UnknownName M:2:5 q\n"),
+    (
+        "x = 1 == 2 == 3\nf :: Int Int\nf = 0",
+        "1",
+        "refused 22 TypeArity M:2:6\n",
+    ),
+    (
+        "import Wrong\ntype A = A",
+        "1",
+        "refused 23 SynonymCycle A\n",
+    ),
+    (
+        "type B = [A]\ntype A = Maybe A\nf :: Maybe\nf = Nothing",
+        "1",
+        "refused 23 SynonymCycle A\n",
+    ),
+    (
+        "f :: Maybe\nf = Nothing\ntype A = A",
+        "1",
+        "refused 22 TypeArity M:1:6\n",
+    ),
+    (
+        "",
+        "let f :: Maybe; f = q in f",
+        "refused 12 UnknownName goal:1:21 q\n",
+    ),
+    (
+        "",
+        "let f :: Maybe; f = 1 == 2 == 3 in f",
+        "refused 22 TypeArity goal:1:10\n",
+    ),
+    (
+        "import SetFunctions\nh x = sortValues (set1 h x)",
+        "let f :: Maybe; f = h in f",
+        "refused 19 SetRecursion M.h\n",
     ),
 ];
 

@@ -37,12 +37,14 @@ const TEXTS: [Case; 4] = [
     ),
 ];
 
-const REFUSALS: [Case; 5] = [
+const REFUSALS: [Case; 7] = [
     ("f x = (x", "refused 6 Syntax M:1\n"),
     ("module N where", "refused 10 HeaderName M\n"),
     ("f = y", "refused 12 UnknownName M:1:5 y\n"),
     ("f = 1 == 2 == 3", "refused 7 FixityClash M:1:5\n"),
     ("f x x = 1", "refused 16 NonLinear M:1:5\n"),
+    ("f :: Int Int\nf = 0", "refused 22 TypeArity M:1:6\n"),
+    ("type A = [A]", "refused 23 SynonymCycle A\n"),
 ];
 
 const WORDS: [&str; 2] = ["compile", "M"];

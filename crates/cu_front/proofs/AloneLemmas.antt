@@ -1,6 +1,7 @@
 -- The program of modules without a goal.
 use Rattle.std.proofs.Common.{◌≡◌, List, [], None, Some, Ok, Err, IfErr, IfOk, Result, subst, ℕ}
 use Rattle.cu_calculus.specs.FlatProgram.{program_of}
+use Rattle.cu_declared.specs.TypeFaults.{AreRight}
 use Rattle.cu_kernel.specs.LocalKernel.{LocalKernel}
 use Rattle.cu_modules.specs.Means.{AreScoped}
 use Rattle.cu_modules.specs.Scopes.{Named}
@@ -31,6 +32,7 @@ pub alone_compiles : (table names : List (List ℕ)) (modules : List Named) (roo
 alone_compiles table names modules root local (Ok found) are lifted can_run = λ held walked. record {
   walked = walked;
   scoped = are.scoped;
+  types = are.types;
   table = table;
   is_table = are.is_table;
   translated = are.translated;
@@ -46,7 +48,7 @@ alone_not_run table names modules root local (Ok found) are is = tt
 alone_not_run table names modules root local (Err fault) are is =
     tells_weaker names (IsNotRunnable table local names) (RefusesModules modules root) fault
     (λ refusal r held walked.
-    meant.ModulesRefused.program modules table names r.program refusal walked are.scoped are.is_table are.translated
+    meant.ModulesRefused.program modules table names r.program refusal walked are.scoped are.types are.is_table are.translated
     (subst (λ (p : LocalKernel). IsLifted table p names r.program) are.is r.lifted) r.cannot_run) is
 
 pub alone_comes : (held : Held) (root : List ℕ) (modules : List Named) (names : List (List ℕ)) (found : Compiled)
@@ -55,15 +57,15 @@ pub alone_comes : (held : Held) (root : List ℕ) (modules : List Named) (names 
 alone_comes held root modules names found alone walked = record { modules = modules; compile = alone held walked }
 
 pub are_translated : (names : List (List ℕ)) (modules : List Named) (result : Result LocalKernel StageFault) → AreScoped [] modules
-    → IsTable modules names → IfOk result (λ program. translation_refusal names modules ≡ None)
+    → AreRight modules → IsTable modules names → IfOk result (λ program. translation_refusal names modules ≡ None)
     → IfOk result (λ program. program ≡ modules_program names modules) → IfOk result (AreTranslated names modules)
-are_translated names modules (Ok program) scoped table none is =
-    record { scoped = scoped; is_table = table; translated = none; is = is }
-are_translated names modules (Err fault) scoped table none is = tt
+are_translated names modules (Ok program) scoped types table none is =
+    record { scoped = scoped; types = types; is_table = table; translated = none; is = is }
+are_translated names modules (Err fault) scoped types table none is = tt
 
 pub all_refused : (names : List (List ℕ)) (modules : List Named) (root : List ℕ) (result : Result LocalKernel StageFault)
-    → AreScoped [] modules → IsTable modules names
+    → AreScoped [] modules → AreRight modules → IsTable modules names
     → IfErr result (Tells names (λ refusal. translation_refusal names modules ≡ Some refusal))
     → IfErr result (Tells names (RefusesModules modules root))
-all_refused names modules root (Ok program) scoped table told = tt
-all_refused names modules root (Err fault) scoped table told = modules_refused names modules root fault scoped table told
+all_refused names modules root (Ok program) scoped types table told = tt
+all_refused names modules root (Err fault) scoped types table told = modules_refused names modules root fault scoped types table told

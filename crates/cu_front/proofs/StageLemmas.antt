@@ -1,6 +1,16 @@
 -- Faults of names and of goals, and the programs behind them.
 use Rattle.std.proofs.Common.{◌≡◌, ◌∙◌, ◌-◌, ◌<◌, ℕ, suc, Bool, List, [], Option, None, Some, IfErr, IfOk, Result, Ok, Err, arith, length, refl, sym, ap, subst}
+use Rattle.cu_declared.specs.declared.fault.TypeArity.{TypeArity}
+use Rattle.cu_declared.specs.declared.fault.TypeArity.TheVariants as arity
+use Rattle.cu_declared.specs.declared.fault.TypeNameFault.{TypeNameFault}
+use Rattle.cu_declared.specs.declared.fault.TypeNameFault.TheVariants as type_names
+use Rattle.cu_declared.specs.Telling as telling
+use Rattle.cu_declared.specs.Telling.{TellsGoalFault, wrong_at}
+use Rattle.cu_declared.specs.TypeFaults as type_faults
+use Rattle.cu_declared.specs.TypeFaults.{AreRight, IsGoalRight}
 use Rattle.cu_kernel.specs.LocalKernel.{Follows, LocalKernel}
+use Rattle.cu_lex.specs.Reading.{position_of}
+use Rattle.cu_names.specs.Texts.{text_of}
 use Rattle.cu_syntax.specs.Syntax.{Goal}
 use Rattle.cu_modules.specs.declared.scope_fault.ScopeFault.{ScopeFault}
 use Rattle.cu_modules.specs.declared.scope_fault.ScopeFault.TheVariants as scope
@@ -22,15 +32,16 @@ use Rattle.cu_front.specs.declared.outcome.Outcome as code
 use Rattle.cu_front.specs.declared.outcome.Outcome.TheVariants as found
 use Rattle.cu_front.specs.GoalTexts.{GoalIsRead}
 use Rattle.cu_front.specs.Inside.Outcomes.{Follow, IsOutcome, behind, kept}
-use Rattle.cu_front.specs.Inside.Stages.{IsInNames, IsWhole, RefusesModules, fault_of_scope, goal_told, part_of_goal, told_by}
+use Rattle.cu_front.specs.Inside.Stages.{IsInNames, IsInTypes, IsWhole, RefusesModules, fault_of_goal_types, fault_of_scope, fault_of_types, goal_told, part_of_goal, told_by}
 use Rattle.cu_front.specs.Names.{IsGoalTable, IsTable}
-use Rattle.cu_front.specs.Refusal.{InNames, Refusal, goal_name, in_functions}
+use Rattle.cu_front.specs.Refusal.{InNames, Refusal, goal_name, in_functions, in_types}
 use Rattle.cu_front.specs.RefusalMeaning.{refusal_meaning}
 use Rattle.cu_front.specs.StageFaults.{IsUnread, Tells}
 use Rattle.cu_front.specs.Translated.{modules_program, translation_refusal}
 use Rattle.cu_front.proofs.FunctionLemmas.{IsRefusedFor}
 use Rattle.cu_front.proofs.ModuleLemmas.{ModulesFollow, follow_by, is_behind, upto_follows}
 use Rattle.cu_front.proofs.RunLemmas.{tells_weaker}
+use Rattle.cu_front.proofs.TableLemmas.{known_goal_name}
 
 -- ---- names
 
@@ -56,11 +67,37 @@ modules_wrong names modules root told is =
     (λ refusal r held walk.
     subst (ModulesRefused held root) (sym r.is) (meant.ModulesRefused.names modules r.owner r.fault walk r.wrong)) is
 
-pub modules_refused : (names : List (List ℕ)) (modules : List Named) (root : List ℕ) (told : StageFault) → AreScoped [] modules → IsTable modules names
+pub modules_refused : (names : List (List ℕ)) (modules : List Named) (root : List ℕ) (told : StageFault) → AreScoped [] modules → AreRight modules
+    → IsTable modules names
     → Tells names (λ refusal. translation_refusal names modules ≡ Some refusal) told → Tells names (RefusesModules modules root) told
-modules_refused names modules root told scoped table is =
+modules_refused names modules root told scoped right table is =
     tells_weaker names (λ refusal. translation_refusal names modules ≡ Some refusal) (RefusesModules modules root) told
-    (λ refusal e held walk. meant.ModulesRefused.functions modules names refusal walk scoped table e) is
+    (λ refusal e held walk. meant.ModulesRefused.functions modules names refusal walk scoped right table e) is
+
+-- ---- types
+
+in_types_with : (P : List ℕ → type_faults.Fault → Type 0) (owner : List ℕ) (fault : type_faults.Fault) → P owner fault
+    → IsInTypes P (in_types owner fault)
+in_types_with P owner fault wrong = record { owner = owner; fault = fault; wrong = wrong; is = refl }
+
+types_by : (names : List (List ℕ)) (P : List ℕ → type_faults.Fault → Type 0) (fault : TypeNameFault) → telling.TellsFault names P fault
+    → telling.FaultIsKnown names fault → Tells names (IsInTypes P) (fault_of_types fault)
+types_by names P (type_names.TypeArity place) tells known =
+    (in_types_with P (text_of names place.«module») (wrong_at type_faults.TypeArity (position_of place)) tells, known)
+types_by names P (type_names.SynonymCycle id) tells known =
+    (in_types_with P tells.0 (wrong_at (type_faults.SynonymCycle (text_of names id)) tells.1) tells.2, known)
+types_by names P type_names.NoMemory tells known = tt
+
+pub types_told : (names : List (List ℕ)) (P : List ℕ → type_faults.Fault → Type 0) (fault : TypeNameFault) (told : StageFault)
+    → told ≡ fault_of_types fault → telling.TellsFault names P fault → telling.FaultIsKnown names fault → Tells names (IsInTypes P) told
+types_told names P fault told is tells known = subst (Tells names (IsInTypes P)) (sym is) (types_by names P fault tells known)
+
+pub types_wrong : (names : List (List ℕ)) (modules : List Named) (root : List ℕ) (told : StageFault) → AreScoped [] modules
+    → Tells names (IsInTypes (type_faults.IsWrong modules)) told → Tells names (RefusesModules modules root) told
+types_wrong names modules root told scoped is =
+    tells_weaker names (IsInTypes (type_faults.IsWrong modules)) (RefusesModules modules root) told
+    (λ refusal r held walk.
+    subst (ModulesRefused held root) (sym r.is) (meant.ModulesRefused.types modules r.owner r.fault walk scoped r.wrong)) is
 
 -- ---- goals
 
@@ -68,6 +105,7 @@ modules_refused names modules root told scoped table is =
 pub record IsRightGoal (names : List (List ℕ)) (modules : List Named) (k : ℕ) (text : List ℕ) (goal : Goal) : Type 0 where
   pub read : GoalIsRead text (Ok goal)
   pub scoped : IsGoalScoped modules k goal
+  pub types : IsGoalRight modules k goal
   pub is_table : IsGoalTable modules goal names
 
 -- what names say of a goal
@@ -85,6 +123,38 @@ goal_wrong names modules k text owner goal (stage.Refused refusal) named reads i
       is.1,
     )
 goal_wrong names modules k text owner goal stage.NoMemory named reads is = tt
+
+-- what types say of a goal
+abbrev pub IsWrongInTypes : List ℕ → List Named → ℕ → Goal → List ℕ → type_faults.Fault → Type 0
+IsWrongInTypes owner modules k goal name fault = (name ≡ owner) × type_faults.IsGoalWrong modules k goal fault
+
+goal_types_by : (names : List (List ℕ)) (modules : List Named) (k : ℕ) (owner : List ℕ) (goal : Goal) (fault : TypeArity) → owner ≡ goal_name
+    → TellsGoalFault names (IsWrongInTypes owner modules k goal) fault
+    → Tells names (IsInTypes (IsWrongInTypes owner modules k goal)) (fault_of_goal_types fault)
+goal_types_by names modules k owner goal (arity.At place) named tells = (
+  in_types_with (IsWrongInTypes owner modules k goal) (text_of names place.«module»)
+      (wrong_at type_faults.TypeArity (position_of place)) tells,
+  known_goal_name names place.«module» (tells.0 ∙ named),
+)
+goal_types_by names modules k owner goal arity.NoMemory named tells = tt
+
+pub goal_types_told : (names : List (List ℕ)) (modules : List Named) (k : ℕ) (owner : List ℕ) (goal : Goal) (fault : TypeArity) (told : StageFault)
+    → owner ≡ goal_name → told ≡ fault_of_goal_types fault → TellsGoalFault names (IsWrongInTypes owner modules k goal) fault
+    → Tells names (IsInTypes (IsWrongInTypes owner modules k goal)) told
+goal_types_told names modules k owner goal fault told named is tells =
+    subst (Tells names (IsInTypes (IsWrongInTypes owner modules k goal))) (sym is) (goal_types_by names modules k owner goal fault named tells)
+
+pub goal_types_wrong : (names : List (List ℕ)) (modules : List Named) (k : ℕ) (text owner : List ℕ) (goal : Goal) (told : StageFault)
+    → owner ≡ goal_name → GoalIsRead text (Ok goal) → IsGoalScoped modules k goal
+    → Tells names (IsInTypes (IsWrongInTypes owner modules k goal)) told → IfOk (kept told) (IsWhole names modules k text)
+goal_types_wrong names modules k text owner goal (stage.Refused refusal) named reads scoped is =
+    let r = is.0 in (
+      subst (GoalRefused modules k text)
+          (sym (r.is ∙ ap (λ (o : List ℕ). in_types o r.fault) (r.wrong.0 ∙ named)))
+          (meant.GoalRefused.types goal r.fault reads scoped r.wrong.1),
+      is.1,
+    )
+goal_types_wrong names modules k text owner goal stage.NoMemory named reads scoped is = tt
 
 pub goal_unread : (names : List (List ℕ)) (modules : List Named) (k : ℕ) (text : List ℕ) (told : StageFault) → Tells names (IsUnread goal_name text) told
     → IfOk (kept told) (IsWhole names modules k text)
@@ -134,7 +204,7 @@ refused_by : (names : List (List ℕ)) (modules : List Named) (k : ℕ) (text : 
 refused_by names modules k text goal refusal (translation.Translated part) right is told = let absent : ⊥ = cc in absurd absent
 refused_by names modules k text goal refusal (translation.Refused fault) right is told =
     let same : in_functions goal_name fault ≡ refusal = cc in
-    subst (GoalRefused modules k text) same (meant.GoalRefused.functions goal names fault right.read right.scoped right.is_table is)
+    subst (GoalRefused modules k text) same (meant.GoalRefused.functions goal names fault right.read right.scoped right.types right.is_table is)
 
 -- the whole of modules and a goal
 pub whole_is : (names : List (List ℕ)) (modules : List Named) (k : ℕ) (text : List ℕ) (goal : Goal) (outcome : code.Outcome)
@@ -146,6 +216,7 @@ whole_is names modules k text goal (found.Program program) right is = record {
   goal = goal;
   read = right.read;
   scoped = right.scoped;
+  types = right.types;
   is_table = right.is_table;
   translated =
       translated_by goal_name (first_fault (goal_clashes (goal_names names modules k) goal))

@@ -1,6 +1,6 @@
 -- Tables that have the names of modules and goals.
-use Rattle.std.proofs.Common.{◌≡◌, ◌∙◌, ◌+◌, ◌<◌, ◌++◌, ℕ, Bool, List, [], ◌∷◌, Some, cond, get_or, length, map, not, nat_eq, refl, slice_get, sym, ap, ap₂, subst}
-use Rattle.std.proofs.lemmas.List.{get_or-map}
+use Rattle.std.proofs.Common.{◌≡◌, ◌∙◌, ◌+◌, ◌<◌, ◌++◌, lt_of_not-le, ℕ, Bool, List, [], ◌∷◌, Some, cond, get_or, length, map, not, nat_eq, refl, slice_get, sym, ap, ap₂, subst}
+use Rattle.std.proofs.lemmas.List.{get_or-map, get_or_past}
 use Rattle.std.proofs.lemmas.List.Elements.{All-append, All-head, All-map, All-tail, All-weaker, Contains-get_or}
 use Rattle.std.specs.List.{All, Contains, position_or_len}
 use Rattle.cu_names.proofs.TextLemmas.{contained_at}
@@ -87,6 +87,13 @@ goal_table names modules goal is named variables = record {
   name = contained_at names goal_name (id_of names goal_name).0 named;
   variables = variables;
 }
+
+not_empty : [] ≡ goal_name → ⊥
+not_empty e = let no : ⊥ = cc in no
+
+-- a table has what stands for the name of goals
+pub known_goal_name : (names : List (List ℕ)) (id : NameId) → text_of names id ≡ goal_name → IsKnown names id
+known_goal_name names id is = lt_of_not-le (λ past. not_empty (sym (get_or_past names id.0 [] past) ∙ is))
 
 -- a name that was found under a number is found under that of its text
 pub named_at : (names : List (List ℕ)) (id : NameId) (text : List ℕ) → AllDiffer names → slice_get names id.0 ≡ Some text

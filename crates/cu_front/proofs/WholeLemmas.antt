@@ -33,7 +33,8 @@ modules_not_run table names modules root text programs local fault same are is =
     (λ refusal r held walk.
     let lifted = subst (λ (p : LocalKernel). IsLifted table p names r.program) (same ∙ are.alone) r.lifted in
     meant.Refuses.by_modules refusal
-    (meant.ModulesRefused.program modules table names r.program refusal walk are.scoped are.is_table are.translated lifted r.cannot_run)) is
+    (meant.ModulesRefused.program modules table names r.program refusal walk are.scoped are.types are.is_table are.translated lifted
+    r.cannot_run)) is
 
 -- what is known of modules whose program can be run
 pub record CanRunAlone (table names : List (List ℕ)) (local : LocalKernel) : Type 0 where
@@ -52,6 +53,7 @@ are_modules table names modules root text programs local held same are alone wal
   compile = record {
     walked = walk;
     scoped = are.scoped;
+    types = are.types;
     table = table;
     is_table = are.is_table;
     translated = are.translated;
@@ -93,7 +95,8 @@ goal_not_run table old names modules root text programs local program whole faul
     lifted_from table old names (whole_program table modules k goal.goal) r.program grown
     (subst (λ (p : LocalKernel). IsLifted old p names r.program) goal.is r.lifted) in
     meant.Refuses.by_goal modules refusal (are_modules table old modules root text programs local held same are alone walk)
-    (meant.GoalRefused.program goal.goal table names r.program refusal goal.read goal.scoped goal.is_table goal.translated lifted r.cannot_run)) told
+    (meant.GoalRefused.program goal.goal table names r.program refusal goal.read goal.scoped goal.types goal.is_table goal.translated lifted
+    r.cannot_run)) told
 
 pub compiles : (table old names : List (List ℕ)) (modules : List Named) (root text : List ℕ) (programs : Programs) (local program : LocalKernel)
     (whole : code.Outcome) (result : Kernel) (flat : calculus.Program) → local ≡ programs.modules → whole ≡ programs.whole
@@ -109,6 +112,7 @@ compiles table old names modules root text programs local program whole result f
         goal = goal.goal;
         read = goal.read;
         scoped = goal.scoped;
+        types = goal.types;
         table = table;
         is_table = goal.is_table;
         translated = goal.translated;

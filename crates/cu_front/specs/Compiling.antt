@@ -10,6 +10,8 @@ use Rattle.cu_modules.specs.Scopes.{Named}
 use Rattle.cu_modules.specs.Texts.{TextFault}
 use Rattle.cu_modules.specs.Walk as modules_walk
 use Rattle.cu_modules.specs.Walk.{InText, Walk, has_name}
+use Rattle.cu_declared.specs.TypeFaults as type_faults
+use Rattle.cu_declared.specs.TypeFaults.{AreRight, IsGoalRight}
 use Rattle.cu_translation.specs.FaultOrder.{Fault}
 use Rattle.cu_translation.specs.Parts.{goal_part}
 use Rattle.cu_translation.specs.Translation as translation
@@ -18,7 +20,7 @@ use Rattle.cu_uses.specs.Faults as uses
 use Rattle.cu_front.specs.GoalTexts.{GoalIsRead}
 use Rattle.cu_front.specs.Names.{IsGoalTable, IsTable}
 use Rattle.cu_front.specs.Programs.{CanRun, CannotRun, IsLifted}
-use Rattle.cu_front.specs.Refusal.{InNames, Refusal, Walked, goal_name, in_functions}
+use Rattle.cu_front.specs.Refusal.{InNames, Refusal, Walked, goal_name, in_functions, in_types}
 use Rattle.cu_front.specs.Translated.{modules_program, translation_refusal}
 
 -- the texts of modules that are held under their names
@@ -34,13 +36,17 @@ pub data ModulesRefused (held : Held) (root : List ℕ) : Refusal → Type 0 whe
   names : (modules : List Named) (owner : List ℕ) (fault : uses.Fault)
       → Walk held root (Ok modules) → IsWrong modules owner fault
       → ModulesRefused held root (InNames owner fault)
+  types : (modules : List Named) (owner : List ℕ) (fault : type_faults.Fault)
+      → Walk held root (Ok modules) → AreScoped [] modules → type_faults.IsWrong modules owner fault
+      → ModulesRefused held root (in_types owner fault)
   functions : (modules : List Named) (table : List (List ℕ)) (refusal : Refusal)
-      → Walk held root (Ok modules) → AreScoped [] modules → IsTable modules table
-      → translation_refusal table modules ≡ Some refusal → ModulesRefused held root refusal
+      → Walk held root (Ok modules) → AreScoped [] modules → AreRight modules
+      → IsTable modules table → translation_refusal table modules ≡ Some refusal
+      → ModulesRefused held root refusal
   program : (modules : List Named) (table names : List (List ℕ)) (program : Kernel)
       (refusal : Refusal)
-      → Walk held root (Ok modules) → AreScoped [] modules → IsTable modules table
-      → translation_refusal table modules ≡ None
+      → Walk held root (Ok modules) → AreScoped [] modules → AreRight modules
+      → IsTable modules table → translation_refusal table modules ≡ None
       → IsLifted table (modules_program table modules) names program
       → CannotRun names program refusal → ModulesRefused held root refusal
 
@@ -49,6 +55,7 @@ pub record ModulesCompile (held : Held) (root : List ℕ) (modules : List Named)
     (names : List (List ℕ)) (program : Kernel) (flat : calculus.Program) : Type 0 where
   pub walked : Walk held root (Ok modules)
   pub scoped : AreScoped [] modules
+  pub types : AreRight modules
   pub table : List (List ℕ)
   pub is_table : IsTable modules table
   pub translated : translation_refusal table modules ≡ None
@@ -85,12 +92,17 @@ pub data GoalRefused (modules : List Named) (k : ℕ) (text : List ℕ) : Refusa
       → GoalRefused modules k text (Walked (InText goal_name fault))
   names : (goal : Goal) (fault : uses.Fault) → GoalIsRead text (Ok goal)
       → IsGoalWrong modules k goal fault → GoalRefused modules k text (InNames goal_name fault)
+  types : (goal : Goal) (fault : type_faults.Fault) → GoalIsRead text (Ok goal)
+      → IsGoalScoped modules k goal → type_faults.IsGoalWrong modules k goal fault
+      → GoalRefused modules k text (in_types goal_name fault)
   functions : (goal : Goal) (table : List (List ℕ)) (fault : Fault)
-      → GoalIsRead text (Ok goal) → IsGoalScoped modules k goal → IsGoalTable modules goal table
+      → GoalIsRead text (Ok goal) → IsGoalScoped modules k goal → IsGoalRight modules k goal
+      → IsGoalTable modules goal table
       → goal_translation table modules k goal ≡ translation.Refused fault
       → GoalRefused modules k text (in_functions goal_name fault)
   program : (goal : Goal) (table names : List (List ℕ)) (program : Kernel) (refusal : Refusal)
-      → GoalIsRead text (Ok goal) → IsGoalScoped modules k goal → IsGoalTable modules goal table
+      → GoalIsRead text (Ok goal) → IsGoalScoped modules k goal → IsGoalRight modules k goal
+      → IsGoalTable modules goal table
       → goal_translation table modules k goal
       ≡ translation.Translated (goal_part table modules k goal)
       → IsLifted table (whole_program table modules k goal) names program
@@ -102,6 +114,7 @@ pub record IsGoal (modules : List Named) (k : ℕ) (text : List ℕ) (names : Li
   pub goal : Goal
   pub read : GoalIsRead text (Ok goal)
   pub scoped : IsGoalScoped modules k goal
+  pub types : IsGoalRight modules k goal
   pub table : List (List ℕ)
   pub is_table : IsGoalTable modules goal table
   pub translated : goal_translation table modules k goal

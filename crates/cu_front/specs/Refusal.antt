@@ -6,12 +6,17 @@ use Rattle.cu_modules.specs.Texts as texts
 use Rattle.cu_modules.specs.Walk as walk
 use Rattle.cu_translation.specs.FaultOrder as functions
 use Rattle.cu_uses.specs.Faults as uses
+use Rattle.cu_declared.specs.TypeFaults as types
 
 pub data Refusal : Type 0 where
   -- a fault of the walk over the modules, or in the text of the goal
   Walked : walk.Refusal → Refusal
   -- a fault of the names in the text of a module
   InNames : List ℕ → uses.Fault → Refusal
+  -- a type's name with a wrong number of arguments, in the text of a module
+  TypeArity : List ℕ → Position → Refusal
+  -- the synonym of this name leads to itself
+  SynonymCycle : List ℕ → Refusal
   -- a fault of the functions in the text of a module
   InFunctions : List ℕ → functions.Fault → Refusal
   -- the first function that stands on a recursion through set functions
@@ -22,6 +27,17 @@ pub data Refusal : Type 0 where
 -- A goal's text stands for that of a module of this name.
 abbrev pub goal_name : List ℕ
 goal_name = codes "goal"
+
+-- ---- types
+
+-- A synonym's cycle is told by the synonym's name alone.
+abbrev pub in_types_at : List ℕ → types.Wrong → Position → Refusal
+in_types_at owner types.TypeArity at = TypeArity owner at
+in_types_at owner (types.SynonymCycle name) at = SynonymCycle name
+
+-- the refusal for a fault of the types in the text of a module
+abbrev pub in_types : List ℕ → types.Fault → Refusal
+in_types owner fault = in_types_at owner fault.wrong fault.at
 
 -- ---- functions
 

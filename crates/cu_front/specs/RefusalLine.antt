@@ -12,7 +12,8 @@ use Rattle.cu_translation.specs.FaultOrder.{Wrong}
 use Rattle.cu_uses.specs.Faults as uses
 use Rattle.cu_uses.specs.declared.fault.Wrong as names
 use Rattle.cu_uses.specs.declared.fault.Wrong.TheVariants as name
-use Rattle.cu_front.specs.Refusal.{InFunctions, InNames, Refusal, SetRecursion, TreeTooBig, Walked}
+use Rattle.cu_front.specs.Refusal.{InFunctions, InNames, Refusal, SetRecursion, SynonymCycle}
+use Rattle.cu_front.specs.Refusal.{TreeTooBig, TypeArity, Walked}
 
 -- `refused NUMBER NAME DETAIL`
 abbrev pub refused : List ℕ → List ℕ → List ℕ
@@ -92,6 +93,8 @@ function_line owner functions.TooLong at = refused (codes "30 TooLong") (on_line
 abbrev pub refusal_line : Refusal → List ℕ
 refusal_line (Walked refusal) = walk_line refusal
 refusal_line (InNames owner fault) = name_line owner fault
+refusal_line (TypeArity owner at) = refused (codes "22 TypeArity") (at_place owner at)
+refusal_line (SynonymCycle name) = refused (codes "23 SynonymCycle") name
 refusal_line (InFunctions owner fault) = function_line owner fault.wrong fault.at
 refusal_line (SetRecursion function) = refused (codes "19 SetRecursion") function
 refusal_line (TreeTooBig function) = refused (codes "31 TreeTooBig") function

@@ -14,7 +14,8 @@ use Rattle.cu_modules.specs.ScopeAnswers.{fault_at}
 use Rattle.cu_modules.specs.Texts as texts
 use Rattle.cu_modules.specs.Walk as walk
 use Rattle.cu_translation.specs.FaultOrder as functions
-use Rattle.cu_front.specs.Refusal.{InFunctions, InNames, Refusal, SetRecursion, TreeTooBig, Walked}
+use Rattle.cu_front.specs.Refusal.{InFunctions, InNames, Refusal, SetRecursion, SynonymCycle}
+use Rattle.cu_front.specs.Refusal.{TreeTooBig, TypeArity, Walked}
 use Rattle.cu_front.specs.declared.refusal.Refusal as code
 use Rattle.cu_front.specs.declared.refusal.Refusal.TheVariants as told
 
@@ -62,6 +63,9 @@ refusal_meaning names (told.RecursiveLocal place) =
     of_functions names functions.RecursiveLocal place
 refusal_meaning names (told.SetName place) = of_functions names functions.SetName place
 refusal_meaning names (told.SetRecursion m f) = SetRecursion (function_named names m f)
+refusal_meaning names (told.TypeArity place) =
+    TypeArity (text_of names place.«module») (position_of place)
+refusal_meaning names (told.SynonymCycle id) = SynonymCycle (text_of names id)
 refusal_meaning names (told.TooManyModules id) = Walked (walk.TooManyModules (text_of names id))
 refusal_meaning names (told.TooDeep place) =
     Walked (in_text_at names place (texts.TooDeep (position_of place)))
@@ -96,6 +100,8 @@ RefusalIsKnown names (told.NonLinear place) = PlaceIsKnown names place
 RefusalIsKnown names (told.RecursiveLocal place) = PlaceIsKnown names place
 RefusalIsKnown names (told.SetName place) = PlaceIsKnown names place
 RefusalIsKnown names (told.SetRecursion m f) = FunctionIsKnown names m f
+RefusalIsKnown names (told.TypeArity place) = PlaceIsKnown names place
+RefusalIsKnown names (told.SynonymCycle id) = IsKnown names id
 RefusalIsKnown names (told.TooManyModules id) = IsKnown names id
 RefusalIsKnown names (told.TooDeep place) = PlaceIsKnown names place
 RefusalIsKnown names (told.TooLong id line) = IsKnown names id

@@ -14,7 +14,7 @@ ghost use Rattle.cu_names.specs.Texts.{Extends};
 
 use crate::asked::AskedModule;
 use crate::fault::{CompileFault, StageFault};
-use crate::programs::scoped;
+use crate::programs::with_types;
 use crate::runnable::{Compiled, runnable};
 use crate::stages::{of_stage, of_walk};
 use crate::translated::modules_program;
@@ -82,8 +82,9 @@ fn alone(alloc: Global, names: &mut Names, modules: &[Module]) -> Result<Compile
 ///
 /// # Errors
 ///
-/// The first fault of the names in the modules, or else of their functions; want
-/// of memory. That there is a module is tested here once more.
+/// The first fault of the names in the modules, or else of their types, or else
+/// of their functions; want of memory. That there is a module is tested here once
+/// more.
 fn translated(alloc: Global, names: &Names, modules: &[Module]) -> Result<LocalProgram, StageFault>
     requires built_in { HasBuiltIn names.now }
     requires known { All (HasModule names.now) modules.now }
@@ -96,7 +97,7 @@ fn translated(alloc: Global, names: &Names, modules: &[Module]) -> Result<LocalP
     if modules.is_empty() {
         return Err(StageFault::NoMemory);
     }
-    let scopes = scoped(alloc, names, modules)?;
+    let scopes = with_types(alloc, names, modules)?;
     let entities = Entities::of(alloc, names, modules)?;
     let known = Modules {
         names,

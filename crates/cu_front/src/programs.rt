@@ -1,6 +1,8 @@
 //! The programs before lifting of modules, and of these and a goal.
 ghost use Rattle.std.specs.Prelude.{◌≡◌, ◌<◌, IfErr, IfOk, List, Ok, OnOk, Some, [], length, slice_get, ℕ};
 ghost use Rattle.std.specs.List.{All, Contains};
+ghost use Rattle.cu_declared.specs.TypeFaults as type_faults;
+ghost use Rattle.cu_declared.specs.TypeFaults.{AreRight};
 ghost use Rattle.cu_desugar.specs.Modules.{AreKnown, goal_owner, named};
 ghost use Rattle.cu_front.specs.Compiling.{whole_program};
 ghost use Rattle.cu_front.specs.GoalTexts.{GoalIsRead};
@@ -9,9 +11,12 @@ ghost use Rattle.cu_front.specs.Inside.Stages.{
   ArePrograms,
   IsGoalRead,
   IsInNames,
+  IsInTypes,
   IsWhole,
   RefusesModules,
+  fault_of_goal_types,
   fault_of_scope,
+  fault_of_types,
   goal_told,
   part_of_goal,
 };
@@ -35,6 +40,7 @@ use crate::fault::StageFault;
 use crate::outcome::{Outcome, behind, kept};
 use crate::refusal::Refusal;
 use crate::translated::{modules_program, of_functions};
+use cu_declared::{TypeArity, TypeNameFault, declared_types, declared_types_goal};
 use cu_desugar::{Modules, desugar_goal};
 use cu_kernel::LocalProgram;
 use cu_modules::{Module, ScopeFault, Scopes, scope, scope_goal};
@@ -66,8 +72,8 @@ pub(crate) struct Programs {
 ///
 /// # Errors
 ///
-/// The first fault of the names in the modules, or else of their functions; want
-/// of memory.
+/// The first fault of the names in the modules, or else of their types, or else
+/// of their functions; want of memory.
 pub(crate) fn programs_of(
     alloc: Global,
     rooted: Rooted<'_>,
@@ -91,7 +97,7 @@ pub(crate) fn programs_of(
         modules,
         root: _,
     } = rooted;
-    let scopes = scoped(alloc, names, modules)?;
+    let scopes = with_types(alloc, names, modules)?;
     let entities = Entities::of(alloc, names, modules)?;
     let known = Modules {
         names,
@@ -107,13 +113,38 @@ pub(crate) fn programs_of(
     })
 }
 
+/// What names mean in modules whose types are right.
+///
+/// # Errors
+///
+/// The first fault of the names in the modules, or else of their types; want of
+/// memory.
+pub(crate) fn with_types(
+    alloc: Global,
+    names: &Names,
+    modules: &[Module],
+) -> Result<Scopes, StageFault>
+    requires built_in { HasBuiltIn names.now }
+    requires known { All (HasModule names.now) modules.now }
+    requires ordered { AreOrdered (modules_of names.now modules.now) }
+    ensures right { OnOk result (AreScoped [] (modules_of names.now modules.now)) }
+    ensures types { OnOk result (AreRight (modules_of names.now modules.now)) }
+    ensures scopes { IfOk result (AreScopes names.now (modules_of names.now modules.now)) }
+    ensures fault { (root : List ℕ) → IfErr result (Tells names.now
+        (RefusesModules (modules_of names.now modules.now) root)) }
+{
+    let scopes = scoped(alloc, names, modules)?;
+    test_types(alloc, names, modules, &scopes)?;
+    Ok(scopes)
+}
+
 /// What names mean in modules.
 ///
 /// # Errors
 ///
 /// The first fault of the names of the first module that has one; want of
 /// memory.
-pub(crate) fn scoped(alloc: Global, names: &Names, modules: &[Module]) -> Result<Scopes, StageFault>
+fn scoped(alloc: Global, names: &Names, modules: &[Module]) -> Result<Scopes, StageFault>
     requires built_in { HasBuiltIn names.now }
     requires known { All (HasModule names.now) modules.now }
     requires ordered { AreOrdered (modules_of names.now modules.now) }
@@ -125,6 +156,31 @@ pub(crate) fn scoped(alloc: Global, names: &Names, modules: &[Module]) -> Result
     match scope(alloc, names, modules) {
         Ok(scopes) => Ok(scopes),
         Err(fault) => Err(of_scope(fault)),
+    }
+}
+
+/// Tests the types of modules.
+///
+/// # Errors
+///
+/// The first fault of the types of the first module that has one; want of
+/// memory.
+fn test_types(
+    alloc: Global,
+    names: &Names,
+    modules: &[Module],
+    scopes: &Scopes,
+) -> Result<(), StageFault>
+    requires built_in { HasBuiltIn names.now }
+    requires known { All (HasModule names.now) modules.now }
+    requires scopes { AreScopes names.now (modules_of names.now modules.now) scopes.now }
+    ensures right { OnOk result (AreRight (modules_of names.now modules.now)) }
+    ensures fault { IfErr result (Tells names.now
+        (IsInTypes (type_faults.IsWrong (modules_of names.now modules.now)))) }
+{
+    match declared_types(alloc, names, modules, scopes) {
+        Ok(()) => Ok(()),
+        Err(fault) => Err(of_types(fault)),
     }
 }
 
@@ -164,7 +220,8 @@ fn read_outcome(
 }
 
 /// The program of modules and of a goal in one of them, or why the goal is
-/// refused: the first fault of its names, or else of its functions.
+/// refused: the first fault of its names, or else of its types, or else of its
+/// functions.
 ///
 /// # Errors
 ///
@@ -201,15 +258,18 @@ fn goal_outcome(
     } = rooted;
     know_variables(alloc, goal)?;
     match scope_goal(alloc, names, modules, root, scopes, goal) {
-        Ok(scopes) => {
-            let known = Modules {
-                names,
-                modules,
-                scopes: &scopes,
-                entities,
-            };
-            with_goal(alloc, known, root, goal)
-        }
+        Ok(scopes) => match declared_types_goal(alloc, names, modules, root, &scopes, goal) {
+            Ok(()) => {
+                let known = Modules {
+                    names,
+                    modules,
+                    scopes: &scopes,
+                    entities,
+                };
+                with_goal(alloc, known, root, goal)
+            }
+            Err(fault) => kept(of_goal_types(fault)),
+        },
         Err(fault) => kept(of_scope(fault)),
     }
 }
@@ -293,5 +353,26 @@ fn of_scope(fault: ScopeFault) -> StageFault
         ScopeFault::Ambiguous(place, id) => StageFault::Refused(Refusal::Ambiguous(place, id)),
         ScopeFault::Duplicate(place, id) => StageFault::Refused(Refusal::Duplicate(place, id)),
         ScopeFault::NoMemory => StageFault::NoMemory,
+    }
+}
+
+/// The answer for a fault of the types of modules.
+fn of_types(fault: TypeNameFault) -> StageFault
+    ensures { result ≡ fault_of_types fault }
+{
+    match fault {
+        TypeNameFault::TypeArity(place) => StageFault::Refused(Refusal::TypeArity(place)),
+        TypeNameFault::SynonymCycle(name) => StageFault::Refused(Refusal::SynonymCycle(name)),
+        TypeNameFault::NoMemory => StageFault::NoMemory,
+    }
+}
+
+/// The answer for a fault of the types of a goal.
+fn of_goal_types(fault: TypeArity) -> StageFault
+    ensures { result ≡ fault_of_goal_types fault }
+{
+    match fault {
+        TypeArity::At(place) => StageFault::Refused(Refusal::TypeArity(place)),
+        TypeArity::NoMemory => StageFault::NoMemory,
     }
 }

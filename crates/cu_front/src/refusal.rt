@@ -48,6 +48,10 @@ pub enum Refusal {
     /// The first function on a recursion through set functions, behind its
     /// module where it isn't the goal's.
     SetRecursion(Option<NameId>, NameId),
+    /// A type's name with a wrong number of arguments.
+    TypeArity(Place),
+    /// The synonym of this name leads to itself.
+    SynonymCycle(NameId),
     TooManyModules(NameId),
     TooDeep(Place),
     /// The line of an item of too many tokens, or of a rule too many.
@@ -94,6 +98,8 @@ impl Refusal {
             Refusal::SetRecursion(owner, f) => {
                 of_function(alloc, names, "19 SetRecursion", *owner, *f)
             }
+            Refusal::TypeArity(place) => of_place(alloc, names, "22 TypeArity", *place),
+            Refusal::SynonymCycle(id) => of_name(alloc, names, "23 SynonymCycle", *id),
             Refusal::TooManyModules(id) => of_name(alloc, names, "28 TooManyModules", *id),
             Refusal::TooDeep(place) => of_place(alloc, names, "29 TooDeep", *place),
             Refusal::TooLong(id, line) => of_line(alloc, names, "30 TooLong", *id, *line),

@@ -15,6 +15,12 @@ use Rattle.cu_modules.specs.declared.scope_fault.ScopeFault.TheVariants as scope
 use Rattle.cu_modules.specs.Means.{AreScoped, IsGoalScoped}
 use Rattle.cu_modules.specs.Scopes.{Named}
 use Rattle.cu_modules.specs.Walk.{Walk}
+use Rattle.cu_declared.specs.declared.fault.TypeArity.{TypeArity}
+use Rattle.cu_declared.specs.declared.fault.TypeArity.TheVariants as arity
+use Rattle.cu_declared.specs.declared.fault.TypeNameFault.{TypeNameFault}
+use Rattle.cu_declared.specs.declared.fault.TypeNameFault.TheVariants as type_names
+use Rattle.cu_declared.specs.TypeFaults as type_faults
+use Rattle.cu_declared.specs.TypeFaults.{AreRight, IsGoalRight}
 use Rattle.cu_translation.specs.Parts.{goal_part}
 use Rattle.cu_translation.specs.Translation as translation
 use Rattle.cu_translation.specs.Translation.{goal_translation}
@@ -31,7 +37,7 @@ use Rattle.cu_front.specs.declared.refusal.Refusal as code
 use Rattle.cu_front.specs.declared.refusal.Refusal.TheVariants as told
 use Rattle.cu_front.specs.GoalTexts.{GoalIsRead}
 use Rattle.cu_front.specs.Names.{IsGoalTable, IsTable}
-use Rattle.cu_front.specs.Refusal.{InNames, Refusal, goal_name, in_functions}
+use Rattle.cu_front.specs.Refusal.{InNames, Refusal, goal_name, in_functions, in_types}
 use Rattle.cu_front.specs.RefusalMeaning.{PlaceIsKnown, RefusalIsKnown, refusal_meaning}
 use Rattle.cu_front.specs.StageFaults.{IsUnread, Tells}
 use Rattle.cu_front.specs.Translated.{modules_program, translation_refusal}
@@ -44,6 +50,15 @@ fault_of_scope (scope.UnknownName place id) = stage.Refused (told.UnknownName pl
 fault_of_scope (scope.Ambiguous place id) = stage.Refused (told.Ambiguous place id)
 fault_of_scope (scope.Duplicate place id) = stage.Refused (told.Duplicate place id)
 fault_of_scope scope.NoMemory = stage.NoMemory
+
+abbrev pub fault_of_types : TypeNameFault → StageFault
+fault_of_types (type_names.TypeArity place) = stage.Refused (told.TypeArity place)
+fault_of_types (type_names.SynonymCycle id) = stage.Refused (told.SynonymCycle id)
+fault_of_types type_names.NoMemory = stage.NoMemory
+
+abbrev pub fault_of_goal_types : TypeArity → StageFault
+fault_of_goal_types (arity.At place) = stage.Refused (told.TypeArity place)
+fault_of_goal_types arity.NoMemory = stage.NoMemory
 
 abbrev pub answer_of : StageFault → CompileFault
 answer_of (stage.Refused refusal) = answer.Refused refusal
@@ -79,6 +94,13 @@ pub record IsInNames (P : List ℕ → uses.Fault → Type 0) (refusal : Refusal
   pub fault : uses.Fault
   pub wrong : P owner fault
   pub is : refusal ≡ InNames owner fault
+
+-- A refusal is a fault of types with this property.
+pub record IsInTypes (P : List ℕ → type_faults.Fault → Type 0) (refusal : Refusal) : Type 0 where
+  pub owner : List ℕ
+  pub fault : type_faults.Fault
+  pub wrong : P owner fault
+  pub is : refusal ≡ in_types owner fault
 
 -- ---- modules, wherever they are held
 
@@ -131,6 +153,7 @@ pub record IsTranslated (names : List (List ℕ)) (modules : List Named) (k : �
   pub goal : Goal
   pub read : GoalIsRead text (Ok goal)
   pub scoped : IsGoalScoped modules k goal
+  pub types : IsGoalRight modules k goal
   pub is_table : IsGoalTable modules goal names
   pub translated : goal_translation names modules k goal
       ≡ translation.Translated (goal_part names modules k goal)
@@ -146,6 +169,7 @@ IsWhole names modules k text (outcome.Refused refusal) =
 pub record ArePrograms (names : List (List ℕ)) (modules : List Named) (k : ℕ) (text : List ℕ)
     (found : Programs) : Type 0 where
   pub scoped : AreScoped [] modules
+  pub types : AreRight modules
   pub is_table : IsTable modules names
   pub translated : translation_refusal names modules ≡ None
   pub alone : found.modules ≡ modules_program names modules
@@ -155,6 +179,7 @@ pub record ArePrograms (names : List (List ℕ)) (modules : List Named) (k : ℕ
 pub record AreTranslated (names : List (List ℕ)) (modules : List Named) (program : LocalKernel)
     : Type 0 where
   pub scoped : AreScoped [] modules
+  pub types : AreRight modules
   pub is_table : IsTable modules names
   pub translated : translation_refusal names modules ≡ None
   pub is : program ≡ modules_program names modules
