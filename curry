@@ -12,7 +12,7 @@ is_stale() {
 }
 
 build() {
-  echo "curry: proving and building the program; the first time takes most of an hour" >&2
+  echo "curry: proving and building the program; the first time takes an hour or more" >&2
   mkdir -p "$(dirname "$stamp")"
   touch "$stamp.begun"
   rm -f "$stamp"
@@ -27,6 +27,4 @@ build() {
 }
 
 if is_stale; then build; fi
-# Recursion over one item of a text may take more of the stack than the 8 MiB that are usual.
-ulimit -S -s 65536 2>/dev/null || true
 exec "$program" "$@"

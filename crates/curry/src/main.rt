@@ -13,25 +13,42 @@ use std::alloc::AllocError;
 use std::env;
 use std::io::ErrorKind;
 use std::process::ExitCode;
-use std::rt::Env;
+use std::rt::{Env, Files};
+use std::thread::{self, Builder, Threads};
+
+/// The stack on which the command runs, in bytes. Translation recurses over one
+/// item of a text, which needs at most 16 MiB for its 4,096 tokens, and the
+/// main thread often has no more than 8.
+const STACK: usize = 64 * 1024 * 1024;
 
 fn main(rt: HostRuntime) -> ExitCode {
     let Ok(words) = words(&rt) else {
         return exit_code(Status::NoMemory);
     };
+    let status = thread::scope(thread::scope_env(), &rt, |scope| {
+        match Builder::new()
+            .stack_size(STACK)
+            .spawn_scoped(scope, || run(&rt, words.as_slice()))
+        {
+            Ok(command) => command.join(&rt),
+            Err(_) => Status::NoMemory,
+        }
+    });
+    exit_code(status)
+}
+
+/// Runs the command over the folder and the output that the process has.
+fn run<R: AllocGlobal + Files + Print + Threads + Sync>(rt: &R, words: &[String]) -> Status {
     let alloc = rt.alloc();
-    let mut library = FolderLibrary::new(&rt);
-    let mut input = VecSource::new(Vec::new(alloc), Vec::new(alloc));
-    let mut output = OutputSink::new(&rt);
-    exit_code(top(
-        &rt,
+    top(
+        rt,
         alloc,
-        words.as_slice(),
-        &mut library,
-        &mut input,
-        &mut output,
+        words,
+        &mut FolderLibrary::new(rt),
+        &mut VecSource::new(Vec::new(alloc), Vec::new(alloc)),
+        &mut OutputSink::new(rt),
         &OpenGate,
-    ))
+    )
 }
 
 /// The words after the program's name, or none where one of them isn't UTF-8.
