@@ -1,0 +1,10 @@
+-- Towns that can be reached by roads, one of which leads back. A search that follows the first rule to its end would go
+-- round and round, and never come to an answer.
+
+data Town = Bergen | Oslo | Trondheim
+
+road Bergen = Oslo
+road Oslo = Bergen
+road Oslo = Trondheim
+
+reach town = reach (road town) ? town

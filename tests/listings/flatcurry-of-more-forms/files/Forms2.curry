@@ -1,0 +1,3 @@
+module Forms2 where
+type Name = String
+name = ""
