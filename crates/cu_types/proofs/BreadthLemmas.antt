@@ -15,7 +15,7 @@ use Rattle.cu_types.specs.declared.node.Node.{Node}
 use Rattle.cu_types.specs.declared.node.TypeHead.{TypeHead}
 use Rattle.cu_types.specs.declared.node.TypeHead.TheVariants as head
 
-above_most : (x bound : ℕ) → above x bound ≡ max (x + 1) bound
+pub above_most : (x bound : ℕ) → above x bound ≡ max (x + 1) bound
 above_most x zero = omega arith
 above_most zero (suc bound) = omega arith
 above_most (suc x) (suc bound) = let rest = above_most x bound in omega arith

@@ -170,7 +170,7 @@ taken_end a b first left count whole base is done =
     (subst (λ (n : ℕ). Grows a b (taken (subst_of a) (first + left) n base) whole) all done)
 
 -- a substitution of functions
-applied_arrows : (σ : Substitution) (ts : List TypeExpr) (t : TypeExpr) → apply σ (arrows ts t) ≡ arrows (map (apply σ) ts) (apply σ t)
+pub applied_arrows : (σ : Substitution) (ts : List TypeExpr) (t : TypeExpr) → apply σ (arrows ts t) ≡ arrows (map (apply σ) ts) (apply σ t)
 applied_arrows σ [] t = refl
 applied_arrows σ (u ∷ ts) t = ap (type.Arrow (apply σ u)) (applied_arrows σ ts t)
 

@@ -288,7 +288,7 @@ plain_length : (fs : List kernel.Function) → length (map plain_function fs) �
 plain_length [] = refl
 plain_length (f ∷ fs) = let rest = plain_length fs in omega (arith, rest)
 
-functions_length : (p : Kernel) → length (program_of p).functions ≡ length p.functions
+pub functions_length : (p : Kernel) → length (program_of p).functions ≡ length p.functions
 unfolding program_of
 functions_length p = plain_length p.functions
 
@@ -309,7 +309,7 @@ member_from p first (g ∷ fs) f there = elim (first_or_rest f g fs there) [
       (suc found.0, found.1, found.2, found.3)
 ]
 
-member_at : (p : Kernel) (fs : List FunId) (f : FunId) → IsIn fs f
+pub member_at : (p : Kernel) (fs : List FunId) (f : FunId) → IsIn fs f
     → (k : ℕ) × (m : Member) × (slice_get (members p fs) k ≡ Some m) × (m.function ≡ f)
 unfolding members
 member_at p fs f there = member_from p 0 fs f there

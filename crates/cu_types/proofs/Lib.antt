@@ -33,3 +33,9 @@ pub mod InterfaceLemmas
 pub mod GrowingLemmas
 pub mod KeepingLemmas
 pub mod KeptLemmas
+pub mod Renaming
+pub mod Connections
+pub mod OneInterface
+pub mod Exclusions
+pub mod EarlierEquations
+pub mod DeclaredLemmas

@@ -46,7 +46,7 @@ held_here : (b rest after : Bool) → (b || rest) ≡ true → (rest ≡ true �
 held_here true rest after h go = refl
 held_here false rest after h go = go h
 
-held_front : (x : ℕ) (ks more : List ℕ) → holds x ks ≡ true → holds x (ks ++ more) ≡ true
+pub held_front : (x : ℕ) (ks more : List ℕ) → holds x ks ≡ true → holds x (ks ++ more) ≡ true
 held_front x [] more h = let none : ⊥ = cc in absurd none
 held_front x (k ∷ ks) more h = held_here (nat_eq x k) (holds x ks) (holds x (ks ++ more)) h (held_front x ks more)
 
@@ -81,7 +81,7 @@ is_or_not : (b : Bool) → (b ≡ true) ⊎ (b ≡ false)
 is_or_not true = inl refl
 is_or_not false = inr refl
 
-noted_holds : (ks : List ℕ) (x : ℕ) → holds x (noted ks x) ≡ true
+pub noted_holds : (ks : List ℕ) (x : ℕ) → holds x (noted ks x) ≡ true
 noted_holds ks x = elim (is_or_not (holds x ks)) [
   | inl h ↦ ap (holds x) (noted_known ks x h) ∙ h
   | inr h ↦ ap (holds x) (noted_new ks x h) ∙ held_last x ks
@@ -102,7 +102,7 @@ noted_place ks x more = elim (is_or_not (holds x ks)) [
       ∙ ap (position_or_len (nat_eq x)) (append_assoc ks (x ∷ []) more) ∙ place_before x ks more
 ]
 
-all_noted_more : (ks ys : List ℕ) → (more : List ℕ) × (all_noted ks ys ≡ ks ++ more)
+pub all_noted_more : (ks ys : List ℕ) → (more : List ℕ) × (all_noted ks ys ≡ ks ++ more)
 all_noted_more ks [] = ([], sym (nothing_after ks))
 all_noted_more ks (y ∷ ys) =
     let one = noted_more ks y in

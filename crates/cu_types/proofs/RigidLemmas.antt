@@ -12,33 +12,33 @@ use Rattle.cu_types.specs.Unification.{Equation, IsMostGeneral, Solves}
 
 -- ---- lists that hold a number
 
-either_true : (a b : Bool) → IsTrue (a || b) → IsTrue a ⊎ IsTrue b
+pub either_true : (a b : Bool) → IsTrue (a || b) → IsTrue a ⊎ IsTrue b
 either_true true b h = inl refl
 either_true false b h = inr h
 
-left_true : (a b : Bool) → IsTrue a → IsTrue (a || b)
+pub left_true : (a b : Bool) → IsTrue a → IsTrue (a || b)
 left_true true b h = refl
 left_true false b h = let no : ⊥ = cc in absurd no
 
-right_true : (a b : Bool) → IsTrue b → IsTrue (a || b)
+pub right_true : (a b : Bool) → IsTrue b → IsTrue (a || b)
 right_true true b h = refl
 right_true false b h = h
 
-holds_either : (y : ℕ) (xs ys : List ℕ) → IsTrue (holds y (xs ++ ys)) → IsTrue (holds y xs) ⊎ IsTrue (holds y ys)
+pub holds_either : (y : ℕ) (xs ys : List ℕ) → IsTrue (holds y (xs ++ ys)) → IsTrue (holds y xs) ⊎ IsTrue (holds y ys)
 holds_either y [] ys h = inr h
 holds_either y (x ∷ xs) ys h = elim (either_true (nat_eq y x) (holds y (xs ++ ys)) h) [
   | inl first ↦ inl (left_true (nat_eq y x) (holds y xs) first)
   | inr rest ↦ elim (holds_either y xs ys rest) [ inl l ↦ inl (right_true (nat_eq y x) (holds y xs) l) | inr r ↦ inr r ]
 ]
 
-holds_left : (y : ℕ) (xs ys : List ℕ) → IsTrue (holds y xs) → IsTrue (holds y (xs ++ ys))
+pub holds_left : (y : ℕ) (xs ys : List ℕ) → IsTrue (holds y xs) → IsTrue (holds y (xs ++ ys))
 holds_left y [] ys h = let no : ⊥ = cc in absurd no
 holds_left y (x ∷ xs) ys h = elim (either_true (nat_eq y x) (holds y xs) h) [
   | inl first ↦ left_true (nat_eq y x) (holds y (xs ++ ys)) first
   | inr rest ↦ right_true (nat_eq y x) (holds y (xs ++ ys)) (holds_left y xs ys rest)
 ]
 
-holds_right : (y : ℕ) (xs ys : List ℕ) → IsTrue (holds y ys) → IsTrue (holds y (xs ++ ys))
+pub holds_right : (y : ℕ) (xs ys : List ℕ) → IsTrue (holds y ys) → IsTrue (holds y (xs ++ ys))
 holds_right y [] ys h = h
 holds_right y (x ∷ xs) ys h = right_true (nat_eq y x) (holds y (xs ++ ys)) (holds_right y xs ys h)
 
@@ -48,7 +48,7 @@ holds_one y x h = elim (either_true (nat_eq y x) false h) [
   | inr none ↦ let no : ⊥ = cc in absurd no
 ]
 
-holds_itself : (x : ℕ) → IsTrue (holds x (x ∷ []))
+pub holds_itself : (x : ℕ) → IsTrue (holds x (x ∷ []))
 holds_itself x = left_true (nat_eq x x) false (eq-eqb x x refl)
 
 -- ---- substitutions
@@ -61,7 +61,7 @@ variable_of ρ (type.Named n ts) y is = let no : ⊥ = cc in absurd no
 
 -- a variable that becomes another one is that wherever it stands
 mutual
-  becomes : (ρ : Substitution) (y z : ℕ) (t : TypeExpr) → ρ y ≡ type.Variable z → IsTrue (holds y (variables_in t))
+  pub becomes : (ρ : Substitution) (y z : ℕ) (t : TypeExpr) → ρ y ≡ type.Variable z → IsTrue (holds y (variables_in t))
       → IsTrue (holds z (variables_in (apply ρ t)))
   becomes ρ y z (type.Variable x) is h =
       let here : ρ x ≡ type.Variable z = ap ρ (sym (holds_one y x h)) ∙ is in

@@ -1,13 +1,15 @@
 -- Type inference: the types of a program's functions, group by group, and why there are none.
-use Rattle.std.specs.Prelude.{◌≡◌, ℕ, zero, suc, ◌+◌, ◌<◌, Bool, true, false, ◌||◌, List, Option, None, Some, IsTrue, length, slice_get, slice_index_or}
+use Rattle.std.specs.Prelude.{◌≡◌, ℕ, zero, suc, ◌+◌, ◌<◌, ◌≤◌, Bool, true, false, ◌||◌, List, Option, None, Some, IsTrue, length, slice_get, slice_index_or}
 use Rattle.cu_calculus.specs.Valid.{holds}
 use Rattle.cu_calculus.specs.declared.FunId.{FunId}
-use Rattle.cu_kernel.specs.Kernel.{Goal, Kernel, program_of}
+use Rattle.cu_kernel.specs.Kernel.{Function, Goal, Kernel, Mark, program_of}
 use Rattle.cu_kernel.specs.TypeExpr as type
 use Rattle.cu_kernel.specs.TypeExpr.{TypeExpr, TypeExprs}
 use Rattle.cu_lift.specs.Groups.{AreGroups, IsGroup}
-use Rattle.cu_types.specs.Equations.{Member, breadth, equations, first_declared, member_type, members}
+use Rattle.cu_types.specs.BuiltInTypes.{arrows}
+use Rattle.cu_types.specs.Equations.{Member, breadth, equations, first_declared, member_type, members, renamed}
 use Rattle.cu_types.specs.Numbered.{numbered, variables_in}
+use Rattle.cu_types.specs.Synonyms.{expanded}
 use Rattle.cu_types.specs.Types.{Substitution, apply}
 use Rattle.cu_types.specs.Unification.{IsMostGeneral, Solves}
 
@@ -71,6 +73,26 @@ pub record Typed (kernel : Kernel) (interface : List TypeExpr) : Type 0 where
 pub record PrincipallyTyped (kernel : Kernel) (interface : List TypeExpr) : Type 0 where
   pub typed : Typed kernel interface
   pub general : (group : List FunId) → IsGroup (program_of kernel) group → HasPrincipalTypes kernel interface group
+
+-- ---- declared types
+
+-- a function of the program with a declared type
+pub record Declares (kernel : Kernel) (f : FunId) (type : TypeExpr) : Type 0 where
+  pub function : Function
+  pub mark : Mark
+  pub is_function : slice_get kernel.functions f.0 ≡ Some function
+  pub is_mark : slice_get kernel.marks f.0 ≡ Some mark
+  pub is_declared : mark.declared ≡ Some type
+
+-- A function has its declared type behind the types of what it captured, so many. The variables of
+-- the declared type are none of theirs.
+pub record HasDeclaredType (kernel : Kernel) (interface : List TypeExpr) (f : FunId) (captured : ℕ)
+    (declared : TypeExpr) : Type 0 where
+  pub types : List TypeExpr
+  pub count : length types ≡ captured
+  pub next : ℕ
+  pub below : (k : ℕ) (t : TypeExpr) → slice_get types k ≡ Some t → breadth t ≤ next
+  pub is : type_in interface f ≡ numbered (arrows types (renamed next (expanded kernel declared)))
 
 -- ---- goals
 

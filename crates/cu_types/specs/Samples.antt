@@ -1,5 +1,5 @@
 -- Programs whose equations are worked out by hand.
-use Rattle.std.specs.Prelude.{◌≡◌, ℕ, true, List, [], ◌∷◌, Option, None, Some, pos}
+use Rattle.std.specs.Prelude.{◌≡◌, ℕ, false, true, List, [], ◌∷◌, ◌++◌, Option, None, Some, pos}
 use Rattle.cu_calculus.specs.Program as calculus
 use Rattle.cu_calculus.specs.Program.{Rule}
 use Rattle.cu_calculus.specs.Term as term
@@ -11,19 +11,20 @@ use Rattle.cu_calculus.specs.declared.Lit.TheVariants as lit
 use Rattle.cu_calculus.specs.declared.Mode.TheVariants.{Rigid}
 use Rattle.cu_calculus.specs.declared.builtin.Primitive.TheVariants as prim
 use Rattle.cu_calculus.specs.declared.builtin.Special.{Special}
-use Rattle.cu_kernel.specs.Kernel.{Constructor, DataType, Function, Kernel, Mark, Synonym}
+use Rattle.cu_kernel.specs.Kernel.{Constructor, DataType, Function, Goal, Kernel, Mark, Synonym}
 use Rattle.cu_kernel.specs.TypeExpr as type
 use Rattle.cu_kernel.specs.TypeExpr.{TypeExpr, TypeExprs}
 use Rattle.cu_kernel.specs.declared.type_term.TypeName.TheVariants as name
 use Rattle.cu_names.specs.declared.names.NameId.{NameId}
 use Rattle.cu_types.specs.Equations.{equations}
-use Rattle.cu_types.specs.Inference.{BreaksSignature, HasPrincipalTypes}
 use Rattle.cu_types.specs.BuiltInTypes.{data_type, variables_from}
+use Rattle.cu_types.specs.Inference.{BreaksSignature, HasPrincipalTypes, IsInferred, is_functional}
+use Rattle.cu_types.specs.TypeFaults.{HasFunctionalGoal}
 use Rattle.cu_types.specs.Unification.{Equation, IsClash}
 
 -- ---- types: those that every program begins with, Bool, and the values of set functions
 
-abbrev a_name : NameId
+abbrev pub a_name : NameId
 a_name = record { 0 = 0 }
 
 abbrev list_of : TypeExpr → TypeExpr
@@ -179,19 +180,69 @@ twice = function 2 (record {
   body = term.Apply (term.Variable 0) (term.Apply (term.Variable 0) (term.Variable 1));
 } ∷ [])
 
+-- even 0 = True, even n = odd n, 11, and odd n = even n, 12: one group
+abbrev even : Function
+even = function 1
+    (record {
+      params = one (term.Exactly (lit.Int (pos 0)));
+      body = term.Whole (head.Con (con 18)) term.NoTerm;
+    }
+    ∷ record { params = one (term.Any 0); body = call 12 (argument (term.Variable 0)) }
+    ∷ [])
+
+abbrev odd : Function
+odd = function 1 (record {
+  params = one (term.Any 0);
+  body = call 11 (argument (term.Variable 0));
+} ∷ [])
+
+-- s x = x x, 13
+abbrev to_itself : Function
+to_itself = function 1 (record {
+  params = one (term.Any 0);
+  body = term.Apply (term.Variable 0) (term.Variable 0);
+} ∷ [])
+
 abbrev pub sample : Kernel
 sample = record {
   types = types;
   functions = equal ∷ negation ∷ wrong_goal ∷ identity ∷ pair_goal ∷ identity ∷ choice ∷ captive ∷ set_goal ∷ nested
-      ∷ twice ∷ [];
+      ∷ twice ∷ even ∷ odd ∷ to_itself ∷ [];
   synonyms = synonyms;
   modules = [];
   marks = mark None 0 ∷ mark None 0 ∷ mark None 0 ∷ mark None 0 ∷ mark None 0 ∷ mark (Some (type.Arrow (var 0) int)) 0
       ∷ mark (Some (type.Arrow (var 0) (var 0))) 1 ∷ mark (Some (type.Arrow (var 0) (var 0))) 1 ∷ mark None 0
-      ∷ mark (Some (type.Arrow (var 0) (type.Named (name.Synonym (record { 0 = 1 })) type.NoType))) 0 ∷ mark None 0 ∷ [];
+      ∷ mark (Some (type.Arrow (var 0) (type.Named (name.Synonym (record { 0 = 1 })) type.NoType))) 0 ∷ mark None 0
+      ∷ mark None 0 ∷ mark None 0 ∷ mark None 0 ∷ [];
   goal = None;
   special = special;
 }
+
+-- ---- a whole program: f x = x, 0, and f alone, 1
+
+abbrev alone : Function
+alone = function 0 (record {
+  params = term.NoPattern;
+  body = term.Part (head.Fun (fun 0)) term.NoTerm;
+} ∷ [])
+
+-- a goal that is a call of a function with so many free variables
+abbrev pub goal : ℕ → List NameId → Option Goal
+goal f names = Some (record { function = fun f; names = names })
+
+abbrev pub whole : Option Goal → Kernel
+whole g = record {
+  types = types;
+  functions = identity ∷ alone ∷ [];
+  synonyms = [];
+  modules = [];
+  marks = mark None 0 ∷ mark None 0 ∷ [];
+  goal = g;
+  special = special;
+}
+
+abbrev pub whole_types : List TypeExpr
+whole_types = type.Arrow (var 0) (var 0) ∷ type.Arrow (var 0) (var 0) ∷ []
 
 -- ---- equations
 
@@ -251,6 +302,17 @@ pub record SamplesAsk : Type 0 where
       ∷ both (type.Arrow (var 5) (var 2)) (var 6) ∷ both (var 3) (var 6)
       ∷ both (type.Arrow (var 7) (var 5)) (var 8) ∷ both (var 3) (var 8) ∷ both (var 4) (var 7)
       ∷ []
+  pub even_and_odd : equations sample known (fun 11 ∷ fun 12 ∷ [])
+      ≡ both int (var 0) ∷ both bool (var 1)
+      ∷ both (var 4) (var 0)
+      ∷ both (type.Arrow (var 2) (var 3)) (type.Arrow (var 5) (var 1)) ∷ both (var 4) (var 5)
+      ∷ both (var 6) (var 2)
+      ∷ both (type.Arrow (var 0) (var 1)) (type.Arrow (var 7) (var 3)) ∷ both (var 6) (var 7)
+      ∷ []
+  pub to_itself : asked_of 13
+      ≡ both (var 2) (var 0)
+      ∷ both (type.Arrow (var 3) (var 1)) (var 4) ∷ both (var 2) (var 4) ∷ both (var 2) (var 3)
+      ∷ []
 
 -- ---- what they are answered
 
@@ -260,8 +322,32 @@ known_too =
     type.Arrow (var 0) (type.Arrow (var 0) bool) ∷ type.Arrow bool bool ∷ bool ∷ type.Arrow (var 0) (var 0) ∷ pair_of int char ∷ bool
     ∷ type.Arrow bool (type.Arrow (var 0) (var 0)) ∷ []
 
+-- where the functions behind them have theirs, but for h, which has none
+abbrev pub known_even : List TypeExpr
+known_even =
+    known_too ++ var 0 ∷ values_of int ∷ type.Arrow (var 0) (list_of (list_of char))
+    ∷ type.Arrow (type.Arrow (var 0) (var 0)) (type.Arrow (var 0) (var 0))
+    ∷ type.Arrow int bool ∷ type.Arrow int bool ∷ []
+
+-- where f has a type that isn't its most general one
+abbrev pub known_narrow : List TypeExpr
+known_narrow =
+    type.Arrow (var 0) (type.Arrow (var 0) bool) ∷ type.Arrow bool bool ∷ bool ∷ type.Arrow int int ∷ []
+
 pub record SamplesAnswered : Type 0 where
   pub wrong_goal : IsClash (asked_of 2) bool char
+  pub to_itself : IsClash (asked_of 13) (var 3) (type.Arrow (var 3) (var 1))
+  pub identity : HasPrincipalTypes sample known (fun 3 ∷ [])
+  pub too_narrow : HasPrincipalTypes sample known_narrow (fun 3 ∷ []) → ⊥
   pub too_general : BreaksSignature sample known (fun 5 ∷ [])
   pub choice : HasPrincipalTypes sample known_too (fun 6 ∷ [])
   pub captive : BreaksSignature sample known (fun 7 ∷ [])
+  pub even_and_odd : HasPrincipalTypes sample known_even (fun 11 ∷ fun 12 ∷ [])
+  -- goals: f, f x, and twice f x
+  pub function_goal : is_functional known (goal 3 []) ≡ true
+  pub data_goal : is_functional known (goal 3 (a_name ∷ [])) ≡ false
+  pub function_variable : is_functional known_even (goal 10 (a_name ∷ a_name ∷ [])) ≡ true
+  -- the whole program as a module, with the goal f x, and with the goal f
+  pub interface : IsInferred (whole None) whole_types
+  pub applied : IsInferred (whole (goal 0 (a_name ∷ []))) whole_types
+  pub functional : HasFunctionalGoal (whole (goal 1 []))

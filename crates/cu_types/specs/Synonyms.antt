@@ -45,7 +45,7 @@ bodies kernel (suc depth) s = expanded_by (bodies kernel depth) (body_of kernel 
 unfoldable pub expanded : Kernel → TypeExpr → TypeExpr
 expanded kernel t = expanded_by (bodies kernel (length kernel.synonyms)) t
 
--- ---- what is asked of the types that a program declares
+-- ---- types that are declared rightly
 
 abbrev is_synonym : ℕ → TypeName → Bool
 is_synonym s (name.Data t) = false

@@ -1,4 +1,4 @@
--- Why a program has no types.
+-- Why inference gives no interface. A dependency group is told by its first function.
 use Rattle.std.specs.Prelude.{◌≡◌, true, List, ◌∷◌}
 use Rattle.cu_calculus.specs.declared.FunId.{FunId}
 use Rattle.cu_kernel.specs.Kernel.{Kernel}
@@ -6,18 +6,28 @@ use Rattle.cu_kernel.specs.TypeExpr.{TypeExpr}
 use Rattle.cu_types.specs.Equations.{equations}
 use Rattle.cu_types.specs.Inference.{BreaksSignature, ComesTo, PrincipallyTyped, is_functional}
 use Rattle.cu_types.specs.Meaning.{Clashes}
+use Rattle.cu_types.specs.Types.{Substitution}
+use Rattle.cu_types.specs.Unification.{Solves}
 use Rattle.cu_types.specs.declared.inference.TypeFault.{TypeFault}
 use Rattle.cu_types.specs.declared.inference.TypeFault.TheVariants as fault
 use Rattle.cu_types.specs.declared.unification.Clash.{Clash}
 
--- The first group without types begins with a function: its equations have a clash.
+-- The first dependency group that can't be typed begins with f: its equations have this clash.
 pub record HasClash (kernel : Kernel) (f : FunId) (c : Clash) : Type 0 where
   pub interface : List TypeExpr
   pub others : List FunId
   pub comes_to : ComesTo kernel interface (f ∷ others)
   pub clash : Clashes (equations kernel interface (f ∷ others)) c
 
--- The first group without types that keep to the declared ones begins with a function.
+-- The first dependency group that can't be typed begins with f: nothing solves its equations.
+pub record HasNoSolution (kernel : Kernel) (f : FunId) : Type 0 where
+  pub interface : List TypeExpr
+  pub others : List FunId
+  pub comes_to : ComesTo kernel interface (f ∷ others)
+  pub none : (σ : Substitution) → Solves σ (equations kernel interface (f ∷ others)) → ⊥
+
+-- The first dependency group that can't be typed begins with f: its equations have solutions, and
+-- none keeps to the declared types.
 pub record HasBrokenSignature (kernel : Kernel) (f : FunId) : Type 0 where
   pub interface : List TypeExpr
   pub others : List FunId

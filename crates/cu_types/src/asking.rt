@@ -10,7 +10,6 @@ ghost use Rattle.cu_types.specs.Inside.Reading.{IsReader, shapes};
 ghost use Rattle.cu_types.specs.BuiltInTypes.{arrows, data_type, literal_type, variables_from};
 ghost use Rattle.cu_types.specs.Table.{at, trees};
 
-use crate::breadth::breadth;
 use crate::known::Scheme;
 use crate::pair::Pair;
 use crate::reader::Reader;
@@ -266,7 +265,7 @@ impl Asking {
         ensures { OnOk result ((t : TypeExpr) → StandsAt self.old whole t → Asks self.old self.new
             (scheme_asks (asked.Polymorphic (variables_from first count) shared.now) t)) }
     {
-        let found = breadth(alloc, shared)?;
+        let found = shared.breadth(alloc)?;
         let Ok(taken) = u32::try_from(found) else {
             return Err(AllocError);
         };

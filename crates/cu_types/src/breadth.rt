@@ -31,16 +31,18 @@ fn node_breadth(node: &Node, breadths: &[usize]) -> usize
     }
 }
 
-/// How many type variables an instance of a type takes: one more than the
-/// greatest number of a variable.
-pub(crate) fn breadth(alloc: Global, shared: &SharedType) -> Result<usize, AllocError>
-    ensures { IfOk result (λ count. count ≡ breadth shared.now) }
-{
-    let opened = shared.open();
-    let mut breadths = Vec::with_capacity(alloc, opened.types.len())?;
-    for node in opened.types {
-        let count = node_breadth(node, breadths.as_slice());
-        breadths.push(count)?;
+impl SharedType {
+    /// How many type variables an instance of the type takes: one more than the
+    /// greatest number of a variable.
+    pub fn breadth(&self, alloc: Global) -> Result<usize, AllocError>
+        ensures { IfOk result (λ count. count ≡ breadth self.now) }
+    {
+        let opened = self.open();
+        let mut breadths = Vec::with_capacity(alloc, opened.types.len())?;
+        for node in opened.types {
+            let count = node_breadth(node, breadths.as_slice());
+            breadths.push(count)?;
+        }
+        Ok(breadths[opened.place])
     }
-    Ok(breadths[opened.place])
 }

@@ -18,7 +18,6 @@ ghost use Rattle.cu_types.specs.Synonyms.{expanded};
 ghost use Rattle.cu_types.specs.Table.{IsTable};
 
 use crate::asking::Asking;
-use crate::breadth::breadth;
 use crate::keeping::keeps;
 use crate::known::{Known, Member, Signing, arity_of, numbers_at};
 use crate::numbering::numbered;
@@ -62,7 +61,7 @@ fn declared_breadth(alloc: Global, declared: &Option<SharedType>) -> Result<u32,
 {
     match declared {
         Some(shared) => {
-            let found = breadth(alloc, shared)?;
+            let found = shared.breadth(alloc)?;
             let Ok(count) = u32::try_from(found) else {
                 return Err(AllocError);
             };

@@ -9,7 +9,6 @@ ghost use Rattle.cu_types.specs.Inference.{IsInferred, PrincipallyTyped};
 ghost use Rattle.cu_types.specs.Inside.Grouping.{AreWithin, HasNoMembers, IsInference, IsKnown};
 ghost use Rattle.cu_types.specs.Inside.Inferring.{Ended, Stepped};
 ghost use Rattle.cu_types.specs.Inside.Knowing.{kept_type};
-ghost use Rattle.cu_types.specs.Synonyms.{DeclaresTypes};
 ghost use Rattle.cu_types.specs.TypeFaults.{IsTypeFault};
 ghost use Rattle.cu_types.specs.declared.known.Known.TheVariants as kind;
 
@@ -24,7 +23,7 @@ use cu_lift::groups;
 use std::alloc::{AllocError, Global};
 use thiserror::Error;
 
-/// Why a program has no types. A function stands for its dependency group, of
+/// Why inference gives no interface. A function stands for its dependency group, of
 /// which it is the first in program order.
 #[derive(Debug, Drop, Error)]
 pub enum TypeFault {
@@ -193,10 +192,17 @@ fn inferred(alloc: Global, program: &Program) -> Result<Result<Interface, TypeFa
 /// have the most general types that their rules allow. The variables of each
 /// type are numbered from 0 in the order in which they come first.
 ///
+/// Where there is memory, no other answer would do: a program has one
+/// interface at most (`interfaces_agree`), none beside a fault
+/// (`answers_exclude`), and faults of one kind and one group (`faults_agree`).
+///
 /// Type variables have numbers below 2^32, and types are as large as memory
 /// allows: where either runs out, the answer is `NoMemory`.
+///
+/// Nothing is asked of the program. Where a type's name has a wrong number of
+/// arguments, or a synonym leads to itself, `expanded` says what is taken; the
+/// front end refuses such modules before.
 pub fn infer(alloc: Global, program: &Program) -> Result<Interface, TypeFault>
-    requires { DeclaresTypes program.now }
     ensures types { IfOk result (IsInferred program.now) }
     ensures fault { IfErr result (IsTypeFault program.now) }
 {

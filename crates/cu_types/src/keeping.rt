@@ -11,7 +11,6 @@ ghost use Rattle.cu_types.specs.Inside.Knowing.{AreMembers, IsMember};
 ghost use Rattle.cu_types.specs.Meaning.{HasPlaces, subst_of, types_of_subst};
 ghost use Rattle.cu_types.specs.Table.{IsTable, MayStand, shape_of, trees};
 
-use crate::breadth::breadth;
 use crate::known::{Known, Member};
 use crate::{Node, SharedType, Subst};
 use cu_kernel::FunId;
@@ -258,7 +257,7 @@ impl Member {
         let Some(first) = self.first_declared() else {
             return Err(AllocError);
         };
-        let found = breadth(alloc, declared)?;
+        let found = declared.breadth(alloc)?;
         let Ok(count) = u32::try_from(found) else {
             return Err(AllocError);
         };

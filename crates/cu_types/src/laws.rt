@@ -1,6 +1,15 @@
 //! Laws of the definitions. These functions do nothing: their contracts are
 //! the laws.
-ghost use Rattle.cu_types.specs.Laws.{ClashesRefute, MostGeneralAgree, SolutionsAgree};
+ghost use Rattle.cu_types.specs.Laws.{
+  AnswersExclude,
+  ClashesLeaveNoSolution,
+  ClashesRefute,
+  DeclaredTypesHold,
+  FaultsAgree,
+  InterfacesAgree,
+  MostGeneralAgree,
+  SolutionsAgree,
+};
 ghost use Rattle.cu_types.specs.Samples.{SamplesAnswered, SamplesAsk};
 
 /// Each solution makes the same what the equations make equal.
@@ -11,6 +20,34 @@ pub fn solutions_agree()
 /// Equations that have a clash have no solution.
 pub fn clashes_refute()
     ensures { ClashesRefute }
+{}
+
+/// Where the equations of a dependency group have a clash, nothing solves them.
+pub fn clashes_leave_no_solution()
+    ensures { ClashesLeaveNoSolution }
+{}
+
+/// A program has one interface at most.
+pub fn interfaces_agree()
+    ensures { InterfacesAgree }
+{}
+
+/// No program has two of these: types for all functions and a goal that is
+/// data, such types and a functional goal, a first dependency group whose
+/// equations have no solution, and one where none keeps to the declared types.
+pub fn answers_exclude()
+    ensures { AnswersExclude }
+{}
+
+/// The faults of a program are of one kind, and of one dependency group.
+pub fn faults_agree()
+    ensures { FaultsAgree }
+{}
+
+/// A declared function has its declared type, behind the types of what it
+/// captured.
+pub fn declared_types_hold()
+    ensures { DeclaredTypesHold }
 {}
 
 /// Most general solutions are instances of one another.

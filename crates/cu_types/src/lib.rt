@@ -33,8 +33,9 @@ mod walk;
 pub use equation::Equation;
 pub use inference::{TypeFault, infer};
 pub use laws::{
-    clashes_refute, most_general_agree, samples_are_answered, samples_ask, solutions_agree,
+    answers_exclude, clashes_leave_no_solution, clashes_refute, declared_types_hold, faults_agree,
+    interfaces_agree, most_general_agree, samples_are_answered, samples_ask, solutions_agree,
 };
 pub use node::{Node, TypeHead};
-pub use shared::{Interface, SharedType};
+pub use shared::{Interface, Opened, SharedType};
 pub use unification::{Clash, Subst, UnifyFault, unify};

@@ -29,12 +29,12 @@ impl Model for SharedType {
 }
 
 /// The type at a place of a table.
-#[derive(Clone, Copy)]
-pub(crate) struct Opened<'t> {
+#[derive(Clone, Copy, Debug)]
+pub struct Opened<'t> {
     /// The table. The arguments of each type stand before it.
-    pub(crate) types: &'t [Node],
+    pub types: &'t [Node],
     /// The place of the type.
-    pub(crate) place: usize,
+    pub place: usize,
 }
 
 impl SharedType {
@@ -48,7 +48,7 @@ impl SharedType {
     }
 
     /// The table, and the type's place there.
-    pub(crate) fn open(&self) -> Opened<'_>
+    pub fn open(&self) -> Opened<'_>
         ensures table { IsTable (map shape_of result.types.now) }
         ensures within { result.place < length (map shape_of result.types.now) }
         ensures value { at (trees (map shape_of result.types.now)) result.place ≡ self.now }
@@ -57,13 +57,6 @@ impl SharedType {
             types: self.types.as_slice(),
             place: self.place,
         }
-    }
-
-    /// The table. The arguments of each type stand before it.
-    pub fn types(&self) -> &[Node]
-        ensures { IsTable (map shape_of result.now) }
-    {
-        self.types.as_slice()
     }
 }
 

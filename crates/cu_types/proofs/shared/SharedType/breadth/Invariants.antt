@@ -1,5 +1,5 @@
 use Rattle.std.proofs.Common.{◌≡◌, map, take}
-use Rattle.cu_types.proofs.breadth.breadth.Given as goal
+use Rattle.cu_types.proofs.shared.SharedType.breadth.Given as goal
 use Rattle.cu_types.specs.Equations.{breadth}
 use Rattle.cu_types.specs.Table.{shape_of, trees}
 

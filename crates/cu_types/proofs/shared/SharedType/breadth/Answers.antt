@@ -2,7 +2,7 @@ use Rattle.std.proofs.Common.{◌<◌, ◌∙◌, length, map, arith, subst, sym
 use Rattle.std.proofs.lemmas.List.{get_or_read}
 use Rattle.cu_types.proofs.BreadthLemmas.{arguments_below, breadth_found, breadth_more, breadths_may, breadths_sized}
 use Rattle.cu_types.specs.Table.{MayStand, shape_of}
-use Rattle.cu_types.proofs.breadth.breadth.Goals as goal
+use Rattle.cu_types.proofs.shared.SharedType.breadth.Goals as goal
 
 pub node_breadth-count-requires : goal.node_breadth-count-requires
 node_breadth-count-requires c =
@@ -32,4 +32,4 @@ returns c =
     let inside : c.open-opened.result.place < length c.loop-node.breadths.items = omega (arith, sized, within) in
     get_or_read c.loop-node.breadths.items c.open-opened.result.place c.index.result.now inside c.index.ensures 0
     ∙ breadth_found c.open-opened.result.types.now c.loop-node.node-index c.loop-node.breadths.items c.open-opened.result.place
-    c.args.shared.now c.loop-node-test.false c.loop-node.invariant within c.open-opened.ensures.value
+    c.args.self.now c.loop-node-test.false c.loop-node.invariant within c.open-opened.ensures.value
