@@ -2,11 +2,10 @@
 use Rattle.std.proofs.Common.{◌≡◌, ℕ, List, [], ◌∷◌, length, map, refl, sym, ap, ◌∙◌}
 use Rattle.cu_kernel.specs.Kernel.{Synonym}
 use Rattle.cu_kernel.specs.KernelOf.{synonym_meaning}
-use Rattle.cu_kernel.specs.TypeExpr.{TypeExpr}
 use Rattle.cu_kernel.specs.TypesOf.{type_of}
 use Rattle.cu_kernel.specs.declared.declarations.Synonym as declared
 use Rattle.cu_kernel.specs.declared.type_term.TypeTerm.{TypeTerm}
-use Rattle.cu_flattext.specs.Inside.TypeTasks.{Setting, texts_in}
+use Rattle.cu_flattext.specs.Inside.TypeTasks.{texts_in}
 use Rattle.cu_flattext.specs.Naming.{Lowered, separated}
 use Rattle.cu_flattext.specs.TypeTexts.{expanded, expanded_within, type_text, type_variables}
 use Rattle.cu_flattext.proofs.CircleLemmas.{mapped_length}

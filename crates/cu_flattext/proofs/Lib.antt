@@ -9,6 +9,7 @@ mod CircleLemmas
 mod ElementLemmas
 mod ListLemmas
 mod FieldLemmas
+mod InferredLemmas
 mod FunctionLemmas
 mod RuleLemmas
 mod TaskLemmas

@@ -1,7 +1,7 @@
 -- Scopes of types, and what they come to.
-use Rattle.std.proofs.Common.{◌≡◌, ℕ, zero, suc, ◌+◌, ◌-◌, ◌<◌, ◌≤◌, List, [], ◌∷◌, ◌++◌, Option, None, Some, drop, get_or, length, map, reverse, take, refl, sym, ap, ◌∙◌, arith, append_assoc, length-append}
-use Rattle.std.proofs.lemmas.List.{append-nil, reverse-append, take-append-le, take_all}
-use Rattle.std.proofs.lemmas.Option.{get_or_from_slice_get, slice_get-get_or, slice_get_past, slice_get_within}
+use Rattle.std.proofs.Common.{◌≡◌, ℕ, zero, suc, ◌+◌, ◌-◌, ◌<◌, ◌≤◌, List, [], ◌∷◌, ◌++◌, Option, None, Some, get_or, length, map, reverse, take, refl, sym, ap, ◌∙◌, arith, append_assoc, length-append}
+use Rattle.std.proofs.lemmas.List.{append-nil, reverse-append}
+use Rattle.std.proofs.lemmas.Option.{get_or_from_slice_get, slice_get-get_or, slice_get_past}
 use Rattle.std.specs.List.{slice_get}
 use denote.Ref.{Bor}
 use Rattle.std.specs.Fmt.{decimal}
@@ -15,7 +15,7 @@ use Rattle.cu_kernel.specs.declared.type_term.TypeName.{TypeName}
 use Rattle.cu_kernel.specs.declared.type_term.TypeName.TheVariants as named
 use Rattle.cu_kernel.specs.declared.type_term.TypeTerm.{TypeTerm}
 use Rattle.cu_flattext.specs.Inside.Stands.{lowered_of}
-use Rattle.cu_flattext.specs.Inside.TypeTasks.{Enters, Setting, arguments_in, body_at, body_where, expanded_body, expanded_body_of, named_text, texts_at, types_left, nowhere, setting_at, setting_of, settings_from, settings_of, text_in, texts_in, type_parts, variables_in}
+use Rattle.cu_flattext.specs.Inside.TypeTasks.{Enters, Setting, arguments_in, body_at, body_where, expanded_body, expanded_body_of, named_text, texts_at, types_left, nowhere, setting_at, setting_of, settings_from, settings_of, text_in, texts_in, type_parts}
 use Rattle.cu_flattext.specs.Naming.{Lowered, separated}
 use Rattle.cu_flattext.specs.TypeTexts.{Synonyms, as_written, body_text, expanded_within, is_expanded, numbers_from, type_text, type_texts, type_variable_text}
 use Rattle.cu_flattext.specs.declared.type_task.Scope.{Scope}
@@ -130,12 +130,12 @@ pub setting_is : (program : Lowered) (ss : List Scope) (i : ℕ) (s : Scope) →
 setting_is program ss i s is =
     get_or_from_slice_get (settings_of program ss) i (setting_of program (take i (settings_of program ss)) s) nowhere (setting_found program ss i s is)
 
-past : {A : Type 0} → (xs : List A) (i : ℕ) (d : A) → slice_get xs i ≡ None → get_or xs i d ≡ d
+pub past : {A : Type 0} → (xs : List A) (i : ℕ) (d : A) → slice_get xs i ≡ None → get_or xs i d ≡ d
 past [] i d is = refl
 past (x ∷ xs) zero d is = let no : ⊥ = cc in absurd no
 past (x ∷ xs) (suc i) d is = past xs i d is
 
-none_past : {A : Type 0} → (xs : List A) (i : ℕ) → slice_get xs i ≡ None → length xs ≤ i
+pub none_past : {A : Type 0} → (xs : List A) (i : ℕ) → slice_get xs i ≡ None → length xs ≤ i
 none_past [] i is = omega arith
 none_past (x ∷ xs) zero is = let no : ⊥ = cc in absurd no
 none_past (x ∷ xs) (suc i) is = let le = none_past xs i is in omega arith

@@ -7,6 +7,7 @@ use Rattle.cu_calculus.specs.declared.ConId.{ConId}
 use Rattle.cu_calculus.specs.declared.FunId.{FunId}
 use Rattle.cu_kernel.specs.Kernel as kernel
 use Rattle.cu_kernel.specs.Kernel.{DataType, Kernel, Mark, Module, Placed, Synonym, constructor_at}
+use Rattle.cu_kernel.specs.TypeExpr.{TypeExpr}
 use Rattle.cu_kernel.specs.declared.type_term.TypeName.{TypeName}
 use Rattle.cu_kernel.specs.declared.type_term.TypeName.TheVariants as named
 use Rattle.cu_names.specs.Texts.{text_of}
@@ -62,10 +63,12 @@ in_parentheses text = codes "(" ++ (text ++ codes ")")
 
 -- ---- a program's entities
 
--- A lowered program: the texts of its names, what it declares, and its flat functions.
+-- A lowered program: the texts of its names, what it declares, the types of its functions, and its
+-- flat functions.
 pub record Lowered : Type 0 where
   pub names : List (List ℕ)
   pub kernel : Kernel
+  pub interface : List TypeExpr
   pub flat : calculus.Program
 
 abbrev pub module_label : List (List ℕ) → Option Module → List ℕ

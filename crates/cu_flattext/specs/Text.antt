@@ -4,16 +4,19 @@ use Rattle.cu_calculus.specs.Code.{Code}
 use Rattle.cu_calculus.specs.FlatProgram as flat
 use Rattle.cu_calculus.specs.Program as calculus
 use Rattle.cu_calculus.specs.Valid.{all_variables}
+use Rattle.cu_calculus.specs.declared.FunId.{FunId}
 use Rattle.cu_kernel.specs.FirstTypes.{first_outlines}
 use Rattle.cu_kernel.specs.Kernel.{DataType, Kernel, Mark, Module, Synonym}
+use Rattle.cu_kernel.specs.TypeExpr.{TypeExpr}
 use Rattle.cu_kernel.specs.declared.declarations.Operator.{Operator}
 use Rattle.cu_kernel.specs.declared.declarations.Side.{Side}
 use Rattle.cu_kernel.specs.declared.declarations.Side.TheVariants as to
 use Rattle.cu_names.specs.Texts.{text_of}
 use Rattle.cu_names.specs.declared.names.NameId.{NameId}
+use Rattle.cu_types.specs.Inference.{type_in}
 use Rattle.cu_flattext.specs.ExpressionTexts.{all_numbered, expression_text, no_numbers}
 use Rattle.cu_flattext.specs.Naming.{Entity, Lowered, entity_of, entity_text, function_entity, in_parentheses, list_text, module_name, quoted}
-use Rattle.cu_flattext.specs.TypeTexts.{data_type_text, numbers_from, synonym_text, visibility_text}
+use Rattle.cu_flattext.specs.TypeTexts.{data_type_text, inferred_type_text, numbers_from, synonym_text, visibility_text}
 
 -- ---- functions
 
@@ -30,21 +33,20 @@ rule_text program e (calculus.Rules (rule ∷ [])) =
     ++ in_parentheses (expression_text program (1 + length parameters) (all_numbered parameters 1 no_numbers) rule.body)))
 rule_text program e (calculus.Rules _) = []
 
--- Types of functions aren't inferred yet: each has a type variable for its type.
-abbrev pub some_type : List ℕ
-some_type = codes "TVar 0"
-
-abbrev pub function_text : Lowered → Entity → Bool → calculus.Function → List ℕ
-function_text program e public f =
+-- A function, with the type that was inferred for the function of its number.
+abbrev pub function_text : Lowered → FunId → Bool → calculus.Function → List ℕ
+function_text program id public f =
+    let e = function_entity program id in
     codes "Func " ++ (entity_text e ++ (codes " " ++ (decimal f.arity ++ (codes " " ++ (visibility_text public
-    ++ (codes " " ++ (in_parentheses some_type ++ (codes " " ++ in_parentheses (rule_text program e f.body)))))))))
+    ++ (codes " " ++ (in_parentheses (inferred_type_text program (type_in program.interface id))
+    ++ (codes " " ++ in_parentheses (rule_text program e f.body)))))))))
 
 -- the functions of a module, of those from the place k on with their marks
 abbrev pub function_texts : Lowered → ℕ → ℕ → List calculus.Function → List Mark → List (List ℕ)
 function_texts program m k (f ∷ fs) (mark ∷ marks) =
     let others = function_texts program m (k + 1) fs marks in
     if nat_eq mark.module m
-    then function_text program (function_entity program (record { 0 = k })) mark.public f ∷ others
+    then function_text program (record { 0 = k }) mark.public f ∷ others
     else others
 function_texts program m k _ _ = []
 
@@ -113,9 +115,10 @@ abbrev pub place_of : NameId → List Module → ℕ
 place_of name [] = 0
 place_of name (m ∷ ms) = if nat_eq m.name.0 name.0 then 0 else 1 + place_of name ms
 
--- a program with its declarations, and its flat code
-abbrev pub lowered : List (List ℕ) → Kernel → Code → Lowered
-lowered names kernel code = record { names = names; kernel = kernel; flat = flat.program_of code }
+-- a program with its declarations, the types of its functions, and its flat code
+abbrev pub lowered : List (List ℕ) → Kernel → List TypeExpr → Code → Lowered
+lowered names kernel interface code =
+    record { names = names; kernel = kernel; interface = interface; flat = flat.program_of code }
 
 -- the text of the module of a name
 abbrev pub text_of_module : Lowered → NameId → List ℕ

@@ -1,10 +1,12 @@
--- Types, and the lines of data types and synonyms. Synonyms are expanded in the types of a constructor's fields.
+-- Types, and the lines of data types and synonyms. Synonyms are expanded in the types of a
+-- constructor's fields and of functions.
 use Rattle.std.specs.Prelude.{ℕ, zero, suc, ◌+◌, Bool, true, false, ◌&&◌, ◌||◌, not, List, [], ◌∷◌, ◌++◌, Option, None, Some, codes, decimal, if◌then◌else◌, length, map, nat_eq, slice_get, slice_index_or}
 use Rattle.cu_kernel.specs.Kernel.{Constructor, DataType, Synonym}
 use Rattle.cu_kernel.specs.TypeExpr as type
 use Rattle.cu_kernel.specs.TypeExpr.{TypeExpr, TypeExprs}
 use Rattle.cu_kernel.specs.declared.type_term.SynonymId.{SynonymId}
 use Rattle.cu_kernel.specs.declared.type_term.TypeName.TheVariants as named
+use Rattle.cu_types.specs.Equations.{breadth}
 use Rattle.cu_flattext.specs.Naming.{Entity, Lowered, entity_of, entity_text, in_parentheses, list_text, type_entity}
 
 -- ---- synonyms that lead to themselves
@@ -113,6 +115,10 @@ type_variable_text number = codes "TVar " ++ number
 abbrev pub type_variables : ℕ → List (List ℕ)
 type_variables arity = map type_variable_text (numbers_from 0 arity)
 
+-- a type as it is written, of so many type variables
+abbrev pub written_type_text : Lowered → ℕ → TypeExpr → List ℕ
+written_type_text program count t = type_text program (as_written program) (type_variables count) t
+
 abbrev pub visibility_text : Bool → List ℕ
 visibility_text true = codes "Public"
 visibility_text false = codes "Private"
@@ -135,4 +141,10 @@ abbrev pub synonym_text : Lowered → Synonym → List ℕ
 synonym_text program s =
     codes "TypeSyn " ++ (entity_text (entity_of program s.module s.name) ++ (codes " " ++ (visibility_text s.public
     ++ (codes " " ++ (parameters_text s.arity ++ (codes " "
-    ++ in_parentheses (type_text program (as_written program) (type_variables s.arity) s.body)))))))
+    ++ in_parentheses (written_type_text program s.arity s.body)))))))
+
+-- ---- types of functions
+
+-- The synonyms in a type that was inferred are expanded, and its variables are numbered from 0.
+abbrev pub inferred_type_text : Lowered → TypeExpr → List ℕ
+inferred_type_text program t = written_type_text program (breadth t) t

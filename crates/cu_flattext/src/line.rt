@@ -1,6 +1,8 @@
 //! What is left to be written of a module.
 use crate::expressions::Expressions;
+use crate::inferred::InferredType;
 use crate::types::Types;
+use cu_flat::FunId;
 use cu_kernel::{Constructor, DataType, Operator, Synonym};
 use cu_names::NameId;
 
@@ -20,6 +22,8 @@ pub(crate) enum Line<'p> {
     Constructors(&'p [Constructor], u32, bool),
     /// The module's of the functions from a place on.
     Functions(usize, bool),
+    /// What a function does.
+    Body(FunId),
     /// Operators.
     Operators(&'p [Operator], bool),
 }
@@ -31,6 +35,8 @@ pub(crate) enum Work<'p> {
     Nothing,
     /// Types.
     Types(Types<'p>),
+    /// An inferred type.
+    Inferred(InferredType<'p>),
     /// Expressions.
     Expressions(Expressions<'p>),
 }

@@ -4,6 +4,7 @@ ghost use Rattle.cu_kernel.specs.KernelOf.{mark_meaning};
 
 use crate::calls::push_numbers;
 use crate::expressions::Expressions;
+use crate::inferred::InferredType;
 use crate::line::{Line, Work};
 use crate::lines::{push_counted, push_external, push_operator, push_type_head};
 use crate::page::Page;
@@ -64,6 +65,7 @@ impl<'p> ModuleText<'p> {
                 self.constructors(constructors, arity, behind, page)
             }
             Line::Functions(k, behind) => self.functions(k, behind, page),
+            Line::Body(f) => self.function_body(f, page),
             Line::Operators(operators, behind) => {
                 self.operators(operators, behind, page)?;
                 Ok(Work::Nothing)
@@ -299,16 +301,16 @@ impl<'p> ModuleText<'p> {
             (lines_left_with (line.Functions k behind) self.old)
             page.new.text.items (left_behind work self.new)) }
     {
-        let Some(body) = self.wording.flat.body(FunId(k)) else {
+        if k >= self.wording.flat.function_count() {
             return Ok(Work::Nothing);
-        };
+        }
         let Some(mark) = mark_at(self.wording.kernel, k) else {
             return Ok(Work::Nothing);
         };
         let next = k.checked_add(1).ok_or(AllocError)?;
         if mark.module == self.module {
             self.lines.push(Line::Functions(next, true))?;
-            let work = self.function(FunId(k), body, mark.public, behind, page)?;
+            let work = self.function(FunId(k), mark.public, behind, page)?;
             Ok(work)
         } else {
             self.lines.push(Line::Functions(next, behind))?;
@@ -320,24 +322,36 @@ impl<'p> ModuleText<'p> {
     fn function(
         &mut self,
         f: FunId,
-        body: &'p FlatBody,
         public: bool,
         behind: bool,
         page: &mut Page,
     ) -> Result<Work<'p>, AllocError>
         ensures { IfOk result (λ work. Writes page.old.text.items
             (lines_left_behind (comma_text behind
-            ++ on_a_line (function_at (lowered_of self.old.wording) self.old.wording.flat.now f public
-            (body_meaning body.now))) self.old)
+            ++ on_a_line (function_at (lowered_of self.old.wording) f public)) self.old)
             page.new.text.items (left_behind work self.new)) }
     {
         page.push_comma(behind)?;
         let arity = self.wording.arity(Head::Fun(f)) as u64;
         push_counted(page, "\nFunc ", self.wording.function(f), arity, public)?;
-        page.push_str(" (TVar 0) (")?;
+        page.push_str(" (")?;
         self.lines.push(Line::Text(")"))?;
-        let work = self.body(f, body, page)?;
-        Ok(work)
+        self.lines.push(Line::Body(f))?;
+        self.lines.push(Line::Text(") ("))?;
+        let inferred = InferredType::of_function(self.alloc, self.wording, f)?;
+        Ok(Work::Inferred(inferred))
+    }
+
+    /// Writes what a function does; nothing where there is no such function.
+    fn function_body(&mut self, f: FunId, page: &mut Page) -> Result<Work<'p>, AllocError>
+        ensures { IfOk result (λ work. Writes page.old.text.items
+            (lines_left_with (line.Body f) self.old)
+            page.new.text.items (left_behind work self.new)) }
+    {
+        match self.wording.flat.body(f) {
+            Some(body) => self.body(f, body, page),
+            None => Ok(Work::Nothing),
+        }
     }
 
     /// Writes what a function does.

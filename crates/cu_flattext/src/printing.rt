@@ -8,6 +8,7 @@ ghost use Rattle.cu_flattext.specs.Written.{Adds, AddsFront, HasCause};
 
 use crate::expressions::Expressions;
 use crate::fault::PrintFault;
+use crate::inferred::InferredType;
 use crate::line::Line;
 use crate::module_text::ModuleText;
 use crate::page::Page;
@@ -18,6 +19,7 @@ use cu_flat::FlatProgram;
 use cu_io::Sink;
 use cu_kernel::{DataType, ModuleInfo, Operator, Program};
 use cu_names::{NameId, Names};
+use cu_types::Interface;
 use std::alloc::{AllocError, Global};
 
 /// How many types are built in. They have no lines.
@@ -25,25 +27,29 @@ const BUILT_IN: usize = 18;
 
 /// Writes the FlatCurry text of a module. The kernel program is the one that
 /// was lowered to the flat program: it has the modules, types, operators and
-/// the names and marks of the functions, and the flat program has their rules.
-/// The text goes out in pieces of some 4,096 bytes.
+/// the names and marks of the functions, the flat program has their rules, and
+/// the interface has their types. A function for which the interface lacks a
+/// type has a type variable for it. The text goes out in pieces of some 4,096
+/// bytes.
 pub fn print<S: Sink>(
     alloc: Global,
     name: NameId,
     kernel: &Program,
     program: &FlatProgram,
+    interface: &Interface,
     names: &Names,
     sink: &mut S,
 ) -> Result<(), PrintFault>
     ensures whole { OnOk result (Adds (S.written sink.old) (S.written sink.new)
-        (text_of_module (lowered names.now kernel.now program.now) name)) }
+        (text_of_module (lowered names.now kernel.now interface.now program.now) name)) }
     ensures front { OnErr result (AddsFront (S.written sink.old) (S.written sink.new)
-        (text_of_module (lowered names.now kernel.now program.now) name)) }
+        (text_of_module (lowered names.now kernel.now interface.now program.now) name)) }
     ensures cause { HasCause result (S.fault_count sink.old) (S.fault_count sink.new) }
 {
     let wording = Wording {
         names,
         kernel,
+        interface,
         flat: program,
     };
     match begin(alloc, wording, name) {
@@ -99,6 +105,7 @@ fn begin_at(alloc: Global, wording: Wording<'_>, place: u32) -> Result<Begun<'_>
     let writer = Writer {
         expressions: Expressions::none(alloc, wording),
         types: Types::none(alloc, wording),
+        inferred: InferredType::none(alloc, wording),
         lines,
     };
     Ok(Begun { page, writer })

@@ -176,7 +176,7 @@ impl<'p> Types<'p> {
             page.new.text.items (types_left self.new)) }
     {
         match scope.variables {
-            Variables::Parameters(count) => push_parameter(page, x, count),
+            Variables::Parameters(count) => push_parameter(page, x, count as usize),
             Variables::Arguments(ts, outer) => self.argument(ts, outer, place, x),
         }
     }
@@ -366,11 +366,11 @@ impl<'p> Types<'p> {
 }
 
 /// Writes one of so many type variables; nothing where there are fewer.
-fn push_parameter(page: &mut Page, x: u32, count: u32) -> Result<(), AllocError>
+pub(crate) fn push_parameter(page: &mut Page, x: u32, count: usize) -> Result<(), AllocError>
     ensures { OnOk result (page.new.text.items
         ≡ page.old.text.items ++ slice_index_or (type_variables count) x []) }
 {
-    if x >= count {
+    if x as usize >= count {
         return Ok(());
     }
     page.push_str("TVar ")?;

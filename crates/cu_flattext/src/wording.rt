@@ -6,13 +6,15 @@ use crate::page::Entity;
 use cu_flat::FlatProgram;
 use cu_kernel::{ConId, FunId, Head, Program, TypeName};
 use cu_names::{NameId, Names};
+use cu_types::Interface;
 
-/// A lowered program with its names. A name that the table of names lacks has
-/// no text.
+/// A lowered program with its names and the types of its functions. A name
+/// that the table of names lacks has no text.
 #[derive(Clone, Copy)]
 pub(crate) struct Wording<'p> {
     pub(crate) names: &'p Names,
     pub(crate) kernel: &'p Program,
+    pub(crate) interface: &'p Interface,
     pub(crate) flat: &'p FlatProgram,
 }
 

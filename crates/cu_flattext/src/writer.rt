@@ -5,6 +5,7 @@ ghost use Rattle.cu_flattext.specs.Written.{Adds, AddsFront, HasCause};
 
 use crate::expressions::Expressions;
 use crate::fault::PrintFault;
+use crate::inferred::InferredType;
 use crate::line::Work;
 use crate::module_text::ModuleText;
 use crate::page::Page;
@@ -12,12 +13,13 @@ use crate::types::Types;
 use cu_io::Sink;
 use std::alloc::AllocError;
 
-/// What is left to be written: expressions, then types, then lines. Lines are
-/// only gone on with where there is nothing of the others.
+/// What is left to be written: expressions, then types, then inferred types,
+/// then lines. Lines are only gone on with where there is nothing of the others.
 #[derive(Drop)]
 pub(crate) struct Writer<'p> {
     pub(crate) expressions: Expressions<'p>,
     pub(crate) types: Types<'p>,
+    pub(crate) inferred: InferredType<'p>,
     pub(crate) lines: ModuleText<'p>,
 }
 
@@ -47,9 +49,24 @@ impl<'p> Writer<'p> {
         ensures ends { IfOk result (λ goes_on. goes_on ≡ false → all_left self.new ≡ []) }
     {
         let Some(task) = self.types.tasks.pop() else {
-            return self.step_line(page);
+            return self.step_inferred(page);
         };
         self.types.step(task, page)?;
+        Ok(true)
+    }
+
+    /// The same where neither expressions nor types of declarations are left.
+    fn step_inferred(&mut self, page: &mut Page) -> Result<bool, AllocError>
+        requires expressions { self.old.expressions.tasks.items ≡ [] }
+        requires types { self.old.types.tasks.items ≡ [] }
+        ensures writes { OnOk result (Writes page.old.text.items (all_left self.old)
+            page.new.text.items (all_left self.new)) }
+        ensures ends { IfOk result (λ goes_on. goes_on ≡ false → all_left self.new ≡ []) }
+    {
+        let Some(task) = self.inferred.tasks.pop() else {
+            return self.step_line(page);
+        };
+        self.inferred.step(task, page)?;
         Ok(true)
     }
 
@@ -57,6 +74,7 @@ impl<'p> Writer<'p> {
     fn step_line(&mut self, page: &mut Page) -> Result<bool, AllocError>
         requires expressions { self.old.expressions.tasks.items ≡ [] }
         requires types { self.old.types.tasks.items ≡ [] }
+        requires inferred { self.old.inferred.tasks.items ≡ [] }
         ensures writes { OnOk result (Writes page.old.text.items (all_left self.old)
             page.new.text.items (all_left self.new)) }
         ensures ends { IfOk result (λ goes_on. goes_on ≡ false → all_left self.new ≡ []) }
@@ -73,11 +91,13 @@ impl<'p> Writer<'p> {
     fn begin(&mut self, work: Work<'p>)
         requires expressions { self.old.expressions.tasks.items ≡ [] }
         requires types { self.old.types.tasks.items ≡ [] }
+        requires inferred { self.old.inferred.tasks.items ≡ [] }
         ensures { all_left self.new ≡ left_behind work.entry self.old.lines }
     {
         match work {
             Work::Nothing => {}
             Work::Types(types) => self.types = types,
+            Work::Inferred(inferred) => self.inferred = inferred,
             Work::Expressions(expressions) => self.expressions = expressions,
         }
     }

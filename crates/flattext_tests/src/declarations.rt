@@ -9,10 +9,10 @@ use cu_names::{NameId, Names};
 use std::alloc::{AllocError, Global};
 
 /// The texts of the names, by their numbers.
-const TEXTS: [&str; 31] = [
+const TEXTS: [&str; 34] = [
     "Prelude", "B", "A", "[]", ":", "()", "(,)", "Int", "Char", "Bool", "False", "True", "&&",
     "failed", "==", "b", "\\\\", "p", "q", "r", "s", "t", "u", "T", "C", "D", "E", "L", "X", "Y",
-    "Z",
+    "Z", "V", "v", "w",
 ];
 
 pub(crate) const FALSE: ConId = ConId(17);
@@ -25,7 +25,7 @@ pub(crate) const ENTITIES: Special = Special {
     nil: ConId(0),
     cons: ConId(1),
     both: FunId(0),
-    values: Some(ConId(20)),
+    values: Some(ConId(22)),
 };
 
 /// The table of names.
@@ -123,6 +123,13 @@ fn own_type(alloc: Global) -> Result<DataType, AllocError> {
     data_type(23, 2, 2, and(and(one(alloc, c), d), e))
 }
 
+/// `data V a = V [a]`, which stands for the values of a set function.
+fn values_type(alloc: Global) -> Result<DataType, AllocError> {
+    let list = data(0, one(alloc, variable(0)));
+    let values = constructor(31, true, one(alloc, list));
+    data_type(31, 1, 1, one(alloc, values))
+}
+
 pub(crate) fn types(alloc: Global) -> Result<Vec<DataType>, AllocError> {
     let mut types = Vec::new(alloc);
     types.push(list_type(alloc)?)?;
@@ -134,6 +141,7 @@ pub(crate) fn types(alloc: Global) -> Result<Vec<DataType>, AllocError> {
     types.push(data_type(8, 0, 0, none(alloc))?)?;
     types.push(truth_values(alloc)?)?;
     types.push(own_type(alloc)?)?;
+    types.push(values_type(alloc)?)?;
     Ok(types)
 }
 

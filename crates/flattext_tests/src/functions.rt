@@ -10,6 +10,10 @@ const NIL: ConId = ConId(0);
 
 const CONS: ConId = ConId(1);
 
+const PAIR: ConId = ConId(3);
+
+const C: ConId = ConId(19);
+
 /// The functions' places.
 const BACKSLASHES: FunId = FunId(4);
 
@@ -72,6 +76,14 @@ fn choice(
 fn application(alloc: Global, f: u32, x: u32) -> Result<Term, AllocError> {
     let f = boxed(alloc, variable(f))?;
     Ok(Term::Apply(f, boxed(alloc, variable(x))?))
+}
+
+fn pair(
+    alloc: Global,
+    left: Result<Term, AllocError>,
+    right: Result<Term, AllocError>,
+) -> Result<Term, AllocError> {
+    whole(Head::Con(PAIR), and(one(alloc, left), right))
 }
 
 fn free(alloc: Global, x: u32, term: Result<Term, AllocError>) -> Result<Term, AllocError> {
@@ -172,19 +184,19 @@ fn by_character(alloc: Global) -> Result<Function, AllocError> {
     defined(alloc, 18, 1, Ok(body))
 }
 
-/// `r = let y = p in let z free in y z`
+/// `r = let y = q in let z free in y z`
 fn applied(alloc: Global) -> Result<Function, AllocError> {
     let inner = free(alloc, 8, application(alloc, 7, 8));
-    let called = whole(Head::Fun(P), none(alloc));
-    defined(alloc, 19, 0, binding(alloc, 7, called, inner))
+    let alone = part(Head::Fun(Q), none(alloc));
+    defined(alloc, 19, 0, binding(alloc, 7, alone, inner))
 }
 
-/// `s (x : xs) = [x, (\\) xs]`, without types.
+/// `s (x : xs) = (x, (\\) xs)`
 fn by_list(alloc: Global) -> Result<Function, AllocError> {
     let parts = and(one(alloc, Ok(Pattern::Var(0))), Ok(Pattern::Var(1)))?;
     let params = one(alloc, Ok(Pattern::Con(CONS, parts)));
     let partial = part(Head::Fun(BACKSLASHES), one(alloc, variable(1)));
-    let body = whole(Head::Con(CONS), and(one(alloc, variable(0)), partial));
+    let body = pair(alloc, variable(0), partial);
     of_rules(20, 1, one(alloc, rule(params, body)))
 }
 
@@ -193,14 +205,25 @@ fn values(alloc: Global) -> Result<Function, AllocError> {
     defined(alloc, 21, 1, whole(Head::Set(Q), one(alloc, variable(0))))
 }
 
-/// `u = (:) ? (set0 p ? (x where x free)) ? (y where y free)`
+/// `u = ((:), (set0 p ? (x where x free)) ? (y where y free))`
 fn parts(alloc: Global) -> Result<Function, AllocError> {
     let cons = part(Head::Con(CONS), none(alloc));
     let set = whole(Head::Set(P), none(alloc));
     let left = choice(alloc, set, free(alloc, 3, variable(3)));
     let right = free(alloc, 3, variable(3));
-    let body = choice(alloc, cons, choice(alloc, left, right));
+    let body = pair(alloc, cons, choice(alloc, left, right));
     defined(alloc, 22, 0, body)
+}
+
+/// `v x y = x`
+fn constant(alloc: Global) -> Result<Function, AllocError> {
+    defined(alloc, 32, 2, variable(0))
+}
+
+/// `w x y = C x y`
+fn built(alloc: Global) -> Result<Function, AllocError> {
+    let body = whole(Head::Con(C), and(one(alloc, variable(0)), variable(1)));
+    defined(alloc, 33, 2, body)
 }
 
 /// The functions of the Prelude, then `b` of `B` with so many elements, then
@@ -215,18 +238,21 @@ pub(crate) fn functions(alloc: Global, count: u32) -> Result<Vec<Function>, Allo
         by_character(alloc),
     );
     let third = and(and(second, applied(alloc)), by_list(alloc));
-    and(and(third, values(alloc)), parts(alloc))
+    let fourth = and(and(third, values(alloc)), parts(alloc));
+    and(and(fourth, constant(alloc)), built(alloc))
 }
 
 /// The modules of the functions, and whether they are exported: `b` and `p`
 /// aren't.
-const MARKS: [(u32, bool); 11] = [
+const MARKS: [(u32, bool); 13] = [
     (0, true),
     (0, true),
     (0, true),
     (1, false),
     (2, true),
     (2, false),
+    (2, true),
+    (2, true),
     (2, true),
     (2, true),
     (2, true),

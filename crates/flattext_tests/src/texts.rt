@@ -7,21 +7,28 @@ use cu_flattext::{PrintFault, print};
 use cu_io::VecSink;
 use cu_kernel::{Program, ProgramParts};
 use cu_names::{NameId, Names};
+use cu_types::{Interface, infer};
 use std::alloc::{AllocError, Global};
 use std::process::Abort;
 
 const PRELUDE: &str = "Prog \"Prelude\" [] [\n\
     Type (\"Prelude\",\"Bool\") Public [] [Cons (\"Prelude\",\"False\") 0 Public [],\
     Cons (\"Prelude\",\"True\") 0 Public []]] [\n\
-    Func (\"Prelude\",\"&&\") 2 Public (TVar 0) (Rule [1,2] (Case Flex (Var 1) \
+    Func (\"Prelude\",\"&&\") 2 Public (FuncType (TCons (\"Prelude\",\"Bool\") []) \
+    (FuncType (TCons (\"Prelude\",\"Bool\") []) (TCons (\"Prelude\",\"Bool\") []))) \
+    (Rule [1,2] (Case Flex (Var 1) \
     [Branch (Pattern (\"Prelude\",\"False\") []) (Comb ConsCall (\"Prelude\",\"False\") []),\
     Branch (Pattern (\"Prelude\",\"True\") []) (Var 2)])),\n\
     Func (\"Prelude\",\"failed\") 0 Public (TVar 0) (External \"Prelude.failed\"),\n\
-    Func (\"Prelude\",\"==\") 2 Public (TVar 0) (External \"Prelude.==\")] [\n\
+    Func (\"Prelude\",\"==\") 2 Public (FuncType (TVar 0) (FuncType (TVar 0) \
+    (TCons (\"Prelude\",\"Bool\") []))) (External \"Prelude.==\")] [\n\
     Op (\"Prelude\",\"&&\") InfixrOp 3]\n";
 
-const B: &str = "Prog \"B\" [\"Prelude\"] [] [\n\
-    Func (\"B\",\"b\") 0 Private (TVar 0) (Rule [] (Comb ConsCall (\"Prelude\",\":\") \
+const B: &str = "Prog \"B\" [\"Prelude\"] [\n\
+    Type (\"B\",\"V\") Public [0] \
+    [Cons (\"B\",\"V\") 1 Public [TCons (\"Prelude\",\"[]\") [TVar 0]]]] [\n\
+    Func (\"B\",\"b\") 0 Private (TCons (\"Prelude\",\"[]\") [TCons (\"Prelude\",\"Int\") []]) \
+    (Rule [] (Comb ConsCall (\"Prelude\",\":\") \
     [Lit (Intc 1),Comb ConsCall (\"Prelude\",\"[]\") []]))] [\n\
     Op (\"B\",\"b\") InfixOp 4]\n";
 
@@ -37,33 +44,49 @@ const A: &str = "Prog \"A\" [\"B\",\"Prelude\"] [\n\
     TypeSyn (\"A\",\"Y\") Private [] (TCons (\"A\",\"X\") []),\n\
     TypeSyn (\"A\",\"Z\") Public [0] (TCons (\"Prelude\",\"(,)\") [TCons (\"A\",\"X\") [],TVar 0])\
     ] [\n\
-    Func (\"A\",\"\\\\\\\\\") 2 Public (TVar 0) (Rule [1,2] (Or (Var 1) (Var 2))),\n\
-    Func (\"A\",\"p\") 0 Private (TVar 0) (Rule [] (Lit (Intc (-5)))),\n\
-    Func (\"A\",\"q\") 1 Public (TVar 0) (Rule [1] (Case Rigid (Var 1) \
+    Func (\"A\",\"\\\\\\\\\") 2 Public (FuncType (TVar 0) (FuncType (TVar 0) (TVar 0))) \
+    (Rule [1,2] (Or (Var 1) (Var 2))),\n\
+    Func (\"A\",\"p\") 0 Private (TCons (\"Prelude\",\"Int\") []) (Rule [] (Lit (Intc (-5)))),\n\
+    Func (\"A\",\"q\") 1 Public \
+    (FuncType (TCons (\"Prelude\",\"Char\") []) (TCons (\"Prelude\",\"[]\") [TVar 0])) \
+    (Rule [1] (Case Rigid (Var 1) \
     [Branch (LPattern (Charc 97)) (Comb ConsCall (\"Prelude\",\"[]\") [])])),\n\
-    Func (\"A\",\"r\") 0 Public (TVar 0) (Rule [] (Let [(1,Comb FuncCall (\"A\",\"p\") [])] \
+    Func (\"A\",\"r\") 0 Public (TCons (\"Prelude\",\"[]\") [TVar 0]) \
+    (Rule [] (Let [(1,Comb (FuncPartCall 1) (\"A\",\"q\") [])] \
     (Free [2] (Comb FuncCall (\"Prelude\",\"apply\") [Var 1,Var 2])))),\n\
-    Func (\"A\",\"s\") 1 Public (TVar 0) (Rule [1] (Case Flex (Var 1) \
-    [Branch (Pattern (\"Prelude\",\":\") [2,3]) (Comb ConsCall (\"Prelude\",\":\") \
+    Func (\"A\",\"s\") 1 Public (FuncType (TCons (\"Prelude\",\"[]\") [TVar 0]) \
+    (TCons (\"Prelude\",\"(,)\") [TVar 0,FuncType (TCons (\"Prelude\",\"[]\") [TVar 0]) \
+    (TCons (\"Prelude\",\"[]\") [TVar 0])])) (Rule [1] (Case Flex (Var 1) \
+    [Branch (Pattern (\"Prelude\",\":\") [2,3]) (Comb ConsCall (\"Prelude\",\"(,)\") \
     [Var 2,Comb (FuncPartCall 1) (\"A\",\"\\\\\\\\\") [Var 3]])])),\n\
-    Func (\"A\",\"t\") 1 Public (TVar 0) (Rule [1] (Comb FuncCall (\"SetFunctions\",\"set1\") \
+    Func (\"A\",\"t\") 1 Public (FuncType (TCons (\"Prelude\",\"Char\") []) \
+    (TCons (\"B\",\"V\") [TCons (\"Prelude\",\"[]\") [TVar 0]])) \
+    (Rule [1] (Comb FuncCall (\"SetFunctions\",\"set1\") \
     [Comb (FuncPartCall 1) (\"A\",\"q\") [],Var 1])),\n\
-    Func (\"A\",\"u\") 0 Public (TVar 0) (Rule [] \
-    (Or (Comb (ConsPartCall 2) (\"Prelude\",\":\") []) \
-    (Or (Or (Comb FuncCall (\"SetFunctions\",\"set0\") [Comb FuncCall (\"A\",\"p\") []]) \
-    (Free [1] (Var 1))) (Free [2] (Var 2)))))] [\n\
+    Func (\"A\",\"u\") 0 Public (TCons (\"Prelude\",\"(,)\") [FuncType (TVar 0) \
+    (FuncType (TCons (\"Prelude\",\"[]\") [TVar 0]) (TCons (\"Prelude\",\"[]\") [TVar 0])),\
+    TCons (\"B\",\"V\") [TCons (\"Prelude\",\"Int\") []]]) \
+    (Rule [] (Comb ConsCall (\"Prelude\",\"(,)\") [Comb (ConsPartCall 2) (\"Prelude\",\":\") [],\
+    Or (Or (Comb FuncCall (\"SetFunctions\",\"set0\") [Comb FuncCall (\"A\",\"p\") []]) \
+    (Free [1] (Var 1))) (Free [2] (Var 2))])),\n\
+    Func (\"A\",\"v\") 2 Public (FuncType (TVar 0) (FuncType (TVar 1) (TVar 0))) \
+    (Rule [1,2] (Var 1)),\n\
+    Func (\"A\",\"w\") 2 Public (FuncType (TVar 0) (FuncType \
+    (TCons (\"Prelude\",\"[]\") [TVar 1]) (TCons (\"A\",\"T\") [TVar 1,TVar 0]))) \
+    (Rule [1,2] (Comb ConsCall (\"A\",\"C\") [Var 1,Var 2]))] [\n\
     Op (\"A\",\"\\\\\\\\\") InfixlOp 6]\n";
 
 /// How many bytes a text may have.
 const ROOM: usize = 65536;
 
-/// A program, and the names of its parts.
+/// A program, the types of its functions, and the names of its parts.
 #[derive(Drop)]
 struct Bench {
     alloc: Global,
     names: Names,
     kernel: Program,
     flat: FlatProgram,
+    interface: Interface,
 }
 
 fn parts(alloc: Global, count: u32) -> Result<ProgramParts, AllocError> {
@@ -95,11 +118,13 @@ impl Bench {
         assert!(rt; valid);
         let kernel = Program::new(parts);
         let flat = lowered(alloc, &kernel).expect(rt, "code");
+        let interface = infer(alloc, &kernel).ok().expect(rt, "types");
         Bench {
             alloc,
             names,
             kernel,
             flat,
+            interface,
         }
     }
 
@@ -110,6 +135,7 @@ impl Bench {
             NameId(name),
             &self.kernel,
             &self.flat,
+            &self.interface,
             &self.names,
             sink,
         )

@@ -1,5 +1,5 @@
 -- Which synonyms are known to lead to one of them.
-use Rattle.std.specs.Prelude.{Bool, true, false, ◌||◌, List, [], ◌∷◌, slice_index_or}
+use Rattle.std.specs.Prelude.{Bool, false, ◌||◌, List, [], ◌∷◌, slice_index_or}
 use denote.Ref.{Bor}
 use Rattle.cu_kernel.specs.Kernel.{Synonym}
 use Rattle.cu_kernel.specs.TypesOf.{type_of}

@@ -1,18 +1,19 @@
 -- What is left to be written of a module, and what it comes to.
-use Rattle.std.specs.Prelude.{ℕ, ◌+◌, Bool, true, false, List, [], ◌∷◌, ◌++◌, codes, drop, length, map, reverse, slice_get}
-use Rattle.cu_calculus.specs.Code as code
+use Rattle.std.specs.Prelude.{ℕ, ◌+◌, Bool, false, List, [], ◌∷◌, ◌++◌, Option, None, Some, codes, drop, length, map, reverse, slice_get}
 use Rattle.cu_calculus.specs.Code.{Code}
-use Rattle.cu_calculus.specs.FlatProgram.{body_in, term_of}
+use Rattle.cu_calculus.specs.FlatProgram.{term_of}
+use Rattle.cu_calculus.specs.Program as calculus
 use Rattle.cu_calculus.specs.declared.ExprId.{ExprId}
 use Rattle.cu_calculus.specs.declared.FunId.{FunId}
 use Rattle.cu_calculus.specs.declared.Head.TheVariants as head
 use Rattle.cu_flattext.specs.ExpressionTexts.{all_numbered, arity, expression_text, no_numbers}
 use Rattle.cu_kernel.specs.KernelOf.{constructor_meaning, synonym_meaning, type_meaning}
+use Rattle.cu_flattext.specs.Inside.InferredTasks.{inferred_left}
 use Rattle.cu_flattext.specs.Inside.Stands.{lowered_of}
 use Rattle.cu_flattext.specs.Inside.Tasks.{left_of}
 use Rattle.cu_flattext.specs.Inside.TypeTasks.{types_left}
 use Rattle.cu_flattext.specs.Naming.{Lowered, elements, function_entity, in_parentheses, list_text}
-use Rattle.cu_flattext.specs.Text.{data_type_texts, function_text, function_texts, import_text, imports_of, on_a_line, operator_text, operators_of, synonym_texts, type_texts}
+use Rattle.cu_flattext.specs.Text.{data_type_texts, function_text, function_texts, import_text, imports_of, on_a_line, operator_text, operators_of, rule_text, synonym_texts, type_texts}
 use Rattle.cu_flattext.specs.TypeTexts.{constructor_text, numbers_from}
 use Rattle.cu_flattext.specs.declared.line.Line.{Line}
 use Rattle.cu_flattext.specs.declared.line.Line.TheVariants as line
@@ -26,11 +27,23 @@ abbrev pub rule_expression : Lowered → Code → List ℕ → ExprId → List �
 rule_expression program code parameters e =
     expression_text program (1 + length parameters) (all_numbered parameters 1 no_numbers) (term_of code e)
 
--- the text of a function that does this
-abbrev pub function_at : Lowered → Code → FunId → Bool → code.Body → List ℕ
-function_at program code f public body =
-    function_text program (function_entity program f) public
-    (record { arity = arity program (head.Fun f); body = body_in code body })
+abbrev pub body_found : Option calculus.Function → calculus.Body
+body_found None = calculus.Rules []
+body_found (Some f) = f.body
+
+-- what a function does; it has no rule where there is no such function
+abbrev pub body_at : Lowered → FunId → calculus.Body
+body_at program f = body_found (slice_get program.flat.functions f.0)
+
+-- the text of what a function does
+abbrev pub body_text : Lowered → FunId → List ℕ
+body_text program f = rule_text program (function_entity program f) (body_at program f)
+
+-- the text of a function
+abbrev pub function_at : Lowered → FunId → Bool → List ℕ
+function_at program f public =
+    function_text program f public
+    (record { arity = arity program (head.Fun f); body = body_at program f })
 
 -- the text of a rule with these parameters
 abbrev pub rule_over : Lowered → Code → List ℕ → ExprId → List ℕ
@@ -55,6 +68,7 @@ line_part program m (line.Synonyms ss behind) =
 line_part program m (line.Constructors cs arity behind) =
     elements behind (map (constructor_text program m arity) (map constructor_meaning cs.now))
 line_part program m (line.Functions k behind) = elements behind (function_lines program m k)
+line_part program m (line.Body f) = body_text program f
 line_part program m (line.Operators os behind) = elements behind (map on_a_line (map (operator_text program m) os.now))
 
 -- what parts come to, the first first
@@ -88,6 +102,7 @@ lines_left_behind text s = text ++ lines_left s
 abbrev pub work_left : Work → List ℕ
 work_left work.Nothing = []
 work_left (work.Types types) = types_left types
+work_left (work.Inferred inferred) = inferred_left inferred
 work_left (work.Expressions expressions) = left_of expressions
 
 -- the same, and what is left of the lines
@@ -96,4 +111,5 @@ left_behind w s = work_left w ++ lines_left s
 
 -- what is left of all
 abbrev pub all_left : Writer → List ℕ
-all_left w = left_of w.expressions ++ (types_left w.types ++ lines_left w.lines)
+all_left w =
+    left_of w.expressions ++ (types_left w.types ++ (inferred_left w.inferred ++ lines_left w.lines))

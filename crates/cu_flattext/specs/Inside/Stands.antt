@@ -14,7 +14,7 @@ abbrev pub entity_meaning : Entity → naming.Entity
 entity_meaning e = record { owner = e.owner.now; name = e.name.now }
 
 abbrev pub lowered_of : Wording → Lowered
-lowered_of w = lowered w.names.now w.kernel.now w.flat.now
+lowered_of w = lowered w.names.now w.kernel.now w.interface.now w.flat.now
 
 abbrev pub numbers_of : VariableNumbers → Numbers
 numbers_of v x = unwrap_or (get nat_cmp v.given x) 0

@@ -1,5 +1,5 @@
 -- What is left to be written of types, and what it comes to.
-use Rattle.std.specs.Prelude.{◌≡◌, ℕ, zero, ◌-◌, Bool, true, false, List, [], ◌∷◌, ◌++◌, Option, None, Some, length, map, reverse, slice_get, slice_index_or, take}
+use Rattle.std.specs.Prelude.{◌≡◌, ℕ, ◌-◌, Bool, true, false, List, [], ◌∷◌, ◌++◌, Option, None, Some, length, reverse, slice_get, slice_index_or, take}
 use Rattle.cu_kernel.specs.Kernel.{Synonym}
 use Rattle.cu_kernel.specs.TypeExpr.{TypeExpr}
 use Rattle.cu_kernel.specs.TypesOf.{type_of}

@@ -1,4 +1,4 @@
-use Rattle.std.proofs.Common.{◌≡◌, Bool, List, ap, sym, ◌∙◌, arith, length, map}
+use Rattle.std.proofs.Common.{Bool, List, ap, sym, ◌∙◌, arith, map}
 use Rattle.cu_kernel.specs.KernelOf.{synonym_meaning}
 use Rattle.cu_flattext.specs.Inside.Circles.{is_known, leads_on}
 use Rattle.cu_flattext.specs.TypeTexts.{is_or_passes}

@@ -1,4 +1,3 @@
-use Rattle.std.proofs.Common.{◌∙◌, sym}
 use Rattle.cu_kernel.specs.TypesOf.{types_of}
 use Rattle.cu_flattext.specs.Inside.Circles.{is_known, some_left}
 use Rattle.cu_flattext.specs.TypeTexts.{is_or_passes, some_synonym_in}

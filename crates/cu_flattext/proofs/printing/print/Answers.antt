@@ -9,5 +9,5 @@ returns-in-Ok-clause-front g c =
     let begun = c.in-Ok.begun in
     front_of_same c.finish.result (g.S.Sink.written c.args.sink.now) (g.S.Sink.written c.finish.new.sink)
     (begun.page.text.items ++ all_left begun.writer)
-    (text_of_module (lowered c.args.names.now c.args.kernel.now c.args.program.now) c.args.name)
+    (text_of_module (lowered c.args.names.now c.args.kernel.now c.args.interface.now c.args.program.now) c.args.name)
     c.finish.ensures.front c.in-Ok.ensures

@@ -1,4 +1,4 @@
-use Rattle.std.proofs.Common.{◌≡◌, ◌++◌, ◌∙◌}
+use Rattle.std.proofs.Common.{◌++◌, ◌∙◌}
 use Rattle.cu_flattext.specs.Inside.LineTasks.{all_left}
 use Rattle.cu_flattext.proofs.WrittenLemmas.{OnErr-always, OnErr-map, adds_part, breaks_off, front_part, writes_on}
 use Rattle.cu_flattext.proofs.writer.write_all.Goals as goal

@@ -1,4 +1,4 @@
-use Rattle.std.proofs.Common.{ℕ, ◌-◌, List, ◌++◌, ap, drop, length, map, reverse, take}
+use Rattle.std.proofs.Common.{◌-◌, List, ◌++◌, ap, drop, length, map, reverse, take}
 use Rattle.cu_kernel.specs.KernelOf.{constructor_meaning}
 use Rattle.cu_kernel.specs.declared.declarations.Constructor.{Constructor}
 use Rattle.cu_flattext.specs.Inside.LineTasks.{line_parts, lines_left, work_left}

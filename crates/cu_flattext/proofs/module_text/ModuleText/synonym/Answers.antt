@@ -1,18 +1,10 @@
-use Rattle.std.proofs.Common.{◌≡◌, ℕ, List, ◌∷◌, ◌++◌, arith, codes, ap, length, map, refl, reverse, ◌∙◌}
-use Rattle.std.specs.Fmt.{decimal}
-use Rattle.cu_calculus.specs.FlatProgram.{body_in}
-use Rattle.cu_calculus.specs.declared.Head.TheVariants as head
-use Rattle.cu_flat.specs.Meaning.{body_meaning}
+use Rattle.std.proofs.Common.{codes, ap, reverse}
 use Rattle.cu_kernel.specs.TypesOf.{type_of}
-use Rattle.cu_flattext.specs.ExpressionTexts.{arity}
 use Rattle.cu_flattext.specs.Inside.LineTasks.{line_parts, lines_left, work_left}
 use Rattle.cu_flattext.specs.Inside.Stands.{entity_meaning, lowered_of}
 use Rattle.cu_flattext.specs.Naming as naming
 use Rattle.cu_flattext.specs.Naming.{comma_text, entity_of, entity_text, function_entity, separated}
-use Rattle.cu_flattext.specs.Text.{rule_text}
-use Rattle.cu_flattext.specs.TypeTexts.{as_written, expanded, parameters_text, type_text, type_variables, visibility_text}
-use Rattle.cu_flattext.specs.declared.line.Line.TheVariants as line
-use Rattle.cu_flattext.proofs.CircleLemmas.{mapped_length}
+use Rattle.cu_flattext.specs.TypeTexts.{as_written, parameters_text, type_text, type_variables, visibility_text}
 use Rattle.cu_flattext.proofs.ElementLemmas.{head_written, line_pushed}
 use Rattle.cu_flattext.proofs.module_text.ModuleText.synonym.Goals as goal
 

@@ -1,4 +1,4 @@
-use Rattle.std.proofs.Common.{ℕ, ◌-◌, List, ◌++◌, ap, drop, eq-eqb, length, map, reverse, take, ◌∙◌}
+use Rattle.std.proofs.Common.{◌-◌, List, ◌++◌, ap, drop, eq-eqb, length, map, reverse, take, ◌∙◌}
 use Rattle.cu_kernel.specs.KernelOf.{synonym_meaning}
 use Rattle.cu_kernel.specs.declared.declarations.Synonym.{Synonym}
 use Rattle.cu_flattext.specs.Inside.LineTasks.{line_parts, lines_left, work_left}

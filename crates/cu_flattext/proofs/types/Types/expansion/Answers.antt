@@ -1,4 +1,4 @@
-use Rattle.std.proofs.Common.{◌≡◌, ℕ, List, ◌<◌, IfSome, ap, length, sym, ◌∙◌}
+use Rattle.std.proofs.Common.{◌≡◌, ℕ, List, ap, length, sym, ◌∙◌}
 use Rattle.std.proofs.lemmas.Option.{slice_get_within}
 use Rattle.cu_flattext.specs.Inside.Stands.{lowered_of}
 use Rattle.cu_flattext.specs.Inside.TypeTasks.{Setting, expansion_text, synonym_at}

@@ -1,8 +1,12 @@
-use Rattle.std.proofs.Common.{◌≡◌}
+use Rattle.std.proofs.Common.{◌++◌}
+use Rattle.cu_flattext.specs.Inside.InferredTasks.{inferred_left}
+use Rattle.cu_flattext.specs.Inside.LineTasks.{lines_left}
+use Rattle.cu_flattext.specs.Inside.TypeTasks.{types_left}
 use Rattle.cu_flattext.proofs.TaskLemmas.{expressions_popped}
 use Rattle.cu_flattext.proofs.writer.Writer.step.Goals as goal
 
 pub returns-clause-writes : goal.returns-clause-writes
 returns-clause-writes c =
-    expressions_popped c.args.self.now.expressions c.pop.new.self.items c.step.new.self c.args.self.now.types c.args.self.now.lines
-    c.in-Some.task c.args.page.now.text.items c.step.new.page.text.items c.in-Some.ensures.items c.in_ok-step.ensures
+    let self = c.args.self.now in
+    expressions_popped self.expressions c.pop.new.self.items c.step.new.self c.in-Some.task c.args.page.now.text.items c.step.new.page.text.items
+    (types_left self.types ++ (inferred_left self.inferred ++ lines_left self.lines)) c.in-Some.ensures.items c.in_ok-step.ensures
