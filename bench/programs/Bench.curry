@@ -25,9 +25,13 @@ rises [_]          = True
 rises (x : y : ys) = x <= y && rises (y : ys)
 
 -- a chain of shared pairs, whose tree has 2 ^ n leaves
-deep n = if n == 0 then () else twin (deep (n - 1))
+data Pairs = Leaf | Pair Pairs Pairs
 
-twin x = (x, x)
+deep :: Int -> Pairs
+deep n = if n == 0 then Leaf else twin (deep (n - 1))
+
+twin :: Pairs -> Pairs
+twin x = Pair x x
 
 -- all numbers of four digits
 digit :: Int

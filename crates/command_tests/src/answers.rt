@@ -7,7 +7,7 @@ use std::process::Abort;
 use std::thread::Threads;
 
 /// The text of the module `M`, a goal there, and what is expected.
-type Case = (&'static str, &'static str, &'static str);
+pub(crate) type Case = (&'static str, &'static str, &'static str);
 
 const COINS: &str = "coin = 0 ? 1\ndouble x = x + x";
 
@@ -338,13 +338,17 @@ fn words(goal: &'static str) -> [&'static str; 4] {
 }
 
 /// Expects this outcome of a goal.
-fn expect_case<R: Threads + Abort + AllocGlobal + Sync>(rt: &R, case: &Case, status: Status) {
+pub(crate) fn expect_case<R: Threads + Abort + AllocGlobal + Sync>(
+    rt: &R,
+    case: &Case,
+    status: Status,
+) {
     let output = whole(rt.alloc());
     expect(rt, case.0, &words(case.1), output, case.2, status);
 }
 
 /// Expects these values of a goal, in whatever rounds.
-fn expect_values<R: Threads + Abort + AllocGlobal + Sync>(rt: &R, case: &Case) {
+pub(crate) fn expect_values<R: Threads + Abort + AllocGlobal + Sync>(rt: &R, case: &Case) {
     let text = written(rt, case.0, &words(case.1));
     let values = without_rounds(rt.alloc(), text.as_str()).expect(rt, "memory");
     assert_eq!(rt; values.as_str(), case.2);

@@ -15,3 +15,5 @@ mod output;
 mod runs;
 #[cfg(test)]
 mod texts;
+#[cfg(test)]
+mod types;

@@ -6,8 +6,8 @@ use std::alloc::{AllocError, Global};
 use std::process::Abort;
 use std::thread::Threads;
 
-/// More bytes than any listing here has.
-const ROOM: usize = 4096;
+/// More bytes than any listing or text here has.
+const ROOM: usize = 65_536;
 
 /// A module with a choice, for imports.
 const SIDES: &str = "module Sides (side) where\nside = 0 ? hidden\nhidden = 1";

@@ -16,6 +16,7 @@ use Rattle.cu_front.specs.declared.fault.CompileFault.TheVariants as compile
 use Rattle.cu_front.specs.declared.refusal.Refusal as code
 use Rattle.cu_io.specs.Holdings.{Holdings}
 use Rattle.cu_io.specs.Shelf.{Shelf, shelf_holdings}
+use Rattle.cu_kernel.specs.TypeExpr.{TypeExpr}
 use Rattle.cu_kernel.specs.Kernel.{Goal, Kernel}
 use Rattle.cu_machine.specs.Listing.{Listing}
 use Rattle.cu_machine.specs.declared.End.{End}
@@ -135,17 +136,17 @@ module_refusal_ends r m (Some held) names told refusal before after same refuses
     (one_line r line before after adds) (part_of_line r line before after part)
 
 pub text_ends : (r : Result Status RunFault) (m : Compile) (holdings : Option Holdings) (names : List (List ℕ)) (program : Kernel)
-    (flat : calculus.Program) (id : NameId) (before after : Option (List ℕ))
-    → IfSome holdings (λ held. ModuleCompiles (held.module_at m.folder) m.name names program flat) → slice_get names id.0 ≡ Some m.name
+    (interface : List TypeExpr) (flat : calculus.Program) (id : NameId) (before after : Option (List ℕ))
+    → IfSome holdings (λ held. ModuleCompiles (held.module_at m.folder) m.name names program interface flat) → slice_get names id.0 ≡ Some m.name
     → IfOk r (λ found. found ≡ status.Done)
-    → OnOk r (Adds before after (text_of_module (record { names = names; kernel = program; flat = flat }) id))
-    → OnErr r (AddsFront before after (text_of_module (record { names = names; kernel = program; flat = flat }) id))
+    → OnOk r (Adds before after (text_of_module (record { names = names; kernel = program; interface = interface; flat = flat }) id))
+    → OnErr r (AddsFront before after (text_of_module (record { names = names; kernel = program; interface = interface; flat = flat }) id))
     → IfSome holdings (λ held. Ends r (CompileReport held.module_at m) before after)
-text_ends r m None names program flat id before after compiles named is adds part = tt
-text_ends r m (Some held) names program flat id before after compiles named is adds part =
-    let text = text_of_module (record { names = names; kernel = program; flat = flat }) id in
+text_ends r m None names program interface flat id before after compiles named is adds part = tt
+text_ends r m (Some held) names program interface flat id before after compiles named is adds part =
+    let text = text_of_module (record { names = names; kernel = program; interface = interface; flat = flat }) id in
     ends (CompileReport held.module_at m) r before after (text ∷ []) status.Done
-    (printed names program flat id text compiles named refl) is (one_line r text before after adds) (part_of_line r text before after part)
+    (printed names program interface flat id text compiles named refl) is (one_line r text before after adds) (part_of_line r text before after part)
 
 -- ---- a trial
 

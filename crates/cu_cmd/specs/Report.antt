@@ -29,6 +29,7 @@ use Rattle.cu_front.specs.RefusalLine.{refusal_line}
 use Rattle.cu_io.specs.Calls.{no_calls}
 use Rattle.cu_io.specs.Shelf.{Shelf, shelf_holdings}
 use Rattle.cu_kernel.specs.Kernel.{Goal, Kernel}
+use Rattle.cu_kernel.specs.TypeExpr.{TypeExpr}
 use Rattle.cu_machine.specs.Listing.{Listing}
 use Rattle.cu_machine.specs.declared.End.{End}
 use Rattle.cu_machine.specs.declared.End.TheVariants as ends
@@ -155,10 +156,12 @@ pub data CompileReport (held : Held) (compile : Compile) : List (List ℕ) → S
   module_refused : (refusal : Refusal) → ModulesRefused (held compile.folder) compile.name refusal
       → CompileReport held compile (refusal_line refusal ∷ []) status.Refused
   -- the text of the module
-  printed : (names : List (List ℕ)) (program : Kernel) (flat : calculus.Program) (id : NameId)
-      (text : List ℕ) → ModuleCompiles (held compile.folder) compile.name names program flat
+  printed : (names : List (List ℕ)) (program : Kernel) (interface : List TypeExpr)
+      (flat : calculus.Program) (id : NameId) (text : List ℕ)
+      → ModuleCompiles (held compile.folder) compile.name names program interface flat
       → slice_get names id.0 ≡ Some compile.name
-      → text ≡ text_of_module (record { names = names; kernel = program; flat = flat }) id
+      → text ≡ text_of_module
+      (record { names = names; kernel = program; interface = interface; flat = flat }) id
       → CompileReport held compile (text ∷ []) status.Done
 
 -- So does a trial, whatever the library holds.

@@ -64,11 +64,21 @@ fn write_module<S: Sink>(
 ) -> Result<Status, RunFault>
     ensures status { IfOk result (λ status. status ≡ Done) }
     ensures whole { OnOk result (Adds (S.written output.old) (S.written output.new)
-        (text_of_module (lowered names.now compiled.now.program compiled.now.flat) id)) }
+        (text_of_module (lowered names.now compiled.now.program compiled.now.interface
+        compiled.now.flat) id)) }
     ensures prefix { OnErr result (AddsFront (S.written output.old) (S.written output.new)
-        (text_of_module (lowered names.now compiled.now.program compiled.now.flat) id)) }
+        (text_of_module (lowered names.now compiled.now.program compiled.now.interface
+        compiled.now.flat) id)) }
     ensures cause { HasWriteCause result (S.fault_count output.old) (S.fault_count output.new) }
 {
-    print(alloc, id, &compiled.program, &compiled.flat, names, output)?;
+    print(
+        alloc,
+        id,
+        &compiled.program,
+        &compiled.flat,
+        &compiled.interface,
+        names,
+        output,
+    )?;
     Ok(Status::Done)
 }

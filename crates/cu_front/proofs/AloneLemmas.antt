@@ -27,8 +27,9 @@ walk_refuses_modules root held refusal is = meant.ModulesRefused.walk refusal is
 
 pub alone_compiles : (table names : List (List ℕ)) (modules : List Named) (root : List ℕ) (local : LocalKernel)
     (result : Result Compiled StageFault) → AreTranslated table modules local
-    → IfOk result (λ found. IsLifted table local names found.program) → IfOk result (λ found. CanRun found.program (program_of found.flat))
-    → IfOk result (λ found. CompileAlone modules root names found.program (program_of found.flat))
+    → IfOk result (λ found. IsLifted table local names found.program)
+    → IfOk result (λ found. CanRun found.program found.interface (program_of found.flat))
+    → IfOk result (λ found. CompileAlone modules root names found.program found.interface (program_of found.flat))
 alone_compiles table names modules root local (Ok found) are lifted can_run = λ held walked. record {
   walked = walked;
   scoped = are.scoped;
@@ -52,8 +53,8 @@ alone_not_run table names modules root local (Err fault) are is =
     (subst (λ (p : LocalKernel). IsLifted table p names r.program) are.is r.lifted) r.cannot_run) is
 
 pub alone_comes : (held : Held) (root : List ℕ) (modules : List Named) (names : List (List ℕ)) (found : Compiled)
-    → CompileAlone modules root names found.program (program_of found.flat) → Walk held root (Ok modules)
-    → ModuleCompiles held root names found.program (program_of found.flat)
+    → CompileAlone modules root names found.program found.interface (program_of found.flat) → Walk held root (Ok modules)
+    → ModuleCompiles held root names found.program found.interface (program_of found.flat)
 alone_comes held root modules names found alone walked = record { modules = modules; compile = alone held walked }
 
 pub are_translated : (names : List (List ℕ)) (modules : List Named) (result : Result LocalKernel StageFault) → AreScoped [] modules

@@ -1,5 +1,5 @@
 -- Refusals under tables that grow.
-use Rattle.std.proofs.Common.{◌≡◌, ◌++◌, ℕ, List, Option, None, Some, codes, ap, ap₂}
+use Rattle.std.proofs.Common.{◌≡◌, ◌++◌, ℕ, List, Option, None, Some, codes, ap, ap₂, refl}
 use Rattle.cu_lex.specs.Reading.{position_of}
 use Rattle.cu_lex.specs.Tokens as tokens
 use Rattle.cu_names.proofs.Growth.{known-extends, text_of-extends}
@@ -15,7 +15,7 @@ use Rattle.cu_modules.specs.Walk as walk
 use Rattle.cu_translation.specs.FaultOrder as functions
 use Rattle.cu_front.specs.declared.refusal.Refusal as code
 use Rattle.cu_front.specs.declared.refusal.Refusal.TheVariants as told
-use Rattle.cu_front.specs.Refusal.{InFunctions, InNames, Refusal, SetRecursion, SynonymCycle, TreeTooBig, TypeArity, Walked}
+use Rattle.cu_front.specs.Refusal.{GoalFunctional, InFunctions, InNames, Refusal, SetRecursion, Signature, SynonymCycle, TreeTooBig, TypeArity, TypeClash, Walked}
 use Rattle.cu_front.specs.RefusalMeaning.{FunctionIsKnown, RefusalIsKnown, function_named, of_names, refusal_meaning}
 
 -- what a table of more names says of a refusal
@@ -64,8 +64,11 @@ module _ (old new : List (List ℕ)) (grown : Extends old new) where
       of_one (λ o. InFunctions o (functions.fault functions.RecursiveLocal (position_of place))) place.«module» known
   stays (told.SetName place) known = of_one (λ o. InFunctions o (functions.fault functions.SetName (position_of place))) place.«module» known
   stays (told.SetRecursion m f) known = of_function SetRecursion m f known
+  stays (told.TypeClash m f) known = of_function TypeClash m f known
+  stays (told.Signature m f) known = of_function Signature m f known
   stays (told.TypeArity place) known = of_one (λ o. TypeArity o (position_of place)) place.«module» known
   stays (told.SynonymCycle id) known = of_one SynonymCycle id known
+  stays told.GoalFunctional known = (refl, tt)
   stays (told.TooManyModules id) known = of_one (λ o. Walked (walk.TooManyModules o)) id known
   stays (told.TooDeep place) known = of_one (λ o. Walked (walk.InText o (texts.TooDeep (position_of place)))) place.«module» known
   stays (told.TooLong id line) known = of_one (λ o. Walked (walk.InText o (texts.Syntax (parsing.TooLong line)))) id known

@@ -3,6 +3,7 @@ use Rattle.std.proofs.Common.{◌≡◌, ◌∙◌, ℕ, List, Ok, sym, subst}
 use Rattle.cu_calculus.specs.Program as calculus
 use Rattle.cu_kernel.specs.Kernel.{Kernel}
 use Rattle.cu_kernel.specs.LocalKernel.{LocalKernel}
+use Rattle.cu_kernel.specs.TypeExpr.{TypeExpr}
 use Rattle.cu_names.proofs.Growth.{extends-trans}
 use Rattle.cu_names.specs.Texts.{Extends}
 use Rattle.cu_modules.specs.Scopes.{Named}
@@ -39,9 +40,10 @@ modules_not_run table names modules root text programs local fault same are is =
 -- what is known of modules whose program can be run
 pub record CanRunAlone (table names : List (List ℕ)) (local : LocalKernel) : Type 0 where
   pub program : Kernel
+  pub interface : List TypeExpr
   pub flat : calculus.Program
   pub lifted : IsLifted table local names program
-  pub can_run : CanRun program flat
+  pub can_run : CanRun program interface flat
 
 are_modules : (table names : List (List ℕ)) (modules : List Named) (root text : List ℕ) (programs : Programs) (local : LocalKernel)
     (held : meant.Held) → local ≡ programs.modules → ArePrograms table modules (root_in modules root) text programs → CanRunAlone table names local
@@ -49,6 +51,7 @@ are_modules : (table names : List (List ℕ)) (modules : List Named) (root text 
 are_modules table names modules root text programs local held same are alone walk = record {
   names = names;
   program = alone.program;
+  interface = alone.interface;
   flat = alone.flat;
   compile = record {
     walked = walk;
@@ -99,10 +102,11 @@ goal_not_run table old names modules root text programs local program whole faul
     r.cannot_run)) told
 
 pub compiles : (table old names : List (List ℕ)) (modules : List Named) (root text : List ℕ) (programs : Programs) (local program : LocalKernel)
-    (whole : code.Outcome) (result : Kernel) (flat : calculus.Program) → local ≡ programs.modules → whole ≡ programs.whole
-    → whole ≡ found.Program program → ArePrograms table modules (root_in modules root) text programs → Extends table old
-    → CanRunAlone table old local → IsLifted old program names result → CanRun result flat → CompileBoth modules root text names result flat
-compiles table old names modules root text programs local program whole result flat same same_whole is are grown alone lifted can_run =
+    (whole : code.Outcome) (result : Kernel) (interface : List TypeExpr) (flat : calculus.Program) → local ≡ programs.modules
+    → whole ≡ programs.whole → whole ≡ found.Program program → ArePrograms table modules (root_in modules root) text programs
+    → Extends table old → CanRunAlone table old local → IsLifted old program names result → CanRun result interface flat
+    → CompileBoth modules root text names result flat
+compiles table old names modules root text programs local program whole result interface flat same same_whole is are grown alone lifted can_run =
     let goal = subst (IsWhole table modules (root_in modules root) text) (sym same_whole ∙ is) are.whole in
     let k = root_in modules root in
     λ held walk. record {
@@ -119,6 +123,7 @@ compiles table old names modules root text programs local program whole result f
         lifted =
             lifted_from table old names (whole_program table modules k goal.goal) result grown
             (subst (λ (p : LocalKernel). IsLifted old p names result) goal.is lifted);
+        interface = interface;
         can_run = can_run;
       };
     }

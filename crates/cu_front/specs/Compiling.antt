@@ -4,6 +4,7 @@ use Rattle.std.specs.List.{position_or_len}
 use Rattle.cu_calculus.specs.Program as calculus
 use Rattle.cu_kernel.specs.Kernel.{Kernel}
 use Rattle.cu_kernel.specs.LocalKernel.{LocalKernel, joined}
+use Rattle.cu_kernel.specs.TypeExpr.{TypeExpr}
 use Rattle.cu_syntax.specs.Syntax.{Goal}
 use Rattle.cu_modules.specs.Means.{AreScoped, IsGoalScoped, IsGoalWrong, IsWrong}
 use Rattle.cu_modules.specs.Scopes.{Named}
@@ -50,9 +51,11 @@ pub data ModulesRefused (held : Held) (root : List ℕ) : Refusal → Type 0 whe
       → IsLifted table (modules_program table modules) names program
       → CannotRun names program refusal → ModulesRefused held root refusal
 
--- modules that a root reaches, and the program that they come to, with its table of names
+-- modules that a root reaches, and the program that they come to, with its table of names and its
+-- types
 pub record ModulesCompile (held : Held) (root : List ℕ) (modules : List Named)
-    (names : List (List ℕ)) (program : Kernel) (flat : calculus.Program) : Type 0 where
+    (names : List (List ℕ)) (program : Kernel) (interface : List TypeExpr)
+    (flat : calculus.Program) : Type 0 where
   pub walked : Walk held root (Ok modules)
   pub scoped : AreScoped [] modules
   pub types : AreRight modules
@@ -60,20 +63,21 @@ pub record ModulesCompile (held : Held) (root : List ℕ) (modules : List Named)
   pub is_table : IsTable modules table
   pub translated : translation_refusal table modules ≡ None
   pub lifted : IsLifted table (modules_program table modules) names program
-  pub can_run : CanRun program flat
+  pub can_run : CanRun program interface flat
 
--- the program that the modules that a root reaches come to, with its table of names
+-- the program that the modules that a root reaches come to, with its table of names and its types
 pub record ModuleCompiles (held : Held) (root : List ℕ) (names : List (List ℕ))
-    (program : Kernel) (flat : calculus.Program) : Type 0 where
+    (program : Kernel) (interface : List TypeExpr) (flat : calculus.Program) : Type 0 where
   pub modules : List Named
-  pub compile : ModulesCompile held root modules names program flat
+  pub compile : ModulesCompile held root modules names program interface flat
 
 -- the modules that a root reaches, of which nothing is refused
 pub record AreModules (held : Held) (root : List ℕ) (modules : List Named) : Type 0 where
   pub names : List (List ℕ)
   pub program : Kernel
+  pub interface : List TypeExpr
   pub flat : calculus.Program
-  pub compile : ModulesCompile held root modules names program flat
+  pub compile : ModulesCompile held root modules names program interface flat
 
 -- ---- goals
 
@@ -120,7 +124,8 @@ pub record IsGoal (modules : List Named) (k : ℕ) (text : List ℕ) (names : Li
   pub translated : goal_translation table modules k goal
       ≡ translation.Translated (goal_part table modules k goal)
   pub lifted : IsLifted table (whole_program table modules k goal) names program
-  pub can_run : CanRun program flat
+  pub interface : List TypeExpr
+  pub can_run : CanRun program interface flat
 
 -- ---- both
 

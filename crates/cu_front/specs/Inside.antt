@@ -1,2 +1,3 @@
 pub mod Outcomes
 pub mod Stages
+pub mod Typings

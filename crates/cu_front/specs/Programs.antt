@@ -1,5 +1,6 @@
 -- Programs with their local functions lifted, and why they can't be run.
-use Rattle.std.specs.Prelude.{ℕ, List, [], ◌∷◌, ◌++◌, Bool, false, Option, None, Some, Ok, Err, codes, if◌then◌else◌, nat_le, slice_get}
+use Rattle.std.specs.Prelude.{ℕ, List, [], ◌∷◌, ◌++◌, Bool, false, Option, None, Some, Ok, Err}
+use Rattle.std.specs.Prelude.{codes, if◌then◌else◌, nat_le, slice_get}
 use Rattle.std.specs.Option.{option_map, unwrap_or}
 use Rattle.cu_calculus.specs.Claims.{AreLevels}
 use Rattle.cu_calculus.specs.Program as calculus
@@ -8,11 +9,15 @@ use Rattle.cu_deftree.specs.LoweredProgram.{Lowering}
 use Rattle.cu_kernel.specs.Kernel as kernel
 use Rattle.cu_kernel.specs.Kernel.{Kernel, program_of}
 use Rattle.cu_kernel.specs.LocalKernel.{LocalKernel}
+use Rattle.cu_kernel.specs.TypeExpr.{TypeExpr}
 use Rattle.cu_kernel.specs.Valid.{IsValid}
 use Rattle.cu_lift.specs.Lifting.{Lifts}
 use Rattle.cu_lift.specs.SetCycles.{IsSetRecursion}
 use Rattle.cu_names.specs.Texts.{AllDiffer, Extends, text_of}
-use Rattle.cu_front.specs.Refusal.{Refusal, SetRecursion, TreeTooBig}
+use Rattle.cu_types.specs.Inference.{IsInferred, PrincipallyTyped}
+use Rattle.cu_types.specs.TypeFaults.{HasBrokenSignature, HasFunctionalGoal, HasNoSolution}
+use Rattle.cu_front.specs.Refusal.{GoalFunctional, Refusal, SetRecursion, Signature, TreeTooBig}
+use Rattle.cu_front.specs.Refusal.{TypeClash}
 
 -- A program whose local functions are lifted, and a table that has the names of these too.
 pub record IsLifted (table : List (List ℕ)) (local : LocalKernel) (names : List (List ℕ))
@@ -53,15 +58,34 @@ function_text names program f =
 abbrev pub HasLevels : Kernel → Type 0
 HasLevels program = (levels : List ℕ) × AreLevels (program_of program) levels
 
--- no set levels, or else a function whose definitional tree is too big
+-- each function has a type
+abbrev pub IsTypable : Kernel → Type 0
+IsTypable program = (interface : List TypeExpr) × PrincipallyTyped program interface
+
+-- No set levels, or else a dependency group that can't be typed, where its equations have no
+-- solution or none that keeps to the declared types, or else a function whose definitional tree is
+-- too big, or else a goal whose type, or that of a variable of it, holds functions.
 pub data CannotRun (names : List (List ℕ)) (program : Kernel) : Refusal → Type 0 where
   sets : (first : FunId) (cycle : List FunId) → IsSetRecursion (program_of program) (first ∷ cycle)
       → CannotRun names program (SetRecursion (function_text names program first))
-  size : (f : FunId) → HasLevels program → Lowering (program_of program) (Err f)
+  clash : (f : FunId) → HasLevels program → HasNoSolution program f
+      → CannotRun names program (TypeClash (function_text names program f))
+  signature : (f : FunId) → HasLevels program → HasBrokenSignature program f
+      → CannotRun names program (Signature (function_text names program f))
+  size : (f : FunId) → HasLevels program → IsTypable program
+      → Lowering (program_of program) (Err f)
       → CannotRun names program (TreeTooBig (function_text names program f))
+  functional : (flat : calculus.Program) → HasLevels program → HasFunctionalGoal program
+      → Lowering (program_of program) (Ok flat) → CannotRun names program GoalFunctional
 
--- A program that can be run, and its flat program.
-pub record CanRun (program : Kernel) (flat : calculus.Program) : Type 0 where
+-- A valid program with set levels, and its flat program. Whether it has types isn't asked.
+pub record IsLowered (program : Kernel) (flat : calculus.Program) : Type 0 where
   pub valid : IsValid program
   pub levels : HasLevels program
   pub lowered : Lowering (program_of program) (Ok flat)
+
+-- A program that can be run, the types of its functions, and its flat program.
+pub record CanRun (program : Kernel) (interface : List TypeExpr) (flat : calculus.Program)
+    : Type 0 where
+  pub types : IsInferred program interface
+  pub lowering : IsLowered program flat

@@ -21,8 +21,15 @@ pub data Refusal : Type 0 where
   InFunctions : List ℕ → functions.Fault → Refusal
   -- the first function that stands on a recursion through set functions
   SetRecursion : List ℕ → Refusal
+  -- the first function of the first dependency group that can't be typed, where the equations of the
+  -- group have no solution
+  TypeClash : List ℕ → Refusal
+  -- the same, where they have solutions, and none that keeps to the declared types
+  Signature : List ℕ → Refusal
   -- the first function whose definitional tree is too big
   TreeTooBig : List ℕ → Refusal
+  -- the type of the goal, or of a variable of it, holds functions
+  GoalFunctional : Refusal
 
 -- A goal's text stands for that of a module of this name.
 abbrev pub goal_name : List ℕ

@@ -12,8 +12,9 @@ use Rattle.cu_translation.specs.FaultOrder.{Wrong}
 use Rattle.cu_uses.specs.Faults as uses
 use Rattle.cu_uses.specs.declared.fault.Wrong as names
 use Rattle.cu_uses.specs.declared.fault.Wrong.TheVariants as name
-use Rattle.cu_front.specs.Refusal.{InFunctions, InNames, Refusal, SetRecursion, SynonymCycle}
-use Rattle.cu_front.specs.Refusal.{TreeTooBig, TypeArity, Walked}
+use Rattle.cu_front.specs.Refusal.{GoalFunctional, InFunctions, InNames, Refusal, SetRecursion}
+use Rattle.cu_front.specs.Refusal.{Signature, SynonymCycle, TreeTooBig, TypeArity, TypeClash}
+use Rattle.cu_front.specs.Refusal.{Walked}
 
 -- `refused NUMBER NAME DETAIL`
 abbrev pub refused : List ℕ → List ℕ → List ℕ
@@ -97,4 +98,7 @@ refusal_line (TypeArity owner at) = refused (codes "22 TypeArity") (at_place own
 refusal_line (SynonymCycle name) = refused (codes "23 SynonymCycle") name
 refusal_line (InFunctions owner fault) = function_line owner fault.wrong fault.at
 refusal_line (SetRecursion function) = refused (codes "19 SetRecursion") function
+refusal_line (TypeClash function) = refused (codes "20 TypeClash") function
+refusal_line (Signature function) = refused (codes "21 Signature") function
+refusal_line GoalFunctional = codes "refused 24 GoalFunctional\n"
 refusal_line (TreeTooBig function) = refused (codes "31 TreeTooBig") function

@@ -14,8 +14,9 @@ use Rattle.cu_modules.specs.ScopeAnswers.{fault_at}
 use Rattle.cu_modules.specs.Texts as texts
 use Rattle.cu_modules.specs.Walk as walk
 use Rattle.cu_translation.specs.FaultOrder as functions
-use Rattle.cu_front.specs.Refusal.{InFunctions, InNames, Refusal, SetRecursion, SynonymCycle}
-use Rattle.cu_front.specs.Refusal.{TreeTooBig, TypeArity, Walked}
+use Rattle.cu_front.specs.Refusal.{GoalFunctional, InFunctions, InNames, Refusal, SetRecursion}
+use Rattle.cu_front.specs.Refusal.{Signature, SynonymCycle, TreeTooBig, TypeArity, TypeClash}
+use Rattle.cu_front.specs.Refusal.{Walked}
 use Rattle.cu_front.specs.declared.refusal.Refusal as code
 use Rattle.cu_front.specs.declared.refusal.Refusal.TheVariants as told
 
@@ -63,9 +64,12 @@ refusal_meaning names (told.RecursiveLocal place) =
     of_functions names functions.RecursiveLocal place
 refusal_meaning names (told.SetName place) = of_functions names functions.SetName place
 refusal_meaning names (told.SetRecursion m f) = SetRecursion (function_named names m f)
+refusal_meaning names (told.TypeClash m f) = TypeClash (function_named names m f)
+refusal_meaning names (told.Signature m f) = Signature (function_named names m f)
 refusal_meaning names (told.TypeArity place) =
     TypeArity (text_of names place.«module») (position_of place)
 refusal_meaning names (told.SynonymCycle id) = SynonymCycle (text_of names id)
+refusal_meaning names told.GoalFunctional = GoalFunctional
 refusal_meaning names (told.TooManyModules id) = Walked (walk.TooManyModules (text_of names id))
 refusal_meaning names (told.TooDeep place) =
     Walked (in_text_at names place (texts.TooDeep (position_of place)))
@@ -100,8 +104,11 @@ RefusalIsKnown names (told.NonLinear place) = PlaceIsKnown names place
 RefusalIsKnown names (told.RecursiveLocal place) = PlaceIsKnown names place
 RefusalIsKnown names (told.SetName place) = PlaceIsKnown names place
 RefusalIsKnown names (told.SetRecursion m f) = FunctionIsKnown names m f
+RefusalIsKnown names (told.TypeClash m f) = FunctionIsKnown names m f
+RefusalIsKnown names (told.Signature m f) = FunctionIsKnown names m f
 RefusalIsKnown names (told.TypeArity place) = PlaceIsKnown names place
 RefusalIsKnown names (told.SynonymCycle id) = IsKnown names id
+RefusalIsKnown names told.GoalFunctional = Unit {0}
 RefusalIsKnown names (told.TooManyModules id) = IsKnown names id
 RefusalIsKnown names (told.TooDeep place) = PlaceIsKnown names place
 RefusalIsKnown names (told.TooLong id line) = IsKnown names id

@@ -40,7 +40,7 @@ pub fn compile_module<L: Library>(
 ) -> Result<Compiled, CompileFault>
     ensures program { IfSome (L.holdings library.old) (λ held. IfOk result (λ found.
         ModuleCompiles (held.module_at asked.entry.folder.now) asked.entry.root.now
-        names.new found.program (flats.program_of found.flat))) }
+        names.new found.program found.interface (flats.program_of found.flat))) }
     ensures refused { IfSome (L.holdings library.old) (λ held. IfErr result
         (TellsRefusal names.new (ModulesRefused (held.module_at asked.entry.folder.now)
         asked.entry.root.now))) }
@@ -68,7 +68,7 @@ fn alone(alloc: Global, names: &mut Names, modules: &[Module]) -> Result<Compile
     requires ordered { AreOrdered (modules_of names.old modules.now) }
     ensures program { (root : List ℕ) → IfOk result (λ found.
         CompileAlone (modules_of names.old modules.now) root names.new found.program
-        (flats.program_of found.flat)) }
+        found.interface (flats.program_of found.flat)) }
     ensures fault { (root : List ℕ) → IfErr result (Tells names.new
         (RefusesModules (modules_of names.old modules.now) root)) }
     ensures layout { IfOk result (λ found. found.flat ≡ laid_out (flats.program_of found.flat)) }

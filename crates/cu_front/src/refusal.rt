@@ -48,10 +48,18 @@ pub enum Refusal {
     /// The first function on a recursion through set functions, behind its
     /// module where it isn't the goal's.
     SetRecursion(Option<NameId>, NameId),
+    /// The first function of the first dependency group that can't be typed, behind
+    /// its module where it isn't the goal's: the group's equations have no solution.
+    TypeClash(Option<NameId>, NameId),
+    /// The same, where the equations have solutions, and none that keeps to the
+    /// declared types.
+    Signature(Option<NameId>, NameId),
     /// A type's name with a wrong number of arguments.
     TypeArity(Place),
     /// The synonym of this name leads to itself.
     SynonymCycle(NameId),
+    /// The type of the goal, or of a variable of it, holds functions.
+    GoalFunctional,
     TooManyModules(NameId),
     TooDeep(Place),
     /// The line of an item of too many tokens, or of a rule too many.
@@ -98,8 +106,11 @@ impl Refusal {
             Refusal::SetRecursion(owner, f) => {
                 of_function(alloc, names, "19 SetRecursion", *owner, *f)
             }
+            Refusal::TypeClash(owner, f) => of_function(alloc, names, "20 TypeClash", *owner, *f),
+            Refusal::Signature(owner, f) => of_function(alloc, names, "21 Signature", *owner, *f),
             Refusal::TypeArity(place) => of_place(alloc, names, "22 TypeArity", *place),
             Refusal::SynonymCycle(id) => of_name(alloc, names, "23 SynonymCycle", *id),
+            Refusal::GoalFunctional => String::from_str(alloc, "refused 24 GoalFunctional\n"),
             Refusal::TooManyModules(id) => of_name(alloc, names, "28 TooManyModules", *id),
             Refusal::TooDeep(place) => of_place(alloc, names, "29 TooDeep", *place),
             Refusal::TooLong(id, line) => of_line(alloc, names, "30 TooLong", *id, *line),

@@ -12,6 +12,7 @@ ghost use Rattle.cu_flat.specs.Layout.{laid_out};
 ghost use Rattle.cu_flat.specs.Meaning.{body_meaning};
 ghost use Rattle.cu_modules.specs.Scopes.{Named};
 ghost use Rattle.cu_names.specs.Texts.{Extends, IsKnown};
+ghost use Rattle.cu_types.specs.Inference.{IsInferred};
 
 use crate::fault::StageFault;
 use crate::outcome::Outcome;
@@ -41,6 +42,7 @@ pub(crate) fn run(
     ensures fault { (modules : List Named) (root text : List ℕ)
         → ArePrograms names.old modules (root_in modules root) text programs
         → IfErr result (Tells names.new (RefusesBoth modules root text)) }
+    ensures types { IfOk result (λ found. IsInferred found.program found.interface) }
     ensures goal { IfOk result (λ found. HasGoal names.new found.program found.flat) }
     ensures layout { IfOk result (λ found. found.flat ≡ laid_out (flats.program_of found.flat)) }
     ensures names { Extends names.old names.new }

@@ -1,5 +1,5 @@
-//! Programs that can be run: with local functions lifted, with set levels, and
-//! with definitional trees in place of rules.
+//! Programs that can be run: with local functions lifted, with set levels and
+//! types, and with definitional trees in place of rules.
 ghost use Rattle.std.specs.Prelude.{◌≡◌, ◌∷◌, List, IfErr, IfOk, IfSome, IsTrue, OnOk, Ok, nat_lt};
 ghost use Rattle.std.specs.List.{list_all};
 ghost use Rattle.cu_calculus.specs.FlatProgram as flats;
@@ -7,7 +7,8 @@ ghost use Rattle.cu_calculus.specs.declared.FunId.{FunId};
 ghost use Rattle.cu_deftree.specs.LoweredProgram.{Lowering};
 ghost use Rattle.cu_deftree.specs.NotLowered.{IsLowerFault};
 ghost use Rattle.cu_flat.specs.Layout.{laid_out};
-ghost use Rattle.cu_front.specs.Programs.{CanRun, CannotRun, HasLevels, IsLifted};
+ghost use Rattle.cu_front.specs.Inside.Typings.{IsTyping};
+ghost use Rattle.cu_front.specs.Programs.{CanRun, CannotRun, HasLevels, IsLifted, IsTypable};
 ghost use Rattle.cu_front.specs.Programs as programs;
 ghost use Rattle.cu_front.specs.Refusal as meant;
 ghost use Rattle.cu_front.specs.RefusalMeaning.{FunctionIsKnown, function_named};
@@ -28,13 +29,16 @@ use cu_kernel::{LocalProgram, Program, TopFunction};
 use cu_lift::{LevelFault, levels, lift};
 use cu_names::{NameId, Names};
 use cu_parts::is_joined;
+use cu_types::{Interface, TypeFault, clashes_leave_no_solution, infer};
 use std::alloc::Global;
 
 /// A program that can be run.
 #[derive(Drop)]
 pub struct Compiled {
     pub program: Program,
-    /// The same with definitional trees in place of rules.
+    /// The types of its functions.
+    pub interface: Interface,
+    /// The same program with definitional trees in place of rules.
     pub flat: FlatProgram,
 }
 
@@ -43,8 +47,10 @@ pub struct Compiled {
 ///
 /// # Errors
 ///
-/// The first function on a recursion through set functions, or else the first
-/// whose definitional tree is too big; want of memory.
+/// The first function on a recursion through set functions, or else the first of
+/// the first dependency group that can't be typed, or else the first whose
+/// definitional tree is too big, or else that the goal holds functions; want of
+/// memory.
 pub(crate) fn runnable(
     alloc: Global,
     names: &mut Names,
@@ -53,16 +59,24 @@ pub(crate) fn runnable(
     ensures lifted { IfOk result (λ found.
         IsLifted names.old local names.new found.program) }
     ensures runs { IfOk result (λ found.
-        CanRun found.program (flats.program_of found.flat)) }
+        CanRun found.program found.interface (flats.program_of found.flat)) }
     ensures layout { IfOk result (λ found. found.flat ≡ laid_out (flats.program_of found.flat)) }
     ensures fault { IfErr result (Tells names.new (IsNotRunnable names.old local names.new)) }
     ensures names { Extends names.old names.new }
 {
     let program = lifted(alloc, names, local)?;
     test_levels(alloc, names, &program)?;
+    let typing = typed(alloc, names, &program)?;
     let flat = lowered(alloc, names, &program)?;
     let _functions = program.functions();
-    Ok(Compiled { program, flat })
+    match typing {
+        Typing::Data(interface) => Ok(Compiled {
+            program,
+            interface,
+            flat,
+        }),
+        Typing::Functional => Err(StageFault::Refused(Refusal::GoalFunctional)),
+    }
 }
 
 /// The program that another becomes by lifting. That all parts of it fit is
@@ -131,9 +145,60 @@ fn of_recursion(names: &Names, program: &Program, cycle: &[FunId]) -> StageFault
     }
 }
 
-/// The flat program of a program with set levels.
+/// What inference says of a program that has types.
+#[derive(Drop)]
+enum Typing {
+    /// The goal is data, where there is one.
+    Data(Interface),
+    /// The goal, or a variable of it, holds functions.
+    Functional,
+}
+
+/// The types of the functions of a program with set levels.
+///
+/// # Errors
+///
+/// The first function of the first dependency group that can't be typed; want of
+/// memory.
+fn typed(alloc: Global, names: &Names, program: &Program) -> Result<Typing, StageFault>
+    requires levels { HasLevels program.now }
+    ensures types { IfOk result (IsTyping program.now) }
+    ensures fault { IfErr result (Tells names.now (CannotRun names.now program.now)) }
+{
+    clashes_leave_no_solution();
+    match infer(alloc, program) {
+        Ok(interface) => Ok(Typing::Data(interface)),
+        Err(TypeFault::TypeClash(f, _)) => Err(of_clash(names, program, f)),
+        Err(TypeFault::Signature(f)) => Err(of_signature(names, program, f)),
+        Err(TypeFault::GoalFunctional) => Ok(Typing::Functional),
+        Err(TypeFault::NoMemory) => Err(StageFault::NoMemory),
+    }
+}
+
+fn of_clash(names: &Names, program: &Program, f: FunId) -> StageFault
+    ensures { Tells names.now (λ refusal. refusal
+        ≡ meant.TypeClash (programs.function_text names.now program.now f)) result }
+{
+    match function_names(names, program, f) {
+        Some((owner, f)) => StageFault::Refused(Refusal::TypeClash(owner, f)),
+        None => StageFault::NoMemory,
+    }
+}
+
+fn of_signature(names: &Names, program: &Program, f: FunId) -> StageFault
+    ensures { Tells names.now (λ refusal. refusal
+        ≡ meant.Signature (programs.function_text names.now program.now f)) result }
+{
+    match function_names(names, program, f) {
+        Some((owner, f)) => StageFault::Refused(Refusal::Signature(owner, f)),
+        None => StageFault::NoMemory,
+    }
+}
+
+/// The flat program of a program with set levels and types.
 fn lowered(alloc: Global, names: &Names, program: &Program) -> Result<FlatProgram, StageFault>
     requires levels { HasLevels program.now }
+    requires types { IsTypable program.now }
     ensures flat { IfOk result (λ flat.
         Lowering (program_of program.now) (Ok (flats.program_of flat))) }
     ensures layout { IfOk result (λ flat. flat ≡ laid_out (flats.program_of flat)) }
@@ -150,6 +215,7 @@ fn lowered(alloc: Global, names: &Names, program: &Program) -> Result<FlatProgra
 
 fn of_lowering(names: &Names, program: &Program, fault: LowerFault) -> StageFault
     requires levels { HasLevels program.now }
+    requires types { IsTypable program.now }
     requires fault { IsLowerFault (program_of program.now) fault }
     ensures { Tells names.now (CannotRun names.now program.now) result }
 {

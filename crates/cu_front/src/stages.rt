@@ -26,6 +26,7 @@ ghost use Rattle.cu_modules.specs.Ordering.{AreOrdered, modules_of};
 ghost use Rattle.cu_modules.specs.Reading.{HasModule};
 ghost use Rattle.cu_modules.specs.declared.modules.Module.{Module};
 ghost use Rattle.cu_names.specs.Texts.{Extends, IsKnown};
+ghost use Rattle.cu_types.specs.Inference.{IsInferred};
 
 use crate::asked::Asked;
 use crate::fault::{CompileFault, StageFault};
@@ -60,6 +61,7 @@ pub fn compile<L: Library>(
         (TellsRefusal names.new (Refuses (held.module_at asked.entry.folder.now)
         asked.entry.root.now asked.entry.goal.now))) }
     ensures known { IfErr result (AnswerIsKnown names.new) }
+    ensures types { IfOk result (λ found. IsInferred found.program found.interface) }
     ensures goal { IfOk result (λ found. HasGoal names.new found.program found.flat) }
     ensures layout { IfOk result (λ found. found.flat ≡ laid_out (flats.program_of found.flat)) }
     ensures names { Extends names.old names.new }
@@ -92,6 +94,7 @@ fn in_modules(
         (flats.program_of found.flat)) }
     ensures fault { IfErr result (Tells names.new (RefusesBoth (modules_of names.old modules.now)
         asked.entry.root.now asked.entry.goal.now)) }
+    ensures types { IfOk result (λ found. IsInferred found.program found.interface) }
     ensures goal { IfOk result (λ found. HasGoal names.new found.program found.flat) }
     ensures layout { IfOk result (λ found. found.flat ≡ laid_out (flats.program_of found.flat)) }
     ensures names { Extends names.old names.new }

@@ -2,7 +2,7 @@
 ghost use Rattle.std.specs.Prelude.{◌≡◌, List, Some, ℕ};
 ghost use Rattle.cu_calculus.specs.Program.{Program};
 ghost use Rattle.cu_front.specs.Compiling.{Held};
-ghost use Rattle.cu_front.specs.Programs.{CanRun};
+ghost use Rattle.cu_front.specs.Programs.{IsLowered};
 ghost use Rattle.cu_kernel.specs.Kernel.{Goal, Kernel};
 ghost use Rattle.cu_laws.specs.Instance.{IsExhausted};
 ghost use Rattle.cu_machine.specs.declared.SearchLimits.{SearchLimits};
@@ -24,7 +24,7 @@ use cu_laws::{exhausted_listings_cover, listed_answers_derive};
 /// what its variables are bound to, set calls standing for all their values.
 pub fn answers_are_derived()
     ensures { (program : Kernel) (flat : Program) (goal : Goal) (limits : SearchLimits)
-        → CanRun program flat → program.goal ≡ Some goal
+        → IsLowered program flat → program.goal ≡ Some goal
         → AnswersAreSolutions program flat goal limits }
 {
     least_levels_exist();
@@ -41,7 +41,7 @@ pub fn answers_are_derived()
 /// rules of its program is an instance of an answer that is listed.
 pub fn exhausted_listings_cover_solutions()
     ensures { (program : Kernel) (flat : Program) (goal : Goal) (limits : SearchLimits)
-        → CanRun program flat → program.goal ≡ Some goal
+        → IsLowered program flat → program.goal ≡ Some goal
         → IsExhausted (listing_of limits flat goal)
         → SolutionsAreCovered program flat goal limits }
 {

@@ -4,6 +4,7 @@ use Rattle.std.specs.List.{All}
 use Rattle.cu_calculus.specs.Program as calculus
 use Rattle.cu_kernel.specs.Kernel.{Kernel}
 use Rattle.cu_kernel.specs.LocalKernel.{LocalKernel}
+use Rattle.cu_kernel.specs.TypeExpr.{TypeExpr}
 use Rattle.cu_names.specs.Texts.{IsKnown}
 use Rattle.cu_syntax.specs.Answer.{goal_meaning}
 use Rattle.cu_syntax.specs.declared.text.GoalText.{GoalText}
@@ -25,7 +26,8 @@ use Rattle.cu_translation.specs.Parts.{goal_part}
 use Rattle.cu_translation.specs.Translation as translation
 use Rattle.cu_translation.specs.Translation.{goal_translation}
 use Rattle.cu_uses.specs.Faults as uses
-use Rattle.cu_front.specs.Compiling.{Compiles, GoalRefused, Held, ModulesCompile, ModulesRefused, Refuses, whole_program}
+use Rattle.cu_front.specs.Compiling.{Compiles, GoalRefused, Held, ModulesCompile}
+use Rattle.cu_front.specs.Compiling.{ModulesRefused, Refuses, whole_program}
 use Rattle.cu_front.specs.declared.fault.CompileFault.{CompileFault}
 use Rattle.cu_front.specs.declared.fault.CompileFault.TheVariants as answer
 use Rattle.cu_front.specs.declared.fault.StageFault.{StageFault}
@@ -109,12 +111,12 @@ abbrev pub RefusesModules : List Named → List ℕ → Refusal → Type 0
 RefusesModules modules root refusal =
     (held : Held) → Walk held root (Ok modules) → ModulesRefused held root refusal
 
--- The modules that the root reaches come to this program.
-abbrev pub CompileAlone :
-    List Named → List ℕ → List (List ℕ) → Kernel → calculus.Program → Type 0
-CompileAlone modules root names program flat =
+-- The modules that the root reaches come to this program, with these types.
+abbrev pub CompileAlone : List Named → List ℕ → List (List ℕ) → Kernel → List TypeExpr
+    → calculus.Program → Type 0
+CompileAlone modules root names program interface flat =
     (held : Held) → Walk held root (Ok modules)
-    → ModulesCompile held root modules names program flat
+    → ModulesCompile held root modules names program interface flat
 
 -- These modules, or a goal in the root, are refused so.
 abbrev pub RefusesBoth : List Named → List ℕ → List ℕ → Refusal → Type 0

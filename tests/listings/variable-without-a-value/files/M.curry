@@ -1,0 +1,1 @@
+data Test = Test (Bool -> Bool)

@@ -8,13 +8,13 @@ use Rattle.cu_cmd.proofs.compiling.compile.Goals as goal
 pub returns-in-Ok-clause-ends : goal.returns-in-Ok-clause-ends
 returns-in-Ok-clause-ends g c =
     text_ends c.write_module.result (compile_of c.args.compile) (g.L.Library.holdings c.args.library.now) _ c.in-Ok.compiled.program
-    (program_of c.in-Ok.compiled.flat) c.in-Some.id _ _ c.in-Ok.ensures.program c.in-Some.ensures.found c.write_module.ensures.status
+    c.in-Ok.compiled.interface (program_of c.in-Ok.compiled.flat) c.in-Some.id _ _ c.in-Ok.ensures.program c.in-Some.ensures.found c.write_module.ensures.status
     c.write_module.ensures.whole c.write_module.ensures.prefix
 
 pub returns-in-Ok-clause-whole : goal.returns-in-Ok-clause-whole
 returns-in-Ok-clause-whole g c =
     text_ends_whole c.write_module.result (compile_of c.args.compile)
-    (lowered c.compile_module.new.names c.in-Ok.compiled.program c.in-Ok.compiled.flat) c.in-Some.id _ _ _ _ c.write_module.ensures.status
+    (lowered c.compile_module.new.names c.in-Ok.compiled.program c.in-Ok.compiled.interface c.in-Ok.compiled.flat) c.in-Some.id _ _ _ _ c.write_module.ensures.status
     c.write_module.ensures.whole c.write_module.ensures.cause
 
 pub returns-in-Ok-clause-cause : goal.returns-in-Ok-clause-cause

@@ -28,10 +28,10 @@ returns-in-Ok-alone-clause-program g c =
     let found = c.in-Ok-alone.found in
     let ms = modules_of old c.in-Ok.modules.items in
     let alone =
-    subst (λ (xs : List Module). CompileAlone (modules_of old xs) root new found.program (program_of found.flat)) c.as_slice.ensures.value
+    subst (λ (xs : List Module). CompileAlone (modules_of old xs) root new found.program found.interface (program_of found.flat)) c.as_slice.ensures.value
     (c.in-Ok-alone.ensures.program root) in
     stage_comes (g.L.Library.holdings c.args.library.now) c.args.asked.folder.now root
-    (λ (held : Held). ModuleCompiles held root new found.program (program_of found.flat)) ms c.in-Ok.ensures.walked
+    (λ (held : Held). ModuleCompiles held root new found.program found.interface (program_of found.flat)) ms c.in-Ok.ensures.walked
     (λ held walked. alone_comes held root ms new found alone walked)
 
 pub returns-in-Ok-alone-clause-names : goal.returns-in-Ok-alone-clause-names

@@ -18,6 +18,7 @@ returns-in_err-found-in-Program-clause-fault c modules root text are =
     let last = c.runnable-in-Program.new.names in
     let alone : CanRunAlone c.args.names.now c.runnable.new.names c.args.programs.modules = record {
       program = c.in_ok-runnable.field-0.program;
+      interface = c.in_ok-runnable.field-0.interface;
       flat = program_of c.in_ok-runnable.field-0.flat;
       lifted = c.in_ok-runnable.ensures.lifted;
       can_run = c.in_ok-runnable.ensures.runs;
@@ -34,13 +35,14 @@ returns-in_ok-found-in-Program-clause-program c modules root text are =
     let found = c.in_ok-found-in-Program.found in
     let alone : CanRunAlone c.args.names.now c.runnable.new.names c.args.programs.modules = record {
       program = c.in_ok-runnable.field-0.program;
+      interface = c.in_ok-runnable.field-0.interface;
       flat = program_of c.in_ok-runnable.field-0.flat;
       lifted = c.in_ok-runnable.ensures.lifted;
       can_run = c.in_ok-runnable.ensures.runs;
     } in
     ok_same (λ (same : Compiled). CompileBoth modules root text last same.program (program_of same.flat)) c.with_goal.result found c.with_goal.ensures.same
     (compiles c.args.names.now c.runnable.new.names last modules root text c.args.programs c.args.programs.modules c.in-Program.program
-    c.args.programs.whole found.program (program_of found.flat) refl refl c.in-Program.is are c.in_ok-runnable.ensures.names alone
+    c.args.programs.whole found.program found.interface (program_of found.flat) refl refl c.in-Program.is are c.in_ok-runnable.ensures.names alone
     c.in_ok-found-in-Program.ensures.lifted c.in_ok-found-in-Program.ensures.runs)
 
 pub returns-in_ok-found-in-Program-clause-fault : goal.returns-in_ok-found-in-Program-clause-fault
@@ -51,6 +53,7 @@ pub returns-in-Refused-clause-fault : goal.returns-in-Refused-clause-fault
 returns-in-Refused-clause-fault c modules root text are =
     let alone : CanRunAlone c.args.names.now c.runnable.new.names c.args.programs.modules = record {
       program = c.in_ok-runnable.field-0.program;
+      interface = c.in_ok-runnable.field-0.interface;
       flat = program_of c.in_ok-runnable.field-0.flat;
       lifted = c.in_ok-runnable.ensures.lifted;
       can_run = c.in_ok-runnable.ensures.runs;

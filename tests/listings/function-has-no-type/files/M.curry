@@ -1,0 +1,2 @@
+twice x = x + x
+size = twice "ab"
