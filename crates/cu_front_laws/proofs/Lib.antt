@@ -6,6 +6,9 @@ mod DeclaredMarks
 mod GrammarTrees
 mod Members
 mod NarrowTexts
+mod OneLowering
+mod OneRecursion
+mod OneRefusal
 mod Owners
 mod PreludeParts
 mod PreludeTokens

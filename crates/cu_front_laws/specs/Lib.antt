@@ -1,1 +1,2 @@
 pub mod DeclaredTypes
+pub mod Refusals
