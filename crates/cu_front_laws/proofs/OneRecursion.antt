@@ -7,7 +7,7 @@ use Rattle.cu_lift.specs.SetCycles.{IsSetRecursion, StandsOn}
 use Rattle.cu_lift.specs.Walks as walks
 use Rattle.cu_lift.specs.Walks.{Walk}
 
--- no function stands before another of two
+-- two functions of which neither stands before the other are one
 pub one_function : (f g : FunId) → (f.0 < g.0 → ⊥) → (g.0 < f.0 → ⊥) → f ≡ g
 one_function f g none_before none_behind = by (cases_order f.0 g.0)
   where
@@ -32,7 +32,7 @@ begins program first others is =
 stands : (program : Program) (first : FunId) (others : List FunId) → IsSetRecursion program (first ∷ others) → StandsOn program first
 stands program first others is = (is.first, first ∷ others, is.is_cycle, (0, omega arith, refl))
 
--- and no function before it stands on one
+-- no function before it stands on one
 none_before : (program : Program) (first : FunId) (others : List FunId) → IsSetRecursion program (first ∷ others) → (f : FunId)
     → StandsOn program f → f.0 < first.0 → ⊥
 none_before program first others is f on less =

@@ -1,5 +1,5 @@
-//! Laws of what becomes of programs. These functions do nothing: their
-//! contracts are the laws.
+//! A law of what becomes of programs. Its function does nothing: the contract is
+//! the law.
 ghost use Rattle.cu_front_laws.specs.Refusals.{ProgramsAgree, RefusalsAgree, RefusalsExclude};
 
 use cu_deftree::lowering_is_a_function;
