@@ -1,7 +1,7 @@
 -- One token after another.
-use Rattle.std.proofs.Common.{◌≡◌, ◌∙◌, ℕ, suc, ◌+◌, sym, ap, subst, refl, append_assoc, add-zero, arith, zero-add, Bool, true, nat_le, List, [], ◌∷◌, ◌++◌, length, map, Option, None, Some, Result, Ok, Err, if◌then◌else◌}
+use Rattle.std.proofs.Common.{◌≡◌, ◌∙◌, ℕ, suc, ◌+◌, sym, ap, subst, refl, append_assoc, add-zero, arith, zero-add, Bool, true, nat_le, List, [], ◌∷◌, ◌++◌, length, map, reverse, Option, None, Some, Result, Ok, Err, if◌then◌else◌}
 use Rattle.std.proofs.Math.Seq.{get_or-append_seam}
-use Rattle.std.proofs.lemmas.List.{length-append, length-map, map-append}
+use Rattle.std.proofs.lemmas.List.{length-append, length-map, map-append, reverse-append, reverse-reverse}
 use Rattle.std.proofs.lemmas.Option.{slice_get-get_or}
 use Rattle.std.specs.List.{slice_get}
 use Rattle.std.specs.Option.{option_and_then, option_map}
@@ -116,7 +116,29 @@ first-of-line : (before : Option Token) (last : Option Place) (t : Token) → la
 first-of-line None last t is = ap (λ l. begins_line_at l t.place) is
 first-of-line (Some b) last t is = ap (λ l. begins_line_at l t.place) is
 
--- what the loop knows before a token, and at it
+-- what the loop knows between two tokens
+pub record UpTo (whole : Bool) (tokens out : List Token) (stack : List Standing) (due : Bool) (before : Option Place) (left : List Token) : Type 0 where
+  pub done : List Token
+  pub text : tokens ≡ done ++ left
+  pub last : before ≡ option_map (λ b. b.place) (last_of None done)
+  pub laid : block token_view whole tokens ≡ laid_then out (length done) (block_from (last_of None done) (stack_of stack) due left)
+
+-- at the first token
+pub up-to-first : (whole : Bool) (tokens left out : List Token) (stack : List Standing) (due : Bool) → left ≡ reverse tokens → due ≡ due_at_start whole (token_sights tokens) → out ≡ [] → stack ≡ []
+    → UpTo whole tokens out stack due None (reverse left)
+up-to-first whole tokens left out stack due reversed is no-out no-stack =
+    let back : tokens ≡ reverse left = sym (ap reverse reversed ∙ reverse-reverse tokens) in
+    record {
+      done = [];
+      text = back;
+      last = refl;
+      laid = at-start whole tokens due is
+          ∙ ap (λ ts. laid_then [] 0 (block_from None (stack_of []) due ts)) back
+          ∙ ap (λ ts. laid_then ts 0 (block_from None (stack_of []) due (reverse left))) (sym no-out)
+          ∙ ap (λ s. laid_then out 0 (block_from None (stack_of s) due (reverse left))) (sym no-stack);
+    }
+
+-- what it knows before a token, and at it
 pub record At (whole : Bool) (tokens done out : List Token) (stack : List Standing) (due begins : Bool) (before : Option Place) (left : List Token) (seen : Form) (t : Token) (left' : List Token) : Type 0 where
   pub text : tokens ≡ done ++ left
   pub last : before ≡ option_map (λ b. b.place) (last_of None done)
@@ -147,6 +169,25 @@ laid-more whole text done laid laid' laid'' stack stack' due due' first last lef
     ∙ ap (λ n. laid_then laid'' n (block_from (Some t) (stack_of stack') (is_block_keyword (token_form t.kind)) left')) count
     ∙ ap (λ d. laid_then laid'' (length (done ++ t ∷ [])) (block_from (Some t) (stack_of stack') d left')) (ap is_block_keyword (sym at.what) ∙ sym keyword)
     ∙ ap (λ b. laid_then laid'' (length (done ++ t ∷ [])) (block_from b (stack_of stack') due' left')) (sym (last_of-more None done t))
+
+-- the tokens that are left lie in reverse
+pub at-last : (whole : Bool) (tokens out : List Token) (stack : List Standing) (due begins : Bool) (before : Option Place) (left : List Token) (seen : Form) (t : Token) (left' : List Token)
+    → (k : UpTo whole tokens out stack due before (reverse left)) → left ≡ left' ++ t ∷ [] → seen ≡ token_form t.kind → begins ≡ begins_line_at before t.place
+    → At whole tokens k.done out stack due begins before (reverse left) seen t (reverse left')
+at-last whole tokens out stack due begins before left seen t left' k popped form-is begins-is =
+    record { text = k.text; last = k.last; laid = k.laid; next = ap reverse popped ∙ reverse-append left' (t ∷ []); what = form-is; first = begins-is }
+
+pub up-to-next : (whole : Bool) (tokens front out out' out'' : List Token) (stack stack' : List Standing) (due due' begins : Bool) (before : Option Place) (left : List Token) (seen : Form) (t : Token) (left' kept : List Token)
+    → At whole tokens front out stack due begins before left seen t (reverse left') → LaysOut due begins seen t.place out out' stack stack' → out'' ≡ out' ++ t ∷ [] → due' ≡ is_block_keyword seen → kept ≡ left'
+    → UpTo whole tokens out'' stack' due' (Some t.place) (reverse kept)
+up-to-next whole tokens front out out' out'' stack stack' due due' begins before left seen t left' kept at lays pushed keyword same =
+    subst (λ ts. UpTo whole tokens out'' stack' due' (Some t.place) (reverse ts)) (sym same)
+    (record {
+      done = front ++ t ∷ [];
+      text = text-more tokens front left (reverse left') t at.text at.next;
+      last = last-more front t;
+      laid = laid-more whole tokens front out out' out'' stack stack' due due' begins before left seen t (reverse left') at lays pushed keyword;
+    })
 
 stands-at : (done left' : List Token) (t : Token) → slice_get (done ++ t ∷ left') (length done + 0) ≡ Some t
 stands-at done left' t =
@@ -185,13 +226,10 @@ no-items [] is = refl
 no-items (x ∷ xs) is = absurd (omega (arith, is))
 
 -- all tokens are laid out
-pub all-laid : (whole : Bool) (text done laid laid' : List Token) (stack slice : List Standing) (due : Bool) (last : Option Place) (left : List Token) (place : Place) → last ≡ option_map (λ b. b.place) (last_of None done)
-    → block token_view whole text ≡ laid_then laid (length done) (block_from (last_of None done) (stack_of stack) due left) → length left ≡ 0 → place ≡ start_or last → slice ≡ stack → laid' ≡ with_marks_at place (last_marks due (stack_of slice)) laid
-    → block token_view whole text ≡ Ok laid'
-all-laid whole text done laid laid' stack slice due last left place is rest none at value finished =
-    rest ∙ ap (λ ts. laid_then laid (length done) (block_from (last_of None done) (stack_of stack) due ts)) (no-items left none)
-    ∙ at-end (last_of None done) due laid laid' (length done) (stack_of stack) place (at ∙ start_or-place_at (last_of None done) last is) (finished ∙ ap (λ s. with_marks_at place (last_marks due (stack_of s)) laid) value)
-
--- one item less is left
-pub counted-less : (left left' : List Token) (t : Token) (count count' : ℕ) → left ≡ t ∷ left' → count' + 1 ≡ count → count ≡ length left → count' ≡ length left'
-counted-less left left' t count count' is less counted = omega (arith, ap length is)
+pub all-laid : (whole : Bool) (tokens out out' : List Token) (stack slice : List Standing) (due : Bool) (before : Option Place) (left : List Token) (place : Place)
+    → UpTo whole tokens out stack due before (reverse left) → length left ≡ 0 → place ≡ start_or before → slice ≡ stack → out' ≡ with_marks_at place (last_marks due (stack_of slice)) out
+    → block token_view whole tokens ≡ Ok out'
+all-laid whole tokens out out' stack slice due before left place k none at value finished =
+    let last = last_of None k.done in
+    k.laid ∙ ap (λ ts. laid_then out (length k.done) (block_from last (stack_of stack) due ts)) (ap reverse (no-items left none))
+    ∙ at-end last due out out' (length k.done) (stack_of stack) place (at ∙ start_or-place_at last before k.last) (finished ∙ ap (λ s. with_marks_at place (last_marks due (stack_of s)) out) value)

@@ -1,5 +1,5 @@
 //! The layout rules, in one pass over the tokens of a text.
-ghost use Rattle.std.specs.Prelude.{◌≡◌, ◌∷◌, [], replicate, IfErr, IfOk, OnOk};
+ghost use Rattle.std.specs.Prelude.{◌≡◌, ◌∷◌, [], replicate, vec_len, IfErr, IfOk, OnOk};
 ghost use Rattle.cu_lex.specs.declared.token.LayoutMark.TheVariants as layout;
 ghost use Rattle.cu_layout.specs.declared.fault.TooDeep.TheVariants.{NoMemory};
 ghost use Rattle.cu_layout.specs.Blocks.{due_at_start};
@@ -36,7 +36,9 @@ pub fn block(alloc: Global, tokens: Vec<Token>, whole: bool) -> Result<Vec<Token
     let mut stack = Vec::new(alloc);
     let mut laid = Vec::new(alloc);
     let mut last = None;
-    for token in tokens {
+    let mut left = tokens;
+    left.reverse();
+    while let Some(token) = left.pop() {
         let form = Form::of(&token.kind);
         let place = token.place;
         let first = begins_line(last, place);
@@ -44,6 +46,7 @@ pub fn block(alloc: Global, tokens: Vec<Token>, whole: bool) -> Result<Vec<Token
         laid.push(token)?;
         due = form.is_block_keyword();
         last = Some(place);
+        give_back(&mut left);
     }
     finish(&mut laid, stack.as_slice(), due, start_or(last))?;
     Ok(laid)
@@ -66,6 +69,16 @@ fn begins_line(last: Option<Place>, place: Place) -> bool
     match last {
         None => true,
         Some(last) => last.line != place.line,
+    }
+}
+
+/// Gives back the memory of tokens that were taken, once these are an eighth.
+fn give_back(left: &mut Vec<Token>)
+    ensures items { left.new.items ≡ left.old.items }
+    ensures len { vec_len left.new ≡ vec_len left.old }
+{
+    if left.len() < left.capacity() / 8 * 7 {
+        left.shrink_to_fit();
     }
 }
 
