@@ -76,8 +76,10 @@ impl Progress {
 
     /// Takes imports up to the first that isn't done.
     fn first_new(&self, left: &mut vec::IntoIter<NameId>) -> Option<NameId>
-        ensures { (names : List (List ℕ)) → AllDiffer names → All (HasModule names) self.now.done.items → All (IsKnown names) (into_iter_items left.old)
-            → Seeks names self.now.done.items (into_iter_items left.old) result (into_iter_items left.new) }
+        ensures { (names : List (List ℕ)) → AllDiffer names
+            → All (HasModule names) self.now.done.items → All (IsKnown names) (into_iter_items left.old)
+            → Seeks names self.now.done.items (into_iter_items left.old) result
+            (into_iter_items left.new) }
     {
         'left: while let Some(name) = left.next() {
             if !self.is_done(name) {
@@ -145,13 +147,18 @@ fn begin<L: Library>(
 ) -> Result<Frame, OrderFault>
     requires stands { Stands names.old progress.old }
     requires known { IsKnown names.old name }
-    requires not_done { is_there (modules_of names.old progress.old.done.items) (text_of names.old name) ≡ false }
-    ensures new { OnOk result (IsNew (texts_of names.old progress.old.path.items) (modules_of names.old progress.old.done.items) (text_of names.old name)) }
-    ensures enters { IfOk result (λ found. Enters names.new progress.old progress.new name found.«module» (into_iter_items found.left)) }
+    requires not_done { is_there (modules_of names.old progress.old.done.items)
+        (text_of names.old name) ≡ false }
+    ensures new { OnOk result (IsNew (texts_of names.old progress.old.path.items)
+        (modules_of names.old progress.old.done.items) (text_of names.old name)) }
+    ensures enters { IfOk result (λ found. Enters names.new progress.old progress.new name
+        found.«module» (into_iter_items found.left)) }
     ensures found { IfSome (L.holdings lib.old) (λ held. IfOk result (λ found.
-        IsFound (held.module_at dir.now) progress.old.fetched (text_of names.old name) (module_meaning names.new found.«module».syntax))) }
+        IsFound (held.module_at dir.now) progress.old.fetched (text_of names.old name)
+        (module_meaning names.new found.«module».syntax))) }
     ensures refused { IfSome (L.holdings lib.old) (λ held. IfErr result (Tells names.new (λ refusal.
-        Visits (held.module_at dir.now) (texts_of names.old progress.old.path.items) (modules_of names.old progress.old.done.items) (text_of names.old name) (Err refusal)))) }
+        Visits (held.module_at dir.now) (texts_of names.old progress.old.path.items)
+        (modules_of names.old progress.old.done.items) (text_of names.old name) (Err refusal)))) }
     ensures names { Extends names.old names.new }
     ensures same { L.holdings lib.new ≡ L.holdings lib.old }
     ensures count { MatchResult result
