@@ -185,7 +185,7 @@ pub record IsScoped (f : TopFunction) : Type 0 where
   -- the rules of the function itself use no variable that they don't bind, by way of local functions neither
   pub closed : (k v : ℕ) (rule : LocalRule) → slice_get (rules_of f.body) k ≡ Some rule → IsFree f.locals v rule.body
       → IsTrue (holds v (all_variables rule.params))
-  -- what a local function captures is bound around it
+  -- what a local function captures is bound outside of it
   pub captured : (k v : ℕ) → Captures f.locals k v → IsTrue (holds v (outer_binders f k))
   -- no variable is defined by itself, by way of local functions neither
   pub lets : (k x : ℕ) (a : LocalTerm) → slice_get (flat_map rule_lets (all_rules f)) k ≡ Some (x, a) → IsFree f.locals x a → ⊥

@@ -83,7 +83,8 @@ abbrev mutual
 
 -- what a declaration declares in its scope
 pub data Declared : Type 0 where
-  -- A rule for a name. Rules of one function may follow it, or else it is the only one for its name.
+  -- A rule for a name. Where the flag is set, it is a function's, whose other rules may follow it at once; or else it
+  -- defines a variable, and nothing else may declare its name.
   Rule : Bool → Name → Declared
   -- each of these names
   Names : List Name → Declared
