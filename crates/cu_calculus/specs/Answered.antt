@@ -27,7 +27,8 @@ abbrev mutual
   same_value value.Bottom value.Bottom = true
   same_value (value.Variable x) (value.Variable y) = nat_eq x y
   same_value (value.Literal l) (value.Literal m) = same_literal l m
-  same_value (value.Constructed c us) (value.Constructed d vs) = same_constructor c d && same_values us vs
+  same_value (value.Constructed c us) (value.Constructed d vs) =
+      same_constructor c d && same_values us vs
   same_value (value.Partial h us) (value.Partial k vs) = same_head h k && same_values us vs
   same_value _ _ = false
 
@@ -46,13 +47,16 @@ abbrev pub on_pair : (Value → Value → Option Value) → Values → Option Va
 on_pair answer (MoreValues a (MoreValues b NoValue)) = answer a b
 on_pair answer _ = None
 
--- the equation of two values holds where they are one and total data, and a conjunction where both sides are True
+-- the equation of two values holds where they are one and total data, and a conjunction where both
+-- sides are True
 abbrev pub unified : Program → Value → Value → Option Value
-unified program a b = if same_value a b && is_total_data a then Some (truth_of program true) else None
+unified program a b = if same_value a b && is_total_data a then Some (truth_of program true)
+    else None
 
 abbrev pub conjoined : Program → Value → Value → Option Value
 conjoined program a b =
-    if same_value a (truth_of program true) && same_value b (truth_of program true) then Some (truth_of program true) else None
+    if same_value a (truth_of program true) && same_value b (truth_of program true)
+    then Some (truth_of program true) else None
 
 abbrev pub answered : Program → Primitive → Values → Option Value
 answered program prim.Equal us = on_pair (λ a b. option_map (truth_of program) (compared a b)) us

@@ -1,4 +1,5 @@
--- The order of approximation on partial values: what is below says less, and never anything different.
+-- The order of approximation on partial values: what is below says less, and never anything
+-- different.
 use Rattle.std.specs.Prelude.{◌≡◌, ℕ, [], ◌∷◌}
 use Rattle.cu_calculus.specs.declared.ConId.{ConId}
 use Rattle.cu_calculus.specs.declared.Head.{Head}
@@ -12,13 +13,16 @@ mutual
     bottom : (v : Value) → Below value.Bottom v
     variable : (x : ℕ) → Below (value.Variable x) (value.Variable x)
     literal : (l : Lit) → Below (value.Literal l) (value.Literal l)
-    constructed : (c : ConId) (us vs : Values) → AllBelow us vs → Below (value.Constructed c us) (value.Constructed c vs)
-    partial : (h : Head) (us vs : Values) → AllBelow us vs → Below (value.Partial h us) (value.Partial h vs)
+    constructed : (c : ConId) (us vs : Values) → AllBelow us vs
+        → Below (value.Constructed c us) (value.Constructed c vs)
+    partial : (h : Head) (us vs : Values) → AllBelow us vs
+        → Below (value.Partial h us) (value.Partial h vs)
 
   -- values that are below others in pairs
   pub data AllBelow : Values → Values → Type 0 where
     none : AllBelow value.NoValue value.NoValue
-    more : (u v : Value) (us vs : Values) → Below u v → AllBelow us vs → AllBelow (value.MoreValues u us) (value.MoreValues v vs)
+    more : (u v : Value) (us vs : Values) → Below u v → AllBelow us vs
+        → AllBelow (value.MoreValues u us) (value.MoreValues v vs)
 
 -- an environment says at most what another does
 abbrev pub EnvBelow : Environment → Environment → Type 0

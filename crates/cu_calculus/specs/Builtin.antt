@@ -51,30 +51,39 @@ abbrev pub literals : List Lit → Values
 literals [] = NoValue
 literals (l ∷ ls) = MoreValues (value.Literal l) (literals ls)
 
--- Comparing by `==`: different literals or constructors are not the same, and neither are a literal and a constructor. With
--- the same constructor the arguments are compared from the left, up to the first pair that isn't the same.
+-- Comparing by `==`: different literals or constructors are not the same, and neither are a literal
+-- and a constructor. With the same constructor the arguments are compared from the left, up to the
+-- first pair that isn't the same.
 mutual
   pub data Compares : Value → Value → Bool → Type 0 where
-    two_literals : (l m : Lit) (answer : Bool) → answer ≡ same_literal l m → Compares (value.Literal l) (value.Literal m) answer
-    literal_first : (l : Lit) (c : ConId) (vs : Values) → Compares (value.Literal l) (value.Constructed c vs) false
-    literal_second : (c : ConId) (us : Values) (l : Lit) → Compares (value.Constructed c us) (value.Literal l) false
-    different : (c d : ConId) (us vs : Values) → same_constructor c d ≡ false → Compares (value.Constructed c us) (value.Constructed d vs) false
+    two_literals : (l m : Lit) (answer : Bool) → answer ≡ same_literal l m
+        → Compares (value.Literal l) (value.Literal m) answer
+    literal_first : (l : Lit) (c : ConId) (vs : Values)
+        → Compares (value.Literal l) (value.Constructed c vs) false
+    literal_second : (c : ConId) (us : Values) (l : Lit)
+        → Compares (value.Constructed c us) (value.Literal l) false
+    different : (c d : ConId) (us vs : Values) → same_constructor c d ≡ false
+        → Compares (value.Constructed c us) (value.Constructed d vs) false
     alike : (c : ConId) (us vs : Values) (answer : Bool) → AllCompare us vs answer
         → Compares (value.Constructed c us) (value.Constructed c vs) answer
 
   pub data AllCompare : Values → Values → Bool → Type 0 where
     none : AllCompare NoValue NoValue true
-    first_differs : (u v : Value) (us vs : Values) → Compares u v false → AllCompare (MoreValues u us) (MoreValues v vs) false
-    first_alike : (u v : Value) (us vs : Values) (answer : Bool) → Compares u v true → AllCompare us vs answer
+    first_differs : (u v : Value) (us vs : Values) → Compares u v false
+        → AllCompare (MoreValues u us) (MoreValues v vs) false
+    first_alike : (u v : Value) (us vs : Values) (answer : Bool) → Compares u v true
+        → AllCompare us vs answer
         → AllCompare (MoreValues u us) (MoreValues v vs) answer
 
 -- A built-in operation on values has a value. `failed` has none.
 pub data Answers (program : Program) : Primitive → Values → Value → Type 0 where
-  of_literals : (operation : Primitive) (ls : List Lit) (us : Values) (v : Value) → us ≡ literals ls → on_literals program operation ls ≡ Some v
+  of_literals : (operation : Primitive) (ls : List Lit) (us : Values) (v : Value) → us ≡ literals ls
+      → on_literals program operation ls ≡ Some v
       → Answers program operation us v
   equal : (a b v : Value) (answer : Bool) → Compares a b answer → v ≡ truth_of program answer
       → Answers program prim.Equal (MoreValues a (MoreValues b NoValue)) v
   unified : (a b v : Value) → a ≡ b → IsTrue (is_total_data a) → v ≡ truth_of program true
       → Answers program prim.Unify (MoreValues a (MoreValues b NoValue)) v
-  conjoined : (a b v : Value) → a ≡ truth_of program true → b ≡ truth_of program true → v ≡ truth_of program true
+  conjoined : (a b v : Value) → a ≡ truth_of program true → b ≡ truth_of program true
+      → v ≡ truth_of program true
       → Answers program prim.And (MoreValues a (MoreValues b NoValue)) v

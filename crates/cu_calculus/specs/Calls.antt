@@ -15,4 +15,9 @@ bindings_from x (MoreValues v vs) = (x, v) ∷ bindings_from (x + 1) vs
 
 -- a function on argument values has a value
 abbrev pub call_statement : FunId → Values → Value → Statement
-call_statement f vs v = record { env = bindings_from 0 vs; term = Whole (Fun f) (variables_from 0 (count vs)); value = v }
+call_statement f vs v =
+    record {
+      env = bindings_from 0 vs;
+      term = Whole (Fun f) (variables_from 0 (count vs));
+      value = v;
+    }

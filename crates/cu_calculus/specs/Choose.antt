@@ -1,5 +1,6 @@
--- Choose: which alternative of a case distinction a value takes. Patterns are looked at from left to right, as far as the
--- first alternative demands, and alternatives are given up where they can't be taken any more.
+-- Choose: which alternative of a case distinction a value takes. Patterns are looked at from left
+-- to right, as far as the first alternative demands, and alternatives are given up where they can't
+-- be taken any more.
 use Rattle.std.specs.Prelude.{◌≡◌, ℕ, ◌+◌, zero, suc, Bool, true, false, not, ◌||◌, List, [], ◌∷◌, ◌++◌, Option, None, Some, if◌then◌else◌, nat_eq, option_map, slice_get, take, drop, map, filter, length, replicate}
 use Rattle.std.specs.List.{list_any}
 use Rattle.cu_calculus.specs.declared.ConId.{ConId}
@@ -32,7 +33,8 @@ abbrev pub list_patterns : Patterns → List Pattern
 list_patterns NoPattern = []
 list_patterns (MorePatterns p ps) = p ∷ list_patterns ps
 
--- the patterns for the n arguments of what stands at a position: a pattern that demands nothing there demands nothing of them
+-- the patterns for the n arguments of what stands at a position: a pattern that demands nothing
+-- there demands nothing of them
 abbrev pub arguments_of : ℕ → Pattern → List Pattern
 arguments_of n (Any x) = replicate n (Any x)
 arguments_of n (Exactly l) = []
@@ -47,10 +49,12 @@ is_demanding (AConstructor c) = true
 -- the leftmost position that is demanded
 abbrev pub leftmost : List Pattern → Option ℕ
 leftmost [] = None
-leftmost (p ∷ ps) = if is_demanding (demand_of p) then Some 0 else option_map (λ k. k + 1) (leftmost ps)
+leftmost (p ∷ ps) = if is_demanding (demand_of p) then Some 0
+    else option_map (λ k. k + 1) (leftmost ps)
 
 abbrev pub demand_at : ℕ → Row → Demand
-demand_at position row = elim (slice_get row.patterns position) [ Some p ↦ demand_of p | None ↦ Nothing ]
+demand_at position row =
+    elim (slice_get row.patterns position) [ Some p ↦ demand_of p | None ↦ Nothing ]
 
 abbrev pub wants_literal : Lit → Demand → Bool
 wants_literal l (ALiteral m) = same_literal l m
@@ -79,7 +83,11 @@ spliced position arguments xs = take position xs ++ arguments ++ drop (position 
 
 abbrev pub narrowed : ℕ → ℕ → Row → Row
 narrowed position n row = record {
-  patterns = spliced position (elim (slice_get row.patterns position) [ Some p ↦ arguments_of n p | None ↦ [] ]) row.patterns;
+  patterns =
+      spliced position (elim (slice_get row.patterns position) [
+        | Some p ↦ arguments_of n p
+        | None ↦ []
+      ]) row.patterns;
   choice = row.choice;
 }
 
@@ -96,30 +104,43 @@ pub data Look : Type 0 where
 -- the rows that pass a test at a position, over the arguments of what stands there
 abbrev pub narrow : ℕ → (Demand → Bool) → List Row → List Value → List Value → Look
 narrow position test rows arguments values =
-    Narrow (map (narrowed position (length arguments)) (filter (λ row. test (demand_at position row)) rows)) (spliced position arguments values)
+    Narrow (map (narrowed position (length arguments))
+    (filter (λ row. test (demand_at position row)) rows)) (spliced position arguments values)
 
 abbrev pub same_type : Program → ConId → ConId → Bool
-same_type program c d = elim (constructor_of program c)
-    [ Some a ↦ elim (constructor_of program d) [ Some b ↦ nat_eq a.of_type b.of_type | None ↦ false ] | None ↦ false ]
+same_type program c d = elim (constructor_of program c) [
+  | Some a ↦ elim (constructor_of program d) [
+    | Some b ↦ nat_eq a.of_type b.of_type
+    | None ↦ false
+  ]
+  | None ↦ false
+]
 
--- A literal stands at a position, where the first row demands something; the Bool says whether some row has a variable there.
--- Without one, the rows that want another literal or a constructor go. With one, so they do where the first wants this
--- literal; where it wants another, the rows that want that one go; where it wants a constructor, nothing is taken.
+-- A literal stands at a position, where the first row demands something; the Bool says whether some
+-- row has a variable there. Without one, the rows that want another literal or a constructor go.
+-- With one, so they do where the first wants this literal; where it wants another, the rows that
+-- want that one go; where it wants a constructor, nothing is taken.
 abbrev pub at_literal : ℕ → Lit → Demand → Bool → List Row → List Value → Look
 at_literal position l first false rows values = narrow position (wants_literal l) rows [] values
 at_literal position l (ALiteral m) true rows values =
-    if same_literal l m then narrow position (λ d. wants_nothing d || wants_literal l d) rows [] values
+    if same_literal l m then narrow position (λ d. wants_nothing d || wants_literal l d) rows
+    [] values
     else Again (filter (λ row. not_literal m (demand_at position row)) rows)
 at_literal position l (AConstructor c) true rows values = Nowhere
 at_literal position l Nothing true rows values = Nowhere
 
--- A constructor stands there. Without a variable at the position, the rows that want another constructor or a literal go.
--- With one, so they do where the first wants a constructor of the same type, and nothing is taken where it wants one of
--- another type; where it wants a literal, the rows that want that literal go.
-abbrev pub at_constructor : Program → ℕ → ConId → Demand → Bool → List Row → List Value → List Value → Look
-at_constructor program position c first false rows arguments values = narrow position (wants_constructor c) rows arguments values
+-- A constructor stands there. Without a variable at the position, the rows that want another
+-- constructor or a literal go. With one, so they do where the first wants a constructor of the same
+-- type, and nothing is taken where it wants one of another type; where it wants a literal, the rows
+-- that want that literal go.
+abbrev pub at_constructor : Program → ℕ → ConId → Demand → Bool → List Row → List Value → List Value
+    → Look
+at_constructor program position c first false rows arguments values =
+    narrow position (wants_constructor c) rows arguments values
 at_constructor program position c (AConstructor d) true rows arguments values =
-    if same_type program c d then narrow position (λ e. wants_nothing e || wants_constructor c e) rows arguments values else Nowhere
+    if same_type program c d
+    then narrow position (λ e. wants_nothing e || wants_constructor c e) rows arguments values
+    else Nowhere
 at_constructor program position c (ALiteral m) true rows arguments values =
     Again (filter (λ row. not_literal m (demand_at position row)) rows)
 at_constructor program position c Nothing true rows arguments values = Nowhere
@@ -128,38 +149,47 @@ abbrev pub look_at : Program → ℕ → Row → List Row → List Value → Opt
 look_at program position first rows values (Some (value.Literal l)) =
     at_literal position l (demand_at position first) (has_variable position rows) rows values
 look_at program position first rows values (Some (value.Constructed c vs)) =
-    at_constructor program position c (demand_at position first) (has_variable position rows) rows (list_of vs) values
+    at_constructor program position c (demand_at position first) (has_variable position rows) rows
+    (list_of vs) values
 look_at program position first rows values _ = Nowhere
 
 abbrev pub look_from : Program → Row → List Row → List Value → Option ℕ → Look
 look_from program first rows values None = Take first.choice
-look_from program first rows values (Some position) = look_at program position first rows values (slice_get values position)
+look_from program first rows values (Some position) =
+    look_at program position first rows values (slice_get values position)
 
 -- one look at rows over values
 abbrev pub look : Program → List Row → List Value → Look
 look program [] values = Nowhere
-look program (first ∷ rows) values = look_from program first (first ∷ rows) values (leftmost first.patterns)
+look program (first ∷ rows) values =
+    look_from program first (first ∷ rows) values (leftmost first.patterns)
 
 -- the rows over the values take an alternative
 pub data Chooses (program : Program) : List Row → List Value → ℕ → Type 0 where
-  taken : (rows : List Row) (values : List Value) (choice : ℕ) → look program rows values ≡ Take choice → Chooses program rows values choice
-  again : (rows fewer : List Row) (values : List Value) (choice : ℕ) → look program rows values ≡ Again fewer
+  taken : (rows : List Row) (values : List Value) (choice : ℕ)
+      → look program rows values ≡ Take choice → Chooses program rows values choice
+  again : (rows fewer : List Row) (values : List Value) (choice : ℕ)
+      → look program rows values ≡ Again fewer
       → Chooses program fewer values choice → Chooses program rows values choice
-  narrower : (rows fewer : List Row) (values parts : List Value) (choice : ℕ) → look program rows values ≡ Narrow fewer parts
+  narrower : (rows fewer : List Row) (values parts : List Value) (choice : ℕ)
+      → look program rows values ≡ Narrow fewer parts
       → Chooses program fewer parts choice → Chooses program rows values choice
 
 -- the rows of alternatives, of which the first gets the number n
 abbrev pub rows_from : ℕ → Alternatives → List Row
 rows_from n NoAlternative = []
-rows_from n (MoreAlternatives p t alternatives) = record { patterns = p ∷ []; choice = n } ∷ rows_from (n + 1) alternatives
+rows_from n (MoreAlternatives p t alternatives) =
+    record { patterns = p ∷ []; choice = n } ∷ rows_from (n + 1) alternatives
 
 abbrev pub alternative_at : Alternatives → ℕ → Option (Pattern × Term)
 alternative_at NoAlternative k = None
 alternative_at (MoreAlternatives p t alternatives) zero = Some (p, t)
 alternative_at (MoreAlternatives p t alternatives) (suc k) = alternative_at alternatives k
 
--- Alternatives select a term for a value, and bind variables: the value takes the alternative, and its pattern matches.
-pub record Selects (program : Program) (alternatives : Alternatives) (u : Value) (t : Term) (bindings : Bindings) : Type 0 where
+-- Alternatives select a term for a value, and bind variables: the value takes the alternative, and
+-- its pattern matches.
+pub record Selects (program : Program) (alternatives : Alternatives) (u : Value) (t : Term)
+    (bindings : Bindings) : Type 0 where
   pub choice : ℕ
   pub pattern : Pattern
   pub chooses : Chooses program (rows_from 0 alternatives) (u ∷ []) choice

@@ -36,7 +36,8 @@ chosen_after again values (Narrow rows parts) = again rows parts
 -- the alternative that is taken within so many looks
 abbrev pub chosen_within : ℕ → Program → List Row → List Value → Option ℕ
 chosen_within zero program rows values = None
-chosen_within (suc n) program rows values = chosen_after (chosen_within n program) values (look program rows values)
+chosen_within (suc n) program rows values =
+    chosen_after (chosen_within n program) values (look program rows values)
 
 abbrev pub chosen : Program → List Row → List Value → Option ℕ
 chosen program rows values = chosen_within (looks rows + 1) program rows values

@@ -41,7 +41,8 @@ abbrev mutual
 
   pub alternative_mentions : Alternatives → List Mention
   alternative_mentions term.NoAlternative = []
-  alternative_mentions (term.MoreAlternatives p t alternatives) = mentions t ++ alternative_mentions alternatives
+  alternative_mentions (term.MoreAlternatives p t alternatives) =
+      mentions t ++ alternative_mentions alternatives
 
 abbrev pub body_mentions : Body → List Mention
 body_mentions (Rules rules) = flat_map (λ rule. mentions rule.body) rules
@@ -59,13 +60,16 @@ Allows levels level (Collected f) = level_of levels f < level
 -- Each function's level allows what its rules mention.
 pub record AreLevels (program : Program) (levels : List ℕ) : Type 0 where
   pub each : length levels ≡ length program.functions
-  pub allowed : (k m : ℕ) (function : Function) (mention : Mention) → slice_get program.functions k ≡ Option.Some function
-      → slice_get (body_mentions function.body) m ≡ Option.Some mention → Allows levels (slice_index levels k) mention
+  pub allowed : (k m : ℕ) (function : Function) (mention : Mention)
+      → slice_get program.functions k ≡ Option.Some function
+      → slice_get (body_mentions function.body) m ≡ Option.Some mention
+      → Allows levels (slice_index levels k) mention
 
 -- SetLevel: the least levels
 pub record AreLeastLevels (program : Program) (levels : List ℕ) : Type 0 where
   pub are_levels : AreLevels program levels
-  pub least : (others : List ℕ) (k : ℕ) → AreLevels program others → slice_index levels k ≤ slice_index others k
+  pub least : (others : List ℕ) (k : ℕ) → AreLevels program others
+      → slice_index levels k ≤ slice_index others k
 
 -- the environment of a call on values: its variables, counted from 0, are the arguments
 abbrev pub arguments_env : Values → Environment
@@ -78,30 +82,41 @@ variables_from x (suc n) = term.MoreTerms (term.Variable x) (variables_from (x +
 -- a function of the program has a value on argument values of the program, as many as it takes
 abbrev pub Concludes : Program → List Claim → FunId → Values → Value → Type 0
 Concludes program claims f vs v =
-    IsTrue (takes (arity_in program (head.Fun f)) (count vs)) × IsTrue (are_of program vs) × Gives program claims (arguments_env vs) (term.Whole (head.Fun f) (variables_from 0 (count vs))) v
+    IsTrue (takes (arity_in program (head.Fun f)) (count vs)) × IsTrue (are_of program vs)
+    × Gives program claims (arguments_env vs)
+    (term.Whole (head.Fun f) (variables_from 0 (count vs))) v
 
--- A claim holds exactly the ground values that its function has on its arguments by claims that are true, in order.
-pub record IsExact (program : Program) (are_true : List Claim → Type 0) (claim : Claim) : Type 0 where
+-- A claim holds exactly the ground values that its function has on its arguments by claims that are
+-- true, in order.
+pub record IsExact (program : Program) (are_true : List Claim → Type 0)
+    (claim : Claim) : Type 0 where
   pub known : IsTrue (takes (arity_in program (head.Fun claim.function)) (count claim.arguments))
   pub of_program : IsTrue (are_of program claim.arguments)
   pub ground : IsTrue (are_ground claim.arguments)
   pub ordered : IsTrue (rises claim.values)
   pub each : (k : ℕ) (v : Value) → slice_get claim.values k ≡ Option.Some v
-      → IsTrue (is_ground v) × (claims : List Claim) × are_true claims × Concludes program claims claim.function claim.arguments v
+      → IsTrue (is_ground v) × (claims : List Claim) × are_true claims
+      × Concludes program claims claim.function claim.arguments v
   pub every : (claims : List Claim) (v : Value) → are_true claims → IsTrue (is_ground v)
-      → Concludes program claims claim.function claim.arguments v → (k : ℕ) × (slice_get claim.values k ≡ Option.Some v)
+      → Concludes program claims claim.function claim.arguments v
+      → (k : ℕ) × (slice_get claim.values k ≡ Option.Some v)
 
--- Claims of functions whose levels are below a number are true. No claim is true at 0. At a level and one more a claim is
--- true where its function has that level and it is exact by the claims that are true there, or where it was true before.
+-- Claims of functions whose levels are below a number are true. No claim is true at 0. At a level
+-- and one more a claim is true where its function has that level and it is exact by the claims that
+-- are true there, or where it was true before.
 unfoldable pub AreTrue : Program → List ℕ → ℕ → List Claim → Type 0
 AreTrue program levels zero claims = claims ≡ []
-AreTrue program levels (suc level) claims = (k : ℕ) (claim : Claim) → slice_get claims k ≡ Option.Some claim
-    → ((level_of levels claim.function ≡ level) × IsExact program (AreTrue program levels level) claim) ⊎ AreTrue program levels level (claim ∷ [])
+AreTrue program levels (suc level) claims = (k : ℕ) (claim : Claim)
+    → slice_get claims k ≡ Option.Some claim
+    → ((level_of levels claim.function ≡ level)
+    × IsExact program (AreTrue program levels level) claim)
+    ⊎ AreTrue program levels level (claim ∷ [])
 
 -- A function has a value on argument values by claims that are true at its level, by these levels.
 abbrev pub DerivesAt : Program → List ℕ → FunId → Values → Value → Type 0
 DerivesAt program levels f vs v =
-    (claims : List Claim) × AreTrue program levels (level_of levels f) claims × Concludes program claims f vs v
+    (claims : List Claim) × AreTrue program levels (level_of levels f) claims
+    × Concludes program claims f vs v
 
 -- A function has a value on argument values by the least levels.
 pub record Derives (program : Program) (f : FunId) (vs : Values) (v : Value) : Type 0 where

@@ -1,4 +1,5 @@
--- Flat code: a program whose bodies stand as expressions in one list, where parts are named by their places.
+-- Flat code: a program whose bodies stand as expressions in one list, where parts are named by
+-- their places.
 use Rattle.std.specs.Prelude.{ℕ, Bool, true, false, List, [], Option, None, Some, slice_get}
 use Rattle.cu_calculus.specs.declared.ConId.{ConId}
 use Rattle.cu_calculus.specs.declared.ExprId.{ExprId}
@@ -31,7 +32,8 @@ pub data Expr : Type 0 where
   Let : ℕ → ExprId → ExprId → Expr
   Free : ℕ → ExprId → Expr
   Or : ExprId → ExprId → Expr
-  -- a case distinction, with the variables that its branches use beside their patterns' own, in the order of their binding
+  -- a case distinction, with the variables that its branches use beside their patterns' own, in the
+  -- order of their binding
   Case : Mode → List ℕ → ExprId → List Branch → Expr
 
 -- A function has one rule, over parameters that are variables, or is built in.
@@ -51,7 +53,10 @@ pub record Code : Type 0 where
 
 -- the rule of a function, or what is built in, where there is such a function
 abbrev pub body_of : Code → FunId → Option Body
-body_of code f = elim (slice_get code.functions f.0) [ Some function ↦ Some function.body | None ↦ None ]
+body_of code f = elim (slice_get code.functions f.0) [
+  | Some function ↦ Some function.body
+  | None ↦ None
+]
 
 -- a function with a rule
 abbrev pub is_rule : Option Body → Bool
@@ -70,11 +75,17 @@ kept_in _ = []
 abbrev pub kept_by : Code → ExprId → List ℕ
 kept_by code e = kept_in (expr_of code e)
 
--- how many arguments a head takes, where it is one of the code; a set function takes those of its function
+-- how many arguments a head takes, where it is one of the code; a set function takes those of its
+-- function
 abbrev pub function_arity : Code → FunId → Option ℕ
-function_arity code f = elim (slice_get code.functions f.0) [ Some function ↦ Some function.arity | None ↦ None ]
+function_arity code f =
+    elim (slice_get code.functions f.0) [ Some function ↦ Some function.arity | None ↦ None ]
 
 abbrev pub arity_of : Code → Head → Option ℕ
 arity_of code (head.Fun f) = function_arity code f
-arity_of code (head.Con c) = elim (slice_get code.constructors c.0) [ Some constructor ↦ Some constructor.arity | None ↦ None ]
+arity_of code (head.Con c) =
+    elim (slice_get code.constructors c.0) [
+      | Some constructor ↦ Some constructor.arity
+      | None ↦ None
+    ]
 arity_of code (head.Set f) = function_arity code f

@@ -1,4 +1,5 @@
--- An example, of which a law says what is derived: `coin = 0 ? 1`, and `every`, which is the set function of coin.
+-- An example, of which a law says what is derived: `coin = 0 ? 1`, and `every`, which is the set
+-- function of coin.
 use Rattle.std.specs.Prelude.{ℕ, List, [], ◌∷◌, Some, pos}
 use Rattle.cu_calculus.specs.declared.ConId.{ConId}
 use Rattle.cu_calculus.specs.declared.FunId.{FunId}
@@ -40,18 +41,27 @@ abbrev pub every : FunId
 every = record { 0 = 2 }
 
 abbrev pub special : Special
-special = record { falsity = falsity; truth = truth; nil = nil; cons = cons; both = conjunction; values = Some some_values }
+special = record {
+  falsity = falsity;
+  truth = truth;
+  nil = nil;
+  cons = cons;
+  both = conjunction;
+  values = Some some_values;
+}
 
 -- True && x = x, and False && x = False
 abbrev pub true_first : Rule
 true_first = record {
-  params = term.MorePatterns (term.Built truth term.NoPattern) (term.MorePatterns (term.Any 0) term.NoPattern);
+  params = term.MorePatterns (term.Built truth term.NoPattern)
+      (term.MorePatterns (term.Any 0) term.NoPattern);
   body = term.Variable 0;
 }
 
 abbrev pub false_first : Rule
 false_first = record {
-  params = term.MorePatterns (term.Built falsity term.NoPattern) (term.MorePatterns (term.Any 0) term.NoPattern);
+  params = term.MorePatterns (term.Built falsity term.NoPattern)
+      (term.MorePatterns (term.Any 0) term.NoPattern);
   body = term.Whole (head.Con falsity) term.NoTerm;
 }
 
@@ -63,7 +73,11 @@ number n = Int (pos n)
 
 -- coin = 0 ? 1
 abbrev pub coin_rule : Rule
-coin_rule = record { params = term.NoPattern; body = term.Or (term.Literal (number 0)) (term.Literal (number 1)) }
+coin_rule =
+    record {
+      params = term.NoPattern;
+      body = term.Or (term.Literal (number 0)) (term.Literal (number 1));
+    }
 
 abbrev pub coin_function : Function
 coin_function = record { arity = 0; body = Rules (coin_rule ∷ []) }
@@ -81,7 +95,8 @@ constructor of_type arity = record { of_type = of_type; arity = arity }
 abbrev pub program : Program
 program = record {
   functions = conjunction_function ∷ coin_function ∷ every_function ∷ [];
-  constructors = constructor 0 0 ∷ constructor 0 0 ∷ constructor 1 0 ∷ constructor 1 2 ∷ constructor 2 1 ∷ [];
+  constructors = constructor 0 0 ∷ constructor 0 0 ∷ constructor 1 0 ∷ constructor 1 2
+      ∷ constructor 2 1 ∷ [];
   special = special;
 }
 

@@ -15,10 +15,12 @@ abbrev mutual
   compared (Literal l) (Literal m) = Some (same_literal l m)
   compared (Literal l) (Constructed c vs) = Some false
   compared (Constructed c us) (Literal l) = Some false
-  compared (Constructed c us) (Constructed d vs) = if same_constructor c d then all_compared us vs else Some false
+  compared (Constructed c us) (Constructed d vs) = if same_constructor c d then all_compared us vs
+      else Some false
   compared _ _ = None
 
   pub all_compared : Values → Values → Option Bool
   all_compared NoValue NoValue = Some true
-  all_compared (MoreValues u us) (MoreValues v vs) = and_compared (compared u v) (all_compared us vs)
+  all_compared (MoreValues u us) (MoreValues v vs) =
+      and_compared (compared u v) (all_compared us vs)
   all_compared _ _ = None

@@ -1,6 +1,6 @@
--- Flat programs: what definitional trees make of a program. A function has one rule, whose parameters are different
--- variables, and every case distinction looks at one constructor or literal (Antoy, Definitional trees, 1992; Hanus,
--- FlatCurry).
+-- Flat programs: what definitional trees make of a program. A function has one rule, whose
+-- parameters are different variables, and every case distinction looks at one constructor or
+-- literal (Antoy, Definitional trees, 1992; Hanus, FlatCurry).
 use Rattle.std.specs.Prelude.{Bool, true, false, not, ◌&&◌, List, [], ◌∷◌, Option, None, Some}
 use Rattle.std.specs.List.{list_all, list_any}
 use Rattle.cu_calculus.specs.Choose.{Demand, ALiteral, AConstructor, demand_of}
@@ -56,7 +56,8 @@ abbrev mutual
   is_flat_term (term.Let x a b) = is_flat_term a && is_flat_term b
   is_flat_term (term.Free x t) = is_flat_term t
   is_flat_term (term.Or a b) = is_flat_term a && is_flat_term b
-  is_flat_term (term.Case mode a alternatives) = is_flat_term a && all_differ (demands_of alternatives) && are_flat_alternatives alternatives
+  is_flat_term (term.Case mode a alternatives) =
+      is_flat_term a && all_differ (demands_of alternatives) && are_flat_alternatives alternatives
 
   pub are_flat_terms : Terms → Bool
   are_flat_terms term.NoTerm = true
@@ -64,11 +65,13 @@ abbrev mutual
 
   pub are_flat_alternatives : Alternatives → Bool
   are_flat_alternatives term.NoAlternative = true
-  are_flat_alternatives (term.MoreAlternatives p t alternatives) = is_shallow p && is_flat_term t && are_flat_alternatives alternatives
+  are_flat_alternatives (term.MoreAlternatives p t alternatives) =
+      is_shallow p && is_flat_term t && are_flat_alternatives alternatives
 
 abbrev pub is_flat_body : Body → Bool
 is_flat_body (External operation) = true
-is_flat_body (Rules (rule ∷ [])) = are_variables rule.params && is_linear (all_variables rule.params) && is_flat_term rule.body
+is_flat_body (Rules (rule ∷ [])) = are_variables rule.params
+    && is_linear (all_variables rule.params) && is_flat_term rule.body
 is_flat_body (Rules _) = false
 
 -- a flat program

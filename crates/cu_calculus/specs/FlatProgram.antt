@@ -1,4 +1,5 @@
--- The program that flat code is: a function's rule takes variables, and its body is the term of its expression.
+-- The program that flat code is: a function's rule takes variables, and its body is the term of its
+-- expression.
 use Rattle.std.specs.Prelude.{ℕ, zero, suc, List, [], ◌∷◌, Option, None, Some, length, map}
 use Rattle.cu_calculus.specs.declared.ExprId.{ExprId}
 use Rattle.cu_calculus.specs.declared.Mode.TheVariants.{Rigid}
@@ -24,9 +25,11 @@ terms_of part (e ∷ es) = term.MoreTerms (part e) (terms_of part es)
 abbrev pub alternatives_of : (ExprId → Term) → List Branch → Alternatives
 alternatives_of part [] = term.NoAlternative
 alternatives_of part (branch ∷ branches) =
-    term.MoreAlternatives (pattern_of branch.pattern) (part branch.body) (alternatives_of part branches)
+    term.MoreAlternatives (pattern_of branch.pattern) (part branch.body)
+    (alternatives_of part branches)
 
--- What stands for an expression that there isn't: a case distinction without branches, which has no value.
+-- What stands for an expression that there isn't: a case distinction without branches, which has no
+-- value.
 abbrev pub no_term : Term
 no_term = term.Case Rigid (term.Variable 0) term.NoAlternative
 
@@ -41,9 +44,11 @@ term_over part (Some (code.Apply function argument)) = term.Apply (part function
 term_over part (Some (code.Let x bound body)) = term.Let x (part bound) (part body)
 term_over part (Some (code.Free x body)) = term.Free x (part body)
 term_over part (Some (code.Or left right)) = term.Or (part left) (part right)
-term_over part (Some (code.Case mode kept e branches)) = term.Case mode (part e) (alternatives_of part branches)
+term_over part (Some (code.Case mode kept e branches)) =
+    term.Case mode (part e) (alternatives_of part branches)
 
--- The term of an expression of the code. The first number bounds how deep expressions nest; as many as the code has suffice.
+-- The term of an expression of the code. The first number bounds how deep expressions nest; as many
+-- as the code has suffice.
 unfoldable pub term_within : ℕ → Code → ExprId → Term
 term_within zero program e = no_term
 term_within (suc depth) program e = term_over (term_within depth program) (expr_of program e)
@@ -52,11 +57,13 @@ abbrev pub term_of : Code → ExprId → Term
 term_of program e = term_within (length program.expressions) program e
 
 abbrev pub body_in : Code → code.Body → Body
-body_in program (code.Rule params e) = Rules (record { params = all_any params; body = term_of program e } ∷ [])
+body_in program (code.Rule params e) =
+    Rules (record { params = all_any params; body = term_of program e } ∷ [])
 body_in program (code.External operation) = External operation
 
 abbrev pub function_in : Code → code.Function → Function
-function_in program function = record { arity = function.arity; body = body_in program function.body }
+function_in program function =
+    record { arity = function.arity; body = body_in program function.body }
 
 abbrev pub program_of : Code → Program
 program_of program = record {

@@ -31,14 +31,16 @@ abbrev pub both : Option Bindings → Option Bindings → Option Bindings
 both (Some a) (Some b) = Some (a ++ b)
 both _ _ = None
 
--- Match: a variable takes the value, an alias does so too, and a constructor or a literal needs the same one there.
+-- Match: a variable takes the value, an alias does so too, and a constructor or a literal needs the
+-- same one there.
 abbrev mutual
   pub matched : Pattern → Value → Option Bindings
   matched (Any x) v = Some ((x, v) ∷ [])
   matched (Named x p) v = option_map (λ bindings. (x, v) ∷ bindings) (matched p v)
   matched (Exactly l) (value.Literal m) = if same_literal l m then Some [] else None
   matched (Exactly l) _ = None
-  matched (Built c ps) (value.Constructed d vs) = if same_constructor c d then all_matched ps vs else None
+  matched (Built c ps) (value.Constructed d vs) = if same_constructor c d then all_matched ps vs
+      else None
   matched (Built c ps) _ = None
 
   pub all_matched : Patterns → Values → Option Bindings

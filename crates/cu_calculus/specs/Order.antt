@@ -1,5 +1,6 @@
--- The total order on values in which the values of a set function are listed: Bottom, variables by number, partial
--- applications by head, integers, characters, and constructors by their places; then arguments from the left.
+-- The total order on values in which the values of a set function are listed: Bottom, variables by
+-- number, partial applications by head, integers, characters, and constructors by their places;
+-- then arguments from the left.
 use Rattle.std.specs.Prelude.{ℕ, Bool, true, List, [], ◌∷◌, ◌&&◌}
 use Rattle.std.specs.declared.cmp.Ordering.{Ordering}
 use Rattle.std.specs.declared.cmp.Ordering.TheVariants.{Equal, Greater, Less}
@@ -23,7 +24,8 @@ head_number (head.Con c) = c.0
 head_number (head.Set f) = f.0
 
 abbrev pub head_order : Head → Head → Ordering
-head_order h k = ordering_then (nat_cmp (head_kind h) (head_kind k)) (nat_cmp (head_number h) (head_number k))
+head_order h k = ordering_then (nat_cmp (head_kind h) (head_kind k))
+    (nat_cmp (head_number h) (head_number k))
 
 -- integers come before characters
 abbrev pub literal_order : Lit → Lit → Ordering
@@ -43,9 +45,11 @@ kind_of (value.Constructed c vs) = 4
 abbrev mutual
   pub value_order : Value → Value → Ordering
   value_order (value.Variable x) (value.Variable y) = nat_cmp x y
-  value_order (value.Partial h us) (value.Partial k vs) = ordering_then (head_order h k) (values_order us vs)
+  value_order (value.Partial h us) (value.Partial k vs) =
+      ordering_then (head_order h k) (values_order us vs)
   value_order (value.Literal l) (value.Literal m) = literal_order l m
-  value_order (value.Constructed c us) (value.Constructed d vs) = ordering_then (nat_cmp c.0 d.0) (values_order us vs)
+  value_order (value.Constructed c us) (value.Constructed d vs) =
+      ordering_then (nat_cmp c.0 d.0) (values_order us vs)
   value_order u v = nat_cmp (kind_of u) (kind_of v)
 
   -- the first pair that differs decides; fewer values come first
@@ -53,7 +57,8 @@ abbrev mutual
   values_order value.NoValue value.NoValue = Equal
   values_order value.NoValue (value.MoreValues v vs) = Less
   values_order (value.MoreValues u us) value.NoValue = Greater
-  values_order (value.MoreValues u us) (value.MoreValues v vs) = ordering_then (value_order u v) (values_order us vs)
+  values_order (value.MoreValues u us) (value.MoreValues v vs) =
+      ordering_then (value_order u v) (values_order us vs)
 
 -- a list in this order, without repeats
 abbrev pub rises : List Value → Bool

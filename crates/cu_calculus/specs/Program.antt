@@ -36,8 +36,10 @@ function_of program f = slice_get program.functions f.0
 abbrev pub constructor_of : Program → ConId → Option Constructor
 constructor_of program c = slice_get program.constructors c.0
 
--- how many arguments a head takes, where it is the program's; a set function takes those of its function
+-- how many arguments a head takes, where it is the program's; a set function takes those of its
+-- function
 abbrev pub arity_in : Program → Head → Option ℕ
 arity_in program (head.Fun f) = option_map (λ function. function.arity) (function_of program f)
-arity_in program (head.Con c) = option_map (λ constructor. constructor.arity) (constructor_of program c)
+arity_in program (head.Con c) =
+    option_map (λ constructor. constructor.arity) (constructor_of program c)
 arity_in program (head.Set f) = option_map (λ function. function.arity) (function_of program f)

@@ -1,5 +1,5 @@
--- Kinds of values: total ones have no Bottom, data have no partial application, and ground data are total data without
--- variables.
+-- Kinds of values: total ones have no Bottom, data have no partial application, and ground data are
+-- total data without variables.
 use Rattle.std.specs.Prelude.{ℕ, Bool, true, false, ◌&&◌, Option, None, Some, nat_eq, nat_lt}
 use Rattle.cu_calculus.specs.declared.Head.{Head}
 use Rattle.cu_calculus.specs.declared.Head.TheVariants as head
@@ -64,15 +64,18 @@ is_allowed program (head.Set f) = elim program.special.values [ Some c ↦ true 
 is_allowed program (head.Fun f) = true
 is_allowed program (head.Con c) = true
 
--- A value is of a program where its literals are the language's, its constructors are the program's and have all their
--- arguments, and its partial applications are of heads that may stand in the program and lack some.
+-- A value is of a program where its literals are the language's, its constructors are the program's
+-- and have all their arguments, and its partial applications are of heads that may stand in the
+-- program and lack some.
 abbrev mutual
   pub is_of : Program → Value → Bool
   is_of program value.Bottom = true
   is_of program (value.Variable x) = true
   is_of program (value.Literal l) = is_literal l
-  is_of program (value.Constructed c vs) = takes (arity_in program (head.Con c)) (count vs) && are_of program vs
-  is_of program (value.Partial h vs) = is_allowed program h && takes_more (arity_in program h) (count vs) && are_of program vs
+  is_of program (value.Constructed c vs) =
+      takes (arity_in program (head.Con c)) (count vs) && are_of program vs
+  is_of program (value.Partial h vs) =
+      is_allowed program h && takes_more (arity_in program h) (count vs) && are_of program vs
 
   pub are_of : Program → Values → Bool
   are_of program value.NoValue = true

@@ -1,4 +1,5 @@
--- Valid programs: numbers name something, calls are whole, patterns are linear, and every variable is bound.
+-- Valid programs: numbers name something, calls are whole, patterns are linear, and every variable
+-- is bound.
 use Rattle.std.specs.Prelude.{◌≡◌, ◌≢◌, ℕ, ◌+◌, ◌-◌, ◌^◌, ◌<◌, Bool, true, not, ◌&&◌, ◌||◌, List, [], ◌∷◌, ◌++◌, Some, IsTrue, nat_eq, nat_lt}
 use Rattle.std.specs.List.{list_all, list_any}
 use Rattle.cu_calculus.specs.declared.builtin.Primitive.{Primitive}
@@ -46,14 +47,16 @@ abbrev mutual
   pub fits_pattern : Program → Pattern → Bool
   fits_pattern program (term.Any x) = true
   fits_pattern program (term.Exactly l) = is_literal l
-  fits_pattern program (term.Built c ps) = takes (arity_in program (head.Con c)) (pattern_count ps) && fit_patterns program ps
+  fits_pattern program (term.Built c ps) =
+      takes (arity_in program (head.Con c)) (pattern_count ps) && fit_patterns program ps
   fits_pattern program (term.Named x p) = fits_pattern program p
 
   pub fit_patterns : Program → Patterns → Bool
   fit_patterns program term.NoPattern = true
   fit_patterns program (term.MorePatterns p ps) = fits_pattern program p && fit_patterns program ps
 
--- what may stand where a variable is bound, and where it isn't: x, or whatever might stand there before
+-- what may stand where a variable is bound, and where it isn't: x, or whatever might stand there
+-- before
 abbrev pub also : ℕ → (ℕ → Bool) → ℕ → Bool
 also x may y = nat_eq x y || may y
 
@@ -68,13 +71,18 @@ abbrev mutual
   pub fits_term : Program → (ℕ → Bool) → Term → Bool
   fits_term program may (term.Variable x) = may x
   fits_term program may (term.Literal l) = is_literal l
-  fits_term program may (term.Whole h ts) = is_allowed program h && takes (arity_in program h) (term_count ts) && fit_terms program may ts
-  fits_term program may (term.Part h ts) = is_allowed program h && takes_more (arity_in program h) (term_count ts) && fit_terms program may ts
+  fits_term program may (term.Whole h ts) =
+      is_allowed program h && takes (arity_in program h) (term_count ts) && fit_terms program may ts
+  fits_term program may (term.Part h ts) =
+      is_allowed program h && takes_more (arity_in program h) (term_count ts)
+      && fit_terms program may ts
   fits_term program may (term.Apply f a) = fits_term program may f && fits_term program may a
-  fits_term program may (term.Let x a b) = fits_term program (but x may) a && fits_term program (also x may) b
+  fits_term program may (term.Let x a b) =
+      fits_term program (but x may) a && fits_term program (also x may) b
   fits_term program may (term.Free x t) = fits_term program (also x may) t
   fits_term program may (term.Or a b) = fits_term program may a && fits_term program may b
-  fits_term program may (term.Case mode a alternatives) = fits_term program may a && fit_alternatives program may alternatives
+  fits_term program may (term.Case mode a alternatives) =
+      fits_term program may a && fit_alternatives program may alternatives
 
   pub fit_terms : Program → (ℕ → Bool) → Terms → Bool
   fit_terms program may term.NoTerm = true
@@ -83,13 +91,15 @@ abbrev mutual
   pub fit_alternatives : Program → (ℕ → Bool) → Alternatives → Bool
   fit_alternatives program may term.NoAlternative = true
   fit_alternatives program may (term.MoreAlternatives p t alternatives) =
-      fits_pattern program p && is_linear (variables_of p) && fits_term program (also_all (variables_of p) may) t
+      fits_pattern program p && is_linear (variables_of p)
+      && fits_term program (also_all (variables_of p) may) t
       && fit_alternatives program may alternatives
 
 -- a rule of a function with so many parameters
 abbrev pub fits_rule : Program → ℕ → Rule → Bool
 fits_rule program arity rule =
-    nat_eq (pattern_count rule.params) arity && fit_patterns program rule.params && is_linear (all_variables rule.params)
+    nat_eq (pattern_count rule.params) arity && fit_patterns program rule.params
+    && is_linear (all_variables rule.params)
     && fits_term program (λ x. holds x (all_variables rule.params)) rule.body
 
 -- how many arguments a built-in operation takes
@@ -108,17 +118,21 @@ fits_body program arity (Rules rules) = list_all (fits_rule program arity) rules
 fits_body program arity (External operation) = nat_eq arity (external_arity operation)
 
 abbrev pub fits_function : Program → Function → Bool
-fits_function program function = is_arity function.arity && fits_body program function.arity function.body
+fits_function program function = is_arity function.arity
+    && fits_body program function.arity function.body
 
--- The rules of `&&` (True && x = x, False && _ = False), or their case distinction in a flat program.
+-- The rules of `&&` (True && x = x, False && _ = False), or their case distinction in a flat
+-- program.
 pub data IsConjunction (special : Special) : Body → Type 0 where
   by_rules : (body : Body) (x y : ℕ)
       → body ≡ Rules (record {
-        params = term.MorePatterns (term.Built special.truth term.NoPattern) (term.MorePatterns (term.Any x) term.NoPattern);
+        params = term.MorePatterns (term.Built special.truth term.NoPattern)
+            (term.MorePatterns (term.Any x) term.NoPattern);
         body = term.Variable x;
       }
       ∷ record {
-        params = term.MorePatterns (term.Built special.falsity term.NoPattern) (term.MorePatterns (term.Any y) term.NoPattern);
+        params = term.MorePatterns (term.Built special.falsity term.NoPattern)
+            (term.MorePatterns (term.Any y) term.NoPattern);
         body = term.Whole (head.Con special.falsity) term.NoTerm;
       } ∷ [])
       → IsConjunction special body
@@ -126,8 +140,10 @@ pub data IsConjunction (special : Special) : Body → Type 0 where
       → body ≡ Rules (record {
         params = term.MorePatterns (term.Any x) (term.MorePatterns (term.Any y) term.NoPattern);
         body = term.Case Flex (term.Variable x)
-            (term.MoreAlternatives (term.Built special.falsity term.NoPattern) (term.Whole (head.Con special.falsity) term.NoTerm)
-            (term.MoreAlternatives (term.Built special.truth term.NoPattern) (term.Variable y) term.NoAlternative));
+            (term.MoreAlternatives (term.Built special.falsity term.NoPattern)
+            (term.Whole (head.Con special.falsity) term.NoTerm)
+            (term.MoreAlternatives (term.Built special.truth term.NoPattern)
+            (term.Variable y) term.NoAlternative));
       } ∷ [])
       → IsConjunction special body
 
@@ -138,11 +154,14 @@ pub record HasSpecial (program : Program) : Type 0 where
   pub ordered : program.special.falsity.0 < program.special.truth.0
   pub nil : arity_in program (head.Con program.special.nil) ≡ Some 0
   pub cons : arity_in program (head.Con program.special.cons) ≡ Some 2
-  pub both : (function : Function) × (function_of program program.special.both ≡ Some function) × (function.arity ≡ 2)
+  pub both : (function : Function) × (function_of program program.special.both ≡ Some function)
+      × (function.arity ≡ 2)
       × IsConjunction program.special function.body
-  pub values : (c : ConId) → program.special.values ≡ Some c → arity_in program (head.Con c) ≡ Some 1
+  pub values : (c : ConId) → program.special.values ≡ Some c
+      → arity_in program (head.Con c) ≡ Some 1
 
 pub record IsValid (program : Program) : Type 0 where
-  pub constructors : IsTrue (list_all (λ constructor. is_arity constructor.arity) program.constructors)
+  pub constructors : IsTrue
+      (list_all (λ constructor. is_arity constructor.arity) program.constructors)
   pub functions : IsTrue (list_all (fits_function program) program.functions)
   pub special : HasSpecial program

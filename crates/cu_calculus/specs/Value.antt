@@ -1,6 +1,6 @@
--- Partial values: approximations of what an expression may be worth (González-Moreno and others, An approach to declarative
--- programming based on a rewriting logic, 1999; with partial applications, A higher order rewriting logic for functional logic
--- programming, 1997).
+-- Partial values: approximations of what an expression may be worth (González-Moreno and others, An
+-- approach to declarative programming based on a rewriting logic, 1999; with partial applications,
+-- A higher order rewriting logic for functional logic programming, 1997).
 use Rattle.std.specs.Prelude.{ℕ, ◌+◌, List, [], ◌∷◌}
 use Rattle.cu_calculus.specs.declared.ConId.{ConId}
 use Rattle.cu_calculus.specs.declared.Head.{Head}

@@ -1,5 +1,6 @@
--- Well-formed flat code: each number names an expression that there is, calls are whole, variables are in scope, and each case
--- distinction keeps the variables that its branches use. It is the code of a valid flat program.
+-- Well-formed flat code: each number names an expression that there is, calls are whole, variables
+-- are in scope, and each case distinction keeps the variables that its branches use. It is the code
+-- of a valid flat program.
 use Rattle.std.specs.Prelude.{ℕ, zero, suc, Bool, true, false, not, ◌&&◌, List, [], ◌∷◌, ◌++◌, nat_eq, nat_lt, Option, None, Some, length}
 use Rattle.std.specs.List.{filter, list_all, list_any}
 use Rattle.cu_calculus.specs.declared.ConId.{ConId}
@@ -25,10 +26,12 @@ same_mode Rigid Rigid = true
 same_mode Flex Flex = true
 same_mode _ _ = false
 
--- a literal of the language, or a constructor of the program over as many different variables as it has arguments
+-- a literal of the language, or a constructor of the program over as many different variables as it
+-- has arguments
 abbrev pub fits_pattern : Code → Shallow → Bool
 fits_pattern program (code.Exactly l) = is_literal l
-fits_pattern program (code.Built c xs) = takes (arity_of program (head.Con c)) (length xs) && is_linear xs
+fits_pattern program (code.Built c xs) =
+    takes (arity_of program (head.Con c)) (length xs) && is_linear xs
 
 abbrev pub same_pattern : Shallow → Shallow → Bool
 same_pattern (code.Exactly l) (code.Exactly m) = same_literal l m
@@ -38,32 +41,41 @@ same_pattern _ _ = false
 -- no two branches have the same literal or constructor
 abbrev pub all_differ : List Branch → Bool
 all_differ [] = true
-all_differ (branch ∷ branches) = not (list_any (λ other. same_pattern branch.pattern other.pattern) branches) && all_differ branches
+all_differ (branch ∷ branches) =
+    not (list_any (λ other. same_pattern branch.pattern other.pattern) branches)
+    && all_differ branches
 
 abbrev pub bound_by : Shallow → List ℕ
 bound_by (code.Exactly l) = []
 bound_by (code.Built c xs) = xs
 
--- Branches over the variables that their case distinction keeps, as a closure does. Those are different, no two patterns are
--- alike, and each body stands over them and its pattern's own variables alone.
+-- Branches over the variables that their case distinction keeps, as a closure does. Those are
+-- different, no two patterns are alike, and each body stands over them and its pattern's own
+-- variables alone.
 abbrev pub fit_branches : (List ℕ → ExprId → Bool) → Code → List ℕ → List Branch → Bool
 fit_branches part program kept branches =
     is_linear kept && all_differ branches
-    && list_all (λ branch. fits_pattern program branch.pattern && part (kept ++ bound_by branch.pattern) branch.body) branches
+    && list_all (λ branch. fits_pattern program branch.pattern
+    && part (kept ++ bound_by branch.pattern) branch.body) branches
 
 -- a scope without a variable
 abbrev pub without : ℕ → List ℕ → List ℕ
 without x scope = filter (λ y. not (nat_eq x y)) scope
 
--- One expression in a scope, whose parts are tested by `part` in theirs. A variable doesn't stand in its own definition by Let.
+-- One expression in a scope, whose parts are tested by `part` in theirs. A variable doesn't stand
+-- in its own definition by Let.
 abbrev pub fits_expr : (List ℕ → ExprId → Bool) → Code → List ℕ → Option Expr → Bool
 fits_expr part program scope None = false
 fits_expr part program scope (Some (code.Variable x)) = holds x scope
 fits_expr part program scope (Some (code.Literal l)) = is_literal l
-fits_expr part program scope (Some (code.Whole h es)) = is_allowed program h && takes (arity_of program h) (length es) && list_all (part scope) es
-fits_expr part program scope (Some (code.Part h es)) = is_allowed program h && takes_more (arity_of program h) (length es) && list_all (part scope) es
-fits_expr part program scope (Some (code.Apply function argument)) = part scope function && part scope argument
-fits_expr part program scope (Some (code.Let x bound body)) = part (without x scope) bound && part (scope ++ x ∷ []) body
+fits_expr part program scope (Some (code.Whole h es)) =
+    is_allowed program h && takes (arity_of program h) (length es) && list_all (part scope) es
+fits_expr part program scope (Some (code.Part h es)) =
+    is_allowed program h && takes_more (arity_of program h) (length es) && list_all (part scope) es
+fits_expr part program scope (Some (code.Apply function argument)) =
+    part scope function && part scope argument
+fits_expr part program scope (Some (code.Let x bound body)) =
+    part (without x scope) bound && part (scope ++ x ∷ []) body
 fits_expr part program scope (Some (code.Free x body)) = part (scope ++ x ∷ []) body
 fits_expr part program scope (Some (code.Or left right)) = part scope left && part scope right
 fits_expr part program scope (Some (code.Case mode kept e branches)) =
@@ -77,15 +89,19 @@ fits (suc depth) program scope e = fits_expr (fits depth program) program scope 
 -- a function of so many parameters; its body nests no deeper than the code has expressions
 abbrev pub fits_body : Code → ℕ → Body → Bool
 fits_body program arity (code.Rule params body) =
-    nat_eq (length params) arity && is_linear params && fits (length program.expressions) program params body
+    nat_eq (length params) arity && is_linear params
+    && fits (length program.expressions) program params body
 fits_body program arity (code.External operation) = nat_eq (external_arity operation) arity
 
 abbrev pub fits_function : Code → Function → Bool
-fits_function program function = is_arity function.arity && fits_body program function.arity function.body
+fits_function program function = is_arity function.arity
+    && fits_body program function.arity function.body
 
--- The branches of a case distinction fit over what it keeps. Other expressions are looked at where they are parts.
+-- The branches of a case distinction fit over what it keeps. Other expressions are looked at where
+-- they are parts.
 abbrev pub fits_case : Code → Expr → Bool
-fits_case program (code.Case mode kept e branches) = fit_branches (fits (length program.expressions) program) program kept branches
+fits_case program (code.Case mode kept e branches) =
+    fit_branches (fits (length program.expressions) program) program kept branches
 fits_case program _ = true
 
 abbrev pub is_variable : ℕ → Option Expr → Bool
@@ -97,30 +113,42 @@ abbrev pub is_constant : ConId → Option Expr → Bool
 is_constant c (Some (code.Whole (head.Con d) [])) = same_constructor c d
 is_constant c _ = false
 
--- The rule of `&&`: a flexible case distinction on the first parameter, which gives False for False, and for True the second
--- parameter.
+-- The rule of `&&`: a flexible case distinction on the first parameter, which gives False for
+-- False, and for True the second parameter.
 abbrev pub conjoins_cases : Code → ℕ → ℕ → Option Expr → Bool
 conjoins_cases program x y (Some (code.Case Flex kept scrutinee (first ∷ second ∷ []))) =
-    is_variable x (expr_of program scrutinee) && same_pattern first.pattern (code.Built program.special.falsity [])
-    && is_constant program.special.falsity (expr_of program first.body) && same_pattern second.pattern (code.Built program.special.truth [])
+    is_variable x (expr_of program scrutinee)
+    && same_pattern first.pattern (code.Built program.special.falsity [])
+    && is_constant program.special.falsity (expr_of program first.body)
+    && same_pattern second.pattern (code.Built program.special.truth [])
     && is_variable y (expr_of program second.body)
 conjoins_cases program x y _ = false
 
 abbrev pub conjoins : Code → Option Body → Bool
-conjoins program (Some (code.Rule (x ∷ y ∷ []) body)) = not (nat_eq x y) && conjoins_cases program x y (expr_of program body)
+conjoins program (Some (code.Rule (x ∷ y ∷ []) body)) =
+    not (nat_eq x y) && conjoins_cases program x y (expr_of program body)
 conjoins program _ = false
 
--- the built-in entities are there, with their arities, False is declared before True, and `&&` has its rule
+-- the built-in entities are there, with their arities, False is declared before True, and `&&` has
+-- its rule
 abbrev pub has_special : Code → Bool
 has_special program =
-    takes (arity_of program (head.Con program.special.falsity)) 0 && takes (arity_of program (head.Con program.special.truth)) 0
+    takes (arity_of program (head.Con program.special.falsity)) 0
+    && takes (arity_of program (head.Con program.special.truth)) 0
     && nat_lt program.special.falsity.0 program.special.truth.0
-    && takes (arity_of program (head.Con program.special.nil)) 0 && takes (arity_of program (head.Con program.special.cons)) 2
-    && conjoins program (body_of program program.special.both) && takes (arity_of program (head.Fun program.special.both)) 2
-    && elim program.special.values [ Some c ↦ takes (arity_of program (head.Con c)) 1 | None ↦ true ]
+    && takes (arity_of program (head.Con program.special.nil)) 0
+    && takes (arity_of program (head.Con program.special.cons)) 2
+    && conjoins program (body_of program program.special.both)
+    && takes (arity_of program (head.Fun program.special.both)) 2
+    && elim program.special.values [
+      | Some c ↦ takes (arity_of program (head.Con c)) 1
+      | None ↦ true
+    ]
 
--- all functions and case distinctions fit, constructors have arities that a graph can hold, and the built-in entities are there
+-- all functions and case distinctions fit, constructors have arities that a graph can hold, and the
+-- built-in entities are there
 abbrev pub is_well_formed : Code → Bool
 is_well_formed program =
-    list_all (λ constructor. is_arity constructor.arity) program.constructors && list_all (fits_function program) program.functions
+    list_all (λ constructor. is_arity constructor.arity) program.constructors
+    && list_all (fits_function program) program.functions
     && list_all (fits_case program) program.expressions && has_special program

@@ -224,7 +224,8 @@ pub fn claims_extend()
 /// The rows that a derivation or a proof cites are rows of its claims, and
 /// they suffice: it stays over any claims of the program that have them.
 pub fn cited_claims_suffice()
-    ensures cited_by_derivation { (program : Program) (claims : List Claim) (env : Environment) (t : Term) (v : Value)
+    ensures cited_by_derivation { (program : Program) (claims : List Claim) (env : Environment)
+        (t : Term) (v : Value)
         (given : Gives program claims env t v)
         → AreRows (cited program claims env t v given) claims }
     ensures derivations { (program : Program) (claims others : List Claim) (env : Environment)

@@ -16,14 +16,16 @@ lookup ((y, v) ∷ bindings) x = if nat_eq y x then Some v else lookup bindings 
 
 -- Bindings say of a variable what new ones over old ones say.
 abbrev pub agrees_at : Bindings → Bindings → Bindings → ℕ → Bool
-agrees_at bindings new old x = same_value (bind_all empty bindings x) (bind_all (bind_all empty old) new x)
+agrees_at bindings new old x =
+    same_value (bind_all empty bindings x) (bind_all (bind_all empty old) new x)
 
 abbrev pub agrees_on : Bindings → Bindings → Bindings → Bindings → Bool
 agrees_on variables bindings new old = list_all (λ b. agrees_at bindings new old b.0) variables
 
 -- they do so of all variables that one of them binds
 unfoldable pub agrees : Bindings → Bindings → Bindings → Bool
-agrees bindings new old = (agrees_on bindings bindings new old && agrees_on new bindings new old) && agrees_on old bindings new old
+agrees bindings new old = (agrees_on bindings bindings new old && agrees_on new bindings new old)
+    && agrees_on old bindings new old
 
 -- a statement is about this term, in the environment of new bindings over old ones
 unfoldable pub is_about : Statement → Bindings → Bindings → Term → Bool

@@ -10,7 +10,11 @@ use Rattle.cu_crwl.specs.declared.claim.Statement.{Statement}
 use Rattle.cu_crwl.specs.declared.claim.Step.{Step}
 
 abbrev pub claim_of : Claim → calculus.Claim
-claim_of c = record { function = c.function; arguments = values_of c.arguments.items; values = c.values.items }
+claim_of c = record {
+  function = c.function;
+  arguments = values_of c.arguments.items;
+  values = c.values.items;
+}
 
 abbrev pub statement_of : Statement → proof.Statement
 statement_of s = record { env = s.env.items; term = term_of s.term; value = s.value }

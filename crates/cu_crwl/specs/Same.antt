@@ -1,4 +1,5 @@
--- The tests by which patterns and terms are told apart: they are the same where they are built alike.
+-- The tests by which patterns and terms are told apart: they are the same where they are built
+-- alike.
 use Rattle.std.specs.Prelude.{Bool, true, false, ◌&&◌, nat_eq}
 use Rattle.cu_calculus.specs.Answered.{same_head}
 use Rattle.cu_calculus.specs.declared.Mode.{Mode}
@@ -23,7 +24,8 @@ abbrev mutual
 
   pub same_patterns : Patterns → Patterns → Bool
   same_patterns term.NoPattern term.NoPattern = true
-  same_patterns (term.MorePatterns p ps) (term.MorePatterns q qs) = same_pattern p q && same_patterns ps qs
+  same_patterns (term.MorePatterns p ps) (term.MorePatterns q qs) =
+      same_pattern p q && same_patterns ps qs
   same_patterns _ _ = false
 
 abbrev mutual
@@ -36,7 +38,8 @@ abbrev mutual
   same_term (term.Let x a b) (term.Let y c d) = nat_eq x y && same_term a c && same_term b d
   same_term (term.Free x t) (term.Free y u) = nat_eq x y && same_term t u
   same_term (term.Or a b) (term.Or c d) = same_term a c && same_term b d
-  same_term (term.Case m a rows) (term.Case n b others) = same_mode m n && same_term a b && same_alternatives rows others
+  same_term (term.Case m a rows) (term.Case n b others) =
+      same_mode m n && same_term a b && same_alternatives rows others
   same_term _ _ = false
 
   pub same_terms : Terms → Terms → Bool

@@ -9,10 +9,13 @@ use Rattle.cu_values.specs.Spelling.{value_code}
 
 abbrev pub statement_code : Coded Statement
 statement_code =
-    code_by (List (ℕ × Value) × (Term × Value)) (coded× (coded_list (coded× coded_ℕ value_code)) (coded× term_code value_code))
-    (λ s. (s.env, (s.term, s.value))) (λ t. record { env = t.0; term = t.1.0; value = t.1.1 }) (λ _. refl)
+    code_by (List (ℕ × Value) × (Term × Value))
+    (coded× (coded_list (coded× coded_ℕ value_code)) (coded× term_code value_code))
+    (λ s. (s.env, (s.term, s.value))) (λ t. record { env = t.0; term = t.1.0; value = t.1.1 })
+    (λ _. refl)
 
 abbrev pub step_code : Coded Step
 step_code =
-    code_by (List ℕ × Statement) (coded× (coded_list coded_ℕ) statement_code) (λ s. (s.cites, s.statement))
+    code_by (List ℕ × Statement) (coded× (coded_list coded_ℕ) statement_code)
+    (λ s. (s.cites, s.statement))
     (λ t. record { cites = t.0; statement = t.1 }) (λ _. refl)

@@ -1,4 +1,5 @@
--- Steps as a test, from the first one on: each follows from the statements that it cites, which stand before it.
+-- Steps as a test, from the first one on: each follows from the statements that it cites, which
+-- stand before it.
 use Rattle.std.specs.Prelude.{ℕ, Bool, true, false, ◌&&◌, List, [], ◌∷◌, ◌++◌, Option, None, Some, slice_get}
 use Rattle.cu_calculus.specs.Gives.{Claim}
 use Rattle.cu_calculus.specs.Program.{Program}
@@ -20,9 +21,11 @@ statement_follows program claims s (Some cited) = follows program claims cited s
 
 -- a step behind others
 abbrev pub step_follows : Program → List Claim → List Step → Step → Bool
-step_follows program claims before step = statement_follows program claims step.statement (cited_by (statements before) step.cites)
+step_follows program claims before step =
+    statement_follows program claims step.statement (cited_by (statements before) step.cites)
 
 -- steps behind others
 abbrev pub all_follow : Program → List Claim → List Step → List Step → Bool
 all_follow program claims before [] = true
-all_follow program claims before (step ∷ steps) = step_follows program claims before step && all_follow program claims (before ++ step ∷ []) steps
+all_follow program claims before (step ∷ steps) =
+    step_follows program claims before step && all_follow program claims (before ++ step ∷ []) steps

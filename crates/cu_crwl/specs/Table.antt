@@ -1,5 +1,5 @@
--- The table of the calculus as a test of a statement against the statements that it cites. That it decides the table is the
--- crate's law.
+-- The table of the calculus as a test of a statement against the statements that it cites. That it
+-- decides the table is the crate's law.
 use Rattle.std.specs.Prelude.{ℕ, Bool, true, false, ◌&&◌, ◌||◌, List, [], ◌∷◌, Option, None, Some, if◌then◌else◌, nat_eq, take, drop}
 use Rattle.std.specs.List.{list_any}
 use Rattle.cu_calculus.specs.declared.ConId.{ConId}
@@ -62,7 +62,11 @@ first_cited _ = None
 
 -- a rule's patterns match, and its body gives the value under what they bound
 abbrev pub rule_gives : Values → Statement → Value → Rule → Bool
-rule_gives us s v rule = elim (all_matched rule.params us) [ Some bindings ↦ says s bindings [] rule.body v | None ↦ false ]
+rule_gives us s v rule =
+    elim (all_matched rule.params us) [
+      | Some bindings ↦ says s bindings [] rule.body v
+      | None ↦ false
+    ]
 
 abbrev pub rules_give : Values → Option Statement → Value → List Rule → Bool
 rules_give us None v rules = false
@@ -74,12 +78,14 @@ is_answer (Some answer) v = same_value answer v
 
 abbrev pub body_gives : Program → Values → List Statement → Value → Body → Bool
 body_gives program us last v (Rules rules) = rules_give us (one_cited last) v rules
-body_gives program us last v (External operation) = none_cited last && is_answer (answered program operation us) v
+body_gives program us last v (External operation) =
+    none_cited last && is_answer (answered program operation us) v
 
 -- a claim about a function on these values, whose list is at least the value
 abbrev pub claim_gives : Program → ConId → FunId → Values → Value → Claim → Bool
 claim_gives program c f us v claim =
-    (nat_eq claim.function.0 f.0 && same_values claim.arguments us) && is_below v (collected program c claim.values)
+    (nat_eq claim.function.0 f.0 && same_values claim.arguments us)
+    && is_below v (collected program c claim.values)
 
 abbrev pub claims_give : Program → Option ConId → List Claim → FunId → Values → Value → Bool
 claims_give program None claims f us v = false
@@ -89,37 +95,48 @@ claims_give program (Some c) claims f us v = list_any (claim_gives program c f u
 unfoldable pub applies : Program → List Claim → Head → Values → List Statement → Value → Bool
 applies program claims (head.Con c) us last v = none_cited last && is_built c us v
 applies program claims (head.Fun f) us last v =
-    elim (function_of program f) [ Some function ↦ body_gives program us last v function.body | None ↦ false ]
+    elim (function_of program f) [
+      | Some function ↦ body_gives program us last v function.body
+      | None ↦ false
+    ]
 applies program claims (head.Set f) us last v =
     (none_cited last && are_ground us) && claims_give program program.special.values claims f us v
 
--- a head on the values of a partial application and one more: it lacks further ones, or has as many as it takes
+-- a head on the values of a partial application and one more: it lacks further ones, or has as many
+-- as it takes
 abbrev pub applied_to : Program → List Claim → Head → Values → List Statement → Value → Bool
 applied_to program claims h us last v =
     if takes_more (arity_in program h) (count us) then none_cited last && is_part h us v
     else takes (arity_in program h) (count us) && applies program claims h us last v
 
 abbrev pub application_gives : Program → List Claim → Value → Value → List Statement → Value → Bool
-application_gives program claims (value.Partial h us) u last v = applied_to program claims h (and_then us u) last v
+application_gives program claims (value.Partial h us) u last v =
+    applied_to program claims h (and_then us u) last v
 application_gives program claims _ u last v = false
 
-abbrev pub apply_follows : Program → List Claim → Option (Statement × Statement × List Statement) → Bindings → Term → Term → Value → Bool
+abbrev pub apply_follows : Program → List Claim → Option (Statement × Statement × List Statement)
+    → Bindings → Term → Term → Value → Bool
 apply_follows program claims None env f a v = false
 apply_follows program claims (Some cited) env f a v =
-    (is_about cited.0 [] env f && is_about cited.1 [] env a) && application_gives program claims cited.0.value cited.1.value cited.2 v
+    (is_about cited.0 [] env f && is_about cited.1 [] env a)
+    && application_gives program claims cited.0.value cited.1.value cited.2 v
 
-abbrev pub whole_follows : Program → List Claim → List Statement → List Statement → Bindings → Head → Terms → Value → Bool
-whole_follows program claims parts last env h ts v = all_about parts env ts && applies program claims h (values_said parts) last v
+abbrev pub whole_follows : Program → List Claim → List Statement → List Statement → Bindings → Head
+    → Terms → Value → Bool
+whole_follows program claims parts last env h ts v =
+    all_about parts env ts && applies program claims h (values_said parts) last v
 
 abbrev pub part_follows : List Statement → Bindings → Head → Terms → Value → Bool
 part_follows parts env h ts v = all_about parts env ts && is_part h (values_said parts) v
 
 abbrev pub let_follows : Option (Statement × Statement) → Bindings → ℕ → Term → Term → Value → Bool
 let_follows None env x a b v = false
-let_follows (Some cited) env x a b v = is_about cited.0 [] env a && says cited.1 ((x, cited.0.value) ∷ []) env b v
+let_follows (Some cited) env x a b v =
+    is_about cited.0 [] env a && says cited.1 ((x, cited.0.value) ∷ []) env b v
 
 abbrev pub free_gives : Program → Statement → Bindings → ℕ → Value → Term → Value → Bool
-free_gives program s env x u t v = (is_total_data u && is_of program u) && says s ((x, u) ∷ []) env t v
+free_gives program s env x u t v = (is_total_data u && is_of program u)
+    && says s ((x, u) ∷ []) env t v
 
 -- the variable stands for what the cited statement says of it
 abbrev pub free_follows : Program → Option Statement → Bindings → ℕ → Term → Value → Bool
@@ -132,31 +149,41 @@ or_follows (Some s) env a b v = says s [] env a v || says s [] env b v
 
 abbrev pub alternative_gives : Statement → Bindings → Value → Value → Option (Pattern × Term) → Bool
 alternative_gives r env u v None = false
-alternative_gives r env u v (Some row) = elim (matched row.0 u) [ Some bindings ↦ says r bindings env row.1 v | None ↦ false ]
+alternative_gives r env u v (Some row) =
+    elim (matched row.0 u) [ Some bindings ↦ says r bindings env row.1 v | None ↦ false ]
 
 abbrev pub choice_gives : Statement → Bindings → Value → Value → Alternatives → Option ℕ → Bool
 choice_gives r env u v alternatives None = false
-choice_gives r env u v alternatives (Some k) = alternative_gives r env u v (alternative_at alternatives k)
+choice_gives r env u v alternatives (Some k) =
+    alternative_gives r env u v (alternative_at alternatives k)
 
-abbrev pub case_follows : Program → Option (Statement × Statement) → Bindings → Term → Alternatives → Value → Bool
+abbrev pub case_follows : Program → Option (Statement × Statement) → Bindings → Term → Alternatives
+    → Value → Bool
 case_follows program None env a alternatives v = false
 case_follows program (Some cited) env a alternatives v =
     is_about cited.0 [] env a
-    && choice_gives cited.1 env cited.0.value v alternatives (chosen program (rows_from 0 alternatives) (cited.0.value ∷ []))
+    && choice_gives cited.1 env cited.0.value v alternatives
+    (chosen program (rows_from 0 alternatives) (cited.0.value ∷ []))
 
 -- by the row for a term's form
 unfoldable pub row_follows : Program → List Claim → List Statement → Bindings → Term → Value → Bool
-row_follows program claims cited env (term.Variable x) v = none_cited cited && is_below v (bind_all empty env x)
+row_follows program claims cited env (term.Variable x) v =
+    none_cited cited && is_below v (bind_all empty env x)
 row_follows program claims cited env (term.Literal l) v = none_cited cited && is_literal_value l v
 row_follows program claims cited env (term.Whole h ts) v =
-    whole_follows program claims (take (term_count ts) cited) (drop (term_count ts) cited) env h ts v
+    whole_follows program claims (take (term_count ts) cited)
+    (drop (term_count ts) cited) env h ts v
 row_follows program claims cited env (term.Part h ts) v = part_follows cited env h ts v
-row_follows program claims cited env (term.Apply f a) v = apply_follows program claims (first_cited cited) env f a v
+row_follows program claims cited env (term.Apply f a) v =
+    apply_follows program claims (first_cited cited) env f a v
 row_follows program claims cited env (term.Let x a b) v = let_follows (two_cited cited) env x a b v
-row_follows program claims cited env (term.Free x t) v = free_follows program (one_cited cited) env x t v
+row_follows program claims cited env (term.Free x t) v =
+    free_follows program (one_cited cited) env x t v
 row_follows program claims cited env (term.Or a b) v = or_follows (one_cited cited) env a b v
-row_follows program claims cited env (term.Case mode a alternatives) v = case_follows program (two_cited cited) env a alternatives v
+row_follows program claims cited env (term.Case mode a alternatives) v =
+    case_follows program (two_cited cited) env a alternatives v
 
 -- a statement follows by the row for Bottom, or by that for its term
 unfoldable pub follows : Program → List Claim → List Statement → Bindings → Term → Value → Bool
-follows program claims cited env t v = (none_cited cited && is_bottom v) || row_follows program claims cited env t v
+follows program claims cited env t v =
+    (none_cited cited && is_bottom v) || row_follows program claims cited env t v

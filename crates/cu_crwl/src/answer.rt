@@ -136,7 +136,8 @@ fn conjoin(
     left: &Value,
     right: &Value,
 ) -> Result<Option<Value>, AllocError>
-    ensures { IfOk result (λ found. found ≡ conjoined (heads_program heads.now) left.now right.now) }
+    ensures { IfOk result (λ found. found
+        ≡ conjoined (heads_program heads.now) left.now right.now) }
 {
     let yes = truth(alloc, heads, true)?;
     true_where(alloc, heads, value_is(left, &yes) && value_is(right, &yes))
@@ -285,7 +286,8 @@ fn some_integer(alloc: Global, number: Option<Int>) -> Result<Option<Value>, All
 
 /// The literal of a character, where there is one.
 fn some_character(alloc: Global, character: Option<char>) -> Result<Option<Value>, AllocError>
-    ensures { IfOk result (λ found. found ≡ option_map (λ c. value.Literal (Lit.Char c)) character) }
+    ensures { IfOk result (λ found. found
+        ≡ option_map (λ c. value.Literal (Lit.Char c)) character) }
 {
     match character {
         Some(c) => {

@@ -215,7 +215,8 @@ fn collected(
     constructor: ConId,
     values: &[Value],
 ) -> Result<Value, AllocError>
-    ensures { IfOk result (λ all. all ≡ collected (heads_program heads.now) constructor values.now) }
+    ensures { IfOk result (λ all. all
+        ≡ collected (heads_program heads.now) constructor values.now) }
 {
     let mut cells = Vec::new(alloc);
     cells.push(Cell::Con(constructor, 1))?;

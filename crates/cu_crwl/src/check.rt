@@ -64,7 +64,8 @@ fn claims_are_of(heads: &Heads, claims: &[Claim]) -> bool
 /// Whether the statements of steps are the program's.
 fn steps_are_of(heads: &Heads, steps: &[Step]) -> Result<bool, AllocError>
     ensures { IfOk result (λ yes. yes ≡ list_all
-        (λ step. is_statement_of (heads_program heads.now) step.statement) (map step_of steps.now)) }
+        (λ step. is_statement_of (heads_program heads.now) step.statement)
+        (map step_of steps.now)) }
 {
     for step in steps {
         if !statement_is_of(heads, &step.statement)? {

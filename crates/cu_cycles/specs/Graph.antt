@@ -1,4 +1,5 @@
--- Graphs as rows of nodes, one row for each node: the nodes to which edges go from it. Nodes are numbers, from 0.
+-- Graphs as rows of nodes, one row for each node: the nodes to which edges go from it. Nodes are
+-- numbers, from 0.
 use Rattle.std.specs.Prelude.{◌≡◌, ◌↔◌, ℕ, ◌<◌, Bool, IsTrue, List, Some, length, slice_get}
 use Rattle.std.specs.declared.alloc.Global.{Global}
 use Rattle.std.specs.declared.vec.Vec.{Vec}
@@ -31,4 +32,5 @@ pub record LiesOnCycle (g : Graph) (u : ℕ) : Type 0 where
 -- a flag for each node: whether it lies on a cycle
 pub record AreOnCycles (g : Graph) (flags : List Bool) : Type 0 where
   pub sized : length flags ≡ length g
-  pub tells : (u : ℕ) (flag : Bool) → slice_get flags u ≡ Some flag → (IsTrue flag ↔ LiesOnCycle g u)
+  pub tells : (u : ℕ) (flag : Bool) → slice_get flags u ≡ Some flag
+      → (IsTrue flag ↔ LiesOnCycle g u)

@@ -59,8 +59,10 @@ impl Search {
 
     /// Whether the last part begins behind a place of the path.
     fn begins_behind(&self, at: usize) -> bool
-        ensures behind { IsTrue result → (p : Part) × IsLast self.now.parts.items p × (at < p.start) }
-        ensures before { IsFalse result → (p : Part) → IsLast self.now.parts.items p → p.start ≤ at }
+        ensures behind { IsTrue result → (p : Part) × IsLast self.now.parts.items p
+            × (at < p.start) }
+        ensures before { IsFalse result → (p : Part) → IsLast self.now.parts.items p
+            → p.start ≤ at }
     {
         match self.parts.last() {
             Some(part) => at < part.start,
@@ -82,8 +84,10 @@ impl Search {
     /// Closes the nodes of the path from a place on.
     fn close_from(&mut self, start: usize)
         requires start { start ≤ length self.old.path.items }
-        requires open_at { (s v : ℕ) → slice_get self.old.path.items s ≡ Some v → slice_get self.old.places.items v ≡ Some (Place.Open s) }
-        requires at_open { (v s : ℕ) → slice_get self.old.places.items v ≡ Some (Place.Open s) → slice_get self.old.path.items s ≡ Some v }
+        requires open_at { (s v : ℕ) → slice_get self.old.path.items s ≡ Some v
+            → slice_get self.old.places.items v ≡ Some (Place.Open s) }
+        requires at_open { (v s : ℕ) → slice_get self.old.places.items v ≡ Some (Place.Open s)
+            → slice_get self.old.path.items s ≡ Some v }
         ensures places { AreShut start self.old.closed self.old.places.items self.new.places.items }
         ensures sized { length self.new.places.items ≡ length self.old.places.items }
         ensures path { self.new.path.items ≡ take start self.old.path.items }
@@ -103,9 +107,12 @@ impl Search {
         requires last { IsLast self.old.parts.items part }
         requires start { part.start ≤ length self.old.path.items }
         requires room { self.old.closed + 1 < 2 ^ 64 }
-        requires open_at { (s v : ℕ) → slice_get self.old.path.items s ≡ Some v → slice_get self.old.places.items v ≡ Some (Place.Open s) }
-        requires at_open { (v s : ℕ) → slice_get self.old.places.items v ≡ Some (Place.Open s) → slice_get self.old.path.items s ≡ Some v }
-        ensures good { (g : Graph) → IsGood g self.old → length self.old.pending.items ≤ part.pending → IsGood g self.new }
+        requires open_at { (s v : ℕ) → slice_get self.old.path.items s ≡ Some v
+            → slice_get self.old.places.items v ≡ Some (Place.Open s) }
+        requires at_open { (v s : ℕ) → slice_get self.old.places.items v ≡ Some (Place.Open s)
+            → slice_get self.old.path.items s ≡ Some v }
+        ensures good { (g : Graph) → IsGood g self.old
+            → length self.old.pending.items ≤ part.pending → IsGood g self.new }
         ensures falls { (g : Graph) → work g self.new + 1 ≡ work g self.old }
         ensures meets { Meets self.old self.new }
     {
@@ -116,7 +123,8 @@ impl Search {
 
     /// The last of what is pending from a place on.
     fn pending_from(&self, start: usize) -> Option<usize>
-        ensures some { IfSome result (λ target. (start < length self.now.pending.items) × IsLast self.now.pending.items target) }
+        ensures some { IfSome result (λ target. (start < length self.now.pending.items)
+            × IsLast self.now.pending.items target) }
         ensures none { IfNone result (length self.now.pending.items ≤ start) }
     {
         if start < self.pending.len() {

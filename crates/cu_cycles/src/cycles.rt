@@ -9,7 +9,8 @@ use std::alloc::{AllocError, Global};
 /// Whether one of some nodes has a number.
 fn has_rank(ranks: &[usize], nodes: &[usize], rank: usize) -> bool
     requires { (k v : ℕ) → slice_get nodes.now k ≡ Some v → v < length ranks.now }
-    ensures { IsTrue result ↔ ((k : ℕ) × (v : ℕ) × (slice_get nodes.now k ≡ Some v) × (slice_get ranks.now v ≡ Some rank)) }
+    ensures { IsTrue result ↔ ((k : ℕ) × (v : ℕ) × (slice_get nodes.now k ≡ Some v)
+        × (slice_get ranks.now v ≡ Some rank)) }
 {
     for node in nodes {
         if ranks[*node] == rank {

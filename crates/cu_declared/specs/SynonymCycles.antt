@@ -48,4 +48,5 @@ pub record Mentions (bindings : List Binding) (m : Named) (i j : ℕ) : Type 0 w
 -- Synonym i leads to synonym j by the names on right sides.
 pub data LeadsTo (bindings : List Binding) (m : Named) : ℕ → ℕ → Type 0 where
   at_once : (i j : ℕ) → Mentions bindings m i j → LeadsTo bindings m i j
-  by_way_of : (i j k : ℕ) → Mentions bindings m i j → LeadsTo bindings m j k → LeadsTo bindings m i k
+  by_way_of : (i j k : ℕ) → Mentions bindings m i j → LeadsTo bindings m j k
+      → LeadsTo bindings m i k

@@ -18,7 +18,8 @@ use cu_modules::Scopes;
 /// The type that a name means in the module of a number, where it is one.
 pub(crate) fn meaning(scopes: &Scopes, number: u32, used: TypeUse) -> Option<Entity>
     ensures meaning { (w : World) → IsAt w number scopes.now → UseIsOf w.owner w.names used
-        → option_map (entity_meaning w.names) result ≡ entity_meant (bindings_of w) (use_meaning w.names used) }
+        → option_map (entity_meaning w.names) result
+        ≡ entity_meant (bindings_of w) (use_meaning w.names used) }
     ensures known { (w : World) → IsAt w number scopes.now → IfSome result (EntityIsKnown w.names) }
 {
     scopes.meaning(number, Space::Types, used.name.qualifier, used.name.base)
@@ -50,7 +51,8 @@ fn is_wrong(scopes: &Scopes, number: u32, types: &Numbers, used: TypeUse) -> boo
 fn tell_arity(scopes: &Scopes, number: u32, types: &Numbers, used: TypeUse, first: &mut FirstFault)
     ensures { (w : World) (numbers : List Numbered) → IsAt w number scopes.now
         → UseIsOf w.owner w.names used → Have w.names numbers types.now
-        → Told w first.old (use_faults numbers (bindings_of w) (use_meaning w.names used)) first.new }
+        → Told w first.old (use_faults numbers (bindings_of w) (use_meaning w.names used))
+        first.new }
 {
     if is_wrong(scopes, number, types, used) {
         first.tell(Fault {
@@ -70,7 +72,8 @@ pub(crate) fn tell_arities(
 )
     ensures { (w : World) (numbers : List Numbered) → IsAt w number scopes.now
         → All (UseIsOf w.owner w.names) uses.now → Have w.names numbers types.now
-        → Told w first.old (arity_faults numbers (bindings_of w) (uses_meaning w.names uses.now)) first.new }
+        → Told w first.old (arity_faults numbers (bindings_of w) (uses_meaning w.names uses.now))
+        first.new }
 {
     for used in uses {
         tell_arity(scopes, number, types, *used, first);

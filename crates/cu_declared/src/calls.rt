@@ -126,7 +126,8 @@ pub fn declared_types(
     requires known { All (HasModule names.now) modules.now }
     requires scopes { AreScopes names.now (modules_of names.now modules.now) scopes.now }
     ensures right { OnOk result (AreRight (modules_of names.now modules.now)) }
-    ensures wrong { IfErr result (TellsFault names.now (IsWrong (modules_of names.now modules.now))) }
+    ensures wrong { IfErr result
+        (TellsFault names.now (IsWrong (modules_of names.now modules.now))) }
     ensures known { IfErr result (FaultIsKnown names.now) }
 {
     let _count = names.count();
@@ -163,10 +164,12 @@ pub fn declared_types_goal(
     requires scopes { AreScopes names.now (modules_of names.now modules.now) scopes.now }
     requires root { root < length modules.now }
     ensures right { (owner : NameId) → GoalIsOf owner names.now goal.now
-        → OnOk result (IsGoalRight (modules_of names.now modules.now) root (goal_meaning names.now goal.now)) }
+        → OnOk result (IsGoalRight (modules_of names.now modules.now) root
+        (goal_meaning names.now goal.now)) }
     ensures wrong { (owner : NameId) → GoalIsOf owner names.now goal.now
         → IfErr result (TellsGoalFault names.now (λ name fault. (name ≡ text_of names.now owner)
-        × IsGoalWrong (modules_of names.now modules.now) root (goal_meaning names.now goal.now) fault)) }
+        × IsGoalWrong (modules_of names.now modules.now) root
+        (goal_meaning names.now goal.now) fault)) }
     ensures known { (owner : NameId) → IsKnown names.now owner → GoalIsOf owner names.now goal.now
         → IfErr result (GoalFaultIsKnown names.now) }
 {

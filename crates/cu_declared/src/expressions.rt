@@ -26,7 +26,8 @@ pub(crate) fn expression(
     found: &mut Vec<TypeUse>,
 ) -> Result<(), AllocError>
     ensures { (owner : NameId) (names : List (List ℕ)) → ExpressionIsOf owner names e.entry
-        → OnOk result (Adds owner names found.old.items (in_expression names e.entry) found.new.items) }
+        → OnOk result (Adds owner names found.old.items
+        (in_expression names e.entry) found.new.items) }
 {
     let node = e.node(alloc)?;
     match node {
@@ -76,7 +77,8 @@ fn expressions(
     found: &mut Vec<TypeUse>,
 ) -> Result<(), AllocError>
     ensures { (owner : NameId) (names : List (List ℕ)) → All (ExpressionIsOf owner names) es.now
-        → OnOk result (Adds owner names found.old.items (in_expressions names es.now) found.new.items) }
+        → OnOk result (Adds owner names found.old.items
+        (in_expressions names es.now) found.new.items) }
 {
     for e in es {
         expression(alloc, *e, found)?;
@@ -91,8 +93,10 @@ fn operands(
     items: &[OperatorItem<'_>],
     found: &mut Vec<TypeUse>,
 ) -> Result<(), AllocError>
-    ensures { (owner : NameId) (names : List (List ℕ)) → All (OperatorItemIsOf owner names) items.now
-        → OnOk result (Adds owner names found.old.items (in_operands names items.now) found.new.items) }
+    ensures { (owner : NameId) (names : List (List ℕ))
+        → All (OperatorItemIsOf owner names) items.now
+        → OnOk result (Adds owner names found.old.items
+        (in_operands names items.now) found.new.items) }
 {
     for item in items {
         expression(alloc, item.operand, found)?;
@@ -108,7 +112,8 @@ fn alternatives(
     found: &mut Vec<TypeUse>,
 ) -> Result<(), AllocError>
     ensures { (owner : NameId) (names : List (List ℕ)) → All (AlternativeIsOf owner names) cases.now
-        → OnOk result (Adds owner names found.old.items (in_alternatives names cases.now) found.new.items) }
+        → OnOk result (Adds owner names found.old.items
+        (in_alternatives names cases.now) found.new.items) }
 {
     for a in cases {
         right_side(alloc, a.right, found)?;
@@ -124,7 +129,8 @@ fn enumeration(
     found: &mut Vec<TypeUse>,
 ) -> Result<(), AllocError>
     ensures { (owner : NameId) (names : List (List ℕ)) → EnumerationIsOf owner names numbers.entry
-        → OnOk result (Adds owner names found.old.items (in_enumeration names numbers.entry) found.new.items) }
+        → OnOk result (Adds owner names found.old.items
+        (in_enumeration names numbers.entry) found.new.items) }
 {
     expression(alloc, numbers.first, found)?;
     maybe(alloc, numbers.second, found)?;
@@ -155,7 +161,8 @@ fn qualifiers(
     found: &mut Vec<TypeUse>,
 ) -> Result<(), AllocError>
     ensures { (owner : NameId) (names : List (List ℕ)) → All (QualifierIsOf owner names) qs.now
-        → OnOk result (Adds owner names found.old.items (in_qualifiers names qs.now) found.new.items) }
+        → OnOk result (Adds owner names found.old.items
+        (in_qualifiers names qs.now) found.new.items) }
 {
     for q in qs {
         qualifier(alloc, q, found)?;
@@ -167,7 +174,8 @@ fn qualifiers(
 #[cycle(signatures)]
 fn qualifier(alloc: Global, q: &Qualifier<'_>, found: &mut Vec<TypeUse>) -> Result<(), AllocError>
     ensures { (owner : NameId) (names : List (List ℕ)) → QualifierIsOf owner names q.now
-        → OnOk result (Adds owner names found.old.items (in_qualifier names q.now) found.new.items) }
+        → OnOk result (Adds owner names found.old.items
+        (in_qualifier names q.now) found.new.items) }
 {
     match q {
         Qualifier::Generator(_, _, list) => expression(alloc, *list, found),
@@ -184,7 +192,8 @@ fn right_side(
     found: &mut Vec<TypeUse>,
 ) -> Result<(), AllocError>
     ensures { (owner : NameId) (names : List (List ℕ)) → RightSideIsOf owner names right.entry
-        → OnOk result (Adds owner names found.old.items (in_right names right.entry) found.new.items) }
+        → OnOk result (Adds owner names found.old.items
+        (in_right names right.entry) found.new.items) }
 {
     let node = right.node(alloc)?;
     body(alloc, &node.body, found)?;
@@ -207,7 +216,8 @@ fn body(alloc: Global, b: &Body<'_>, found: &mut Vec<TypeUse>) -> Result<(), All
 #[cycle(signatures)]
 fn guards(alloc: Global, cases: &[Guard<'_>], found: &mut Vec<TypeUse>) -> Result<(), AllocError>
     ensures { (owner : NameId) (names : List (List ℕ)) → All (GuardIsOf owner names) cases.now
-        → OnOk result (Adds owner names found.old.items (in_guards names cases.now) found.new.items) }
+        → OnOk result (Adds owner names found.old.items
+        (in_guards names cases.now) found.new.items) }
 {
     for g in cases {
         expression(alloc, g.condition, found)?;
@@ -224,7 +234,8 @@ fn declarations(
     found: &mut Vec<TypeUse>,
 ) -> Result<(), AllocError>
     ensures { (owner : NameId) (names : List (List ℕ)) → All (DeclarationIsOf owner names) ds.now
-        → OnOk result (Adds owner names found.old.items (in_declarations names ds.now) found.new.items) }
+        → OnOk result (Adds owner names found.old.items
+        (in_declarations names ds.now) found.new.items) }
 {
     for d in ds {
         declaration(alloc, *d, found)?;
@@ -240,7 +251,8 @@ pub(crate) fn declaration(
     found: &mut Vec<TypeUse>,
 ) -> Result<(), AllocError>
     ensures { (owner : NameId) (names : List (List ℕ)) → DeclarationIsOf owner names d.entry
-        → OnOk result (Adds owner names found.old.items (in_declaration names d.entry) found.new.items) }
+        → OnOk result (Adds owner names found.old.items
+        (in_declaration names d.entry) found.new.items) }
 {
     let node = d.node(alloc)?;
     match node {

@@ -24,7 +24,8 @@ pub(crate) fn items_uses(
     found: &mut Vec<TypeUse>,
 ) -> Result<(), AllocError>
     ensures { (owner : NameId) (names : List (List ℕ)) → All (ItemIsOf owner names) items.now
-        → OnOk result (Adds owner names found.old.items (in_items names items.now) found.new.items) }
+        → OnOk result (Adds owner names found.old.items
+        (in_items names items.now) found.new.items) }
 {
     for item in items {
         item_uses(alloc, item, found)?;
@@ -57,7 +58,8 @@ fn fields_uses(
 ) -> Result<(), AllocError>
     ensures { (owner : NameId) (names : List (List ℕ))
         → All (ConstructorDeclarationIsOf owner names) constructors.now
-        → OnOk result (Adds owner names found.old.items (in_fields names constructors.now) found.new.items) }
+        → OnOk result (Adds owner names found.old.items
+        (in_fields names constructors.now) found.new.items) }
 {
     for constructor in constructors {
         types(alloc, constructor.fields.as_slice(), found)?;
@@ -74,7 +76,8 @@ pub(crate) fn add_parameters(
 ) -> Result<(), AllocError>
     ensures { (names : List (List ℕ)) → AllDiffer names → IsKnown names owner
         → All (ItemIsOf owner names) items.now
-        → OnOk result (Gains names numbers.old (items_parameters names (text_of names owner) items.now) numbers.new) }
+        → OnOk result (Gains names numbers.old
+        (items_parameters names (text_of names owner) items.now) numbers.new) }
 {
     for item in items {
         add_parameter(alloc, owner, item, numbers)?;
@@ -91,7 +94,8 @@ fn add_parameter(
 ) -> Result<(), AllocError>
     ensures { (names : List (List ℕ)) → AllDiffer names → IsKnown names owner
         → ItemIsOf owner names item.now
-        → OnOk result (Gains names numbers.old (item_parameters names (text_of names owner) item.now) numbers.new) }
+        → OnOk result (Gains names numbers.old
+        (item_parameters names (text_of names owner) item.now) numbers.new) }
 {
     let node = item.node(alloc)?;
     match node {

@@ -53,8 +53,11 @@ impl Numbers {
         name: NameId,
         number: usize,
     ) -> Result<(), AllocError>
-        ensures { (names : List (List ℕ)) → AllDiffer names → IsKnown names owner → IsKnown names name
-            → OnOk result (Gains names self.old (numbered (text_of names owner) (text_of names name) number ∷ []) self.new) }
+        ensures { (names : List (List ℕ)) → AllDiffer names → IsKnown names owner
+            → IsKnown names name
+            → OnOk result
+            (Gains names self.old (numbered (text_of names owner) (text_of names name) number
+            ∷ []) self.new) }
     {
         let key = Key { owner, name };
         let number = first_or(self.numbers.get(&key), number);

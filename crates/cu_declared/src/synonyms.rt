@@ -78,7 +78,8 @@ fn synonym_numbers(
 ) -> Result<Numbers, AllocError>
     ensures { (of : NameId) (names : List (List ℕ)) → AllDiffer names → IsKnown names owner
         → All (SynonymIsOf of names) synonyms.now
-        → IfOk result (Have names (kept_numbers 0 (text_of names owner) (map (kept_by names) synonyms.now))) }
+        → IfOk result
+        (Have names (kept_numbers 0 (text_of names owner) (map (kept_by names) synonyms.now))) }
 {
     let mut numbers = Numbers::new(alloc);
     for number in 0..synonyms.len() {
@@ -109,7 +110,8 @@ fn row(
 ) -> Result<Vec<usize>, AllocError>
     ensures { (w : World) (kept : List Numbered) → IsAt w number scopes.now
         → All (UseIsOf w.owner w.names) uses.now → Have w.names kept numbers.now
-        → IfOk result (λ row. row.items ≡ targets kept (bindings_of w) (uses_meaning w.names uses.now)) }
+        → IfOk result (λ row. row.items
+        ≡ targets kept (bindings_of w) (uses_meaning w.names uses.now)) }
 {
     let mut row = Vec::new(alloc);
     'uses: for used in uses {
@@ -159,7 +161,8 @@ fn tell_flagged(flag: bool, synonym: &Synonym, first: &mut FirstFault)
 fn tell_all_flagged(flags: &[bool], synonyms: &[Synonym], first: &mut FirstFault)
     requires { length flags.now ≡ length synonyms.now }
     ensures { (w : World) → All (SynonymIsOf w.owner w.names) synonyms.now
-        → Told w first.old (flagged_faults flags.now (map (kept_by w.names) synonyms.now)) first.new }
+        → Told w first.old (flagged_faults flags.now (map (kept_by w.names) synonyms.now))
+        first.new }
 {
     for number in 0..synonyms.len() {
         tell_flagged(flags[number], &synonyms[number], first);
@@ -177,7 +180,8 @@ pub(crate) fn tell_cycles(
 ) -> Result<(), AllocError>
     requires { (w : World) × AreSynonyms w number owner scopes.now synonyms.now }
     ensures { (w : World) → AreSynonyms w number owner scopes.now synonyms.now
-        → OnOk result ((faults : List meant.Fault) × AreCycles w faults × Told w first.old faults first.new) }
+        → OnOk result ((faults : List meant.Fault) × AreCycles w faults
+        × Told w first.old faults first.new) }
 {
     let numbers = synonym_numbers(alloc, owner, synonyms)?;
     let graph = graph(alloc, scopes, number, &numbers, synonyms)?;

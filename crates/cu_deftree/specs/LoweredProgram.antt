@@ -10,13 +10,20 @@ use Rattle.cu_deftree.specs.Rows.{numbers, row_of_rule}
 
 -- ---- functions
 
--- A function with rules gets one, over variables from 1 on, whose right side is the tree of its rules; what is built in stays.
+-- A function with rules gets one, over variables from 1 on, whose right side is the tree of its
+-- rules; what is built in stays.
 pub data FunctionLowers (program : Program) (function : Function) : Function → Type 0 where
-  external : (operation : Primitive) (lowered : Function) → function.body ≡ External operation → lowered ≡ function
+  external : (operation : Primitive) (lowered : Function) → function.body ≡ External operation
+      → lowered ≡ function
       → FunctionLowers program function lowered
-  by_tree : (rules : List Rule) (params : List ℕ) (t : Term) (lowered : Function) → function.body ≡ Rules rules
-      → params ≡ numbers 1 function.arity → Tree program params (suc function.arity) (map (row_of_rule params) rules) t
-      → lowered ≡ record { arity = function.arity; body = Rules (record { params = variables params; body = t } ∷ []) }
+  by_tree : (rules : List Rule) (params : List ℕ) (t : Term) (lowered : Function)
+      → function.body ≡ Rules rules
+      → params ≡ numbers 1 function.arity
+      → Tree program params (suc function.arity) (map (row_of_rule params) rules) t
+      → lowered ≡ record {
+        arity = function.arity;
+        body = Rules (record { params = variables params; body = t } ∷ []);
+      }
       → FunctionLowers program function lowered
 
 -- ---- the size of a body
@@ -53,10 +60,12 @@ most_expressions = 2 ^ 16
 
 -- ---- programs
 
--- The flat program of a program: each function in its place, with constructors and built-in entities as they are.
+-- The flat program of a program: each function in its place, with constructors and built-in
+-- entities as they are.
 pub record Flattens (program flat : Program) : Type 0 where
   pub each : length flat.functions ≡ length program.functions
-  pub functions : (k : ℕ) (function lowered : Function) → slice_get program.functions k ≡ Some function → slice_get flat.functions k ≡ Some lowered
+  pub functions : (k : ℕ) (function lowered : Function)
+      → slice_get program.functions k ≡ Some function → slice_get flat.functions k ≡ Some lowered
       → FunctionLowers program function lowered
   pub constructors : flat.constructors ≡ program.constructors
   pub special : flat.special ≡ program.special
@@ -64,9 +73,12 @@ pub record Flattens (program flat : Program) : Type 0 where
 -- What lowering gives: the flat program, or the first function whose body would be too big.
 pub data Lowering (program : Program) : Result Program FunId → Type 0 where
   flat : (flat : Program) → Flattens program flat
-      → ((k : ℕ) (function : Function) → slice_get flat.functions k ≡ Some function → body_size function.body ≤ most_expressions)
+      → ((k : ℕ) (function : Function) → slice_get flat.functions k ≡ Some function
+      → body_size function.body ≤ most_expressions)
       → Lowering program (Ok flat)
-  too_big : (flat : Program) (f : FunId) (function : Function) → Flattens program flat → function_of flat f ≡ Some function
+  too_big : (flat : Program) (f : FunId) (function : Function) → Flattens program flat
+      → function_of flat f ≡ Some function
       → most_expressions < body_size function.body
-      → ((k : ℕ) (other : Function) → k < f.0 → slice_get flat.functions k ≡ Some other → body_size other.body ≤ most_expressions)
+      → ((k : ℕ) (other : Function) → k < f.0 → slice_get flat.functions k ≡ Some other
+      → body_size other.body ≤ most_expressions)
       → Lowering program (Err f)

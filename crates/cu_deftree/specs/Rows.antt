@@ -1,6 +1,6 @@
--- Rows of patterns over positions: the clause matrices of pattern match compilation (Maranget, Compiling pattern matching to
--- good decision trees, 2008), here for definitional trees (Antoy, Definitional trees, 1992). A position is the variable of the
--- flat term that stands there.
+-- Rows of patterns over positions: the clause matrices of pattern match compilation (Maranget,
+-- Compiling pattern matching to good decision trees, 2008), here for definitional trees (Antoy,
+-- Definitional trees, 1992). A position is the variable of the flat term that stands there.
 use Rattle.std.specs.Prelude.{ℕ, zero, suc, Bool, not, List, [], ◌∷◌, ◌++◌, Option, None, Some, if◌then◌else◌, nat_eq, slice_get, length, map, filter}
 use Rattle.std.specs.List.{list_all, list_any, flat_map}
 use Rattle.cu_calculus.specs.declared.ConId.{ConId}
@@ -15,14 +15,14 @@ use Rattle.cu_calculus.specs.Term.{Alternatives, Pattern, Term}
 abbrev pub Names : Type 0
 Names = List (ℕ × ℕ)
 
--- The variable that was bound last counts. What nothing binds, which a valid program doesn't have, is called 0, as nothing that
--- a flat term binds is.
+-- The variable that was bound last counts. What nothing binds, which a valid program doesn't have,
+-- is called 0, as nothing that a flat term binds is.
 abbrev pub name_of : Names → ℕ → ℕ
 name_of [] x = 0
 name_of ((y, z) ∷ names) x = if nat_eq y x then z else name_of names x
 
--- A rule or an alternative: its patterns at the positions, what the variables that stand at positions are called, and its
--- right side.
+-- A rule or an alternative: its patterns at the positions, what the variables that stand at
+-- positions are called, and its right side.
 pub record Row : Type 0 where
   pub patterns : List Pattern
   pub names : Names
@@ -38,7 +38,8 @@ demands k row = is_demanding (demand_at k row)
 -- the leftmost position, from this one on, that all rows demand
 abbrev pub demanded_from : ℕ → List Pattern → List Row → Option ℕ
 demanded_from k [] rows = None
-demanded_from k (p ∷ ps) rows = if list_all (demands k) rows then Some k else demanded_from (suc k) ps rows
+demanded_from k (p ∷ ps) rows = if list_all (demands k) rows then Some k
+    else demanded_from (suc k) ps rows
 
 abbrev pub demanded_by_all : List Row → Option ℕ
 demanded_by_all [] = None
@@ -46,7 +47,8 @@ demanded_by_all (row ∷ rows) = demanded_from 0 row.patterns (row ∷ rows)
 
 -- ---- names
 
--- A variable that stands for a whole position is called as the position is, and so is each alias there.
+-- A variable that stands for a whole position is called as the position is, and so is each alias
+-- there.
 abbrev pub names_at : ℕ → Pattern → Names
 names_at position (term.Any x) = (x, position) ∷ []
 names_at position (term.Named x p) = (x, position) ∷ names_at position p
@@ -69,14 +71,22 @@ argument_names positions (term.Built c ps) = names_at_all positions (list_patter
 -- a row over the positions of the arguments of what stands at position number k, in place of that
 abbrev pub specialized : ℕ → List ℕ → Row → Row
 specialized k positions row = record {
-  patterns = spliced k (elim (slice_get row.patterns k) [ Some p ↦ arguments_of (length positions) p | None ↦ [] ]) row.patterns;
-  names = elim (slice_get row.patterns k) [ Some p ↦ argument_names positions p ++ row.names | None ↦ row.names ];
+  patterns =
+      spliced k (elim (slice_get row.patterns k) [
+        | Some p ↦ arguments_of (length positions) p
+        | None ↦ []
+      ]) row.patterns;
+  names = elim (slice_get row.patterns k) [
+    | Some p ↦ argument_names positions p ++ row.names
+    | None ↦ row.names
+  ];
   body = row.body;
 }
 
 -- the rows that pass a test at a position, over the positions of the arguments of what stands there
 abbrev pub specialize : ℕ → List ℕ → (Demand → Bool) → List Row → List Row
-specialize k positions test rows = map (specialized k positions) (filter (λ row. test (demand_at k row)) rows)
+specialize k positions test rows =
+    map (specialized k positions) (filter (λ row. test (demand_at k row)) rows)
 
 -- ---- what occurs at a position
 
@@ -85,13 +95,16 @@ abbrev pub numbers : ℕ → ℕ → List ℕ
 numbers from zero = []
 numbers from (suc n) = from ∷ numbers (suc from) n
 
--- the constructors of a program: those of the first type first, each in the order of its declaration
+-- the constructors of a program: those of the first type first, each in the order of its
+-- declaration
 abbrev pub constructor_ids : Program → List ConId
 constructor_ids program = map (λ n. record { 0 = n }) (numbers 0 (length program.constructors))
 
 -- the constructors that some row demands at a position
 abbrev pub constructors_at : Program → ℕ → List Row → List ConId
-constructors_at program k rows = filter (λ c. list_any (λ row. wants_constructor c (demand_at k row)) rows) (constructor_ids program)
+constructors_at program k rows =
+    filter (λ c. list_any (λ row. wants_constructor c (demand_at k row)) rows)
+    (constructor_ids program)
 
 -- the constructors of the type of this one
 abbrev pub siblings : Program → ConId → List ConId
@@ -112,7 +125,8 @@ literals_at k rows = first_occurrences (flat_map (λ row. literal_in (demand_at 
 
 -- how many arguments a constructor takes
 abbrev pub constructor_arity : Program → ConId → ℕ
-constructor_arity program c = elim (constructor_of program c) [ Some constructor ↦ constructor.arity | None ↦ 0 ]
+constructor_arity program c =
+    elim (constructor_of program c) [ Some constructor ↦ constructor.arity | None ↦ 0 ]
 
 -- ---- where rows come from
 
@@ -128,4 +142,5 @@ row_of_rule positions rule = record {
 abbrev pub rows_of : Names → ℕ → Alternatives → List Row
 rows_of names position term.NoAlternative = []
 rows_of names position (term.MoreAlternatives p t alternatives) =
-    record { patterns = p ∷ []; names = names_at position p ++ names; body = t } ∷ rows_of names position alternatives
+    record { patterns = p ∷ []; names = names_at position p ++ names; body = t }
+    ∷ rows_of names position alternatives

@@ -181,7 +181,8 @@ fn functions_or_too_big(
     program: &Program,
 ) -> Result<Result<Vec<Function>, FunId>, AllocError>
     requires { HasOperations (program_of program.now) }
-    ensures lowered { IfOk result (AreLoweredOrTooBig (program_of program.now) program.now.functions) }
+    ensures lowered { IfOk result
+        (AreLoweredOrTooBig (program_of program.now) program.now.functions) }
     ensures valid { IsValid program.now }
 {
     let functions = program.functions();

@@ -16,18 +16,21 @@ ghost use Rattle.cu_deftree.specs.LoweredProgram.{Flattens};
 
 /// A program has at most one flat program.
 pub fn lowering_is_a_function()
-    ensures { (program flat other : Program) → Flattens program flat → Flattens program other → flat ≡ other }
+    ensures { (program flat other : Program) → Flattens program flat → Flattens program other
+        → flat ≡ other }
 {}
 
 /// Each valid program that has the operations that lowering puts into bodies
 /// has a flat program.
 pub fn programs_can_be_lowered()
-    ensures { (program : Program) → IsValid program → HasOperations program → (flat : Program) × Flattens program flat }
+    ensures { (program : Program) → IsValid program → HasOperations program
+        → (flat : Program) × Flattens program flat }
 {}
 
 /// The least levels of a program are levels of its flat program too.
 pub fn least_levels_stay_levels()
-    ensures { (program flat : Program) (levels : List ℕ) → Flattens program flat → AreLeastLevels program levels
+    ensures { (program flat : Program) (levels : List ℕ) → Flattens program flat
+        → AreLeastLevels program levels
         → AreLevels flat levels }
 {}
 
@@ -36,8 +39,10 @@ pub fn least_levels_stay_levels()
 /// call of the flat program may have Bottom, the value that says nothing,
 /// where no rule of the program matches.)
 pub fn lowering_is_sound()
-    ensures { (program flat : Program) (claims : List Claim) (f : FunId) (vs : Values) (v : Value) → IsValid program
-        → Flattens program flat → v ≢ Bottom → Concludes flat claims f vs v → Concludes program claims f vs v }
+    ensures { (program flat : Program) (claims : List Claim) (f : FunId) (vs : Values) (v : Value)
+        → IsValid program
+        → Flattens program flat → v ≢ Bottom → Concludes flat claims f vs v
+        → Concludes program claims f vs v }
 {}
 
 /// Lowering loses nothing: what a function of a valid program concludes over
@@ -63,7 +68,8 @@ pub fn lowering_keeps_meaning()
 
 /// What lowering gives of a valid program is flat.
 pub fn lowered_programs_are_flat()
-    ensures { (program flat : Program) → IsValid program → Flattens program flat → IsTrue (is_flat flat) }
+    ensures { (program flat : Program) → IsValid program → Flattens program flat
+        → IsTrue (is_flat flat) }
 {}
 
 /// What lowering gives of a valid program is valid.

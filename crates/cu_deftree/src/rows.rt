@@ -244,7 +244,8 @@ fn alternative_row<'a>(
     around: &'a Names<'a>,
 ) -> Result<Row<'a>, AllocError>
     ensures { IfOk result (λ row. row_of row
-        ≡ alternative_row (names_of around.now) position (pattern_of pattern.now) (term_of body.now)) }
+        ≡ alternative_row (names_of around.now) position (pattern_of pattern.now)
+        (term_of body.now)) }
 {
     let mut patterns = Vec::new(alloc);
     patterns.push(pattern)?;

@@ -152,7 +152,8 @@ impl<'a> Lowerer<'a> {
     #[cycle(lowering)]
     pub(crate) fn lower(&self, task: &Task, left: &mut u32) -> Result<Term, Stop>
         requires { IsReady self.now }
-        ensures { Within term_of size (TaskLowers (program_in self.now) task.now) left.old left.new result }
+        ensures { Within term_of size
+            (TaskLowers (program_in self.now) task.now) left.old left.new result }
     {
         match task {
             Task::Term(scope, term) => self.term(scope, term, left),
@@ -171,7 +172,8 @@ impl<'a> Lowerer<'a> {
         left: &mut u32,
     ) -> Result<(Box<Term>, Box<Term>), Stop>
         requires { IsReady self.now }
-        ensures { Within both_of both_size (BothLower (program_in self.now) first.now second.now) left.old left.new result }
+        ensures { Within both_of both_size
+            (BothLower (program_in self.now) first.now second.now) left.old left.new result }
     {
         let one = self.lower(first, left)?;
         let two = self.lower(second, left)?;
@@ -207,7 +209,9 @@ impl<'a> Lowerer<'a> {
     #[cycle(lowering)]
     fn term<'b>(&self, scope: &Scope<'b>, term: &'b Term, left: &mut u32) -> Result<Term, Stop>
         requires { IsReady self.now }
-        ensures { Within term_of size (TermLowers (program_in self.now) scope.now (term_of term.now)) left.old left.new result }
+        ensures { Within term_of size
+            (TermLowers (program_in self.now) scope.now (term_of term.now)) left.old left.new
+            result }
     {
         match term {
             Term::Var(x) => {
@@ -323,7 +327,8 @@ impl<'a> Lowerer<'a> {
     ) -> Result<Term, Stop>
         requires { IsReady self.now }
         ensures { Within term_of size (TermLowers (program_in self.now) scope.now
-            (clean.Case mode (term_of scrutinee.now) (alternatives_of alternatives.now))) left.old left.new result }
+            (clean.Case mode (term_of scrutinee.now) (alternatives_of alternatives.now))) left.old
+            left.new result }
     {
         let Some(x) = variable_of(scrutinee) else {
             return self.case_on_term(scope, mode, scrutinee, alternatives, left);
@@ -354,7 +359,8 @@ impl<'a> Lowerer<'a> {
         requires ready { IsReady self.now }
         requires other { is_variable (term_of scrutinee.now) ≡ false }
         ensures { Within term_of size (TermLowers (program_in self.now) scope.now
-            (clean.Case mode (term_of scrutinee.now) (alternatives_of alternatives.now))) left.old left.new result }
+            (clean.Case mode (term_of scrutinee.now) (alternatives_of alternatives.now))) left.old
+            left.new result }
     {
         let Some(next) = scope.next.checked_add(1) else {
             return Err(Stop::NoMemory);
@@ -421,7 +427,8 @@ impl<'a> Lowerer<'a> {
         requires opened { IsOpened position (all_rows matrix.now.rows.now) }
         requires within { position < length matrix.now.positions.now }
         ensures { Within branches_of (total branch_size)
-            (Each (BranchLowers (program_in self.now) manner has_variables matrix.now position) choices.now)
+            (Each (BranchLowers (program_in self.now) manner has_variables matrix.now position)
+            choices.now)
             left.old left.new result }
     {
         let mut all = Vec::new(self.alloc);
@@ -477,7 +484,8 @@ impl<'a> Lowerer<'a> {
     #[cycle(lowering)]
     fn tree(&self, matrix: &Matrix, left: &mut u32) -> Result<Term, Stop>
         requires { IsReady self.now }
-        ensures { Within term_of size (MatrixLowers (program_in self.now) manner.Rules matrix.now) left.old left.new result }
+        ensures { Within term_of size
+            (MatrixLowers (program_in self.now) manner.Rules matrix.now) left.old left.new result }
     {
         let rows = matrix.rows;
         if rows.is_empty() {
@@ -508,7 +516,8 @@ impl<'a> Lowerer<'a> {
     fn overlap(&self, matrix: &Matrix, left: &mut u32) -> Result<Term, Stop>
         requires ready { IsReady self.now }
         requires free { IsFree (all_rows matrix.now.rows.now) }
-        ensures { Within term_of size (MatrixLowers (program_in self.now) manner.Rules matrix.now) left.old left.new result }
+        ensures { Within term_of size
+            (MatrixLowers (program_in self.now) manner.Rules matrix.now) left.old left.new result }
     {
         let rows = matrix.rows;
         let row = &rows[0];
@@ -538,7 +547,8 @@ impl<'a> Lowerer<'a> {
     fn split(&self, matrix: &Matrix, position: usize, left: &mut u32) -> Result<Term, Stop>
         requires ready { IsReady self.now }
         requires split { IsSplit position (all_rows matrix.now.rows.now) }
-        ensures { Within term_of size (MatrixLowers (program_in self.now) manner.Rules matrix.now) left.old left.new result }
+        ensures { Within term_of size
+            (MatrixLowers (program_in self.now) manner.Rules matrix.now) left.old left.new result }
     {
         let demanding = kept(self.alloc, matrix.rows, position, Keep::Demanding)?;
         let others = kept(self.alloc, matrix.rows, position, Keep::Undemanding)?;
@@ -567,7 +577,9 @@ impl<'a> Lowerer<'a> {
     #[cycle(lowering)]
     fn distinction(&self, mode: Mode, matrix: &Matrix, left: &mut u32) -> Result<Term, Stop>
         requires { IsReady self.now }
-        ensures { Within term_of size (MatrixLowers (program_in self.now) (manner.Alternatives mode) matrix.now) left.old left.new result }
+        ensures { Within term_of size
+            (MatrixLowers (program_in self.now) (manner.Alternatives mode) matrix.now) left.old
+            left.new result }
     {
         let rows = matrix.rows;
         if rows.is_empty() {
@@ -596,7 +608,9 @@ impl<'a> Lowerer<'a> {
     fn first_right_side(&self, mode: Mode, matrix: &Matrix, left: &mut u32) -> Result<Term, Stop>
         requires ready { IsReady self.now }
         requires free { IsFree (all_rows matrix.now.rows.now) }
-        ensures { Within term_of size (MatrixLowers (program_in self.now) (manner.Alternatives mode) matrix.now) left.old left.new result }
+        ensures { Within term_of size
+            (MatrixLowers (program_in self.now) (manner.Alternatives mode) matrix.now) left.old
+            left.new result }
     {
         let row = &matrix.rows[0];
         let names = Names::WithAll(row.own.as_slice(), row.around);
@@ -620,7 +634,9 @@ impl<'a> Lowerer<'a> {
     ) -> Result<Term, Stop>
         requires ready { IsReady self.now }
         requires mixed { IsMixed position (all_rows matrix.now.rows.now) }
-        ensures { Within term_of size (MatrixLowers (program_in self.now) (manner.Alternatives mode) matrix.now) left.old left.new result }
+        ensures { Within term_of size
+            (MatrixLowers (program_in self.now) (manner.Alternatives mode) matrix.now) left.old
+            left.new result }
     {
         match matrix.rows[0].demand_at(position) {
             Demand::Nothing => unreachable!(),
@@ -652,8 +668,11 @@ impl<'a> Lowerer<'a> {
     ) -> Result<Term, Stop>
         requires ready { IsReady self.now }
         requires mixed { IsMixed position (all_rows matrix.now.rows.now) }
-        requires literal { FirstDemands position (calculus.ALiteral literal) (all_rows matrix.now.rows.now) }
-        ensures { Within term_of size (MatrixLowers (program_in self.now) (manner.Alternatives mode) matrix.now) left.old left.new result }
+        requires literal { FirstDemands position (calculus.ALiteral literal)
+            (all_rows matrix.now.rows.now) }
+        ensures { Within term_of size
+            (MatrixLowers (program_in self.now) (manner.Alternatives mode) matrix.now) left.old
+            left.new result }
     {
         if position >= matrix.positions.len() {
             return Err(Stop::NoMemory);

@@ -16,13 +16,15 @@ same_qualifier _ _ = false
 
 -- whether a name, of a qualifier, if it has one, and what stands behind it, means what is bound
 abbrev pub is_bound : Space → Option (List ℕ) → List ℕ → Binding → Bool
-is_bound space qualifier base b = same_qualifier qualifier b.qualifier && (bytes_eq base b.entity.name && same_space space (space_of b.entity.sort))
+is_bound space qualifier base b = same_qualifier qualifier b.qualifier
+    && (bytes_eq base b.entity.name && same_space space (space_of b.entity.sort))
 
 abbrev pub entities_of : List Binding → List Entity
 entities_of bindings = map (λ (b : Binding). b.entity) bindings
 
 abbrev pub meant_by : List Binding → Space → Option (List ℕ) → List ℕ → List Entity
-meant_by bindings space qualifier base = distinct (entities_of (filter (is_bound space qualifier base) bindings))
+meant_by bindings space qualifier base =
+    distinct (entities_of (filter (is_bound space qualifier base) bindings))
 
 -- one entity, or more
 pub data Count : Type 0 where

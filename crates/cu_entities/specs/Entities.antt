@@ -37,7 +37,8 @@ same_space _ _ = false
 
 -- A name that a module declares twice in one name space is one entity.
 abbrev pub same_entity : Entity → Entity → Bool
-same_entity e f = bytes_eq e.owner f.owner && (bytes_eq e.name f.name && same_space (space_of e.sort) (space_of f.sort))
+same_entity e f = bytes_eq e.owner f.owner
+    && (bytes_eq e.name f.name && same_space (space_of e.sort) (space_of f.sort))
 
 -- each entity once
 abbrev pub distinct : List Entity → List Entity

@@ -23,7 +23,12 @@ sort_meaning names sort.DataType = meant.DataType
 sort_meaning names sort.Synonym = meant.Synonym
 
 abbrev pub entity_meaning : List (List ℕ) → Entity → meant.Entity
-entity_meaning names e = record { owner = text_of names e.owner; name = text_of names e.name; sort = sort_meaning names e.sort }
+entity_meaning names e =
+    record {
+      owner = text_of names e.owner;
+      name = text_of names e.name;
+      sort = sort_meaning names e.sort;
+    }
 
 abbrev pub entities_meaning : List (List ℕ) → List Entity → List meant.Entity
 entities_meaning names entities = map (entity_meaning names) entities
@@ -49,10 +54,12 @@ is_type_sort sort.Synonym = true
 is_type_sort _ = false
 
 abbrev pub same_entities : Entity → Entity → Bool
-same_entities e f = nat_eq e.owner.0 f.owner.0 && (nat_eq e.name.0 f.name.0 && same_spaces (sort_in e.sort) (sort_in f.sort))
+same_entities e f = nat_eq e.owner.0 f.owner.0
+    && (nat_eq e.name.0 f.name.0 && same_spaces (sort_in e.sort) (sort_in f.sort))
 
 abbrev pub is_of_type : Entity → NameId → Sort → Bool
-is_of_type t owner (sort.Constructor id) = is_type_sort t.sort && (nat_eq owner.0 t.owner.0 && nat_eq id.0 t.name.0)
+is_of_type t owner (sort.Constructor id) =
+    is_type_sort t.sort && (nat_eq owner.0 t.owner.0 && nat_eq id.0 t.name.0)
 is_of_type t owner _ = false
 
 abbrev pub is_constructor_in : Entity → Entity → Bool

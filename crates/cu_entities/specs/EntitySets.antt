@@ -15,5 +15,7 @@ alike e f = same_entity f e
 -- These entities were added.
 pub record IsSet (names : List (List ℕ)) (entities : List Entity) (s : EntitySet) : Type 0 where
   pub listed : entities_meaning names s.list.items ≡ distinct entities
-  pub seen : (e : code.Entity) → EntityIsKnown names e → contains identities.eq-value.it s.seen (identity_of e) ≡ list_any (alike (entity_meaning names e)) entities
+  pub seen : (e : code.Entity) → EntityIsKnown names e
+      → contains identities.eq-value.it s.seen (identity_of e)
+      ≡ list_any (alike (entity_meaning names e)) entities
   pub known : All (EntityIsKnown names) s.list.items

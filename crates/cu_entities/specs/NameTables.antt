@@ -26,15 +26,20 @@ pub record KeyIsKnown (names : List (List ℕ)) (k : Key) : Type 0 where
   pub base : IsKnown names k.base
 
 abbrev pub meant_at : List (List ℕ) → List Binding → Key → Option Count
-meant_at names bindings k = counted (meant_by bindings (space_meaning k.space) (option_map (text_of names) k.qualifier) (text_of names k.base))
+meant_at names bindings k =
+    counted (meant_by bindings (space_meaning k.space) (option_map (text_of names) k.qualifier)
+    (text_of names k.base))
 
 -- What look-ups give is what names mean where these are bound.
-pub record IsTable (names : List (List ℕ)) (bindings : List Binding) (found : Key → Option Meant) : Type 0 where
-  pub means : (k : Key) → KeyIsKnown names k → option_map (count_meaning names) (found k) ≡ meant_at names bindings k
+pub record IsTable (names : List (List ℕ)) (bindings : List Binding)
+    (found : Key → Option Meant) : Type 0 where
+  pub means : (k : Key) → KeyIsKnown names k → option_map (count_meaning names) (found k)
+      ≡ meant_at names bindings k
   pub known : (k : Key) → IfSome (found k) (MeantIsKnown names)
 
 abbrev pub binding_of : List (List ℕ) → Option NameId → Entity → Binding
-binding_of names qualifier e = record { qualifier = option_map (text_of names) qualifier; entity = entity_meaning names e }
+binding_of names qualifier e =
+    record { qualifier = option_map (text_of names) qualifier; entity = entity_meaning names e }
 
 -- these bindings, and one more
 abbrev pub with_one : List (List ℕ) → List Binding → Option NameId → Entity → List Binding
@@ -44,7 +49,8 @@ abbrev pub key_of : Option NameId → Entity → Key
 key_of qualifier e = record { qualifier = qualifier; base = e.name; space = sort_in e.sort }
 
 -- A table of what names mean where these are bound.
-pub record Tells (names : List (List ℕ)) (bindings : List Binding) (table : NameTable) : Type 0 where
+pub record Tells (names : List (List ℕ)) (bindings : List Binding)
+    (table : NameTable) : Type 0 where
   pub is_table : IsTable names bindings (get eq-value.it table.meant)
 
 -- what a name means with one more entity

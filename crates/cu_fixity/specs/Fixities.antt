@@ -25,10 +25,13 @@ built_in colon operator = if same operator colon then cons else undeclared
 
 -- the fixity of an operator
 abbrev pub fixity_in : Table → NameId → Fixity
-fixity_in table operator = if same operator table.colon then cons else unwrap_or (lookup (same operator) table.declared) undeclared
+fixity_in table operator = if same operator table.colon then cons
+    else unwrap_or (lookup (same operator) table.declared) undeclared
 
 -- One operator has this fixity now, unless it is `:`, and all others have theirs.
-pub record Declares (before : Table) (declared : NameId) (fixity : Fixity) (after : Table) : Type 0 where
+pub record Declares (before : Table) (declared : NameId) (fixity : Fixity)
+    (after : Table) : Type 0 where
   pub colon : after.colon ≡ before.colon
   pub fixities : (operator : NameId) → fixity_in after operator ≡
-      (if same operator before.colon then cons else if same declared operator then fixity else fixity_in before operator)
+      (if same operator before.colon then cons else if same declared operator then fixity
+      else fixity_in before operator)

@@ -1,5 +1,6 @@
--- How operators group what stands between them, by their fixities. A list of items has a tree where the tree's items are those
--- of the list and each operator's operands fit it (Curry Report, section on infix operators; Haskell Report, section 10.6).
+-- How operators group what stands between them, by their fixities. A list of items has a tree where
+-- the tree's items are those of the list and each operator's operands fit it (Curry Report, section
+-- on infix operators; Haskell Report, section 10.6).
 use Rattle.std.specs.Prelude.{◌≡◌, Bool, true, false, ◌&&◌, ◌||◌, List, [], ◌∷◌, ◌++◌, Option, None, Some, IsTrue, nat_eq, nat_lt}
 use Rattle.cu_fixity.specs.declared.fixity.Fixity.{Fixity}
 use Rattle.cu_syntax.specs.declared.items.Side.{Side}
@@ -38,15 +39,17 @@ same_side _ _ = false
 abbrev pub both : Side → Fixity → Fixity → Bool
 both side f g = nat_eq f.level g.level && (same_side f.side side && same_side g.side side)
 
--- Whether a tree with this operator at its top, or without one, fits as the left operand of an operator between two, as the
--- right one, and as the operand of one that stands before it.
+-- Whether a tree with this operator at its top, or without one, fits as the left operand of an
+-- operator between two, as the right one, and as the operand of one that stands before it.
 abbrev pub fits_left : {O : Type 0} → (O → Fixity) → O → Option O → Bool
 fits_left fixity o None = true
-fits_left fixity o (Some p) = nat_lt (fixity o).level (fixity p).level || both Left (fixity o) (fixity p)
+fits_left fixity o (Some p) = nat_lt (fixity o).level (fixity p).level
+    || both Left (fixity o) (fixity p)
 
 abbrev pub fits_right : {O : Type 0} → (O → Fixity) → O → Option O → Bool
 fits_right fixity o None = true
-fits_right fixity o (Some p) = nat_lt (fixity o).level (fixity p).level || both Right (fixity o) (fixity p)
+fits_right fixity o (Some p) = nat_lt (fixity o).level (fixity p).level
+    || both Right (fixity o) (fixity p)
 
 abbrev pub fits_behind : {O : Type 0} → (O → Fixity) → O → Option O → Bool
 fits_behind fixity o None = true
@@ -57,10 +60,12 @@ abbrev pub is_grouped : {A O : Type 0} → (O → Fixity) → Tree A O → Bool
 is_grouped fixity (Leaf a) = true
 is_grouped fixity (Applied o t) = fits_behind fixity o (top t) && is_grouped fixity t
 is_grouped fixity (Between l o r) =
-    (fits_left fixity o (top l) && fits_right fixity o (top r)) && (is_grouped fixity l && is_grouped fixity r)
+    (fits_left fixity o (top l) && fits_right fixity o (top r))
+    && (is_grouped fixity l && is_grouped fixity r)
 
 -- A tree of a list of items, whose operands fit their operators.
-pub record Grouped {A O : Type 0} (fixity : O → Fixity) (items : List (Item A O)) (tree : Tree A O) : Type 0 where
+pub record Grouped {A O : Type 0} (fixity : O → Fixity) (items : List (Item A O))
+    (tree : Tree A O) : Type 0 where
   pub flattens : flatten tree ≡ items
   pub fits : IsTrue (is_grouped fixity tree)
 

@@ -24,16 +24,19 @@ operand_items (Some at) e = Prefix (Minus at) ∷ Operand e ∷ []
 
 abbrev pub rest_items : OperatorRest → List (Item Expression Operator)
 rest_items syntax.NoOperator = []
-rest_items (syntax.ThenOperator name minus e rest) = Infix (Named name) ∷ operand_items minus e ++ rest_items rest
+rest_items (syntax.ThenOperator name minus e rest) =
+    Infix (Named name) ∷ operand_items minus e ++ rest_items rest
 
 -- the items of an expression
 abbrev pub expression_items : Expression → List (Item Expression Operator)
-expression_items (syntax.Operators at minus first rest) = operand_items minus first ++ rest_items rest
+expression_items (syntax.Operators at minus first rest) =
+    operand_items minus first ++ rest_items rest
 expression_items e = Operand e ∷ []
 
 abbrev pub pattern_rest_items : PatternRest → List (Item Pattern Operator)
 pattern_rest_items syntax.NoConstructor = []
-pattern_rest_items (syntax.ThenConstructor name p rest) = Infix (Named name) ∷ Operand p ∷ pattern_rest_items rest
+pattern_rest_items (syntax.ThenConstructor name p rest) =
+    Infix (Named name) ∷ Operand p ∷ pattern_rest_items rest
 
 -- the items of a pattern
 abbrev pub pattern_items : Pattern → List (Item Pattern Operator)
@@ -47,7 +50,8 @@ polish (Applied o t) = Prefix o ∷ polish t
 polish (Between l o r) = Infix o ∷ polish l ++ polish r
 
 -- These are the items of a tree in Polish notation, whose operands fit.
-pub record IsGrouped {A O : Type 0} (fixity : O → Fixity) (items : List (Item A O)) (parts : List (Item A O)) : Type 0 where
+pub record IsGrouped {A O : Type 0} (fixity : O → Fixity) (items : List (Item A O))
+    (parts : List (Item A O)) : Type 0 where
   pub tree : Tree A O
   pub grouped : Grouped fixity items tree
   pub spelled : polish tree ≡ parts

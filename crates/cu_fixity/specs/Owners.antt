@@ -6,7 +6,8 @@ use Rattle.cu_fixity.specs.declared.part.Part.{Part}
 use Rattle.cu_fixity.specs.declared.part.Part.TheVariants as part
 
 -- A part of a module, whose names a table has, given which operands are.
-abbrev pub PartIsOf : {T : Type 0} → (NameId → List (List ℕ) → T → Type 0) → NameId → List (List ℕ) → Part T → Type 0
+abbrev pub PartIsOf : {T : Type 0} → (NameId → List (List ℕ) → T → Type 0) → NameId → List (List ℕ)
+    → Part T → Type 0
 PartIsOf OperandIsOf owner names (part.Operand x) = OperandIsOf owner names x
 PartIsOf OperandIsOf owner names (part.Minus place) = PlaceIsOf owner place
 PartIsOf OperandIsOf owner names (part.Operator name) = NameIsOf owner names name

@@ -25,14 +25,16 @@ operand_parts (Some at) x = part.Minus at ∷ part.Operand x ∷ []
 
 abbrev pub rest_parts : List OperatorItem → List (Part Expression)
 rest_parts [] = []
-rest_parts (item ∷ items) = part.Operator item.operator ∷ operand_parts item.minus item.operand ++ rest_parts items
+rest_parts (item ∷ items) = part.Operator item.operator ∷ operand_parts item.minus item.operand
+    ++ rest_parts items
 
 abbrev pub written_parts : Items → List (Part Expression)
 written_parts items = operand_parts items.minus items.first ++ rest_parts items.rest.items
 
 abbrev pub pattern_rest : List ConstructorItem → List (Part Pattern)
 pattern_rest [] = []
-pattern_rest (item ∷ items) = part.Operator item.operator ∷ part.Operand item.operand ∷ pattern_rest items
+pattern_rest (item ∷ items) = part.Operator item.operator ∷ part.Operand item.operand
+    ∷ pattern_rest items
 
 abbrev pub written_pattern : PatItems → List (Part Pattern)
 written_pattern items = part.Operand items.first ∷ pattern_rest items.rest.items
@@ -52,7 +54,8 @@ abbrev pub HasNone : List Piece → Type 0
 HasNone pieces = HasNoTree (fixity_at pieces) (items_of pieces)
 
 -- The parts are put into the order of a tree of their pieces.
-pub record IsOrder {T : Type 0} (pieces : List Piece) (written ordered : List (Part T)) : Type 0 where
+pub record IsOrder {T : Type 0} (pieces : List Piece)
+    (written ordered : List (Part T)) : Type 0 where
   pub tree : Tree ℕ ℕ
   pub grouped : Grouped (fixity_at pieces) (items_of pieces) tree
   pub all_taken : map Some ordered ≡ map (taken written) (spelled tree)

@@ -1,4 +1,5 @@
--- The operator at the top of the tree of some items, and what is left to group while trees are built from the top.
+-- The operator at the top of the tree of some items, and what is left to group while trees are
+-- built from the top.
 use Rattle.std.specs.Prelude.{◌≡◌, ℕ, ◌+◌, ◌-◌, ◌*◌, ◌<◌, ◌≤◌, ◌∷◌, ◌++◌, Bool, true, ◌&&◌, ◌||◌, List, [], Option, None, Some, drop, if◌then◌else◌, length, nat_eq, nat_lt, slice_get, take}
 use Rattle.std.specs.Option.{option_map}
 use Rattle.cu_fixity.specs.declared.fixity.Fixity.{Fixity}
@@ -19,30 +20,39 @@ pub record Candidate (O : Type 0) : Type 0 where
   pub at : ℕ
   pub operator : O
 
--- whether a later operator stands above an earlier one: it is of a lower level, or of the same and grouped to the left
+-- whether a later operator stands above an earlier one: it is of a lower level, or of the same and
+-- grouped to the left
 abbrev pub is_above : Fixity → Fixity → Bool
-is_above later earlier = nat_lt later.level earlier.level || (nat_eq later.level earlier.level && same_side later.side Left)
+is_above later earlier = nat_lt later.level earlier.level
+    || (nat_eq later.level earlier.level && same_side later.side Left)
 
 abbrev pub better : {O : Type 0} → (O → Fixity) → Option (Candidate O) → Candidate O → Candidate O
 better fixity None later = later
-better fixity (Some earlier) later = if is_above (fixity later.operator) (fixity earlier.operator) then later else earlier
+better fixity (Some earlier) later = if is_above (fixity later.operator) (fixity earlier.operator)
+    then later else earlier
 
--- the operator that stands above the others, and above what came before, where the first item has the place n
-abbrev pub root : {A O : Type 0} → (O → Fixity) → ℕ → Option (Candidate O) → List (Item A O) → Option (Candidate O)
+-- the operator that stands above the others, and above what came before, where the first item has
+-- the place n
+abbrev pub root : {A O : Type 0} → (O → Fixity) → ℕ → Option (Candidate O) → List (Item A O)
+    → Option (Candidate O)
 root fixity n before [] = before
 root fixity n before (Operand a ∷ items) = root fixity (n + 1) before items
-root fixity n before (Prefix o ∷ items) = root fixity (n + 1) (Some (better fixity before (record { at = n; operator = o }))) items
-root fixity n before (Infix o ∷ items) = root fixity (n + 1) (Some (better fixity before (record { at = n; operator = o }))) items
+root fixity n before (Prefix o ∷ items) =
+    root fixity (n + 1) (Some (better fixity before (record { at = n; operator = o }))) items
+root fixity n before (Infix o ∷ items) =
+    root fixity (n + 1) (Some (better fixity before (record { at = n; operator = o }))) items
 
 -- an operator whose number is its place
 abbrev pub candidate : Option ℕ → Option (Candidate ℕ)
 candidate = option_map (λ n. record { at = n; operator = n })
 
--- the one of an earlier operator and the piece of a number that stands above the other, by their numbers
+-- the one of an earlier operator and the piece of a number that stands above the other, by their
+-- numbers
 abbrev pub raised_by : (ℕ → Fixity) → Option ℕ → ℕ → Option Piece → Option ℕ
 raised_by fixity earlier n (Some piece.Operand) = earlier
 raised_by fixity None n _ = Some n
-raised_by fixity (Some earlier) n _ = if is_above (fixity n) (fixity earlier) then Some n else Some earlier
+raised_by fixity (Some earlier) n _ = if is_above (fixity n) (fixity earlier) then Some n
+    else Some earlier
 
 abbrev pub raised : List Piece → Option ℕ → ℕ → Option ℕ
 raised pieces earlier n = raised_by (fixity_at pieces) earlier n (slice_get pieces n)
@@ -65,7 +75,8 @@ pub record Solves (pieces : List Piece) (task : Task) (tree : Tree ℕ ℕ) : Ty
 
 abbrev pub SolveAll : List Piece → List Task → List (Tree ℕ ℕ) → Type 0
 SolveAll pieces [] [] = Unit {0}
-SolveAll pieces (task ∷ tasks) (tree ∷ trees) = Solves pieces task tree × SolveAll pieces tasks trees
+SolveAll pieces (task ∷ tasks) (tree ∷ trees) =
+    Solves pieces task tree × SolveAll pieces tasks trees
 SolveAll pieces _ _ = ⊥
 
 abbrev pub spelled_all : List (Tree ℕ ℕ) → List Cell
@@ -77,7 +88,8 @@ abbrev pub parts : Task → Cell → List Task
 parts task (cell.Operand n) = []
 parts task (cell.Minus n) = (record { from = n + 1; to = task.to; under = under.Minus n }) ∷ []
 parts task (cell.Operator n) =
-    (record { from = task.from; to = n; under = under.LeftOf n }) ∷ (record { from = n + 1; to = task.to; under = under.RightOf n }) ∷ []
+    (record { from = task.from; to = n; under = under.LeftOf n })
+    ∷ (record { from = n + 1; to = task.to; under = under.RightOf n }) ∷ []
 
 -- the number of a cell's piece
 abbrev pub number : Cell → ℕ
@@ -85,13 +97,14 @@ number (cell.Operand n) = n
 number (cell.Minus n) = n
 number (cell.Operator n) = n
 
--- Each tree that solves a task begins with this cell of the range, and goes on with trees that solve the parts; and so does none
--- but these.
+-- Each tree that solves a task begins with this cell of the range, and goes on with trees that
+-- solve the parts; and so does none but these.
 pub record IsHead (pieces : List Piece) (task : Task) (c : Cell) : Type 0 where
   pub after : task.from ≤ number c
   pub before : number c < task.to
   pub taken : (tree : Tree ℕ ℕ) → Solves pieces task tree
-      → (trees : List (Tree ℕ ℕ)) × SolveAll pieces (parts task c) trees × (spelled tree ≡ c ∷ spelled_all trees)
+      → (trees : List (Tree ℕ ℕ)) × SolveAll pieces (parts task c) trees
+      × (spelled tree ≡ c ∷ spelled_all trees)
   pub given : (trees : List (Tree ℕ ℕ)) → SolveAll pieces (parts task c) trees
       → (tree : Tree ℕ ℕ) × Solves pieces task tree × (spelled tree ≡ c ∷ spelled_all trees)
 
@@ -116,6 +129,8 @@ weight (task ∷ tasks) = 2 * (task.to - task.from) + 1 + weight tasks
 pub record Builds (pieces : List Piece) (cells : List Cell) (tasks : List Task) : Type 0 where
   pub within : AllWithin (length pieces) tasks
   pub taken : (tree : Tree ℕ ℕ) → Grouped (fixity_at pieces) (items_of pieces) tree
-      → (trees : List (Tree ℕ ℕ)) × SolveAll pieces tasks trees × (spelled tree ≡ cells ++ spelled_all trees)
+      → (trees : List (Tree ℕ ℕ)) × SolveAll pieces tasks trees
+      × (spelled tree ≡ cells ++ spelled_all trees)
   pub given : (trees : List (Tree ℕ ℕ)) → SolveAll pieces tasks trees
-      → (tree : Tree ℕ ℕ) × Grouped (fixity_at pieces) (items_of pieces) tree × (spelled tree ≡ cells ++ spelled_all trees)
+      → (tree : Tree ℕ ℕ) × Grouped (fixity_at pieces) (items_of pieces) tree
+      × (spelled tree ≡ cells ++ spelled_all trees)

@@ -27,15 +27,18 @@ item_of value table (part.Operand x) = Operand (value x)
 item_of value table (part.Minus place) = Prefix (Minus (position_of place))
 item_of value table (part.Operator name) = Infix (Named (name_meaning table name))
 
-abbrev pub expression_parts : List (List ℕ) → List (Part expressions.Expression) → List (Item Expression Operator)
+abbrev pub expression_parts : List (List ℕ) → List (Part expressions.Expression)
+    → List (Item Expression Operator)
 expression_parts table parts = map (item_of (expression_meaning table) table) parts
 
-abbrev pub pattern_parts : List (List ℕ) → List (Part patterns.Pattern) → List (Item Pattern Operator)
+abbrev pub pattern_parts : List (List ℕ) → List (Part patterns.Pattern)
+    → List (Item Pattern Operator)
 pattern_parts table parts = map (item_of (pattern_meaning table) table) parts
 
 -- Operators have these fixities in a table of declarations.
 abbrev pub HaveFixities : List (List ℕ) → (Name → Fixity) → Table → List names.Name → Type 0
-HaveFixities table fixity declared operators = All (λ name. fixity (name_meaning table name) ≡ fixity_in declared name.text) operators
+HaveFixities table fixity declared operators =
+    All (λ name. fixity (name_meaning table name) ≡ fixity_in declared name.text) operators
 
 abbrev pub operators_of : Items → List names.Name
 operators_of items = map (λ item. item.operator) items.rest.items

@@ -33,12 +33,15 @@ abbrev pub read : List Cell → Tree ℕ ℕ
 read cells = first_of (read_all cells)
 
 -- That reading gives back what was spelled, which the code of trees needs.
-pub read_all-spelled : (t : Tree ℕ ℕ) (cells : List Cell) → read_all (spelled t ++ cells) ≡ t ∷ read_all cells
+pub read_all-spelled : (t : Tree ℕ ℕ) (cells : List Cell)
+    → read_all (spelled t ++ cells) ≡ t ∷ read_all cells
 read_all-spelled (Leaf n) cells = refl
 read_all-spelled (Applied n t) cells = rw (read_all-spelled t cells) refl
 read_all-spelled (Between l n r) cells =
     ap (λ cs. behind (cell.Operator n) (read_all cs)) (append_assoc (spelled l) (spelled r) cells)
-    ∙ ap (behind (cell.Operator n)) (read_all-spelled l (spelled r ++ cells) ∙ ap (λ trees. l ∷ trees) (read_all-spelled r cells))
+    ∙ ap (behind (cell.Operator n))
+    (read_all-spelled l (spelled r ++ cells) ∙ ap (λ trees. l ∷ trees)
+    (read_all-spelled r cells))
 
 pub read-spelled : (t : Tree ℕ ℕ) → read (spelled t) ≡ t
 read-spelled t = ap read (sym (append-nil (spelled t))) ∙ ap first_of (read_all-spelled t [])
@@ -60,7 +63,8 @@ cell_from-to (cell.Minus n) = refl
 cell_from-to (cell.Operator n) = refl
 
 abbrev cell_code : Coded Cell
-cell_code = code_by (ℕ ⊎ (ℕ ⊎ ℕ)) (coded⊎ coded_ℕ (coded⊎ coded_ℕ coded_ℕ)) cell_to cell_from cell_from-to
+cell_code =
+    code_by (ℕ ⊎ (ℕ ⊎ ℕ)) (coded⊎ coded_ℕ (coded⊎ coded_ℕ coded_ℕ)) cell_to cell_from cell_from-to
 
 abbrev pub tree_code : Coded (Tree ℕ ℕ)
 tree_code = code_by (List Cell) (coded_list cell_code) spelled read read-spelled

@@ -28,7 +28,10 @@ impl Model for Fixities {
 
     ghost Value = { Table };
 
-    ghost view = { λ fixities. record { colon = fixities.cons; declared = fixities.declared.entries } };
+    ghost view = { λ fixities. record {
+      colon = fixities.cons;
+      declared = fixities.declared.entries;
+    } };
 }
 
 impl Fixities {
@@ -37,7 +40,8 @@ impl Fixities {
     pub fn new(alloc: Global, names: &Names) -> Fixities
         requires { Contains names.now (codes ":") }
         ensures colon { slice_get names.now result.colon.0 ≡ Some (codes ":") }
-        ensures fixities { (operator : NameId) → fixity_in result operator ≡ built_in result.colon operator }
+        ensures fixities { (operator : NameId) → fixity_in result operator
+            ≡ built_in result.colon operator }
     {
         match names.find(":") {
             Some(cons) => Fixities {

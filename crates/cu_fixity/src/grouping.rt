@@ -38,8 +38,10 @@ struct Task {
 ///
 /// Want of memory.
 pub fn group(alloc: Global, pieces: &[Piece]) -> Result<Option<Tree>, AllocError>
-    ensures tree { IfOk result (λ found. IfSome found (Grouped (fixity_at pieces.now) (items_of pieces.now))) }
-    ensures none { IfOk result (λ found. IfNone found (HasNoTree (fixity_at pieces.now) (items_of pieces.now))) }
+    ensures tree { IfOk result
+        (λ found. IfSome found (Grouped (fixity_at pieces.now) (items_of pieces.now))) }
+    ensures none { IfOk result
+        (λ found. IfNone found (HasNoTree (fixity_at pieces.now) (items_of pieces.now))) }
 {
     let mut cells = Vec::new(alloc);
     let mut tasks = vec![in alloc; whole(pieces)]?;
@@ -115,7 +117,8 @@ fn operand(task: Task) -> Option<Cell>
 fn root(pieces: &[Piece], from: usize, to: usize) -> Option<usize>
     requires rises { from ≤ to }
     requires ends { to ≤ length pieces.now }
-    ensures root { candidate result ≡ root (fixity_at pieces.now) from None (between from to (items_of pieces.now)) }
+    ensures root { candidate result
+        ≡ root (fixity_at pieces.now) from None (between from to (items_of pieces.now)) }
     ensures within { IfSome result (λ n. (from ≤ n) × (n < to)) }
 {
     let mut best = None;

@@ -66,13 +66,19 @@ pub fn resolve<'t>(
     items: &Items<'t>,
     table: &Fixities,
 ) -> Result<Expr<'t>, FixityClash>
-    ensures tree { (names : List (List ℕ)) (fixity : Name → Fixity) → HaveFixities names fixity table.now (operators_of items.now)
-        → IfOk result (λ found. IsGrouped (fixity_with fixity) (expression_items (items_meaning names items.now)) (expression_parts names found.parts.items)) }
-    ensures clash { (names : List (List ℕ)) (fixity : Name → Fixity) → HaveFixities names fixity table.now (operators_of items.now)
-        → IfErr result (Clashes items.now.place (HasNoTree (fixity_with fixity) (expression_items (items_meaning names items.now)))) }
+    ensures tree { (names : List (List ℕ)) (fixity : Name → Fixity)
+        → HaveFixities names fixity table.now (operators_of items.now)
+        → IfOk result (λ found. IsGrouped (fixity_with fixity)
+        (expression_items (items_meaning names items.now))
+        (expression_parts names found.parts.items)) }
+    ensures clash { (names : List (List ℕ)) (fixity : Name → Fixity)
+        → HaveFixities names fixity table.now (operators_of items.now)
+        → IfErr result (Clashes items.now.place
+        (HasNoTree (fixity_with fixity) (expression_items (items_meaning names items.now)))) }
     ensures owned { (owner : NameId) (names : List (List ℕ)) → ItemsAreOf owner names items.now
         → IfOk result (λ found. All (PartIsOf ExpressionIsOf owner names) found.parts.items) }
-    ensures smaller { IfOk result (λ found. most (part_size expression_size) found.parts.items < items_size items.now) }
+    ensures smaller { IfOk result (λ found. most (part_size expression_size) found.parts.items
+        < items_size items.now) }
 {
     let written = expression_parts(alloc, items)?;
     let parts = grouped(alloc, written.as_slice(), table, items.place)?;
@@ -89,13 +95,19 @@ pub fn resolve_pattern<'t>(
     items: &PatItems<'t>,
     table: &Fixities,
 ) -> Result<Pat<'t>, FixityClash>
-    ensures tree { (names : List (List ℕ)) (fixity : Name → Fixity) → HaveFixities names fixity table.now (constructors_of items.now)
-        → IfOk result (λ found. IsGrouped (fixity_with fixity) (pattern_items (pat_items_meaning names items.now)) (pattern_parts names found.parts.items)) }
-    ensures clash { (names : List (List ℕ)) (fixity : Name → Fixity) → HaveFixities names fixity table.now (constructors_of items.now)
-        → IfErr result (Clashes items.now.place (HasNoTree (fixity_with fixity) (pattern_items (pat_items_meaning names items.now)))) }
+    ensures tree { (names : List (List ℕ)) (fixity : Name → Fixity)
+        → HaveFixities names fixity table.now (constructors_of items.now)
+        → IfOk result (λ found. IsGrouped (fixity_with fixity)
+        (pattern_items (pat_items_meaning names items.now))
+        (pattern_parts names found.parts.items)) }
+    ensures clash { (names : List (List ℕ)) (fixity : Name → Fixity)
+        → HaveFixities names fixity table.now (constructors_of items.now)
+        → IfErr result (Clashes items.now.place
+        (HasNoTree (fixity_with fixity) (pattern_items (pat_items_meaning names items.now)))) }
     ensures owned { (owner : NameId) (names : List (List ℕ)) → PatItemsAreOf owner names items.now
         → IfOk result (λ found. All (PartIsOf PatternIsOf owner names) found.parts.items) }
-    ensures smaller { IfOk result (λ found. most (part_size pattern_size) found.parts.items < pat_items_size items.now) }
+    ensures smaller { IfOk result (λ found. most (part_size pattern_size) found.parts.items
+        < pat_items_size items.now) }
 {
     let written = pattern_parts(alloc, items)?;
     let parts = grouped(alloc, written.as_slice(), table, items.place)?;
@@ -155,7 +167,8 @@ fn grouped<T: Copy>(
     table: &Fixities,
     place: Place,
 ) -> Result<Vec<Part<T>>, FixityClash>
-    ensures order { IfOk result (λ parts. IsOrder (map (piece_of table.now) written.now) written.now parts.items) }
+    ensures order { IfOk result
+        (λ parts. IsOrder (map (piece_of table.now) written.now) written.now parts.items) }
     ensures clash { IfErr result (Clashes place (HasNone (map (piece_of table.now) written.now))) }
 {
     let pieces = pieces(alloc, written, table)?;

@@ -1,5 +1,6 @@
 -- The code of a flat program. Each expression stands behind its parts, which stand in the order in
--- which they are written, and the expressions of each body stand behind those of the bodies before it.
+-- which they are written, and the expressions of each body stand behind those of the bodies before
+-- it.
 use Rattle.std.specs.Prelude.{ℕ, ◌+◌, ◌-◌, Bool, false, not, ◌&&◌, ◌||◌, List, [], ◌∷◌, ◌++◌, filter, nat_eq}
 use Rattle.cu_calculus.specs.declared.ExprId.{ExprId}
 use Rattle.cu_calculus.specs.declared.builtin.Primitive.TheVariants as prim
@@ -77,8 +78,8 @@ abbrev pub places : ℕ → Terms → List ExprId
 places n term.NoTerm = []
 places n (term.MoreTerms t ts) = place n t ∷ places (n + size t) ts
 
--- The pattern of a branch: in a flat program a literal, or a constructor over variables. Others don't
--- count.
+-- The pattern of a branch: in a flat program a literal, or a constructor over variables. Others
+-- don't count.
 abbrev pub shallow_of : Pattern → Shallow
 shallow_of (term.Exactly l) = code.Exactly l
 shallow_of (term.Built c ps) = code.Built c (all_variables ps)

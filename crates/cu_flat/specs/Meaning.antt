@@ -32,7 +32,8 @@ expr_meaning kept (expr.Apply function argument) = code.Apply function argument
 expr_meaning kept (expr.Let x bound body) = code.Let x bound body
 expr_meaning kept (expr.Free x body) = code.Free x body
 expr_meaning kept (expr.Or left right) = code.Or left right
-expr_meaning kept (expr.Case mode e branches) = code.Case mode kept e (map branch_meaning branches.items)
+expr_meaning kept (expr.Case mode e branches) =
+    code.Case mode kept e (map branch_meaning branches.items)
 
 abbrev pub entry_meaning : Entry → code.Expr
 entry_meaning entry = expr_meaning entry.kept.items entry.expr
@@ -45,7 +46,8 @@ abbrev pub function_meaning : FlatFunction → code.Function
 function_meaning function = record { arity = function.arity; body = body_meaning function.body }
 
 abbrev pub constructor_meaning : FlatConstructor → Constructor
-constructor_meaning constructor = record { of_type = constructor.of_type; arity = constructor.arity }
+constructor_meaning constructor =
+    record { of_type = constructor.of_type; arity = constructor.arity }
 
 -- the code of functions, constructors, built-in entities and expressions
 abbrev pub code_of : List FlatFunction → List FlatConstructor → Special → List Entry → Code

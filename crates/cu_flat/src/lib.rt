@@ -50,7 +50,9 @@ impl Model for FlatProgram {
 
     ghost view = { λ p. code_of p.functions.items p.constructors.items p.special p.entries.items };
 
-    ghost invariant = { λ p. IsTrue (is_well_formed (code_of p.functions.items p.constructors.items p.special p.entries.items)) };
+    ghost invariant = { λ p. IsTrue
+        (is_well_formed
+        (code_of p.functions.items p.constructors.items p.special p.entries.items)) };
 }
 
 impl FlatProgram {
@@ -61,7 +63,8 @@ impl FlatProgram {
         special: Special,
         entries: Vec<Entry>,
     ) -> FlatProgram
-        requires { IsTrue (is_well_formed (code_of functions.items constructors.items special entries.items)) }
+        requires { IsTrue
+            (is_well_formed (code_of functions.items constructors.items special entries.items)) }
         ensures { result ≡ code_of functions.items constructors.items special entries.items }
     {
         FlatProgram {
@@ -129,7 +132,8 @@ impl FlatProgram {
 
     /// The expression of a number, where there is such an expression.
     pub fn find(&self, e: ExprId) -> Option<&Expr>
-        ensures { option_map (λ expr. expr_meaning (kept_by self.now e) expr.now) result ≡ expr_of self.now e }
+        ensures { option_map (λ expr. expr_meaning (kept_by self.now e) expr.now) result
+            ≡ expr_of self.now e }
     {
         let entry = self.entries.get(e.0)?;
         Some(&entry.expr)

@@ -1,5 +1,5 @@
--- Expressions of flat functions. Variables have numbers: the parameters from 1 on, the others in the order of their binding in
--- the text.
+-- Expressions of flat functions. Variables have numbers: the parameters from 1 on, the others in
+-- the order of their binding in the text.
 use Rattle.std.specs.Prelude.{ℕ, ◌+◌, ◌-◌, List, [], ◌∷◌, ◌++◌, codes, decimal, if◌then◌else◌, length, nat_eq}
 use Rattle.std.specs.Fmt.{signed_decimal}
 use Rattle.std.specs.Option.{unwrap_or}
@@ -111,10 +111,11 @@ call_text kind name arguments =
 -- a function without arguments
 abbrev pub function_alone : Lowered → FunId → List ℕ
 function_alone program f =
-    call_text (kind_text (head.Fun f) (missing program (head.Fun f) 0)) (head_text program (head.Fun f)) []
+    call_text (kind_text (head.Fun f) (missing program (head.Fun f) 0))
+    (head_text program (head.Fun f)) []
 
--- The arguments of a head: the texts are those of its arguments alone, and of its arguments behind another one. A set function is
--- `setN` with the function as its first argument.
+-- The arguments of a head: the texts are those of its arguments alone, and of its arguments behind
+-- another one. A set function is `setN` with the function as its first argument.
 abbrev pub arguments_text : Lowered → Head → List ℕ → List ℕ → List ℕ
 arguments_text program (head.Set f) alone behind = function_alone program f ++ behind
 arguments_text program _ alone behind = alone
@@ -128,37 +129,46 @@ mode_text Rigid = codes "Rigid"
 -- a constructor over so many variables, which have the numbers from n on
 abbrev pub constructor_pattern_text : Lowered → ℕ → ConId → ℕ → List ℕ
 constructor_pattern_text program n c count =
-    codes "Pattern " ++ (entity_text (constructor_entity program c) ++ (codes " " ++ list_text (numbers_from n count)))
+    codes "Pattern " ++ (entity_text (constructor_entity program c)
+    ++ (codes " " ++ list_text (numbers_from n count)))
 
--- The pattern of a branch, whose variables have the numbers from n on. A flat program has no others.
+-- The pattern of a branch, whose variables have the numbers from n on. A flat program has no
+-- others.
 abbrev pub pattern_text : Lowered → ℕ → Pattern → List ℕ
 pattern_text program n (term.Exactly l) = codes "LPattern " ++ in_parentheses (literal_text l)
-pattern_text program n (term.Built c ps) = constructor_pattern_text program n c (length (all_variables ps))
+pattern_text program n (term.Built c ps) =
+    constructor_pattern_text program n c (length (all_variables ps))
 pattern_text program n (term.Any x) = []
 pattern_text program n (term.Named x p) = []
 
 -- a branch whose body has this text
 abbrev pub branch_text : Lowered → ℕ → Pattern → List ℕ → List ℕ
 branch_text program n p body =
-    codes "Branch " ++ (in_parentheses (pattern_text program n p) ++ (codes " " ++ in_parentheses body))
+    codes "Branch " ++ (in_parentheses (pattern_text program n p)
+    ++ (codes " " ++ in_parentheses body))
 
 -- an expression whose variables have these numbers, and in which those from n on are given
 abbrev mutual
   pub expression_text : Lowered → ℕ → Numbers → Term → List ℕ
   expression_text program n numbers (term.Variable x) = codes "Var " ++ decimal (numbers x)
-  expression_text program n numbers (term.Literal l) = codes "Lit " ++ in_parentheses (literal_text l)
+  expression_text program n numbers (term.Literal l) =
+      codes "Lit " ++ in_parentheses (literal_text l)
   expression_text program n numbers (term.Whole h ts) =
       call_text (call_kind h) (head_text program h)
-      (arguments_text program h (expressions_text program n numbers ts) (further_expressions program n numbers ts))
+      (arguments_text program h (expressions_text program n numbers ts)
+      (further_expressions program n numbers ts))
   expression_text program n numbers (term.Part h ts) =
       call_text (kind_text h (missing program h (term_count ts))) (head_text program h)
-      (arguments_text program h (expressions_text program n numbers ts) (further_expressions program n numbers ts))
+      (arguments_text program h (expressions_text program n numbers ts)
+      (further_expressions program n numbers ts))
   expression_text program n numbers (term.Apply f a) =
       codes "Comb " ++ (apply_text ++ (codes " [" ++ (expression_text program n numbers f
       ++ (codes "," ++ (expression_text program (n + bindings f) numbers a ++ codes "]")))))
   expression_text program n numbers (term.Let x a b) =
-      codes "Let [(" ++ (decimal n ++ (codes "," ++ (expression_text program (n + 1) (numbered x n numbers) a
-      ++ (codes ")] " ++ in_parentheses (expression_text program (n + 1 + bindings a) (numbered x n numbers) b)))))
+      codes "Let [("
+      ++ (decimal n ++ (codes "," ++ (expression_text program (n + 1) (numbered x n numbers) a
+      ++ (codes ")] " ++ in_parentheses
+      (expression_text program (n + 1 + bindings a) (numbered x n numbers) b)))))
   expression_text program n numbers (term.Free x t) =
       codes "Free [" ++ (decimal n ++ (codes "] "
       ++ in_parentheses (expression_text program (n + 1) (numbered x n numbers) t)))
@@ -166,8 +176,10 @@ abbrev mutual
       codes "Or " ++ (in_parentheses (expression_text program n numbers a)
       ++ (codes " " ++ in_parentheses (expression_text program (n + bindings a) numbers b)))
   expression_text program n numbers (term.Case mode a alternatives) =
-      codes "Case " ++ (mode_text mode ++ (codes " " ++ (in_parentheses (expression_text program n numbers a)
-      ++ (codes " [" ++ (branches_text program (n + bindings a) numbers alternatives ++ codes "]")))))
+      codes "Case "
+      ++ (mode_text mode ++ (codes " " ++ (in_parentheses (expression_text program n numbers a)
+      ++ (codes " [" ++ (branches_text program (n + bindings a) numbers alternatives
+      ++ codes "]")))))
 
   -- `a,b,c`
   pub expressions_text : Lowered → ℕ → Numbers → Terms → List ℕ
@@ -179,18 +191,21 @@ abbrev mutual
   pub further_expressions : Lowered → ℕ → Numbers → Terms → List ℕ
   further_expressions program n numbers term.NoTerm = []
   further_expressions program n numbers (term.MoreTerms t ts) =
-      codes "," ++ (expression_text program n numbers t ++ further_expressions program (n + bindings t) numbers ts)
+      codes "," ++ (expression_text program n numbers t
+      ++ further_expressions program (n + bindings t) numbers ts)
 
   pub branches_text : Lowered → ℕ → Numbers → Alternatives → List ℕ
   branches_text program n numbers term.NoAlternative = []
   branches_text program n numbers (term.MoreAlternatives p t alternatives) =
       branch_text program n p
-      (expression_text program (n + length (variables_of p)) (all_numbered (variables_of p) n numbers) t)
+      (expression_text program (n + length (variables_of p))
+      (all_numbered (variables_of p) n numbers) t)
       ++ further_branches program (n + length (variables_of p) + bindings t) numbers alternatives
 
   pub further_branches : Lowered → ℕ → Numbers → Alternatives → List ℕ
   further_branches program n numbers term.NoAlternative = []
   further_branches program n numbers (term.MoreAlternatives p t alternatives) =
       codes "," ++ (branch_text program n p
-      (expression_text program (n + length (variables_of p)) (all_numbered (variables_of p) n numbers) t)
+      (expression_text program (n + length (variables_of p))
+      (all_numbered (variables_of p) n numbers) t)
       ++ further_branches program (n + length (variables_of p) + bindings t) numbers alternatives)

@@ -1,5 +1,5 @@
--- The notation of FlatCurry's text: quoted names, lists, and what a lowered program's entities are called. Texts are lists of
--- bytes, in UTF-8.
+-- The notation of FlatCurry's text: quoted names, lists, and what a lowered program's entities are
+-- called. Texts are lists of bytes, in UTF-8.
 use Rattle.std.specs.Prelude.{ℕ, Bool, true, false, List, [], ◌∷◌, ◌++◌, Option, None, Some, codes, if◌then◌else◌, nat_eq, slice_get}
 use Rattle.std.specs.List.{flat_map}
 use Rattle.cu_calculus.specs.Program as calculus
@@ -57,7 +57,8 @@ comma_text false = []
 abbrev pub list_text : List (List ℕ) → List ℕ
 list_text xs = codes "[" ++ (separated xs ++ codes "]")
 
--- A term with arguments stands in parentheses where it is an argument. An element of a list is none.
+-- A term with arguments stands in parentheses where it is an argument. An element of a list is
+-- none.
 abbrev pub in_parentheses : List ℕ → List ℕ
 in_parentheses text = codes "(" ++ (text ++ codes ")")
 
@@ -80,7 +81,8 @@ abbrev pub module_name : Lowered → ℕ → List ℕ
 module_name program m = module_label program.names (slice_get program.kernel.modules m)
 
 abbrev pub entity_of : Lowered → ℕ → NameId → Entity
-entity_of program m name = record { owner = module_name program m; name = text_of program.names name }
+entity_of program m name =
+    record { owner = module_name program m; name = text_of program.names name }
 
 -- what the program hasn't got
 abbrev pub no_entity : Entity
@@ -96,7 +98,8 @@ synonym_entity program (Some s) = entity_of program s.module s.name
 
 abbrev pub type_entity : Lowered → TypeName → Entity
 type_entity program (named.Data t) = data_type_entity program (slice_get program.kernel.types t.0)
-type_entity program (named.Synonym s) = synonym_entity program (slice_get program.kernel.synonyms s.0)
+type_entity program (named.Synonym s) =
+    synonym_entity program (slice_get program.kernel.synonyms s.0)
 
 -- a constructor is of its type's module
 abbrev pub constructor_entity_of : Lowered → NameId → Option DataType → Entity
@@ -117,4 +120,5 @@ function_entity_of program _ _ = no_entity
 
 abbrev pub function_entity : Lowered → FunId → Entity
 function_entity program f =
-    function_entity_of program (slice_get program.kernel.functions f.0) (slice_get program.kernel.marks f.0)
+    function_entity_of program (slice_get program.kernel.functions f.0)
+    (slice_get program.kernel.marks f.0)

@@ -30,14 +30,16 @@ rule_text program e (calculus.External operation) = external_text e
 rule_text program e (calculus.Rules (rule ∷ [])) =
     let parameters = all_variables rule.params in
     codes "Rule " ++ (list_text (numbers_from 1 (length parameters)) ++ (codes " "
-    ++ in_parentheses (expression_text program (1 + length parameters) (all_numbered parameters 1 no_numbers) rule.body)))
+    ++ in_parentheses (expression_text program (1 + length parameters)
+    (all_numbered parameters 1 no_numbers) rule.body)))
 rule_text program e (calculus.Rules _) = []
 
 -- A function, with the type that was inferred for the function of its number.
 abbrev pub function_text : Lowered → FunId → Bool → calculus.Function → List ℕ
 function_text program id public f =
     let e = function_entity program id in
-    codes "Func " ++ (entity_text e ++ (codes " " ++ (decimal f.arity ++ (codes " " ++ (visibility_text public
+    codes "Func "
+    ++ (entity_text e ++ (codes " " ++ (decimal f.arity ++ (codes " " ++ (visibility_text public
     ++ (codes " " ++ (in_parentheses (inferred_type_text program (type_in program.interface id))
     ++ (codes " " ++ in_parentheses (rule_text program e f.body)))))))))
 
@@ -58,16 +60,19 @@ declared_types kernel = drop (length first_outlines) kernel.types
 
 -- the data types of a module, of some
 abbrev pub data_type_texts : Lowered → ℕ → List DataType → List (List ℕ)
-data_type_texts program m ts = map (data_type_text program) (filter (λ (t : DataType). nat_eq t.module m) ts)
+data_type_texts program m ts =
+    map (data_type_text program) (filter (λ (t : DataType). nat_eq t.module m) ts)
 
 -- the synonyms of a module, of some
 abbrev pub synonym_texts : Lowered → ℕ → List Synonym → List (List ℕ)
-synonym_texts program m ss = map (synonym_text program) (filter (λ (s : Synonym). nat_eq s.module m) ss)
+synonym_texts program m ss =
+    map (synonym_text program) (filter (λ (s : Synonym). nat_eq s.module m) ss)
 
 -- the data types of a module, and its synonyms behind them
 abbrev pub type_texts : Lowered → ℕ → List (List ℕ)
 type_texts program m =
-    data_type_texts program m (declared_types program.kernel) ++ synonym_texts program m program.kernel.synonyms
+    data_type_texts program m (declared_types program.kernel)
+    ++ synonym_texts program m program.kernel.synonyms
 
 -- ---- operators
 
@@ -78,7 +83,8 @@ side_text to.Neither = codes "InfixOp"
 
 abbrev pub operator_text : Lowered → ℕ → Operator → List ℕ
 operator_text program m o =
-    codes "Op " ++ (entity_text (entity_of program m o.name) ++ (codes " " ++ (side_text o.side ++ (codes " " ++ decimal o.level))))
+    codes "Op " ++ (entity_text (entity_of program m o.name)
+    ++ (codes " " ++ (side_text o.side ++ (codes " " ++ decimal o.level))))
 
 -- ---- modules
 
@@ -107,8 +113,10 @@ module_text program m =
     codes "Prog " ++ (quoted (module_name program m)
     ++ (codes " " ++ (list_text (map (import_text program) (imports_of found))
     ++ (codes " " ++ (lines_text (type_texts program m)
-    ++ (codes " " ++ (lines_text (function_texts program m 0 program.flat.functions program.kernel.marks)
-    ++ (codes " " ++ (lines_text (map (operator_text program m) (operators_of found)) ++ codes "\n")))))))))
+    ++ (codes " "
+    ++ (lines_text (function_texts program m 0 program.flat.functions program.kernel.marks)
+    ++ (codes " " ++ (lines_text (map (operator_text program m) (operators_of found))
+    ++ codes "\n")))))))))
 
 -- the place of the first module of a name, or how many modules there are
 abbrev pub place_of : NameId → List Module → ℕ

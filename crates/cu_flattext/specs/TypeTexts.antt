@@ -30,13 +30,15 @@ some_in_body test (Some s) = some_synonym test s.body
 abbrev pub is_or_passes : SynonymId → (SynonymId → Bool) → SynonymId → Bool
 is_or_passes goal test s = nat_eq s.0 goal.0 || test s
 
--- Whether a synonym leads to `goal` within so many steps. A step goes from a synonym to those in the type that it stands for.
+-- Whether a synonym leads to `goal` within so many steps. A step goes from a synonym to those in
+-- the type that it stands for.
 unfoldable pub leads_within : ℕ → List Synonym → SynonymId → SynonymId → Bool
 leads_within zero synonyms goal s = false
 leads_within (suc n) synonyms goal s =
     some_in_body (is_or_passes goal (leads_within n synonyms goal)) (slice_get synonyms s.0)
 
--- Whether a synonym stands on a circle of synonyms. A circle without repeats has no more steps than there are synonyms.
+-- Whether a synonym stands on a circle of synonyms. A circle without repeats has no more steps than
+-- there are synonyms.
 unfoldable pub leads_to_itself : List Synonym → SynonymId → Bool
 leads_to_itself synonyms s = leads_within (length synonyms) synonyms s s
 
@@ -44,7 +46,8 @@ leads_to_itself synonyms s = leads_within (length synonyms) synonyms s s
 
 -- a type with arguments of these texts
 abbrev pub constructed_text : Entity → List (List ℕ) → List ℕ
-constructed_text e arguments = codes "TCons " ++ (entity_text e ++ (codes " " ++ list_text arguments))
+constructed_text e arguments =
+    codes "TCons " ++ (entity_text e ++ (codes " " ++ list_text arguments))
 
 -- the texts that synonyms have on arguments of these texts
 abbrev pub Synonyms : Type 0
@@ -58,7 +61,8 @@ abbrev mutual
       codes "FuncType " ++ (in_parentheses (type_text program synonyms variables a)
       ++ (codes " " ++ in_parentheses (type_text program synonyms variables b)))
   type_text program synonyms variables (type.Named (named.Data t) ts) =
-      constructed_text (type_entity program (named.Data t)) (type_texts program synonyms variables ts)
+      constructed_text (type_entity program (named.Data t))
+      (type_texts program synonyms variables ts)
   type_text program synonyms variables (type.Named (named.Synonym s) ts) =
       synonyms s (type_texts program synonyms variables ts)
 
@@ -71,11 +75,13 @@ abbrev mutual
 abbrev pub as_written : Lowered → Synonyms
 as_written program s arguments = constructed_text (type_entity program (named.Synonym s)) arguments
 
--- Whether a synonym is expanded on so many arguments: it doesn't lead to itself, and has as many parameters. One that leads to a
--- circle on which it doesn't stand is expanded, and the synonyms of the circle in it are not.
+-- Whether a synonym is expanded on so many arguments: it doesn't lead to itself, and has as many
+-- parameters. One that leads to a circle on which it doesn't stand is expanded, and the synonyms of
+-- the circle in it are not.
 abbrev pub is_expanded : List Synonym → SynonymId → ℕ → Option Synonym → Bool
 is_expanded synonyms s count None = false
-is_expanded synonyms s count (Some synonym) = nat_eq count synonym.arity && not (leads_to_itself synonyms s)
+is_expanded synonyms s count (Some synonym) =
+    nat_eq count synonym.arity && not (leads_to_itself synonyms s)
 
 -- the text of what a synonym stands for; `inner` are the texts of synonyms in it
 abbrev pub body_text : Lowered → Synonyms → List (List ℕ) → Option Synonym → List ℕ
@@ -90,7 +96,8 @@ expanded_once program inner s arguments =
     then body_text program inner arguments found
     else as_written program s arguments
 
--- So many synonyms may be expanded inside one another. No synonym is inside itself, so all that there are suffice.
+-- So many synonyms may be expanded inside one another. No synonym is inside itself, so all that
+-- there are suffice.
 abbrev pub expanded_within : ℕ → Lowered → Synonyms
 expanded_within zero program = as_written program
 expanded_within (suc n) program = expanded_once program (expanded_within n program)
@@ -126,20 +133,23 @@ visibility_text false = codes "Private"
 -- a constructor of a type with so many parameters
 abbrev pub constructor_text : Lowered → ℕ → ℕ → Constructor → List ℕ
 constructor_text program m arity c =
-    codes "Cons " ++ (entity_text (entity_of program m c.name) ++ (codes " " ++ (decimal (length c.fields)
+    codes "Cons " ++ (entity_text (entity_of program m c.name)
+    ++ (codes " " ++ (decimal (length c.fields)
     ++ (codes " " ++ (visibility_text c.public ++ (codes " "
     ++ list_text (map (type_text program (expanded program) (type_variables arity)) c.fields)))))))
 
 abbrev pub data_type_text : Lowered → DataType → List ℕ
 data_type_text program t =
-    codes "Type " ++ (entity_text (entity_of program t.module t.name) ++ (codes " " ++ (visibility_text t.public
+    codes "Type " ++ (entity_text (entity_of program t.module t.name)
+    ++ (codes " " ++ (visibility_text t.public
     ++ (codes " " ++ (parameters_text t.arity ++ (codes " "
     ++ list_text (map (constructor_text program t.module t.arity) t.constructors)))))))
 
 -- What a synonym stands for, as it is written.
 abbrev pub synonym_text : Lowered → Synonym → List ℕ
 synonym_text program s =
-    codes "TypeSyn " ++ (entity_text (entity_of program s.module s.name) ++ (codes " " ++ (visibility_text s.public
+    codes "TypeSyn " ++ (entity_text (entity_of program s.module s.name)
+    ++ (codes " " ++ (visibility_text s.public
     ++ (codes " " ++ (parameters_text s.arity ++ (codes " "
     ++ in_parentheses (written_type_text program s.arity s.body)))))))
 

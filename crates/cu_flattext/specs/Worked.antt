@@ -61,7 +61,13 @@ kernel = record {
   functions =
       record { name = record { 0 = 2 }; arity = 1; body = calculus.External Failed }
       ∷ record { name = record { 0 = 8 }; arity = 2; body = calculus.External Failed } ∷ [];
-  synonyms = record { name = record { 0 = 6 }; «module» = 1; public = false; arity = 1; body = some_t } ∷ [];
+  synonyms = record {
+    name = record { 0 = 6 };
+    «module» = 1;
+    public = false;
+    arity = 1;
+    body = some_t;
+  } ∷ [];
   modules =
       record { name = record { 0 = 0 }; imports = []; operators = [] }
       ∷ record {
@@ -82,7 +88,8 @@ flat_f = record {
         params = term.MorePatterns (term.Any 7) term.NoPattern;
         body =
             term.Or (term.Case Flex (term.Variable 7)
-            (term.MoreAlternatives (term.Exactly (Int (pos 0))) (term.Literal (Int (pos 1))) term.NoAlternative))
+            (term.MoreAlternatives (term.Exactly (Int (pos 0)))
+            (term.Literal (Int (pos 1))) term.NoAlternative))
             (term.Literal (Int (pos 2)));
       } ∷ []);
 }
@@ -98,7 +105,8 @@ flat_g = record {
         params = two_variables 8 2;
         body =
             term.Case Flex (term.Variable 8)
-            (term.MoreAlternatives (term.Built (record { 0 = 0 }) (two_variables 5 6)) (term.Variable 5)
+            (term.MoreAlternatives (term.Built (record { 0 = 0 }) (two_variables 5 6))
+            (term.Variable 5)
             term.NoAlternative);
       } ∷ []);
 }
@@ -123,7 +131,8 @@ worked = record {
 abbrev pub worked_text : List ℕ
 worked_text =
     codes "Prog \"M\" [\"Prelude\"] [\nType (\"M\",\"T\") Public [0] "
-    ++ (codes "[Cons (\"M\",\"C\") 2 Public [TVar 0,TCons (\"M\",\"T\") [TVar 0]],Cons (\"M\",\"N\") 0 Private []],"
+    ++ (codes
+    "[Cons (\"M\",\"C\") 2 Public [TVar 0,TCons (\"M\",\"T\") [TVar 0]],Cons (\"M\",\"N\") 0 Private []],"
     ++ (codes "\nTypeSyn (\"M\",\"L\") Private [0] (TCons (\"M\",\"T\") [TVar 0])] "
     ++ (codes "[\nFunc (\"M\",\"f\") 1 Public "
     ++ (codes "(FuncType (TCons (\"Prelude\",\"Int\") []) (TCons (\"Prelude\",\"Int\") [])) "

@@ -12,7 +12,8 @@ Adds before after text = after ≡ option_map (λ told. told ++ text) before
 abbrev pub AddsFront : Option (List ℕ) → Option (List ℕ) → List ℕ → Type 0
 AddsFront before after text = (n : ℕ) × (n ≤ length text) × Adds before after (take n text)
 
--- the output's count of faults rose where it failed, and stands otherwise, also where memory ran out
+-- the output's count of faults rose where it failed, and stands otherwise, also where memory ran
+-- out
 abbrev pub HasCause : {A : Type 0} → Result A PrintFault → ℕ → ℕ → Type 0
 HasCause (Ok x) old new = new ≡ old
 HasCause (Err Write) old new = Rose old new

@@ -160,7 +160,8 @@ impl<'p> ModuleText<'p> {
         requires { t.now.module ≡ self.old.module }
         ensures { OnOk result (Writes page.old.text.items
             (lines_left_behind (comma_text behind
-            ++ on_a_line (data_type_text (lowered_of self.old.wording) (type_meaning t.now))) self.old)
+            ++ on_a_line (data_type_text (lowered_of self.old.wording) (type_meaning t.now)))
+            self.old)
             page.new.text.items (lines_left self.new)) }
     {
         page.push_comma(behind)?;
@@ -268,7 +269,8 @@ impl<'p> ModuleText<'p> {
     ) -> Result<Work<'p>, AllocError>
         ensures { IfOk result (λ work. Writes page.old.text.items
             (lines_left_behind (comma_text behind
-            ++ on_a_line (synonym_text (lowered_of self.old.wording) (synonym_meaning s.now))) self.old)
+            ++ on_a_line (synonym_text (lowered_of self.old.wording) (synonym_meaning s.now)))
+            self.old)
             page.new.text.items (left_behind work self.new)) }
     {
         page.push_comma(behind)?;

@@ -114,7 +114,8 @@ fn begin_at(alloc: Global, wording: Wording<'_>, place: u32) -> Result<Begun<'_>
 /// The lines of the module at a place: the imports, the types, the functions
 /// and the operators.
 fn lines_of(alloc: Global, wording: Wording<'_>, place: u32) -> Result<ModuleText<'_>, AllocError>
-    ensures { IfOk result (λ made. lines_left made ≡ module_lines (lowered_of wording.entry) place) }
+    ensures { IfOk result (λ made. lines_left made
+        ≡ module_lines (lowered_of wording.entry) place) }
 {
     let mut lines = Vec::new(alloc);
     lines.push(Line::Text("]\n"))?;

@@ -77,7 +77,8 @@ impl<'p> Types<'p> {
         t: &'p TypeTerm,
     ) -> Result<Types<'p>, AllocError>
         ensures { IfOk result (λ made. types_left made
-            ≡ text_in (lowered_of wording.entry) (setting_of (lowered_of wording.entry) [] scope.entry) (type_of t.now)) }
+            ≡ text_in (lowered_of wording.entry)
+            (setting_of (lowered_of wording.entry) [] scope.entry) (type_of t.now)) }
     {
         let mut types = Types::none(alloc, wording);
         let place = types.enter(scope)?;
@@ -93,7 +94,8 @@ impl<'p> Types<'p> {
         ts: &'p [TypeTerm],
     ) -> Result<Types<'p>, AllocError>
         ensures { IfOk result (λ made. types_left made
-            ≡ separated (texts_in (lowered_of wording.entry) (setting_of (lowered_of wording.entry) [] scope.entry) ts.now)) }
+            ≡ separated (texts_in (lowered_of wording.entry)
+            (setting_of (lowered_of wording.entry) [] scope.entry) ts.now)) }
     {
         let mut types = Types::none(alloc, wording);
         let place = types.enter(scope)?;
@@ -216,7 +218,8 @@ impl<'p> Types<'p> {
     ) -> Result<(), AllocError>
         ensures { OnOk result (Writes page.old.text.items
             (types_left_with_text
-            (text_at self.old place (type.Arrow (type_of argument.now) (type_of value.now))) self.old)
+            (text_at self.old place (type.Arrow (type_of argument.now) (type_of value.now)))
+            self.old)
             page.new.text.items (types_left self.new)) }
     {
         page.push_str("FuncType (")?;
@@ -295,7 +298,8 @@ impl<'p> Types<'p> {
         count: usize,
         place: usize,
     ) -> Result<Option<Expansion<'p>>, AllocError>
-        ensures there { IfOk result (λ found. IfSome found (λ e. place < length self.now.scopes.items)) }
+        ensures there { IfOk result
+            (λ found. IfSome found (λ e. place < length self.now.scopes.items)) }
         ensures text { IfOk result (λ found. (arguments : List (List ℕ)) → length arguments ≡ count
             → synonym_at self.now place s arguments
             ≡ expansion_text (lowered_of self.now.wording) s arguments found) }

@@ -21,8 +21,8 @@ pub data Refusal : Type 0 where
   InFunctions : List ℕ → functions.Fault → Refusal
   -- the first function that stands on a recursion through set functions
   SetRecursion : List ℕ → Refusal
-  -- the first function of the first dependency group that can't be typed, where the equations of the
-  -- group have no solution
+  -- the first function of the first dependency group that can't be typed, where the equations of
+  -- the group have no solution
   TypeClash : List ℕ → Refusal
   -- the same, where they have solutions, and none that keeps to the declared types
   Signature : List ℕ → Refusal

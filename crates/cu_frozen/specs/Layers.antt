@@ -14,7 +14,8 @@ pub record Layer : Type 0 where
   pub added : List Node
 
 abbrev pub layer_of : ℕ → List ℕ → List Node → List Node → Layer
-layer_of base changed changes added = record { base = base; changed = changed; changes = changes; added = added }
+layer_of base changed changes added =
+    record { base = base; changed = changed; changes = changes; added = added }
 
 -- the graph in which these nodes stand at these places; of two at one place the first
 abbrev pub written : Graph → List ℕ → List Node → Graph
@@ -54,8 +55,10 @@ pub record Shows (nodes : List Node) (place : ℕ) (graph : Graph) (id : ℕ) : 
 
 -- over any graph that it fits, a layer shows this node at a place
 abbrev pub Holds : Layer → ℕ → List Node → ℕ → Type 0
-Holds layer id nodes place = (below : Graph) → length below ≡ layer.base → Shows nodes place (over layer below) id
+Holds layer id nodes place = (below : Graph) → length below ≡ layer.base
+    → Shows nodes place (over layer below) id
 
 -- and it leaves the node at a place as it was
 abbrev pub Leaves : Layer → ℕ → Type 0
-Leaves layer id = (below : Graph) → length below ≡ layer.base → node_at (over layer below) id ≡ node_at below id
+Leaves layer id = (below : Graph) → length below ≡ layer.base
+    → node_at (over layer below) id ≡ node_at below id

@@ -56,5 +56,6 @@ pub trait Store: Sized + Send + Drop {
     /// of them are not seen in the others.
     fn fork(self, count: u32) -> Result<Vec<Self>, AllocError>
         requires { 0 < count }
-        ensures { IfOk result (λ stores. map content stores.items ≡ replicate count (content self)) };
+        ensures { IfOk result (λ stores. map content stores.items
+            ≡ replicate count (content self)) };
 }

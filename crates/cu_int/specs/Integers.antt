@@ -1,4 +1,5 @@
--- The integers of the language, and division rounded towards minus infinity (Curry Report, the Prelude's div and mod).
+-- The integers of the language, and division rounded towards minus infinity (Curry Report, the
+-- Prelude's div and mod).
 use Rattle.std.specs.Prelude.{◌-◌, ◌^◌, Bool, not, ◌&&◌, ◌||◌, Option, None, Some, if◌then◌else◌, ℤ, pos, negsuc, ◌+ℤ◌, ◌-ℤ◌, int_le, int_lt, int_div, int_rem}
 
 -- 128 bits with a sign
@@ -12,10 +13,11 @@ checked n = if is_integer n then Some n else None
 abbrev pub is_negative : ℤ → Bool
 is_negative n = int_lt n (pos 0)
 
--- Division towards zero leaves a rest of the other sign than the divisor's. There the quotient is one less, and the rest is
--- the divisor more.
+-- Division towards zero leaves a rest of the other sign than the divisor's. There the quotient is
+-- one less, and the rest is the divisor more.
 abbrev pub is_uneven : ℤ → ℤ → Bool
-is_uneven m n = let rest = int_rem m n in (is_negative rest && not (is_negative n)) || (int_lt (pos 0) rest && is_negative n)
+is_uneven m n = let rest = int_rem m n in (is_negative rest && not (is_negative n))
+    || (int_lt (pos 0) rest && is_negative n)
 
 abbrev pub floor_quotient : ℤ → ℤ → ℤ
 floor_quotient m n = if is_uneven m n then int_div m n -ℤ pos 1 else int_div m n

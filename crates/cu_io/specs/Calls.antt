@@ -11,9 +11,14 @@ one_more n = min (n + 1) (2 ^ 64 - 1)
 abbrev pub no_calls : Calls
 no_calls = record { next = 0; faults = 0 }
 
--- what stands after a call: the next number is one more, and where the call failed so is the count of faults
+-- what stands after a call: the next number is one more, and where the call failed so is the count
+-- of faults
 abbrev pub counted : Calls → Bool → Calls
-counted calls failed = record { next = one_more calls.next; faults = if failed then one_more calls.faults else calls.faults }
+counted calls failed = record {
+  next = one_more calls.next;
+  faults = if failed
+      then one_more calls.faults else calls.faults;
+}
 
 -- whether the call of a number is one of those that are to fail
 abbrev pub is_listed : List ℕ → ℕ → Bool

@@ -8,7 +8,8 @@ use Rattle.cu_io.specs.Rose.{Rose}
 abbrev pub most_bytes : ℕ
 most_bytes = 16777217
 
--- The answer for what is held in a place: a text is its front, and Absent says that nothing is there.
+-- The answer for what is held in a place: a text is its front, and Absent says that nothing is
+-- there.
 abbrev pub Fetches : Option (List ℕ) → Fetched → Type 0
 Fetches (Some text) (Text bytes) = bytes.items ≡ take most_bytes text
 Fetches None (Text bytes) = ⊥

@@ -5,7 +5,8 @@ use Rattle.cu_io.specs.declared.source.Took.TheVariants.{Bytes, Failed}
 use Rattle.cu_io.specs.declared.calls.Calls.{Calls}
 use Rattle.cu_io.specs.Calls.{counted, is_listed}
 
--- the bytes that are left, how many reads may still take bytes, the reads that are to fail, and the reads so far
+-- the bytes that are left, how many reads may still take bytes, the reads that are to fail, and the
+-- reads so far
 pub record Input : Type 0 where
   pub left : List ℕ
   pub reads : ℕ

@@ -4,7 +4,8 @@ use Rattle.std.specs.Option.{option_map}
 use Rattle.cu_io.specs.declared.calls.Calls.{Calls}
 use Rattle.cu_io.specs.Calls.{counted}
 
--- the bytes that went out, how many more fit, the calls that are to fail with how many bytes each takes, and the calls so far
+-- the bytes that went out, how many more fit, the calls that are to fail with how many bytes each
+-- takes, and the calls so far
 pub record Output : Type 0 where
   pub written : List ℕ
   pub room : ℕ
@@ -19,7 +20,8 @@ count_at failing call = option_map (λ (f : ℕ × ℕ). f.1) (find (λ (f : ℕ
 abbrev pub put_fails : Output → List ℕ → Bool
 put_fails s piece = is_some (count_at s.failing s.calls.next) || nat_lt s.room (length piece)
 
--- how many bytes go out of a piece in a room: all or none, and where the call is to fail as many as it takes
+-- how many bytes go out of a piece in a room: all or none, and where the call is to fail as many as
+-- it takes
 abbrev pub gone_of : Option ℕ → List ℕ → ℕ → ℕ
 gone_of None piece room = if nat_lt room (length piece) then 0 else length piece
 gone_of (Some count) piece room = min count (min (length piece) room)

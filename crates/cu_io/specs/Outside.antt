@@ -13,7 +13,8 @@ IsTextWithin most (Text bytes) = length bytes.items ≤ most
 IsTextWithin most Absent = Unit {0}
 IsTextWithin most Failed = Unit {0}
 
--- How many bytes went out of more than none, by what a write said. An error and taking none are faults.
+-- How many bytes went out of more than none, by what a write said. An error and taking none are
+-- faults.
 abbrev pub gone : {E : Type 0} → Result ℕ E → Option ℕ
 gone (Ok zero) = None
 gone (Ok (suc count)) = Some (suc count)
@@ -22,11 +23,13 @@ gone (Err error) = None
 -- What a writer is known to hold grew by the piece, or where it failed by a front of it.
 abbrev pub Writes : Put → List ℕ → Option (List ℕ) → Option (List ℕ) → Type 0
 Writes put.Done piece before after = Appends before after piece
-Writes put.Failed piece before after = (n : ℕ) × (n ≤ length piece) × Appends before after (take n piece)
+Writes put.Failed piece before after = (n : ℕ) × (n ≤ length piece)
+    × Appends before after (take n piece)
 
 -- So many bytes moved from the front of what a reader is known to have left to the end of a text.
 abbrev pub Moves : ℕ → Option (List ℕ) → Option (List ℕ) → List ℕ → List ℕ → Type 0
-Moves count before after old new = (bytes : List ℕ) × (length bytes ≡ count) × (new ≡ old ++ bytes) × Consumes before after bytes
+Moves count before after old new = (bytes : List ℕ) × (length bytes ≡ count) × (new ≡ old ++ bytes)
+    × Consumes before after bytes
 
 -- a character of a module's name in its path
 abbrev pub path_char : ℕ → ℕ
@@ -36,6 +39,7 @@ path_char c = if c == 46 then 47 else c
 abbrev pub slashed : List ℕ → List ℕ
 slashed name = encode_utf8_all (map path_char (chars name))
 
--- the path of a module's file: the directory, a slash, the name with a slash for each dot, and the ending
+-- the path of a module's file: the directory, a slash, the name with a slash for each dot, and the
+-- ending
 abbrev pub module_path : List ℕ → List ℕ → List ℕ
 module_path dir name = dir ++ (codes "/" ++ slashed name ++ codes ".curry")

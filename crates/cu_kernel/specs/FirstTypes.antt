@@ -1,5 +1,6 @@
--- The types that every program begins with, all of them the Prelude's: the list, unit, the tuples of 2 to 15 components, Int and
--- Char. So the first constructors are `[]`, `:`, `()` and those of the tuples.
+-- The types that every program begins with, all of them the Prelude's: the list, unit, the tuples
+-- of 2 to 15 components, Int and Char. So the first constructors are `[]`, `:`, `()` and those of
+-- the tuples.
 use Rattle.std.specs.Prelude.{ℕ, Bool, true, false, ◌&&◌, List, [], ◌∷◌, length, nat_eq}
 use Rattle.cu_calculus.specs.declared.builtin.Special.{Special}
 use Rattle.cu_kernel.specs.Kernel.{Constructor, DataType}
@@ -29,8 +30,10 @@ abbrev pub first_outlines : List Outline
 first_outlines =
     list_outline
     ∷ tuple_outline 0
-    ∷ tuple_outline 2 ∷ tuple_outline 3 ∷ tuple_outline 4 ∷ tuple_outline 5 ∷ tuple_outline 6 ∷ tuple_outline 7 ∷ tuple_outline 8
-    ∷ tuple_outline 9 ∷ tuple_outline 10 ∷ tuple_outline 11 ∷ tuple_outline 12 ∷ tuple_outline 13 ∷ tuple_outline 14 ∷ tuple_outline 15
+    ∷ tuple_outline 2 ∷ tuple_outline 3 ∷ tuple_outline 4 ∷ tuple_outline 5 ∷ tuple_outline 6
+    ∷ tuple_outline 7 ∷ tuple_outline 8
+    ∷ tuple_outline 9 ∷ tuple_outline 10 ∷ tuple_outline 11 ∷ tuple_outline 12 ∷ tuple_outline 13
+    ∷ tuple_outline 14 ∷ tuple_outline 15
     ∷ literal_outline
     ∷ literal_outline
     ∷ []
@@ -45,7 +48,8 @@ have_fields (n ∷ ns) [] = false
 -- a type of the Prelude with this outline
 abbrev pub is_like : Outline → DataType → Bool
 is_like outline t =
-    nat_eq t.module prelude && nat_eq t.arity outline.parameters && have_fields outline.fields t.constructors
+    nat_eq t.module prelude && nat_eq t.arity outline.parameters
+    && have_fields outline.fields t.constructors
 
 -- the types begin with some of these outlines
 abbrev pub begin_with : List Outline → List DataType → Bool
@@ -57,6 +61,7 @@ begin_with (o ∷ os) (t ∷ ts) = is_like o t && begin_with os ts
 abbrev pub has_list_constructors : Special → Bool
 has_list_constructors special = nat_eq special.nil.0 0 && nat_eq special.cons.0 1
 
--- the types begin with the built-in ones, of which the built-in entities have the list's constructors
+-- the types begin with the built-in ones, of which the built-in entities have the list's
+-- constructors
 abbrev pub has_first_types : Special → List DataType → Bool
 has_first_types special types = begin_with first_outlines types && has_list_constructors special

@@ -1,4 +1,5 @@
--- Kernel programs: what a program has beside the rules of its functions, and the program of the calculus that it is.
+-- Kernel programs: what a program has beside the rules of its functions, and the program of the
+-- calculus that it is.
 use Rattle.std.specs.Prelude.{ℕ, ◌+◌, Bool, List, [], ◌∷◌, ◌++◌, Option, length, map, slice_get}
 use Rattle.cu_calculus.specs.Program as calculus
 use Rattle.cu_calculus.specs.declared.ConId.{ConId}
@@ -70,7 +71,8 @@ constructors_of place cs = map (λ c. record { of_type = place; arity = length c
 -- the constructors of the types from a place on: those of one type after those of the one before
 abbrev pub constructors_from : ℕ → List DataType → List calculus.Constructor
 constructors_from place [] = []
-constructors_from place (t ∷ ts) = constructors_of place t.constructors ++ constructors_from (place + 1) ts
+constructors_from place (t ∷ ts) =
+    constructors_of place t.constructors ++ constructors_from (place + 1) ts
 
 -- a constructor, and its type's place among the program's types
 pub record Placed : Type 0 where
@@ -85,7 +87,8 @@ abbrev pub placed_from : ℕ → List DataType → List Placed
 placed_from place [] = []
 placed_from place (t ∷ ts) = placed place t.constructors ++ placed_from (place + 1) ts
 
--- the constructor with a number, where the types have one: those of the first type are counted first
+-- the constructor with a number, where the types have one: those of the first type are counted
+-- first
 abbrev pub constructor_at : List DataType → ConId → Option Placed
 constructor_at types c = slice_get (placed_from 0 types) c.0
 

@@ -29,10 +29,12 @@ abbrev pub function_meaning : Function → kernel.Function
 function_meaning f = record { name = f.name; arity = f.arity; body = body_meaning f.body }
 
 abbrev pub constructor_meaning : Constructor → kernel.Constructor
-constructor_meaning c = record { name = c.name; public = c.public; fields = map type_of c.fields.items }
+constructor_meaning c =
+    record { name = c.name; public = c.public; fields = map type_of c.fields.items }
 
 abbrev pub placed_meaning : Placed → kernel.Placed
-placed_meaning p = record { of_type = p.of_type.0; constructor = constructor_meaning p.constructor.now }
+placed_meaning p =
+    record { of_type = p.of_type.0; constructor = constructor_meaning p.constructor.now }
 
 abbrev pub type_meaning : DataType → kernel.DataType
 type_meaning t = record {
@@ -44,10 +46,18 @@ type_meaning t = record {
 }
 
 abbrev pub synonym_meaning : Synonym → kernel.Synonym
-synonym_meaning s = record { name = s.name; «module» = s.module; public = s.public; arity = s.arity; body = type_of s.body }
+synonym_meaning s =
+    record {
+      name = s.name;
+      «module» = s.module;
+      public = s.public;
+      arity = s.arity;
+      body = type_of s.body;
+    }
 
 abbrev pub module_meaning : ModuleInfo → kernel.Module
-module_meaning m = record { name = m.name; imports = m.imports.items; operators = m.operators.items }
+module_meaning m =
+    record { name = m.name; imports = m.imports.items; operators = m.operators.items }
 
 abbrev pub mark_meaning : Mark → kernel.Mark
 mark_meaning m = record {

@@ -19,49 +19,79 @@ use Rattle.cu_kernel.specs.declared.declarations.Operator.{Operator}
 
 abbrev pub constructor_code : Coded Constructor
 constructor_code =
-    code_by (NameId × (Bool × List TypeExpr)) (coded× name.coded (coded× coded_bool (coded_list type_code)))
-    (λ c. (c.name, (c.public, c.fields))) (λ t. record { name = t.0; public = t.1.0; fields = t.1.1 }) (λ _. refl)
+    code_by (NameId × (Bool × List TypeExpr))
+    (coded× name.coded (coded× coded_bool (coded_list type_code)))
+    (λ c. (c.name, (c.public, c.fields)))
+    (λ t. record { name = t.0; public = t.1.0; fields = t.1.1 }) (λ _. refl)
 
 abbrev pub data_type_code : Coded DataType
 data_type_code =
     code_by (NameId × (ℕ × (ℕ × (Bool × List Constructor))))
-    (coded× name.coded (coded× coded_ℕ (coded× coded_ℕ (coded× coded_bool (coded_list constructor_code)))))
+    (coded× name.coded
+    (coded× coded_ℕ (coded× coded_ℕ (coded× coded_bool (coded_list constructor_code)))))
     (λ d. (d.name, (d.module, (d.arity, (d.public, d.constructors)))))
-    (λ t. record { name = t.0; «module» = t.1.0; arity = t.1.1.0; public = t.1.1.1.0; constructors = t.1.1.1.1 }) (λ _. refl)
+    (λ t. record {
+      name = t.0;
+      «module» = t.1.0;
+      arity = t.1.1.0;
+      public = t.1.1.1.0;
+      constructors = t.1.1.1.1;
+    }) (λ _. refl)
 
 abbrev pub function_code : Coded Function
 function_code =
-    code_by (NameId × (ℕ × calculus.Body)) (coded× name.coded (coded× coded_ℕ body_code)) (λ f. (f.name, (f.arity, f.body)))
+    code_by (NameId × (ℕ × calculus.Body)) (coded× name.coded (coded× coded_ℕ body_code))
+    (λ f. (f.name, (f.arity, f.body)))
     (λ t. record { name = t.0; arity = t.1.0; body = t.1.1 }) (λ _. refl)
 
 abbrev pub synonym_code : Coded Synonym
 synonym_code =
-    code_by (NameId × (ℕ × (Bool × (ℕ × TypeExpr)))) (coded× name.coded (coded× coded_ℕ (coded× coded_bool (coded× coded_ℕ type_code))))
+    code_by (NameId × (ℕ × (Bool × (ℕ × TypeExpr))))
+    (coded× name.coded (coded× coded_ℕ (coded× coded_bool (coded× coded_ℕ type_code))))
     (λ s. (s.name, (s.module, (s.public, (s.arity, s.body)))))
-    (λ t. record { name = t.0; «module» = t.1.0; public = t.1.1.0; arity = t.1.1.1.0; body = t.1.1.1.1 }) (λ _. refl)
+    (λ t. record {
+      name = t.0;
+      «module» = t.1.0;
+      public = t.1.1.0;
+      arity = t.1.1.1.0;
+      body = t.1.1.1.1;
+    }) (λ _. refl)
 
 abbrev pub module_code : Coded Module
 module_code =
-    code_by (NameId × (List NameId × List Operator)) (coded× name.coded (coded× (coded_list name.coded) (coded_list operator.coded)))
-    (λ m. (m.name, (m.imports, m.operators))) (λ t. record { name = t.0; imports = t.1.0; operators = t.1.1 }) (λ _. refl)
+    code_by (NameId × (List NameId × List Operator))
+    (coded× name.coded (coded× (coded_list name.coded) (coded_list operator.coded)))
+    (λ m. (m.name, (m.imports, m.operators)))
+    (λ t. record { name = t.0; imports = t.1.0; operators = t.1.1 }) (λ _. refl)
 
 abbrev pub mark_code : Coded Mark
 mark_code =
     code_by (ℕ × (Bool × (Option TypeExpr × (ℕ × Place))))
-    (coded× coded_ℕ (coded× coded_bool (coded× (coded_option type_code) (coded× coded_ℕ place.coded))))
+    (coded× coded_ℕ
+    (coded× coded_bool (coded× (coded_option type_code) (coded× coded_ℕ place.coded))))
     (λ m. (m.module, (m.public, (m.declared, (m.captured, m.place)))))
-    (λ t. record { «module» = t.0; public = t.1.0; declared = t.1.1.0; captured = t.1.1.1.0; place = t.1.1.1.1 }) (λ _. refl)
+    (λ t. record {
+      «module» = t.0;
+      public = t.1.0;
+      declared = t.1.1.0;
+      captured = t.1.1.1.0;
+      place = t.1.1.1.1;
+    }) (λ _. refl)
 
 abbrev pub goal_code : Coded Goal
 goal_code =
-    code_by (FunId × List NameId) (coded× function_id.coded (coded_list name.coded)) (λ g. (g.function, g.names))
+    code_by (FunId × List NameId) (coded× function_id.coded (coded_list name.coded))
+    (λ g. (g.function, g.names))
     (λ t. record { function = t.0; names = t.1 }) (λ _. refl)
 
 abbrev pub kernel_code : Coded Kernel
 kernel_code =
-    code_by (List DataType × (List Function × (List Synonym × (List Module × (List Mark × (Option Goal × Special))))))
-    (coded× (coded_list data_type_code) (coded× (coded_list function_code) (coded× (coded_list synonym_code)
-    (coded× (coded_list module_code) (coded× (coded_list mark_code) (coded× (coded_option goal_code) special.coded))))))
+    code_by (List DataType
+    × (List Function × (List Synonym × (List Module × (List Mark × (Option Goal × Special))))))
+    (coded× (coded_list data_type_code)
+    (coded× (coded_list function_code) (coded× (coded_list synonym_code)
+    (coded× (coded_list module_code)
+    (coded× (coded_list mark_code) (coded× (coded_option goal_code) special.coded))))))
     (λ k. (k.types, (k.functions, (k.synonyms, (k.modules, (k.marks, (k.goal, k.special)))))))
     (λ t. record {
       types = t.0;

@@ -46,7 +46,8 @@ pub record LocalKernel : Type 0 where
 -- The numbers of the second program follow those of the first.
 pub record Follows (first second : LocalKernel) : Type 0 where
   pub types : second.start.types ≡ first.start.types + length first.types
-  pub constructors : second.start.constructors ≡ first.start.constructors + length (constructors_from 0 first.types)
+  pub constructors : second.start.constructors
+      ≡ first.start.constructors + length (constructors_from 0 first.types)
   pub functions : second.start.functions ≡ first.start.functions + length first.functions
   pub synonyms : second.start.synonyms ≡ first.start.synonyms + length first.synonyms
   pub modules : second.start.modules ≡ first.start.modules + length first.modules

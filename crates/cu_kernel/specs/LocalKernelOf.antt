@@ -14,7 +14,8 @@ use Rattle.cu_kernel.specs.declared.local.TopFunction.{TopFunction}
 use Rattle.cu_kernel.specs.declared.local_program.LocalParts.{LocalParts}
 
 abbrev pub local_rule_meaning : LocalRule → kernel.LocalRule
-local_rule_meaning rule = record { params = patterns_of rule.params.items; body = local_term_of rule.body }
+local_rule_meaning rule =
+    record { params = patterns_of rule.params.items; body = local_term_of rule.body }
 
 abbrev pub local_body_meaning : LocalBody → kernel.LocalBody
 local_body_meaning (Rules rules) = kernel.Rules (map local_rule_meaning rules.items)

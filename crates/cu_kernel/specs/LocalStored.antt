@@ -1,4 +1,5 @@
--- How programs before lifting are told apart: each term has a tree of numbers of its own, the rest goes by its parts.
+-- How programs before lifting are told apart: each term has a tree of numbers of its own, the rest
+-- goes by its parts.
 use Rattle.std.specs.Prelude.{◌≡◌, ℕ, List, Option, refl}
 use Rattle.std.specs.Coded.{Coded, code_by, coded_ℕ, coded_list, coded_option, coded×, coded⊎}
 use Rattle.std.proofs.Common.{◌⊎◌, inl, inr}
@@ -33,10 +34,13 @@ abbrev mutual
   local_tree (local.Whole h ts) = gcons (gnum 2) (gcons (local_head.coded.code h) (local_trees ts))
   local_tree (local.Part h ts) = gcons (gnum 3) (gcons (local_head.coded.code h) (local_trees ts))
   local_tree (local.Apply f a) = gcons (gnum 4) (gcons (local_tree f) (local_tree a))
-  local_tree (local.Let x a b) = gcons (gnum 5) (gcons (gnum x) (gcons (local_tree a) (local_tree b)))
+  local_tree (local.Let x a b) =
+      gcons (gnum 5) (gcons (gnum x) (gcons (local_tree a) (local_tree b)))
   local_tree (local.Free x t) = gcons (gnum 6) (gcons (gnum x) (local_tree t))
   local_tree (local.Or a b) = gcons (gnum 7) (gcons (local_tree a) (local_tree b))
-  local_tree (local.Case m t rows) = gcons (gnum 8) (gcons (mode.coded.code m) (gcons (local_tree t) (local_alternative_trees rows)))
+  local_tree (local.Case m t rows) =
+      gcons (gnum 8) (gcons (mode.coded.code m)
+      (gcons (local_tree t) (local_alternative_trees rows)))
 
   pub local_trees : local.LocalTerms → Gv
   local_trees local.NoTerm = gnil
@@ -44,35 +48,46 @@ abbrev mutual
 
   pub local_alternative_trees : local.LocalAlternatives → Gv
   local_alternative_trees local.NoAlternative = gnil
-  local_alternative_trees (local.MoreAlternatives p t rows) = gcons (gcons (pattern_tree p) (local_tree t)) (local_alternative_trees rows)
+  local_alternative_trees (local.MoreAlternatives p t rows) =
+      gcons (gcons (pattern_tree p) (local_tree t)) (local_alternative_trees rows)
 
 mutual
   pub same_local_term : (s t : local.LocalTerm) → local_tree s ≡ local_tree t → s ≡ t
   same_local_term (local.Variable x) (local.Variable y) e = cc
-  same_local_term (local.Literal l) (local.Literal m) e = let same : l ≡ m = literal.coded.inj l m (cc) in cc
+  same_local_term (local.Literal l) (local.Literal m) e = let same : l ≡ m =
+      literal.coded.inj l m (cc) in cc
   same_local_term (local.Whole h ss) (local.Whole k ts) e =
-      let first : h ≡ k = local_head.coded.inj h k (cc) in let rest : ss ≡ ts = same_local_terms ss ts (cc) in cc
+      let first : h ≡ k = local_head.coded.inj h k (cc) in
+      let rest : ss ≡ ts = same_local_terms ss ts (cc) in cc
   same_local_term (local.Part h ss) (local.Part k ts) e =
-      let first : h ≡ k = local_head.coded.inj h k (cc) in let rest : ss ≡ ts = same_local_terms ss ts (cc) in cc
+      let first : h ≡ k = local_head.coded.inj h k (cc) in
+      let rest : ss ≡ ts = same_local_terms ss ts (cc) in cc
   same_local_term (local.Apply f a) (local.Apply g b) e =
-      let first : f ≡ g = same_local_term f g (cc) in let rest : a ≡ b = same_local_term a b (cc) in cc
+      let first : f ≡ g = same_local_term f g (cc) in
+      let rest : a ≡ b = same_local_term a b (cc) in cc
   same_local_term (local.Let x a b) (local.Let y c d) e =
-      let first : a ≡ c = same_local_term a c (cc) in let rest : b ≡ d = same_local_term b d (cc) in cc
-  same_local_term (local.Free x s) (local.Free y t) e = let rest : s ≡ t = same_local_term s t (cc) in cc
+      let first : a ≡ c = same_local_term a c (cc) in
+      let rest : b ≡ d = same_local_term b d (cc) in cc
+  same_local_term (local.Free x s) (local.Free y t) e = let rest : s ≡ t =
+      same_local_term s t (cc) in cc
   same_local_term (local.Or a b) (local.Or c d) e =
-      let first : a ≡ c = same_local_term a c (cc) in let rest : b ≡ d = same_local_term b d (cc) in cc
+      let first : a ≡ c = same_local_term a c (cc) in
+      let rest : b ≡ d = same_local_term b d (cc) in cc
   same_local_term (local.Case m s rows) (local.Case n t others) e =
-      let first : m ≡ n = mode.coded.inj m n (cc) in let second : s ≡ t = same_local_term s t (cc) in
+      let first : m ≡ n = mode.coded.inj m n (cc) in
+      let second : s ≡ t = same_local_term s t (cc) in
       let rest : rows ≡ others = same_local_alternatives rows others (cc) in cc
   same_local_term _ _ e = let no : ⊥ = cc in absurd no
 
   pub same_local_terms : (ss ts : local.LocalTerms) → local_trees ss ≡ local_trees ts → ss ≡ ts
   same_local_terms local.NoTerm local.NoTerm e = cc
   same_local_terms (local.MoreTerms s ss) (local.MoreTerms t ts) e =
-      let first : s ≡ t = same_local_term s t (cc) in let rest : ss ≡ ts = same_local_terms ss ts (cc) in cc
+      let first : s ≡ t = same_local_term s t (cc) in
+      let rest : ss ≡ ts = same_local_terms ss ts (cc) in cc
   same_local_terms _ _ e = let no : ⊥ = cc in absurd no
 
-  pub same_local_alternatives : (rows others : local.LocalAlternatives) → local_alternative_trees rows ≡ local_alternative_trees others → rows ≡ others
+  pub same_local_alternatives : (rows others : local.LocalAlternatives)
+      → local_alternative_trees rows ≡ local_alternative_trees others → rows ≡ others
   same_local_alternatives local.NoAlternative local.NoAlternative e = cc
   same_local_alternatives (local.MoreAlternatives p s rows) (local.MoreAlternatives q t others) e =
       let first : p ≡ q = same_pattern p q (cc) in let second : s ≡ t = same_local_term s t (cc) in
@@ -84,7 +99,8 @@ local_term_code = record { code = local_tree; inj = same_local_term }
 
 abbrev pub local_rule_code : Coded LocalRule
 local_rule_code =
-    code_by (calculus.Patterns × local.LocalTerm) (coded× patterns_code local_term_code) (λ r. (r.params, r.body))
+    code_by (calculus.Patterns × local.LocalTerm) (coded× patterns_code local_term_code)
+    (λ r. (r.params, r.body))
     (λ r. record { params = r.0; body = r.1 }) (λ _. refl)
 
 abbrev pub local_body_parts : LocalBody → List LocalRule ⊎ Primitive
@@ -101,13 +117,15 @@ local_body_parts_back (kernel.External operation) = refl
 
 abbrev pub local_body_code : Coded LocalBody
 local_body_code =
-    code_by (List LocalRule ⊎ Primitive) (coded⊎ (coded_list local_rule_code) primitive.coded) local_body_parts local_body_of_parts
+    code_by (List LocalRule ⊎ Primitive)
+    (coded⊎ (coded_list local_rule_code) primitive.coded) local_body_parts local_body_of_parts
     local_body_parts_back
 
 abbrev pub local_function_code : Coded LocalFunction
 local_function_code =
     code_by (Place × (Option TypeExpr × (ℕ × List LocalRule)))
-    (coded× place.coded (coded× (coded_option type_code) (coded× coded_ℕ (coded_list local_rule_code))))
+    (coded× place.coded (coded× (coded_option type_code)
+    (coded× coded_ℕ (coded_list local_rule_code))))
     (λ f. (f.place, (f.declared, (f.arity, f.rules))))
     (λ t. record { place = t.0; declared = t.1.0; arity = t.1.1.0; rules = t.1.1.1 }) (λ _. refl)
 
@@ -120,11 +138,18 @@ top_function_code =
 
 abbrev pub local_kernel_code : Coded LocalKernel
 local_kernel_code =
-    code_by (Counts × (List DataType × (List TopFunction × (List Synonym × (List Module × (List Mark × (Option Goal × Special)))))))
+    code_by (Counts
+    × (List DataType
+    × (List TopFunction
+    × (List Synonym × (List Module × (List Mark × (Option Goal × Special)))))))
     (coded× counts.coded (coded× (coded_list data_type_code) (coded× (coded_list top_function_code)
-    (coded× (coded_list synonym_code) (coded× (coded_list module_code) (coded× (coded_list mark_code)
+    (coded× (coded_list synonym_code)
+    (coded× (coded_list module_code) (coded× (coded_list mark_code)
     (coded× (coded_option goal_code) special.coded)))))))
-    (λ k. (k.start, (k.types, (k.functions, (k.synonyms, (k.modules, (k.marks, (k.goal, k.special))))))))
+    (λ k. (
+      k.start,
+      (k.types, (k.functions, (k.synonyms, (k.modules, (k.marks, (k.goal, k.special)))))),
+    ))
     (λ t. record {
       start = t.0;
       types = t.1.0;

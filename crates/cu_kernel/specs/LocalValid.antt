@@ -1,5 +1,5 @@
--- Programs before lifting: what is right of each part alone, and what is right where all parts are joined. Of a program for which
--- both hold lifting makes a valid program.
+-- Programs before lifting: what is right of each part alone, and what is right where all parts are
+-- joined. Of a program for which both hold lifting makes a valid program.
 use Rattle.std.specs.Prelude.{◌≡◌, ℕ, ◌+◌, Bool, true, false, ◌&&◌, List, [], ◌∷◌, ◌++◌, Option, None, Some, IsTrue, flat_map, length, map, nat_eq, nat_lt, option_map, slice_get, take, drop}
 use Rattle.std.specs.List.{list_all}
 use Rattle.cu_calculus.specs.Literal.{is_literal}
@@ -25,7 +25,8 @@ use Rattle.cu_kernel.specs.declared.type_term.TypeName.{TypeName}
 
 -- ---- heads
 
--- which heads may stand in a term with all of so many arguments and with fewer than they take, and which constructors in a pattern
+-- which heads may stand in a term with all of so many arguments and with fewer than they take, and
+-- which constructors in a pattern
 pub record Heads : Type 0 where
   pub whole : LocalHead → ℕ → Bool
   pub part : LocalHead → ℕ → Bool
@@ -39,7 +40,8 @@ abbrev mutual
   pub pattern_passes : Heads → clean.Pattern → Bool
   pattern_passes heads (clean.Any x) = true
   pattern_passes heads (clean.Exactly l) = is_literal l
-  pattern_passes heads (clean.Built c ps) = heads.built c (pattern_count ps) && patterns_pass heads ps
+  pattern_passes heads (clean.Built c ps) =
+      heads.built c (pattern_count ps) && patterns_pass heads ps
   pattern_passes heads (clean.Named x p) = pattern_passes heads p
 
   pub patterns_pass : Heads → clean.Patterns → Bool
@@ -56,7 +58,8 @@ abbrev mutual
   term_passes heads (local.Let x a b) = term_passes heads a && term_passes heads b
   term_passes heads (local.Free x t) = term_passes heads t
   term_passes heads (local.Or a b) = term_passes heads a && term_passes heads b
-  term_passes heads (local.Case mode a alternatives) = term_passes heads a && alternatives_pass heads alternatives
+  term_passes heads (local.Case mode a alternatives) =
+      term_passes heads a && alternatives_pass heads alternatives
 
   pub terms_pass : Heads → LocalTerms → Bool
   terms_pass heads local.NoTerm = true
@@ -98,7 +101,8 @@ takes_more_locally locals (head.Global h) n = true
 
 -- Of a part alone local functions are known, and no other heads.
 abbrev pub local_heads : List LocalFunction → Heads
-local_heads locals = record { whole = takes_locally locals; part = takes_more_locally locals; built = λ c n. true }
+local_heads locals =
+    record { whole = takes_locally locals; part = takes_more_locally locals; built = λ c n. true }
 
 -- the variables that a term binds, in the order in which they stand
 abbrev mutual
@@ -119,7 +123,8 @@ abbrev mutual
 
   pub alternative_binders : LocalAlternatives → List ℕ
   alternative_binders local.NoAlternative = []
-  alternative_binders (local.MoreAlternatives p t alternatives) = variables_of p ++ (binders t ++ alternative_binders alternatives)
+  alternative_binders (local.MoreAlternatives p t alternatives) =
+      variables_of p ++ (binders t ++ alternative_binders alternatives)
 
 abbrev pub rule_binders : LocalRule → List ℕ
 rule_binders rule = all_variables rule.params ++ binders rule.body
@@ -137,7 +142,9 @@ all_binders f = rules_binders (rules_of f.body) ++ flat_map local_binders f.loca
 -- those that are bound outside of one of its local functions
 abbrev pub outer_binders : TopFunction → ℕ → List ℕ
 outer_binders f k =
-    rules_binders (rules_of f.body) ++ (flat_map local_binders (take k f.locals) ++ flat_map local_binders (drop (k + 1) f.locals))
+    rules_binders (rules_of f.body)
+    ++ (flat_map local_binders (take k f.locals)
+    ++ flat_map local_binders (drop (k + 1) f.locals))
 
 -- the Lets of a term: their variables and the definitions of these
 abbrev mutual
@@ -158,7 +165,8 @@ abbrev mutual
 
   pub lets_of_alternatives : LocalAlternatives → List (ℕ × LocalTerm)
   lets_of_alternatives local.NoAlternative = []
-  lets_of_alternatives (local.MoreAlternatives p t alternatives) = lets t ++ lets_of_alternatives alternatives
+  lets_of_alternatives (local.MoreAlternatives p t alternatives) =
+      lets t ++ lets_of_alternatives alternatives
 
 abbrev pub rule_lets : LocalRule → List (ℕ × LocalTerm)
 rule_lets rule = lets rule.body
@@ -178,17 +186,21 @@ fits_local f = is_arity f.arity && list_all (has_arity f.arity) f.rules
 pub record IsScoped (f : TopFunction) : Type 0 where
   pub arity : IsTrue (is_arity f.arity && fits_arity f.arity f.body)
   pub locals : IsTrue (list_all fits_local f.locals)
-  -- calls of local functions have their own arguments, captured variables apart, and literals are the language's
+  -- calls of local functions have their own arguments, captured variables apart, and literals are
+  -- the language's
   pub calls : IsTrue (list_all (rule_passes (local_heads f.locals)) (all_rules f))
   -- each variable has one number, and so is bound once
   pub once : IsTrue (is_linear (all_binders f))
-  -- the rules of the function itself use no variable that they don't bind, by way of local functions neither
-  pub closed : (k v : ℕ) (rule : LocalRule) → slice_get (rules_of f.body) k ≡ Some rule → IsFree f.locals v rule.body
+  -- the rules of the function itself use no variable that they don't bind, by way of local
+  -- functions neither
+  pub closed : (k v : ℕ) (rule : LocalRule) → slice_get (rules_of f.body) k ≡ Some rule
+      → IsFree f.locals v rule.body
       → IsTrue (holds v (all_variables rule.params))
   -- what a local function captures is bound outside of it
   pub captured : (k v : ℕ) → Captures f.locals k v → IsTrue (holds v (outer_binders f k))
   -- no variable is defined by itself, by way of local functions neither
-  pub lets : (k x : ℕ) (a : LocalTerm) → slice_get (flat_map rule_lets (all_rules f)) k ≡ Some (x, a) → IsFree f.locals x a → ⊥
+  pub lets : (k x : ℕ) (a : LocalTerm) → slice_get (flat_map rule_lets (all_rules f)) k
+      ≡ Some (x, a) → IsFree f.locals x a → ⊥
 
 -- the variables of a type are parameters of the declaration in which it stands
 abbrev mutual
@@ -199,7 +211,8 @@ abbrev mutual
 
   pub all_have_parameters : ℕ → TypeExprs → Bool
   all_have_parameters count type.NoType = true
-  all_have_parameters count (type.MoreTypes t ts) = has_parameters count t && all_have_parameters count ts
+  all_have_parameters count (type.MoreTypes t ts) =
+      has_parameters count t && all_have_parameters count ts
 
 abbrev pub is_constructor : ℕ → Constructor → Bool
 is_constructor count c = is_arity (length c.fields) && list_all (has_parameters count) c.fields
@@ -238,17 +251,24 @@ heads_program kernel = record {
 
 abbrev pub takes_globally : calculus.Program → LocalHead → ℕ → Bool
 takes_globally program (head.Local k) n = true
-takes_globally program (head.Global h) n = is_allowed program h && takes (calculus.arity_in program h) n
+takes_globally program (head.Global h) n =
+    is_allowed program h && takes (calculus.arity_in program h) n
 
 abbrev pub takes_more_globally : calculus.Program → LocalHead → ℕ → Bool
 takes_more_globally program (head.Local k) n = true
-takes_more_globally program (head.Global h) n = is_allowed program h && takes_more (calculus.arity_in program h) n
+takes_more_globally program (head.Global h) n =
+    is_allowed program h && takes_more (calculus.arity_in program h) n
 
 abbrev pub builds : calculus.Program → ConId → ℕ → Bool
 builds program c n = takes (calculus.arity_in program (plain.Con c)) n
 
 abbrev pub global_heads : calculus.Program → Heads
-global_heads program = record { whole = takes_globally program; part = takes_more_globally program; built = builds program }
+global_heads program =
+    record {
+      whole = takes_globally program;
+      part = takes_more_globally program;
+      built = builds program;
+    }
 
 -- types and synonyms that are there
 abbrev pub is_type_name : LocalKernel → TypeName → Bool
@@ -276,7 +296,8 @@ abbrev pub constructor_names_types : LocalKernel → Constructor → Bool
 constructor_names_types kernel c = list_all (names_types kernel) c.fields
 
 abbrev pub type_is_placed : LocalKernel → DataType → Bool
-type_is_placed kernel t = is_module kernel t.module && list_all (constructor_names_types kernel) t.constructors
+type_is_placed kernel t = is_module kernel t.module
+    && list_all (constructor_names_types kernel) t.constructors
 
 abbrev pub synonym_is_placed : LocalKernel → Synonym → Bool
 synonym_is_placed kernel s = is_module kernel s.module && names_types kernel s.body
@@ -289,7 +310,8 @@ local_signature_fits kernel f = signature_names_types kernel f.declared
 
 abbrev pub function_fits : LocalKernel → TopFunction → Bool
 function_fits kernel f =
-    list_all (rule_passes (global_heads (heads_program kernel))) (all_rules f) && list_all (local_signature_fits kernel) f.locals
+    list_all (rule_passes (global_heads (heads_program kernel))) (all_rules f)
+    && list_all (local_signature_fits kernel) f.locals
 
 abbrev pub has_rules : LocalBody → Bool
 has_rules (Rules rules) = true
@@ -315,7 +337,8 @@ abbrev mutual
   unlifted (clean.Let x a b) = local.Let x (unlifted a) (unlifted b)
   unlifted (clean.Free x t) = local.Free x (unlifted t)
   unlifted (clean.Or a b) = local.Or (unlifted a) (unlifted b)
-  unlifted (clean.Case mode a alternatives) = local.Case mode (unlifted a) (alternatives_unlifted alternatives)
+  unlifted (clean.Case mode a alternatives) =
+      local.Case mode (unlifted a) (alternatives_unlifted alternatives)
 
   pub all_unlifted : clean.Terms → LocalTerms
   all_unlifted clean.NoTerm = local.NoTerm
@@ -323,7 +346,8 @@ abbrev mutual
 
   pub alternatives_unlifted : clean.Alternatives → LocalAlternatives
   alternatives_unlifted clean.NoAlternative = local.NoAlternative
-  alternatives_unlifted (clean.MoreAlternatives p t alternatives) = local.MoreAlternatives p (unlifted t) (alternatives_unlifted alternatives)
+  alternatives_unlifted (clean.MoreAlternatives p t alternatives) =
+      local.MoreAlternatives p (unlifted t) (alternatives_unlifted alternatives)
 
 abbrev pub rule_unlifted : calculus.Rule → LocalRule
 rule_unlifted rule = record { params = rule.params; body = unlifted rule.body }
@@ -340,8 +364,10 @@ pub record HasEntities (kernel : LocalKernel) : Type 0 where
   pub falsity : IsTrue (builds (heads_program kernel) kernel.special.falsity 0)
   pub truth : IsTrue (builds (heads_program kernel) kernel.special.truth 0)
   pub ordered : IsTrue (nat_lt kernel.special.falsity.0 kernel.special.truth.0)
-  pub values : (c : ConId) → kernel.special.values ≡ Some c → IsTrue (builds (heads_program kernel) c 1)
-  pub both : (f : TopFunction) × (slice_get kernel.functions kernel.special.both.0 ≡ Some f) × IsBoth kernel.special f
+  pub values : (c : ConId) → kernel.special.values ≡ Some c
+      → IsTrue (builds (heads_program kernel) c 1)
+  pub both : (f : TopFunction) × (slice_get kernel.functions kernel.special.both.0 ≡ Some f)
+      × IsBoth kernel.special f
 
 -- the numbers of the parts begin with 0
 pub record IsFirst (kernel : LocalKernel) : Type 0 where

@@ -29,20 +29,28 @@ allowed-All = ap allowed (sym scope.rolls-All) ∙ fold-roll-Scope (ℕ → Bool
 
 pub allowed-Parameters : (xs : Bor (List ℕ)) → allowed (scope.Parameters xs) ≡ held_by xs.now
 unfolding allowed
-allowed-Parameters xs = ap allowed (sym (scope.rolls-Parameters xs)) ∙ fold-roll-Scope (ℕ → Bool) one_scope (layer.Parameters xs)
+allowed-Parameters xs = ap allowed (sym (scope.rolls-Parameters xs)) ∙ fold-roll-Scope (ℕ
+    → Bool) one_scope (layer.Parameters xs)
 
-pub allowed-With : (x : ℕ) (around : Bor Scope) → allowed (scope.With x around) ≡ also x (allowed around.now)
+pub allowed-With : (x : ℕ) (around : Bor Scope) → allowed (scope.With x around)
+    ≡ also x (allowed around.now)
 unfolding allowed
-allowed-With x around = ap allowed (sym (scope.rolls-With x around)) ∙ fold-roll-Scope (ℕ → Bool) one_scope (layer.With x around)
+allowed-With x around = ap allowed (sym (scope.rolls-With x around)) ∙ fold-roll-Scope (ℕ
+    → Bool) one_scope (layer.With x around)
 
-pub allowed-WithAll : (xs : Bor (List ℕ)) (around : Bor Scope) → allowed (scope.WithAll xs around) ≡ also_all xs.now (allowed around.now)
+pub allowed-WithAll : (xs : Bor (List ℕ)) (around : Bor Scope)
+    → allowed (scope.WithAll xs around) ≡ also_all xs.now (allowed around.now)
 unfolding allowed
 allowed-WithAll xs around =
-    ap allowed (sym (scope.rolls-WithAll xs around)) ∙ fold-roll-Scope (ℕ → Bool) one_scope (layer.WithAll xs around)
+    ap allowed (sym (scope.rolls-WithAll xs around)) ∙ fold-roll-Scope (ℕ
+    → Bool) one_scope (layer.WithAll xs around)
 
-pub allowed-Without : (x : ℕ) (around : Bor Scope) → allowed (scope.Without x around) ≡ but x (allowed around.now)
+pub allowed-Without : (x : ℕ) (around : Bor Scope)
+    → allowed (scope.Without x around) ≡ but x (allowed around.now)
 unfolding allowed
 allowed-Without x around =
-    ap allowed (sym (scope.rolls-Without x around)) ∙ fold-roll-Scope (ℕ → Bool) one_scope (layer.Without x around)
+    ap allowed (sym (scope.rolls-Without x around)) ∙ fold-roll-Scope (ℕ
+    → Bool) one_scope (layer.Without x around)
 
-pub ruleset allowed_variants = (allowed-All, allowed-Parameters, allowed-With, allowed-WithAll, allowed-Without)
+pub ruleset allowed_variants =
+    (allowed-All, allowed-Parameters, allowed-With, allowed-WithAll, allowed-Without)

@@ -16,7 +16,8 @@ abbrev mutual
   pub pattern_tree : clean.Pattern → Gv
   pattern_tree (clean.Any x) = gcons (gnum 0) (gnum x)
   pattern_tree (clean.Exactly l) = gcons (gnum 1) (literal.coded.code l)
-  pattern_tree (clean.Built c ps) = gcons (gnum 2) (gcons (constructor.coded.code c) (pattern_trees ps))
+  pattern_tree (clean.Built c ps) =
+      gcons (gnum 2) (gcons (constructor.coded.code c) (pattern_trees ps))
   pattern_tree (clean.Named x p) = gcons (gnum 3) (gcons (gnum x) (pattern_tree p))
 
   pub pattern_trees : clean.Patterns → Gv
@@ -26,16 +27,20 @@ abbrev mutual
 mutual
   pub same_pattern : (p q : clean.Pattern) → pattern_tree p ≡ pattern_tree q → p ≡ q
   same_pattern (clean.Any x) (clean.Any y) e = cc
-  same_pattern (clean.Exactly l) (clean.Exactly m) e = let same : l ≡ m = literal.coded.inj l m (cc) in cc
+  same_pattern (clean.Exactly l) (clean.Exactly m) e = let same : l ≡ m =
+      literal.coded.inj l m (cc) in cc
   same_pattern (clean.Built c ps) (clean.Built d qs) e =
-      let first : c ≡ d = constructor.coded.inj c d (cc) in let rest : ps ≡ qs = same_patterns ps qs (cc) in cc
-  same_pattern (clean.Named x p) (clean.Named y q) e = let rest : p ≡ q = same_pattern p q (cc) in cc
+      let first : c ≡ d = constructor.coded.inj c d (cc) in
+      let rest : ps ≡ qs = same_patterns ps qs (cc) in cc
+  same_pattern (clean.Named x p) (clean.Named y q) e = let rest : p ≡ q =
+      same_pattern p q (cc) in cc
   same_pattern _ _ e = let no : ⊥ = cc in absurd no
 
   pub same_patterns : (ps qs : clean.Patterns) → pattern_trees ps ≡ pattern_trees qs → ps ≡ qs
   same_patterns clean.NoPattern clean.NoPattern e = cc
   same_patterns (clean.MorePatterns p ps) (clean.MorePatterns q qs) e =
-      let first : p ≡ q = same_pattern p q (cc) in let rest : ps ≡ qs = same_patterns ps qs (cc) in cc
+      let first : p ≡ q = same_pattern p q (cc) in
+      let rest : ps ≡ qs = same_patterns ps qs (cc) in cc
   same_patterns _ _ e = let no : ⊥ = cc in absurd no
 
 abbrev mutual
@@ -48,7 +53,8 @@ abbrev mutual
   term_tree (clean.Let x a b) = gcons (gnum 5) (gcons (gnum x) (gcons (term_tree a) (term_tree b)))
   term_tree (clean.Free x t) = gcons (gnum 6) (gcons (gnum x) (term_tree t))
   term_tree (clean.Or a b) = gcons (gnum 7) (gcons (term_tree a) (term_tree b))
-  term_tree (clean.Case m t rows) = gcons (gnum 8) (gcons (mode.coded.code m) (gcons (term_tree t) (alternative_trees rows)))
+  term_tree (clean.Case m t rows) =
+      gcons (gnum 8) (gcons (mode.coded.code m) (gcons (term_tree t) (alternative_trees rows)))
 
   pub term_trees : clean.Terms → Gv
   term_trees clean.NoTerm = gnil
@@ -56,16 +62,20 @@ abbrev mutual
 
   pub alternative_trees : clean.Alternatives → Gv
   alternative_trees clean.NoAlternative = gnil
-  alternative_trees (clean.MoreAlternatives p t rows) = gcons (gcons (pattern_tree p) (term_tree t)) (alternative_trees rows)
+  alternative_trees (clean.MoreAlternatives p t rows) =
+      gcons (gcons (pattern_tree p) (term_tree t)) (alternative_trees rows)
 
 mutual
   pub same_term : (s t : clean.Term) → term_tree s ≡ term_tree t → s ≡ t
   same_term (clean.Variable x) (clean.Variable y) e = cc
-  same_term (clean.Literal l) (clean.Literal m) e = let same : l ≡ m = literal.coded.inj l m (cc) in cc
+  same_term (clean.Literal l) (clean.Literal m) e = let same : l ≡ m =
+      literal.coded.inj l m (cc) in cc
   same_term (clean.Whole h ss) (clean.Whole k ts) e =
-      let first : h ≡ k = head.coded.inj h k (cc) in let rest : ss ≡ ts = same_terms ss ts (cc) in cc
+      let first : h ≡ k = head.coded.inj h k (cc) in
+      let rest : ss ≡ ts = same_terms ss ts (cc) in cc
   same_term (clean.Part h ss) (clean.Part k ts) e =
-      let first : h ≡ k = head.coded.inj h k (cc) in let rest : ss ≡ ts = same_terms ss ts (cc) in cc
+      let first : h ≡ k = head.coded.inj h k (cc) in
+      let rest : ss ≡ ts = same_terms ss ts (cc) in cc
   same_term (clean.Apply f a) (clean.Apply g b) e =
       let first : f ≡ g = same_term f g (cc) in let rest : a ≡ b = same_term a b (cc) in cc
   same_term (clean.Let x a b) (clean.Let y c d) e =
@@ -84,7 +94,8 @@ mutual
       let first : s ≡ t = same_term s t (cc) in let rest : ss ≡ ts = same_terms ss ts (cc) in cc
   same_terms _ _ e = let no : ⊥ = cc in absurd no
 
-  pub same_alternatives : (rows others : clean.Alternatives) → alternative_trees rows ≡ alternative_trees others → rows ≡ others
+  pub same_alternatives : (rows others : clean.Alternatives)
+      → alternative_trees rows ≡ alternative_trees others → rows ≡ others
   same_alternatives clean.NoAlternative clean.NoAlternative e = cc
   same_alternatives (clean.MoreAlternatives p s rows) (clean.MoreAlternatives q t others) e =
       let first : p ≡ q = same_pattern p q (cc) in let second : s ≡ t = same_term s t (cc) in
@@ -115,4 +126,5 @@ body_parts_back (program.Rules rules) = refl
 body_parts_back (program.External operation) = refl
 
 abbrev pub body_code : Coded program.Body
-body_code = code_by (List program.Rule ⊎ Primitive) (coded⊎ (coded_list rule_code) primitive.coded) body_parts body_of_parts body_parts_back
+body_code = code_by (List program.Rule ⊎ Primitive)
+    (coded⊎ (coded_list rule_code) primitive.coded) body_parts body_of_parts body_parts_back

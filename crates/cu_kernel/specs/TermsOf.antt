@@ -45,24 +45,33 @@ pattern_list_of (p ∷ ps) = ap (clean.MorePatterns (pattern_of p)) (pattern_lis
 
 pub pattern_of-Var : (x : ℕ) → pattern_of (pattern.Var x) ≡ clean.Any x
 unfolding pattern_of
-pattern_of-Var x = ap pattern_of (sym (pattern.rolls-Var x)) ∙ fold-roll-Pattern clean.Pattern one_pattern (pattern_layer.Var x)
+pattern_of-Var x =
+    ap pattern_of (sym (pattern.rolls-Var x)) ∙ fold-roll-Pattern clean.Pattern one_pattern
+    (pattern_layer.Var x)
 
 pub pattern_of-Lit : (l : Lit) → pattern_of (pattern.Lit l) ≡ clean.Exactly l
 unfolding pattern_of
-pattern_of-Lit l = ap pattern_of (sym (pattern.rolls-Lit l)) ∙ fold-roll-Pattern clean.Pattern one_pattern (pattern_layer.Lit l)
+pattern_of-Lit l =
+    ap pattern_of (sym (pattern.rolls-Lit l)) ∙ fold-roll-Pattern clean.Pattern one_pattern
+    (pattern_layer.Lit l)
 
-pub pattern_of-Con : (c : ConId) (ps : Vec Pattern Global) → pattern_of (pattern.Con c ps) ≡ clean.Built c (patterns_of ps.items)
+pub pattern_of-Con : (c : ConId) (ps : Vec Pattern Global)
+    → pattern_of (pattern.Con c ps) ≡ clean.Built c (patterns_of ps.items)
 unfolding pattern_of
 pattern_of-Con c ps =
-    ap pattern_of (sym (pattern.rolls-Con c ps)) ∙ fold-roll-Pattern clean.Pattern one_pattern (pattern_layer.Con c ps)
+    ap pattern_of (sym (pattern.rolls-Con c ps)) ∙ fold-roll-Pattern clean.Pattern one_pattern
+    (pattern_layer.Con c ps)
     ∙ ap (clean.Built c) (pattern_list_of ps.items)
 
-pub pattern_of-Alias : (x : ℕ) (p : Box Pattern Global) → pattern_of (pattern.Alias x p) ≡ clean.Named x (pattern_of p.value)
+pub pattern_of-Alias : (x : ℕ) (p : Box Pattern Global)
+    → pattern_of (pattern.Alias x p) ≡ clean.Named x (pattern_of p.value)
 unfolding pattern_of
 pattern_of-Alias x p =
-    ap pattern_of (sym (pattern.rolls-Alias x p)) ∙ fold-roll-Pattern clean.Pattern one_pattern (pattern_layer.Alias x p)
+    ap pattern_of (sym (pattern.rolls-Alias x p)) ∙ fold-roll-Pattern clean.Pattern one_pattern
+    (pattern_layer.Alias x p)
 
-pub ruleset patterns_of_variants = (pattern_of-Var, pattern_of-Lit, pattern_of-Con, pattern_of-Alias)
+pub ruleset patterns_of_variants =
+    (pattern_of-Var, pattern_of-Lit, pattern_of-Con, pattern_of-Alias)
 
 abbrev term_list : List clean.Term → clean.Terms
 term_list [] = clean.NoTerm
@@ -82,7 +91,8 @@ one_term (term_layer.Apply f a) = clean.Apply f.value a.value
 one_term (term_layer.Let x a b) = clean.Let x a.value b.value
 one_term (term_layer.Free x t) = clean.Free x t.value
 one_term (term_layer.Or a b) = clean.Or a.value b.value
-one_term (term_layer.Case mode t alternatives) = clean.Case mode t.value (alternative_list alternatives.items)
+one_term (term_layer.Case mode t alternatives) =
+    clean.Case mode t.value (alternative_list alternatives.items)
 
 pub term_of : Term → clean.Term
 term_of = fold-Term clean.Term one_term
@@ -95,7 +105,8 @@ terms_of (t ∷ ts) = clean.MoreTerms (term_of t) (terms_of ts)
 -- the alternatives of a list
 abbrev pub alternatives_of : List (Pattern × Term) → clean.Alternatives
 alternatives_of [] = clean.NoAlternative
-alternatives_of (a ∷ rest) = clean.MoreAlternatives (pattern_of a.0) (term_of a.1) (alternatives_of rest)
+alternatives_of (a ∷ rest) =
+    clean.MoreAlternatives (pattern_of a.0) (term_of a.1) (alternatives_of rest)
 
 term_list_of : (ts : List Term) → term_list (map term_of ts) ≡ terms_of ts
 term_list_of [] = refl
@@ -104,51 +115,79 @@ term_list_of (t ∷ ts) = ap (clean.MoreTerms (term_of t)) (term_list_of ts)
 abbrev with_meaning : Pattern × Term → Pattern × clean.Term
 with_meaning a = (a.0, term_of a.1)
 
-alternative_list_of : (rows : List (Pattern × Term)) → alternative_list (map with_meaning rows) ≡ alternatives_of rows
+alternative_list_of : (rows : List (Pattern × Term))
+    → alternative_list (map with_meaning rows) ≡ alternatives_of rows
 alternative_list_of [] = refl
-alternative_list_of (a ∷ rest) = ap (clean.MoreAlternatives (pattern_of a.0) (term_of a.1)) (alternative_list_of rest)
+alternative_list_of (a ∷ rest) =
+    ap (clean.MoreAlternatives (pattern_of a.0) (term_of a.1)) (alternative_list_of rest)
 
 pub term_of-Var : (x : ℕ) → term_of (term.Var x) ≡ clean.Variable x
 unfolding term_of
-term_of-Var x = ap term_of (sym (term.rolls-Var x)) ∙ fold-roll-Term clean.Term one_term (term_layer.Var x)
+term_of-Var x = ap term_of (sym (term.rolls-Var x)) ∙ fold-roll-Term clean.Term one_term
+    (term_layer.Var x)
 
 pub term_of-Lit : (l : Lit) → term_of (term.Lit l) ≡ clean.Literal l
 unfolding term_of
-term_of-Lit l = ap term_of (sym (term.rolls-Lit l)) ∙ fold-roll-Term clean.Term one_term (term_layer.Lit l)
+term_of-Lit l = ap term_of (sym (term.rolls-Lit l)) ∙ fold-roll-Term clean.Term one_term
+    (term_layer.Lit l)
 
-pub term_of-Whole : (h : Head) (ts : Vec Term Global) → term_of (term.Whole h ts) ≡ clean.Whole h (terms_of ts.items)
+pub term_of-Whole : (h : Head) (ts : Vec Term Global)
+    → term_of (term.Whole h ts) ≡ clean.Whole h (terms_of ts.items)
 unfolding term_of
 term_of-Whole h ts =
-    ap term_of (sym (term.rolls-Whole h ts)) ∙ fold-roll-Term clean.Term one_term (term_layer.Whole h ts)
+    ap term_of (sym (term.rolls-Whole h ts)) ∙ fold-roll-Term clean.Term one_term
+    (term_layer.Whole h ts)
     ∙ ap (clean.Whole h) (term_list_of ts.items)
 
-pub term_of-Part : (h : Head) (ts : Vec Term Global) → term_of (term.Part h ts) ≡ clean.Part h (terms_of ts.items)
+pub term_of-Part : (h : Head) (ts : Vec Term Global)
+    → term_of (term.Part h ts) ≡ clean.Part h (terms_of ts.items)
 unfolding term_of
 term_of-Part h ts =
-    ap term_of (sym (term.rolls-Part h ts)) ∙ fold-roll-Term clean.Term one_term (term_layer.Part h ts)
+    ap term_of (sym (term.rolls-Part h ts)) ∙ fold-roll-Term clean.Term one_term
+    (term_layer.Part h ts)
     ∙ ap (clean.Part h) (term_list_of ts.items)
 
-pub term_of-Apply : (f a : Box Term Global) → term_of (term.Apply f a) ≡ clean.Apply (term_of f.value) (term_of a.value)
+pub term_of-Apply : (f a : Box Term Global) → term_of (term.Apply f a)
+    ≡ clean.Apply (term_of f.value) (term_of a.value)
 unfolding term_of
-term_of-Apply f a = ap term_of (sym (term.rolls-Apply f a)) ∙ fold-roll-Term clean.Term one_term (term_layer.Apply f a)
+term_of-Apply f a = ap term_of (sym (term.rolls-Apply f a)) ∙ fold-roll-Term clean.Term one_term
+    (term_layer.Apply f a)
 
-pub term_of-Let : (x : ℕ) (a b : Box Term Global) → term_of (term.Let x a b) ≡ clean.Let x (term_of a.value) (term_of b.value)
+pub term_of-Let : (x : ℕ) (a b : Box Term Global)
+    → term_of (term.Let x a b) ≡ clean.Let x (term_of a.value) (term_of b.value)
 unfolding term_of
-term_of-Let x a b = ap term_of (sym (term.rolls-Let x a b)) ∙ fold-roll-Term clean.Term one_term (term_layer.Let x a b)
+term_of-Let x a b = ap term_of (sym (term.rolls-Let x a b)) ∙ fold-roll-Term clean.Term one_term
+    (term_layer.Let x a b)
 
-pub term_of-Free : (x : ℕ) (t : Box Term Global) → term_of (term.Free x t) ≡ clean.Free x (term_of t.value)
+pub term_of-Free : (x : ℕ) (t : Box Term Global)
+    → term_of (term.Free x t) ≡ clean.Free x (term_of t.value)
 unfolding term_of
-term_of-Free x t = ap term_of (sym (term.rolls-Free x t)) ∙ fold-roll-Term clean.Term one_term (term_layer.Free x t)
+term_of-Free x t = ap term_of (sym (term.rolls-Free x t)) ∙ fold-roll-Term clean.Term one_term
+    (term_layer.Free x t)
 
-pub term_of-Or : (a b : Box Term Global) → term_of (term.Or a b) ≡ clean.Or (term_of a.value) (term_of b.value)
+pub term_of-Or : (a b : Box Term Global) → term_of (term.Or a b)
+    ≡ clean.Or (term_of a.value) (term_of b.value)
 unfolding term_of
-term_of-Or a b = ap term_of (sym (term.rolls-Or a b)) ∙ fold-roll-Term clean.Term one_term (term_layer.Or a b)
+term_of-Or a b = ap term_of (sym (term.rolls-Or a b)) ∙ fold-roll-Term clean.Term one_term
+    (term_layer.Or a b)
 
 pub term_of-Case : (mode : Mode) (t : Box Term Global) (rows : Vec (Pattern × Term) Global)
-    → term_of (term.Case mode t rows) ≡ clean.Case mode (term_of t.value) (alternatives_of rows.items)
+    → term_of (term.Case mode t rows)
+    ≡ clean.Case mode (term_of t.value) (alternatives_of rows.items)
 unfolding term_of
 term_of-Case mode t rows =
-    ap term_of (sym (term.rolls-Case mode t rows)) ∙ fold-roll-Term clean.Term one_term (term_layer.Case mode t rows)
+    ap term_of (sym (term.rolls-Case mode t rows)) ∙ fold-roll-Term clean.Term one_term
+    (term_layer.Case mode t rows)
     ∙ ap (clean.Case mode (term_of t.value)) (alternative_list_of rows.items)
 
-pub ruleset terms_of_variants = (term_of-Var, term_of-Lit, term_of-Whole, term_of-Part, term_of-Apply, term_of-Let, term_of-Free, term_of-Or, term_of-Case)
+pub ruleset terms_of_variants = (
+  term_of-Var,
+  term_of-Lit,
+  term_of-Whole,
+  term_of-Part,
+  term_of-Apply,
+  term_of-Let,
+  term_of-Free,
+  term_of-Or,
+  term_of-Case,
+)

@@ -1,4 +1,5 @@
--- The tests by which it is decided whether a program is valid, where validity itself is said by relations.
+-- The tests by which it is decided whether a program is valid, where validity itself is said by
+-- relations.
 use Rattle.std.specs.Prelude.{ℕ, Bool, true, false, not, ◌&&◌, List, [], ◌∷◌, Option, None, Some, nat_eq, nat_lt}
 use Rattle.std.specs.List.{list_all}
 use Rattle.cu_calculus.specs.Program as calculus
@@ -70,7 +71,8 @@ is_variable None = false
 -- False && _ = False
 abbrev pub is_false_params : Special → clean.Term → clean.Patterns → Bool
 is_false_params special body (clean.MorePatterns p (clean.MorePatterns q clean.NoPattern)) =
-    is_constant_pattern special.falsity p && is_variable (pattern_variable q) && is_constant_term special.falsity body
+    is_constant_pattern special.falsity p && is_variable (pattern_variable q)
+    && is_constant_term special.falsity body
 is_false_params special body _ = false
 
 abbrev pub is_false_rule : Special → calculus.Rule → Bool
@@ -78,14 +80,16 @@ is_false_rule special rule = is_false_params special rule.body rule.params
 
 -- False -> False; True -> y
 abbrev pub are_branches : Special → Option ℕ → clean.Alternatives → Bool
-are_branches special y (clean.MoreAlternatives p s (clean.MoreAlternatives q t clean.NoAlternative)) =
+are_branches special y (clean.MoreAlternatives p s
+    (clean.MoreAlternatives q t clean.NoAlternative)) =
     is_constant_pattern special.falsity p && is_constant_term special.falsity s
     && is_constant_pattern special.truth q && same_variable y (term_variable t)
 are_branches special y _ = false
 
 -- fcase x of those branches
 abbrev pub is_distinction : Special → Option ℕ → Option ℕ → clean.Term → Bool
-is_distinction special x y (clean.Case m t rows) = is_flex m && same_variable x (term_variable t) && are_branches special y rows
+is_distinction special x y (clean.Case m t rows) =
+    is_flex m && same_variable x (term_variable t) && are_branches special y rows
 is_distinction special x y _ = false
 
 -- x && y by that distinction
@@ -129,7 +133,8 @@ has_constants program =
     && has_values program program.special.values
 
 abbrev pub has_special : calculus.Program → Bool
-has_special program = is_both program.special (calculus.function_of program program.special.both) && has_constants program
+has_special program = is_both program.special (calculus.function_of program program.special.both)
+    && has_constants program
 
 -- which type variables may stand in a type
 abbrev pub passes : TypeVariables → ℕ → Bool

@@ -10,7 +10,8 @@ abbrev mutual
   pub type_tree : TypeExpr → Gv
   type_tree (type.Variable x) = gcons (gnum 0) (gnum x)
   type_tree (type.Arrow a b) = gcons (gnum 1) (gcons (type_tree a) (type_tree b))
-  type_tree (type.Named name ts) = gcons (gnum 2) (gcons (type_name.coded.code name) (type_trees ts))
+  type_tree (type.Named name ts) =
+      gcons (gnum 2) (gcons (type_name.coded.code name) (type_trees ts))
 
   pub type_trees : TypeExprs → Gv
   type_trees type.NoType = gnil

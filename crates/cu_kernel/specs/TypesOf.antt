@@ -37,16 +37,22 @@ type_list_of (t ∷ ts) = ap (type.MoreTypes (type_of t)) (type_list_of ts)
 
 pub type_of-Var : (x : ℕ) → type_of (boxed.Var x) ≡ type.Variable x
 unfolding type_of
-type_of-Var x = ap type_of (sym (boxed.rolls-Var x)) ∙ fold-roll-TypeTerm TypeExpr type_layer (layer.Var x)
+type_of-Var x = ap type_of (sym (boxed.rolls-Var x)) ∙ fold-roll-TypeTerm TypeExpr type_layer
+    (layer.Var x)
 
-pub type_of-Arrow : (a b : Box TypeTerm Global) → type_of (boxed.Arrow a b) ≡ type.Arrow (type_of a.value) (type_of b.value)
+pub type_of-Arrow : (a b : Box TypeTerm Global) → type_of (boxed.Arrow a b)
+    ≡ type.Arrow (type_of a.value) (type_of b.value)
 unfolding type_of
-type_of-Arrow a b = ap type_of (sym (boxed.rolls-Arrow a b)) ∙ fold-roll-TypeTerm TypeExpr type_layer (layer.Arrow a b)
+type_of-Arrow a b =
+    ap type_of (sym (boxed.rolls-Arrow a b)) ∙ fold-roll-TypeTerm TypeExpr type_layer
+    (layer.Arrow a b)
 
-pub type_of-Named : (name : TypeName) (ts : Vec TypeTerm Global) → type_of (boxed.Named name ts) ≡ type.Named name (types_of ts.items)
+pub type_of-Named : (name : TypeName) (ts : Vec TypeTerm Global)
+    → type_of (boxed.Named name ts) ≡ type.Named name (types_of ts.items)
 unfolding type_of
 type_of-Named name ts =
-    ap type_of (sym (boxed.rolls-Named name ts)) ∙ fold-roll-TypeTerm TypeExpr type_layer (layer.Named name ts)
+    ap type_of (sym (boxed.rolls-Named name ts)) ∙ fold-roll-TypeTerm TypeExpr type_layer
+    (layer.Named name ts)
     ∙ ap (type.Named name) (type_list_of ts.items)
 
 pub ruleset types_of_variants = (type_of-Var, type_of-Arrow, type_of-Named)

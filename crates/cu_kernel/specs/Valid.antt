@@ -1,5 +1,6 @@
--- Valid kernel programs: the program of the calculus is valid, its types begin with the built-in ones, each function has its
--- mark, and what stands beside the rules names modules, types and functions of the program.
+-- Valid kernel programs: the program of the calculus is valid, its types begin with the built-in
+-- ones, each function has its mark, and what stands beside the rules names modules, types and
+-- functions of the program.
 use Rattle.std.specs.Prelude.{ℕ, Bool, true, false, ◌&&◌, List, [], ◌∷◌, Option, None, Some, IsTrue, length, nat_eq, nat_le, nat_lt, slice_get}
 use Rattle.std.specs.List.{list_all}
 use Rattle.cu_calculus.specs.Program as calculus
@@ -38,7 +39,8 @@ abbrev pub fits_constructor : Kernel → ℕ → Constructor → Bool
 fits_constructor kernel arity c = list_all (fits_type kernel (is_parameter arity)) c.fields
 
 abbrev pub fits_data_type : Kernel → DataType → Bool
-fits_data_type kernel t = is_module kernel t.module && list_all (fits_constructor kernel t.arity) t.constructors
+fits_data_type kernel t = is_module kernel t.module
+    && list_all (fits_constructor kernel t.arity) t.constructors
 
 abbrev pub fits_synonym : Kernel → Synonym → Bool
 fits_synonym kernel s = is_module kernel s.module && fits_type kernel (is_parameter s.arity) s.body
@@ -50,7 +52,8 @@ fits_signature kernel (Some t) = fits_type kernel (λ x. true) t
 
 abbrev pub fits_mark : Kernel → Mark → Function → Bool
 fits_mark kernel mark function =
-    is_module kernel mark.module && nat_le mark.captured function.arity && fits_signature kernel mark.declared
+    is_module kernel mark.module && nat_le mark.captured function.arity
+    && fits_signature kernel mark.declared
 
 -- as many marks as functions, and each fits
 abbrev pub fit_marks : Kernel → List Mark → List Function → Bool

@@ -81,7 +81,8 @@ fn is_module(parts: &ProgramParts, place: u32) -> bool
 /// Whether the types of a constructor's arguments fit.
 #[tactic(auto, using(crate::proofs::TypeLemmas::listed_types))]
 fn constructor_fits(parts: &ProgramParts, arity: u32, constructor: &Constructor) -> bool
-    ensures { result ≡ fits_constructor (kernel_of parts.now) arity (constructor_meaning constructor.now) }
+    ensures { result ≡ fits_constructor (kernel_of parts.now) arity
+        (constructor_meaning constructor.now) }
 {
     types_fit(
         parts,
@@ -92,7 +93,8 @@ fn constructor_fits(parts: &ProgramParts, arity: u32, constructor: &Constructor)
 
 /// Whether all of these constructors fit.
 fn constructors_fit(parts: &ProgramParts, arity: u32, constructors: &[Constructor]) -> bool
-    ensures { result ≡ list_all (fits_constructor (kernel_of parts.now) arity) (map constructor_meaning constructors.now) }
+    ensures { result ≡ list_all (fits_constructor (kernel_of parts.now) arity)
+        (map constructor_meaning constructors.now) }
 {
     for constructor in constructors {
         if !constructor_fits(parts, arity, constructor) {
@@ -112,7 +114,8 @@ fn data_type_fits(parts: &ProgramParts, data_type: &DataType) -> bool
 
 /// Whether all of these data types fit.
 fn data_types_fit(parts: &ProgramParts, types: &[DataType]) -> bool
-    ensures { result ≡ list_all (fits_data_type (kernel_of parts.now)) (map type_meaning types.now) }
+    ensures { result ≡ list_all (fits_data_type (kernel_of parts.now))
+        (map type_meaning types.now) }
 {
     for data_type in types {
         if !data_type_fits(parts, data_type) {
@@ -132,7 +135,8 @@ fn synonym_fits(parts: &ProgramParts, synonym: &Synonym) -> bool
 
 /// Whether all of these synonyms fit.
 fn synonyms_fit(parts: &ProgramParts, synonyms: &[Synonym]) -> bool
-    ensures { result ≡ list_all (fits_synonym (kernel_of parts.now)) (map synonym_meaning synonyms.now) }
+    ensures { result ≡ list_all (fits_synonym (kernel_of parts.now))
+        (map synonym_meaning synonyms.now) }
 {
     for synonym in synonyms {
         if !synonym_fits(parts, synonym) {
@@ -154,7 +158,8 @@ fn signature_fits(parts: &ProgramParts, declared: &Option<TypeTerm>) -> bool
 
 /// Whether a mark fits its function.
 fn mark_fits(parts: &ProgramParts, mark: &Mark, function: &Function) -> bool
-    ensures { result ≡ fits_mark (kernel_of parts.now) (mark_meaning mark.now) (function_meaning function.now) }
+    ensures { result ≡ fits_mark (kernel_of parts.now) (mark_meaning mark.now)
+        (function_meaning function.now) }
 {
     is_module(parts, mark.module)
         && mark.captured <= function.arity
@@ -163,7 +168,8 @@ fn mark_fits(parts: &ProgramParts, mark: &Mark, function: &Function) -> bool
 
 /// Whether each function has its mark.
 fn marks_fit(parts: &ProgramParts, marks: &[Mark], functions: &[Function]) -> bool
-    ensures { result ≡ fit_marks (kernel_of parts.now) (map mark_meaning marks.now) (map function_meaning functions.now) }
+    ensures { result ≡ fit_marks (kernel_of parts.now) (map mark_meaning marks.now)
+        (map function_meaning functions.now) }
 {
     if marks.len() != functions.len() {
         return false;

@@ -63,7 +63,8 @@ impl Outline {
 
     /// Whether these are the constructors of such a type, by their fields.
     fn has(self, constructors: &[Constructor]) -> bool
-        ensures { result ≡ have_fields (outline_meaning self).fields (map constructor_meaning constructors.now) }
+        ensures { result ≡ have_fields (outline_meaning self).fields
+            (map constructor_meaning constructors.now) }
     {
         match (self, constructors) {
             (Outline::List, [empty, longer]) => empty.fields.is_empty() && longer.fields.len() == 2,

@@ -37,7 +37,8 @@ fn push_shapes(
     constructors: &[Constructor],
 ) -> Result<(), AllocError>
     ensures { OnOk result (map shape_meaning shapes.new.items
-        ≡ map shape_meaning shapes.old.items ++ constructors_of place (map constructor_meaning constructors.now)) }
+        ≡ map shape_meaning shapes.old.items
+        ++ constructors_of place (map constructor_meaning constructors.now)) }
 {
     for constructor in constructors {
         shapes.push(Shape {
@@ -50,7 +51,8 @@ fn push_shapes(
 
 /// The constructors of all types, in order.
 fn shapes(alloc: Global, types: &[DataType]) -> Result<Vec<Shape>, AllocError>
-    ensures { IfOk result (λ shapes. map shape_meaning shapes.items ≡ constructors_from 0 (map type_meaning types.now)) }
+    ensures { IfOk result (λ shapes. map shape_meaning shapes.items
+        ≡ constructors_from 0 (map type_meaning types.now)) }
 {
     let mut shapes = Vec::new(alloc);
     for (place, data_type) in types.iter().enumerate() {

@@ -117,7 +117,8 @@ impl LocalParts {
 
     /// Appends the next parts; without memory these parts stay as they were.
     fn append(&mut self, next: LocalParts) -> Result<(), AllocError>
-        ensures whole { OnOk result (local_kernel_of self.new ≡ joined (local_kernel_of self.old) (local_kernel_of next)) }
+        ensures whole { OnOk result (local_kernel_of self.new
+            ≡ joined (local_kernel_of self.old) (local_kernel_of next)) }
         ensures unchanged { OnErr result (local_kernel_of self.new ≡ local_kernel_of self.old) }
     {
         let LocalParts {

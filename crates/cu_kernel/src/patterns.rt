@@ -53,7 +53,8 @@ pub(crate) fn patterns_fit(heads: &Heads, patterns: &[Pattern]) -> bool
 #[cycle(variables)]
 #[tactic(auto, using(crate::specs::TermsOf::patterns_of_variants))]
 pub(crate) fn push_variables(variables: &mut Vec<u32>, pattern: &Pattern) -> Result<(), AllocError>
-    ensures { OnOk result (variables.new.items ≡ variables.old.items ++ variables_of (pattern_of pattern.now)) }
+    ensures { OnOk result (variables.new.items
+        ≡ variables.old.items ++ variables_of (pattern_of pattern.now)) }
 {
     match pattern {
         Pattern::Var(x) => {
@@ -75,7 +76,8 @@ pub(crate) fn push_all_variables(
     variables: &mut Vec<u32>,
     patterns: &[Pattern],
 ) -> Result<(), AllocError>
-    ensures { OnOk result (variables.new.items ≡ variables.old.items ++ all_variables (patterns_of patterns.now)) }
+    ensures { OnOk result (variables.new.items
+        ≡ variables.old.items ++ all_variables (patterns_of patterns.now)) }
 {
     for pattern in patterns {
         push_variables(variables, pattern)?;

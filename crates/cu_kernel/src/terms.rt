@@ -19,7 +19,8 @@ use std::alloc::{AllocError, Global};
 #[cycle(terms)]
 #[tactic(auto, using(crate::specs::TermsOf::terms_of_variants, crate::specs::Scope::allowed_variants, crate::proofs::ListCounts::counts))]
 fn term_fits(alloc: Global, heads: &Heads, term: &Term, scope: &Scope) -> Result<bool, AllocError>
-    ensures { IfOk result (λ fits. fits ≡ fits_term (heads_program heads.now) (allowed scope.now) (term_of term.now)) }
+    ensures { IfOk result (λ fits. fits
+        ≡ fits_term (heads_program heads.now) (allowed scope.now) (term_of term.now)) }
 {
     match term {
         Term::Var(x) => Ok(scope.allows(*x)),
@@ -63,7 +64,8 @@ fn both_fit(
     second: &Term,
     scope: &Scope,
 ) -> Result<bool, AllocError>
-    ensures { IfOk result (λ fit. fit ≡ (fits_term (heads_program heads.now) (allowed scope.now) (term_of first.now)
+    ensures { IfOk result (λ fit. fit
+        ≡ (fits_term (heads_program heads.now) (allowed scope.now) (term_of first.now)
         && fits_term (heads_program heads.now) (allowed scope.now) (term_of second.now))) }
 {
     if !term_fits(alloc, heads, first, scope)? {
@@ -80,7 +82,8 @@ fn terms_fit(
     terms: &[Term],
     scope: &Scope,
 ) -> Result<bool, AllocError>
-    ensures { IfOk result (λ fit. fit ≡ fit_terms (heads_program heads.now) (allowed scope.now) (terms_of terms.now)) }
+    ensures { IfOk result (λ fit. fit
+        ≡ fit_terms (heads_program heads.now) (allowed scope.now) (terms_of terms.now)) }
 {
     for term in terms {
         if !term_fits(alloc, heads, term, scope)? {
@@ -99,7 +102,8 @@ fn alternatives_fit(
     scope: &Scope,
 ) -> Result<bool, AllocError>
     ensures { IfOk result (λ fit. fit
-        ≡ fit_alternatives (heads_program heads.now) (allowed scope.now) (alternatives_of alternatives.now)) }
+        ≡ fit_alternatives (heads_program heads.now) (allowed scope.now)
+        (alternatives_of alternatives.now)) }
 {
     for (pattern, body) in alternatives {
         if !pattern_fits(heads, pattern) {
@@ -125,7 +129,8 @@ fn alternatives_fit(
 /// Whether a rule fits a function of so many parameters.
 #[tactic(auto, using(crate::specs::Scope::allowed_variants, crate::proofs::ListCounts::counts))]
 fn rule_fits(alloc: Global, heads: &Heads, arity: u32, rule: &Rule) -> Result<bool, AllocError>
-    ensures { IfOk result (λ fits. fits ≡ fits_rule (heads_program heads.now) arity (rule_meaning rule.now)) }
+    ensures { IfOk result (λ fits. fits
+        ≡ fits_rule (heads_program heads.now) arity (rule_meaning rule.now)) }
 {
     let params = rule.params.as_slice();
     if params.len() != arity as usize || !patterns_fit(heads, params) {
@@ -151,7 +156,8 @@ pub(crate) fn rules_fit(
     arity: u32,
     rules: &[Rule],
 ) -> Result<bool, AllocError>
-    ensures { IfOk result (λ fit. fit ≡ list_all (fits_rule (heads_program heads.now) arity) (map rule_meaning rules.now)) }
+    ensures { IfOk result (λ fit. fit
+        ≡ list_all (fits_rule (heads_program heads.now) arity) (map rule_meaning rules.now)) }
 {
     for rule in rules {
         if !rule_fits(alloc, heads, arity, rule)? {
@@ -169,7 +175,8 @@ impl Heads<'_> {
     /// definition. The one error is want of memory.
     #[tactic(auto, using(crate::specs::Scope::allowed_variants))]
     pub fn fits(&self, term: &Term) -> Result<bool, AllocError>
-        ensures { IfOk result (λ fits. fits ≡ fits_term (heads_program self.now) (λ x. true) (term_of term.now)) }
+        ensures { IfOk result (λ fits. fits
+            ≡ fits_term (heads_program self.now) (λ x. true) (term_of term.now)) }
     {
         let alloc = *self.constructors.allocator();
         term_fits(alloc, self, term, &Scope::All)

@@ -34,7 +34,8 @@ fn external_arity(operation: Prim) -> u32
 /// Whether a function's arity can be held, and its body fits it.
 fn function_fits(alloc: Global, heads: &Heads, function: &Function) -> Result<bool, AllocError>
     ensures { IfOk result (λ fits. fits
-        ≡ fits_function (heads_program heads.now) (plain_function (function_meaning function.now))) }
+        ≡ fits_function (heads_program heads.now)
+        (plain_function (function_meaning function.now))) }
 {
     if function.arity >= ARITY_END {
         return Ok(false);
@@ -48,7 +49,8 @@ fn function_fits(alloc: Global, heads: &Heads, function: &Function) -> Result<bo
 /// Whether all of these functions fit.
 fn functions_fit(alloc: Global, heads: &Heads, functions: &[Function]) -> Result<bool, AllocError>
     ensures { IfOk result (λ fit. fit
-        ≡ list_all (fits_function (heads_program heads.now)) (map plain_function (map function_meaning functions.now))) }
+        ≡ list_all (fits_function (heads_program heads.now))
+        (map plain_function (map function_meaning functions.now))) }
 {
     for function in functions {
         if !function_fits(alloc, heads, function)? {

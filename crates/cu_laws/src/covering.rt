@@ -24,14 +24,17 @@ ghost use Rattle.cu_laws.specs.Solution.{HasSolution};
 /// function's call on these data, and of that of the function as a goal, whose
 /// variables then have these data for values.
 pub fn derivations_begin()
-    ensures call { (program : Code) (claims : List Claim) (f : FunId) (arguments : Values) (v : Value)
+    ensures call { (program : Code) (claims : List Claim) (f : FunId) (arguments : Values)
+        (v : Value)
         → IsTrue (is_well_formed program)
-        → IsTrue (list_all (is_claim_of (program_of program)) claims) → IsTrue (are_ground arguments)
+        → IsTrue (list_all (is_claim_of (program_of program)) claims)
+        → IsTrue (are_ground arguments)
         → IsTrue (is_total v) → Concludes (program_of program) claims f arguments v
         → HasSolution program claims (call_on program f arguments) NoValue v }
     ensures goal { (program : Code) (claims : List Claim) (goal : FunId) (arguments : Values)
         (v : Value) → IsTrue (is_well_formed program)
-        → IsTrue (list_all (is_claim_of (program_of program)) claims) → IsTrue (are_ground arguments)
+        → IsTrue (list_all (is_claim_of (program_of program)) claims)
+        → IsTrue (are_ground arguments)
         → IsTrue (is_total v) → Concludes (program_of program) claims goal arguments v
         → HasSolution program claims (start_of program goal) arguments v }
 {}

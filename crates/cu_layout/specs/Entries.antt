@@ -84,7 +84,8 @@ plain_stack = map plain
 
 -- What a cut leaves: a Close for each block that is closed, and the entries that are kept.
 abbrev pub cut_to : List Standing → Cut → Step
-cut_to entries cut = record { marks = replicate cut.closed layout.Close; stack = stack_of (take cut.kept entries) }
+cut_to entries cut =
+    record { marks = replicate cut.closed layout.Close; stack = stack_of (take cut.kept entries) }
 
 -- What layout sees of a token of this form at a place.
 abbrev pub sight_at : Form → Place → Sight
@@ -104,11 +105,15 @@ with_marks_at place marks laid = laid ++ map (mark_at place) marks
 abbrev pub after_closes : ℕ → Option Step → Option Step
 after_closes closed found = option_map (marks_then (replicate closed layout.Close)) found
 
--- What a line's first token leaves: after a cut it may begin an item of a block of its column, whose tokens begin anew.
+-- What a line's first token leaves: after a cut it may begin an item of a block of its column,
+-- whose tokens begin anew.
 abbrev pub line_step : List Standing → ℕ → Line → Step
 line_step entries column line =
     let cut = cut_to entries line.cut in
-    if line.item then record { marks = cut.marks ++ layout.Separator ∷ []; stack = Block column [] ∷ cut.stack } else cut
+    if line.item then record {
+      marks = cut.marks ++ layout.Separator ∷ [];
+      stack = Block column [] ∷ cut.stack;
+    } else cut
 
 -- The column of a block, 0 where there is none.
 abbrev pub column_of : Option (ℕ × Begun) → ℕ
@@ -123,12 +128,14 @@ state_of (Some block) = block.1
 -- ---- what the functions of one rule do
 
 -- The tokens laid out so far with the marks of a rule behind them, and the stack that it leaves.
-pub record Lays (place : Place) (laid laid' : List Token) (stack' : List Standing) (step : Step) : Type 0 where
+pub record Lays (place : Place) (laid laid' : List Token) (stack' : List Standing)
+    (step : Step) : Type 0 where
   pub tokens : laid' ≡ with_marks_at place step.marks laid
   pub stack : stack_of stack' ≡ step.stack
 
 -- The same for all rules at a token.
-pub record LaysOut (due first : Bool) (what : Form) (place : Place) (laid laid' : List Token) (stack stack' : List Standing) : Type 0 where
+pub record LaysOut (due first : Bool) (what : Form) (place : Place) (laid laid' : List Token)
+    (stack stack' : List Standing) : Type 0 where
   pub step : Step
   pub given : layout_step due first (sight_at what place) (stack_of stack) ≡ Some step
   pub tokens : laid' ≡ with_marks_at place step.marks laid
@@ -136,7 +143,8 @@ pub record LaysOut (due first : Bool) (what : Form) (place : Place) (laid laid' 
 
 -- The rules lead to an entry too many, and the fault tells the place. Want of memory says nothing.
 abbrev pub IsBeyond : Bool → Bool → Form → Place → List Standing → TooDeep → Type 0
-IsBeyond due first what place stack (At told) = (told ≡ place) × (layout_step due first (sight_at what place) (stack_of stack) ≡ None)
+IsBeyond due first what place stack (At told) =
+    (told ≡ place) × (layout_step due first (sight_at what place) (stack_of stack) ≡ None)
 IsBeyond due first what place stack NoMemory = Unit {0}
 
 -- Whether a stack is within the limit.
@@ -162,12 +170,15 @@ start_or (Some place) = place
 
 -- ---- from a token on
 
--- The tokens from here on with what the layout rules put in, given the token before, the stack and whether a block is due; or the number of the token at which the stack comes to an entry too many.
+-- The tokens from here on with what the layout rules put in, given the token before, the stack and
+-- whether a block is due; or the number of the token at which the stack comes to an entry too many.
 abbrev pub block_from : Option Token → Stack → Bool → List Token → Result (List Token) ℕ
 block_from before stack due tokens =
-    result_map_both (λ marks. interleaving emitted_token tokens marks.before ++ map (emitted_token (last_of before tokens)) marks.after) (λ number. number)
+    result_map_both (λ marks. interleaving emitted_token tokens marks.before
+    ++ map (emitted_token (last_of before tokens)) marks.after) (λ number. number)
     (marks_from stack due (option_map (λ t. t.place.line) before) (token_sights tokens))
 
 -- Tokens that are laid out, and then the others, of which so many tokens stand before.
 abbrev pub laid_then : List Token → ℕ → Result (List Token) ℕ → Result (List Token) ℕ
-laid_then laid count more = result_map_both (λ tokens. laid ++ tokens) (λ number. count + number) more
+laid_then laid count more =
+    result_map_both (λ tokens. laid ++ tokens) (λ number. count + number) more

@@ -81,7 +81,8 @@ is_block_keyword (form.Keyword keyword.Let) = true
 is_block_keyword (form.Keyword keyword.Of) = true
 is_block_keyword _ = false
 
--- On a block's own column these go on with its item. There `where` closes the block, and every other token begins a new item.
+-- On a block's own column these go on with its item. There `where` closes the block, and every
+-- other token begins a new item.
 abbrev pub goes_on : Form → Bool
 goes_on (form.Keyword keyword.Then) = true
 goes_on (form.Keyword keyword.Else) = true
@@ -92,11 +93,14 @@ goes_on (form.Mark mark.CloseParen) = true
 goes_on (form.Mark mark.CloseSquare) = true
 goes_on _ = false
 
--- Names, operators in parentheses and commas alone, as they stand before `free` and `::`. No token at all is such a list too.
+-- Names, operators in parentheses and commas alone, as they stand before `free` and `::`. No token
+-- at all is such a list too.
 abbrev pub only_names : List Form → Bool
 only_names [] = true
 only_names (form.Name ∷ more) = only_names more
 only_names (form.Mark mark.Comma ∷ more) = only_names more
-only_names (form.Mark mark.OpenParen ∷ form.Operator ∷ form.Mark mark.CloseParen ∷ more) = only_names more
-only_names (form.Mark mark.OpenParen ∷ form.Mark mark.Backquote ∷ form.Name ∷ form.Mark mark.Backquote ∷ form.Mark mark.CloseParen ∷ more) = only_names more
+only_names (form.Mark mark.OpenParen ∷ form.Operator ∷ form.Mark mark.CloseParen ∷ more) =
+    only_names more
+only_names (form.Mark mark.OpenParen ∷ form.Mark mark.Backquote ∷ form.Name
+    ∷ form.Mark mark.Backquote ∷ form.Mark mark.CloseParen ∷ more) = only_names more
 only_names _ = false

@@ -13,26 +13,34 @@ without_layout tokens = filter (λ t. is_written t.kind) tokens
 
 -- Leaving out what the layout rules put in gives the tokens of the text.
 abbrev pub KeepsTokens : Type 0
-KeepsTokens = (whole : Bool) (text laid : List Token) → block token_view whole text ≡ Ok laid → without_layout laid ≡ without_layout text
+KeepsTokens = (whole : Bool) (text laid : List Token) → block token_view whole text ≡ Ok laid
+    → without_layout laid ≡ without_layout text
 
 -- So it gives the text back, where the rules had put in nothing before.
 abbrev pub GivesTextBack : Type 0
-GivesTextBack = (whole : Bool) (text laid : List Token) → All (λ t. is_written t.kind ≡ true) text → block token_view whole text ≡ Ok laid → without_layout laid ≡ text
+GivesTextBack = (whole : Bool) (text laid : List Token) → All (λ t. is_written t.kind ≡ true) text
+    → block token_view whole text ≡ Ok laid → without_layout laid ≡ text
 
--- Layout doesn't depend on what names stand for: to read the tokens in a table of names and then lay them out is to lay them out and then read them.
+-- Layout doesn't depend on what names stand for: to read the tokens in a table of names and then
+-- lay them out is to lay them out and then read them.
 abbrev pub ReadsAlike : Type 0
 ReadsAlike = (names : List (List ℕ)) (whole : Bool) (text : List Token)
-    → block lexeme_view whole (map (lexeme_of names) text) ≡ result_map_both (map (lexeme_of names)) (λ number. number) (block token_view whole text)
+    → block lexeme_view whole (map (lexeme_of names) text)
+    ≡ result_map_both (map (lexeme_of names)) (λ number. number) (block token_view whole text)
 
 -- A table that has the names of the text has those of the tokens laid out.
 abbrev pub KeepsNames : Type 0
-KeepsNames = (names : List (List ℕ)) (whole : Bool) (text laid : List Token) → All (λ t. HasKind names t.kind) text → block token_view whole text ≡ Ok laid → All (λ t. HasKind names t.kind) laid
+KeepsNames = (names : List (List ℕ)) (whole : Bool) (text laid : List Token)
+    → All (λ t. HasKind names t.kind) text → block token_view whole text ≡ Ok laid
+    → All (λ t. HasKind names t.kind) laid
 
 -- Where no number of the text is negative, none of the tokens laid out is.
 abbrev pub KeepsNaturals : Type 0
-KeepsNaturals = (whole : Bool) (text laid : List Token) → All (λ t. HasNatural t.kind) text → block token_view whole text ≡ Ok laid → All (λ t. HasNatural t.kind) laid
+KeepsNaturals = (whole : Bool) (text laid : List Token) → All (λ t. HasNatural t.kind) text
+    → block token_view whole text ≡ Ok laid → All (λ t. HasNatural t.kind) laid
 
--- All tokens are of a module, those too that layout put in; unless it put in all of them, as in a module without tokens.
+-- All tokens are of a module, those too that layout put in; unless it put in all of them, as in a
+-- module without tokens.
 abbrev pub AreOf : NameId → List (List ℕ) → List Token → Type 0
 AreOf owner names tokens = ¬ (without_layout tokens ≡ []) → All (IsTokenOf owner names) tokens
 
@@ -40,4 +48,5 @@ AreOf owner names tokens = ¬ (without_layout tokens ≡ []) → All (IsTokenOf 
 abbrev pub KeepsOwners : Type 0
 KeepsOwners =
     (owner : NameId) (names : List (List ℕ)) (whole : Bool) (text laid : List Token)
-    → All (IsTokenOf owner names) text → block token_view whole text ≡ Ok laid → AreOf owner names laid
+    → All (IsTokenOf owner names) text → block token_view whole text ≡ Ok laid
+    → AreOf owner names laid

@@ -46,7 +46,8 @@ token_view = record { sight = token_sight; emitted = emitted_token }
 abbrev pub Gives : Bool → List Token → List Token → Type 0
 Gives whole text laid = block token_view whole text ≡ Ok laid
 
--- The stack comes to an entry too many at a token of the text, which is told by its number from 0, and the answer tells the token's place.
+-- The stack comes to an entry too many at a token of the text, which is told by its number from 0,
+-- and the answer tells the token's place.
 pub record IsTooDeepAt (whole : Bool) (text : List Token) (place : Place) : Type 0 where
   pub number : ℕ
   pub overflows : block token_view whole text ≡ Err number

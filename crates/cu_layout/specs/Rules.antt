@@ -1,4 +1,5 @@
--- The layout rules: what they put before a token, and what they do to the stack of what stands open.
+-- The layout rules: what they put before a token, and what they do to the stack of what stands
+-- open.
 use Rattle.std.specs.Prelude.{ℕ, Bool, true, false, not, ◌&&◌, ◌||◌, ◌==◌, nat_lt, nat_le, List, [], ◌∷◌, ◌++◌, length, drop, Option, None, Some, if◌then◌else◌}
 use Rattle.std.specs.Option.{option_and_then, option_map}
 use Rattle.cu_lex.specs.declared.token.Keyword.TheVariants as keyword
@@ -11,7 +12,8 @@ use Rattle.cu_layout.specs.declared.form.Opening.{Opening}
 use Rattle.cu_layout.specs.declared.form.Opening.TheVariants.{Paren, Square, Let, If, Then, Else, Case, In, Lambda}
 use Rattle.cu_layout.specs.Forms.{Sight, is_where, is_open_brace, is_close_brace, is_comma, is_semicolon, goes_on, only_names}
 
--- What stands open: a block that layout opened, with its column and the forms of its tokens since it opened or since its last `;`; a brace of the text; or a bracket or a keyword.
+-- What stands open: a block that layout opened, with its column and the forms of its tokens since
+-- it opened or since its last `;`; a brace of the text; or a bracket or a keyword.
 pub data Entry : Type 0 where
   Block : ℕ → List Form → Entry
   Brace : Entry
@@ -36,14 +38,19 @@ marks_then marks step = record { marks = marks ++ step.marks; stack = step.stack
 
 -- ---- rule 2: the first token of a line, on which rule 1 stands
 
--- A token that stands left of the innermost block, or a `where` on its column, closes the block, and is compared with the next block. Another token on its column separates two items, unless it goes on with the item. A brace that is nearer than the block hides it. `kept` is the stack where nothing more happens.
+-- A token that stands left of the innermost block, or a `where` on its column, closes the block,
+-- and is compared with the next block. Another token on its column separates two items, unless it
+-- goes on with the item. A brace that is nearer than the block hides it. `kept` is the stack where
+-- nothing more happens.
 abbrev pub indentation : Sight → Stack → Stack → Step
 indentation t kept [] = no_marks kept
 indentation t kept (Open opening ∷ below) = indentation t kept below
 indentation t kept (Brace ∷ below) = no_marks kept
 indentation t kept (Block n tokens ∷ below) =
-    if nat_lt t.at.column n || (t.at.column == n && is_where t.what) then marks_then (layout.Close ∷ []) (indentation t below below)
-    else if t.at.column == n && not (goes_on t.what) then record { marks = layout.Separator ∷ []; stack = Block n [] ∷ below }
+    if nat_lt t.at.column n || (t.at.column == n && is_where t.what)
+    then marks_then (layout.Close ∷ []) (indentation t below below)
+    else if t.at.column == n && not (goes_on t.what)
+    then record { marks = layout.Separator ∷ []; stack = Block n [] ∷ below }
     else no_marks kept
 
 -- The rule, where `first` says whether the token begins its line.
@@ -59,11 +66,13 @@ block_column (Block n tokens ∷ below) = n
 block_column (Brace ∷ below) = 0
 block_column (Open opening ∷ below) = block_column below
 
--- A due block opens at a token further right than the block around it, and rule 2 is skipped. Otherwise it is empty. It is dropped where the token is `{`.
+-- A due block opens at a token further right than the block around it, and rule 2 is skipped.
+-- Otherwise it is empty. It is dropped where the token is `{`.
 abbrev pub due_block : Bool → Bool → Sight → Stack → Step
 due_block due first t stack =
     if due && not (is_open_brace t.what) then
-    (if nat_lt (block_column stack) t.at.column then record { marks = layout.Open ∷ []; stack = Block t.at.column [] ∷ stack }
+    (if nat_lt (block_column stack) t.at.column
+    then record { marks = layout.Open ∷ []; stack = Block t.at.column [] ∷ stack }
     else marks_then (layout.Open ∷ layout.Close ∷ []) (line_start first t stack))
     else line_start first t stack
 
@@ -81,14 +90,18 @@ is_partner (form.Mark mark.Comma) Paren = true
 is_partner (form.Mark mark.Comma) Square = true
 is_partner _ _ = false
 
--- The stack from a token's partner on, where one is found before the nearest brace. Each block above it is closed.
+-- The stack from a token's partner on, where one is found before the nearest brace. Each block
+-- above it is closed.
 abbrev pub to_partner : Form → Stack → Option Step
 to_partner what [] = None
-to_partner what (Block n tokens ∷ below) = option_map (marks_then (layout.Close ∷ [])) (to_partner what below)
+to_partner what (Block n tokens ∷ below) =
+    option_map (marks_then (layout.Close ∷ [])) (to_partner what below)
 to_partner what (Brace ∷ below) = None
-to_partner what (Open opening ∷ below) = if is_partner what opening then Some (no_marks (Open opening ∷ below)) else to_partner what below
+to_partner what (Open opening ∷ below) = if is_partner what opening
+    then Some (no_marks (Open opening ∷ below)) else to_partner what below
 
--- The tokens of the innermost block since it opened or since its last `;`, none where there is no block or a brace is nearer.
+-- The tokens of the innermost block since it opened or since its last `;`, none where there is no
+-- block or a brace is nearer.
 abbrev pub block_tokens : Stack → List Form
 block_tokens [] = []
 block_tokens (Block n tokens ∷ below) = tokens
@@ -99,11 +112,14 @@ block_tokens (Open opening ∷ below) = block_tokens below
 abbrev pub closes_block : Step → Bool
 closes_block step = nat_lt 0 (length step.marks)
 
--- At the partner that was found. A comma leaves the partner open, and it does nothing where a block stands above the partner and the innermost block has names alone, since it then stands between the variables of a declaration. Any other token takes its partner off the stack.
+-- At the partner that was found. A comma leaves the partner open, and it does nothing where a block
+-- stands above the partner and the innermost block has names alone, since it then stands between
+-- the variables of a declaration. Any other token takes its partner off the stack.
 abbrev pub step_at_partner : Form → Stack → Option Step → Step
 step_at_partner what stack None = no_marks stack
 step_at_partner what stack (Some found) =
-    if is_comma what then (if closes_block found && only_names (block_tokens stack) then no_marks stack else found)
+    if is_comma what then (if closes_block found && only_names (block_tokens stack)
+    then no_marks stack else found)
     else record { marks = found.marks; stack = drop 1 found.stack }
 
 -- The rule.
@@ -115,7 +131,8 @@ partner_end what stack = step_at_partner what stack (to_partner what stack)
 -- What is below the nearest brace, where there is one. Each block above it is closed.
 abbrev pub below_brace : Stack → Option Step
 below_brace [] = None
-below_brace (Block n tokens ∷ below) = option_map (marks_then (layout.Close ∷ [])) (below_brace below)
+below_brace (Block n tokens ∷ below) =
+    option_map (marks_then (layout.Close ∷ [])) (below_brace below)
 below_brace (Brace ∷ below) = Some (no_marks below)
 below_brace (Open opening ∷ below) = below_brace below
 
@@ -126,7 +143,8 @@ step_or_none stack (Some found) = found
 
 -- The rule.
 abbrev pub brace_end : Form → Stack → Step
-brace_end what stack = if is_close_brace what then step_or_none stack (below_brace stack) else no_marks stack
+brace_end what stack = if is_close_brace what then step_or_none stack (below_brace stack)
+    else no_marks stack
 
 -- ---- rule 5: the token itself
 
@@ -182,10 +200,13 @@ most_entries = 256
 abbrev pub within_limit : Step → Option Step
 within_limit step = if nat_le (length step.stack) most_entries then Some step else None
 
--- All rules at a token: the marks before it and the stack after it, or None where the stack would come to an entry too many. A block may be due, and the token may be the first of its line.
+-- All rules at a token: the marks before it and the stack after it, or None where the stack would
+-- come to an entry too many. A block may be due, and the token may be the first of its line.
 abbrev pub layout_step : Bool → Bool → Sight → Stack → Option Step
 layout_step due first t stack =
-    option_and_then (λ first_step. within_limit (marks_then first_step.marks (token_step t.what first_step.stack))) (within_limit (due_block due first t stack))
+    option_and_then (λ first_step. within_limit
+    (marks_then first_step.marks (token_step t.what first_step.stack)))
+    (within_limit (due_block due first t stack))
 
 -- ---- the end of the text
 

@@ -105,7 +105,9 @@ fn lay_out(
     form: Form,
     place: Place,
 ) -> Result<(), TooDeep>
-    ensures ok { OnOk result (LaysOut due first form place laid.old.items laid.new.items stack.old.items stack.new.items) }
+    ensures ok { OnOk result
+        (LaysOut due first form place laid.old.items laid.new.items stack.old.items
+        stack.new.items) }
     ensures fault { IfErr result (IsBeyond due first form place stack.old.items) }
 {
     open(laid, stack, due, first, form, place)?;
@@ -135,7 +137,8 @@ fn open(
     form: Form,
     place: Place,
 ) -> Result<(), TooDeep>
-    ensures ok { OnOk result (Lays place laid.old.items laid.new.items stack.new.items (due_block due first (sight_at form place) (stack_of stack.old.items))) }
+    ensures ok { OnOk result (Lays place laid.old.items laid.new.items stack.new.items
+        (due_block due first (sight_at form place) (stack_of stack.old.items))) }
     ensures err { IfErr result (λ fault. fault ≡ NoMemory) }
 {
     if due && !form.is_open_brace() {
@@ -170,7 +173,8 @@ fn begin_line(
     form: Form,
     place: Place,
 ) -> Result<(), TooDeep>
-    ensures ok { OnOk result (Lays place laid.old.items laid.new.items stack.new.items (indentation (sight_at form place) (stack_of stack.old.items) (stack_of stack.old.items))) }
+    ensures ok { OnOk result (Lays place laid.old.items laid.new.items stack.new.items
+        (indentation (sight_at form place) (stack_of stack.old.items) (stack_of stack.old.items))) }
     ensures err { IfErr result (λ fault. fault ≡ NoMemory) }
 {
     let line = line_start(stack.as_slice(), form, place);
@@ -190,7 +194,8 @@ fn end(
     form: Form,
     place: Place,
 ) -> Result<(), TooDeep>
-    ensures ok { OnOk result (Lays place laid.old.items laid.new.items stack.new.items (partner_end form (stack_of stack.old.items))) }
+    ensures ok { OnOk result (Lays place laid.old.items laid.new.items stack.new.items
+        (partner_end form (stack_of stack.old.items))) }
     ensures err { IfErr result (λ fault. fault ≡ NoMemory) }
 {
     if !form.goes_on() {
@@ -229,7 +234,8 @@ fn close_brace(
     form: Form,
     place: Place,
 ) -> Result<(), TooDeep>
-    ensures ok { OnOk result (Lays place laid.old.items laid.new.items stack.new.items (brace_end form (stack_of stack.old.items))) }
+    ensures ok { OnOk result (Lays place laid.old.items laid.new.items stack.new.items
+        (brace_end form (stack_of stack.old.items))) }
     ensures err { IfErr result (λ fault. fault ≡ NoMemory) }
 {
     if !form.is_close_brace() {
@@ -243,7 +249,8 @@ fn close_brace(
 
 /// The token itself stands in its block, and may open something.
 fn enter(stack: &mut Vec<Entry>, form: Form) -> Result<(), TooDeep>
-    ensures ok { OnOk result (stack_of stack.new.items ≡ plain_stack (stack_with form (stack_of stack.old.items))) }
+    ensures ok { OnOk result (stack_of stack.new.items
+        ≡ plain_stack (stack_with form (stack_of stack.old.items))) }
     ensures err { IfErr result (λ fault. fault ≡ NoMemory) }
 {
     note(stack.as_mut_slice(), form);
@@ -260,7 +267,8 @@ fn close(
     cut: Cut,
     place: Place,
 ) -> Result<(), TooDeep>
-    ensures ok { OnOk result (Lays place laid.old.items laid.new.items stack.new.items (cut_to stack.old.items cut)) }
+    ensures ok { OnOk result (Lays place laid.old.items laid.new.items stack.new.items
+        (cut_to stack.old.items cut)) }
     ensures err { IfErr result (λ fault. fault ≡ NoMemory) }
 {
     stack.truncate(cut.kept);
@@ -268,7 +276,8 @@ fn close(
 }
 
 fn close_blocks(laid: &mut Vec<Token>, count: usize, place: Place) -> Result<(), TooDeep>
-    ensures ok { OnOk result (laid.new.items ≡ with_marks_at place (replicate count layout.Close) laid.old.items) }
+    ensures ok { OnOk result (laid.new.items
+        ≡ with_marks_at place (replicate count layout.Close) laid.old.items) }
     ensures err { IfErr result (λ fault. fault ≡ NoMemory) }
 {
     for _ in 0..count {
@@ -279,7 +288,8 @@ fn close_blocks(laid: &mut Vec<Token>, count: usize, place: Place) -> Result<(),
 
 /// At the end of the text a block that is due is empty, and all blocks close.
 fn finish(laid: &mut Vec<Token>, stack: &[Entry], due: bool, place: Place) -> Result<(), TooDeep>
-    ensures ok { OnOk result (laid.new.items ≡ with_marks_at place (last_marks due (stack_of stack.now)) laid.old.items) }
+    ensures ok { OnOk result (laid.new.items
+        ≡ with_marks_at place (last_marks due (stack_of stack.now)) laid.old.items) }
     ensures err { IfErr result (λ fault. fault ≡ NoMemory) }
 {
     if due {

@@ -83,7 +83,8 @@ pub struct Line {
 /// The blocks that the first token of a line closes, and whether it begins an
 /// item of the innermost one that is left.
 pub fn line_start(stack: &[Entry], form: Form, place: Place) -> Line
-    ensures { line_step stack.now place.column result ≡ indentation (sight_at form place) (stack_of stack.now) (stack_of stack.now) }
+    ensures { line_step stack.now place.column result
+        ≡ indentation (sight_at form place) (stack_of stack.now) (stack_of stack.now) }
 {
     let column = place.column;
     let mut cut = Cut {

@@ -10,8 +10,10 @@ use Rattle.cu_lex.specs.Words.{is_module_name}
 
 -- A name or an operator that ends before `rest`, or a ConId, a dot and such a word.
 pub data Reaches (rest : List Located) : List Located → Type 0 where
-  last : {text : List Located} (kind : WordKind) → IsWord text kind rest → is_base kind ≡ true → Reaches rest text
-  link : {text : List Located} (end : List Located) → IsWord text con_id_kind end → first_of end ≡ Some (byte ".") → Reaches rest (later end) → Reaches rest text
+  last : {text : List Located} (kind : WordKind) → IsWord text kind rest → is_base kind ≡ true
+      → Reaches rest text
+  link : {text : List Located} (end : List Located) → IsWord text con_id_kind end
+      → first_of end ≡ Some (byte ".") → Reaches rest (later end) → Reaches rest text
 
 -- A qualifier before a dot.
 pub record IsBehind (text dot base : List Located) : Type 0 where

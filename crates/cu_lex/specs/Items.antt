@@ -24,7 +24,8 @@ Scan = Option (Option ℕ × List Located)
 
 -- The code that digits of a base write.
 abbrev pub numeric_scan : ℕ → List Located → Scan
-numeric_scan base text = if begins_with (is_digit_of base) (characters text) then Some (Some (digits_from base 0 (digits base text)), skip (is_digit_of base) text) else None
+numeric_scan base text = if begins_with (is_digit_of base) (characters text)
+    then Some (Some (digits_from base 0 (digits base text)), skip (is_digit_of base) text) else None
 
 -- A short escape, or else a decimal one.
 abbrev pub short_or_decimal : Option ℕ → List Located → Scan
@@ -65,10 +66,14 @@ pub record IsQuoted (quote : ℕ) (text rest : List Located) : Type 0 where
 -- What a character literal is worth.
 abbrev pub IsCharLiteral : List Located → CharLiteral → Type 0
 IsCharLiteral text (one.Value c end) =
-    (close : List Located) × (item_scan (byte "'") (later text) ≡ Some (Some c, close)) × IsQuoted (byte "'") close (left end) × (scalar c ≡ true)
+    (close : List Located) × (item_scan (byte "'") (later text) ≡ Some (Some c, close))
+    × IsQuoted (byte "'") close (left end) × (scalar c ≡ true)
 IsCharLiteral text (one.OutOfRange at) =
-    (n : ℕ) × (close : List Located) × (end : List Located) × (item_scan (byte "'") (later text) ≡ Some (Some n, close)) × IsQuoted (byte "'") close end × (scalar n ≡ false) × (left at ≡ later text)
-IsCharLiteral text one.Bad = (n : ℕ) (close end : List Located) → item_scan (byte "'") (later text) ≡ Some (Some n, close) → IsQuoted (byte "'") close end → ⊥
+    (n : ℕ) × (close : List Located) × (end : List Located)
+    × (item_scan (byte "'") (later text) ≡ Some (Some n, close)) × IsQuoted (byte "'") close end
+    × (scalar n ≡ false) × (left at ≡ later text)
+IsCharLiteral text one.Bad = (n : ℕ) (close end : List Located)
+    → item_scan (byte "'") (later text) ≡ Some (Some n, close) → IsQuoted (byte "'") close end → ⊥
 
 -- The items behind the quote that begins a string literal.
 abbrev pub string_items : List Located → Pieces (Option ℕ)
@@ -86,10 +91,15 @@ joined (Err p) more = Err p
 
 -- A code at a place comes to a value so far.
 abbrev pub Adds : Result (List ℕ) Position → Option ℕ → Position → Result (List ℕ) Position → Type 0
-Adds old code p new = (more : Result (List ℕ) Position) → joined new more ≡ joined old (with_code code p more)
+Adds old code p new = (more : Result (List ℕ) Position)
+    → joined new more ≡ joined old (with_code code p more)
 
 -- What a string literal is worth.
 abbrev pub IsString : List Located → Literal → Type 0
-IsString text (several.Value value end) = IsQuoted (byte "\"") ((string_items text).left) (left end) × (codes_of (string_items text).pieces ≡ Ok value)
-IsString text (several.OutOfRange at) = (end : List Located) × IsQuoted (byte "\"") ((string_items text).left) end × (codes_of (string_items text).pieces ≡ Err (position at))
-IsString text several.Bad = (end : List Located) → IsQuoted (byte "\"") ((string_items text).left) end → ⊥
+IsString text (several.Value value end) = IsQuoted (byte "\"") ((string_items text).left) (left end)
+    × (codes_of (string_items text).pieces ≡ Ok value)
+IsString text (several.OutOfRange at) = (end : List Located)
+    × IsQuoted (byte "\"") ((string_items text).left) end
+    × (codes_of (string_items text).pieces ≡ Err (position at))
+IsString text several.Bad = (end : List Located)
+    → IsQuoted (byte "\"") ((string_items text).left) end → ⊥

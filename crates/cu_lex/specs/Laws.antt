@@ -7,18 +7,23 @@ use Rattle.cu_lex.specs.Munch.{Cut, Classes, cut_all, cut_within, longest, IsLon
 
 -- `longest` gives the longest front of the classes.
 abbrev pub GivesLongest : {X : Type 0} → Classes X → Type 0
-GivesLongest {X} classes = (text : List Located) (cut : Cut X) → (longest classes text ≡ Some cut) ↔ IsLongest classes text cut
+GivesLongest {X} classes = (text : List Located) (cut : Cut X)
+    → (longest classes text ≡ Some cut) ↔ IsLongest classes text cut
 
 -- It gives none where no front is of a class.
 abbrev pub GivesNone : {X : Type 0} → Classes X → Type 0
 GivesNone classes =
     (text : List Located)
-    → (longest classes text ≡ None) ↔ ((front rest : List Located) → front ++ rest ≡ text → 0 < length front → classes front rest ≡ None)
+    → (longest classes text ≡ None) ↔ ((front rest : List Located) → front ++ rest ≡ text
+    → 0 < length front → classes front rest ≡ None)
 
 -- Bytes begin a UTF-8 text where some bytes complete them to one.
 abbrev pub BeginsTexts : Type 0
-BeginsTexts = (bytes : List ℕ) → IsTrue (begins_text bytes) ↔ ((rest : List ℕ) × IsUtf8 (bytes ++ rest))
+BeginsTexts = (bytes : List ℕ)
+    → IsTrue (begins_text bytes) ↔ ((rest : List ℕ) × IsUtf8 (bytes ++ rest))
 
--- The pieces of a text are the same, however many steps above the number of its characters are allowed.
+-- The pieces of a text are the same, however many steps above the number of its characters are
+-- allowed.
 abbrev pub StepsSuffice : {X : Type 0} → Classes X → Type 0
-StepsSuffice classes = (n : ℕ) (text : List Located) → length text ≤ n → cut_within classes n text ≡ cut_all classes text
+StepsSuffice classes = (n : ℕ) (text : List Located) → length text ≤ n
+    → cut_within classes n text ≡ cut_all classes text

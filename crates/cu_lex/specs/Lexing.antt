@@ -47,20 +47,25 @@ pub record IsPiece (text : List Located) (what : Piece) (end : List Located) : T
   pub cut : longest piece text ≡ Some (cut_at front end what)
 
 -- A piece was found, and what follows it.
-pub record FindsPiece (names : List (List ℕ)) (text : List Located) (found : Option TokenKind × Cursor) : Type 0 where
+pub record FindsPiece (names : List (List ℕ)) (text : List Located)
+    (found : Option TokenKind × Cursor) : Type 0 where
   pub piece : IsPiece text (piece_of names found.0) (left found.1)
   pub known : HasNames names found.0
 
 -- Why there is no piece, or none in range.
 abbrev pub FailsAt : NameId → List Located → LexFault → Type 0
-FailsAt owner text (answer.BadToken place) = (place.«module» ≡ owner) × (longest piece text ≡ None) × ((first : Located) (rest : List Located) → text ≡ first ∷ rest → position_of place ≡ first.at)
-FailsAt owner text (answer.LiteralRange place) = (place.«module» ≡ owner) × (end : List Located) × IsPiece text (OutOfRange (position_of place)) end
+FailsAt owner text (answer.BadToken place) = (place.«module» ≡ owner) × (longest piece text ≡ None)
+    × ((first : Located) (rest : List Located) → text ≡ first ∷ rest → position_of place ≡ first.at)
+FailsAt owner text (answer.LiteralRange place) =
+    (place.«module» ≡ owner) × (end : List Located)
+    × IsPiece text (OutOfRange (position_of place)) end
 FailsAt owner text answer.NoMemory = Unit {0}
 FailsAt owner text answer.SourceTooBig = ⊥
 FailsAt owner text (answer.NotUtf8 offset) = ⊥
 
 -- What one step of the lexer gives: a piece, or a fault.
-abbrev pub Lexes : NameId → List (List ℕ) → List Located → Result (Option TokenKind × Cursor) LexFault → Type 0
+abbrev pub Lexes : NameId → List (List ℕ) → List Located
+    → Result (Option TokenKind × Cursor) LexFault → Type 0
 Lexes owner names text (Ok found) = FindsPiece names text found
 Lexes owner names text (Err fault) = FailsAt owner text fault
 
@@ -100,7 +105,8 @@ word_cut (kind.Reserved k) q w front end = cut_at front end (Token (Reserved k))
 -- What stands before a dot, if there is one.
 abbrev pub IsOuter : List Located → Option Cursor → Option (List Located) → Type 0
 IsOuter text None None = Unit {0}
-IsOuter text (Some dot) (Some outer) = (outer ++ left dot ≡ text) × (is_module_name (characters outer) ≡ true) × (first_of (left dot) ≡ Some 46)
+IsOuter text (Some dot) (Some outer) = (outer ++ left dot ≡ text)
+    × (is_module_name (characters outer) ≡ true) × (first_of (left dot) ≡ Some 46)
 IsOuter text None (Some outer) = ⊥
 IsOuter text (Some dot) None = ⊥
 
@@ -111,11 +117,15 @@ pub record IsNamed (text : List Located) (found : Qualified) : Type 0 where
   pub outer : Option (List Located)
   pub is_outer : IsOuter text found.dot outer
   pub front : List Located
-  pub cut : longest piece text ≡ Some (word_cut found.word.kind (option_map characters outer) (characters word.front) front (left found.word.end))
+  pub cut : longest piece text
+      ≡ Some (word_cut found.word.kind (option_map characters outer) (characters word.front) front
+      (left found.word.end))
 
 -- A name's texts are those of the word that was found.
 abbrev pub IsSpelled : List (List ℕ) → List Located → Qualified → Name → Type 0
-IsSpelled names text found name = (n : IsNamed text found) → (spelling_of names name ≡ spelled (option_map characters n.outer) (characters n.word.front)) × HasName names name
+IsSpelled names text found name = (n : IsNamed text found)
+    → (spelling_of names name ≡ spelled (option_map characters n.outer) (characters n.word.front))
+    × HasName names name
 
 -- No separator, capital, digit or quote comes first.
 pub record IsPlain (text : List Located) : Type 0 where

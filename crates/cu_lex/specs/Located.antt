@@ -30,7 +30,8 @@ on_next_column p = record { line = p.line; column = p.column + 1 }
 
 -- The place after a character: lines end at a line feed, and a tab moves on to the next stop.
 abbrev pub position_after : ℕ → Position → Position
-position_after c p = if c == byte "\n" then on_next_line p else if c == byte "\t" then on_next_stop p else on_next_column p
+position_after c p = if c == byte "\n" then on_next_line p else if c == byte "\t"
+    then on_next_stop p else on_next_column p
 
 -- Characters one after another, the first of them at a place.
 unfoldable pub located_from : Position → List ℕ → List Located

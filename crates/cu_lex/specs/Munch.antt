@@ -3,7 +3,8 @@ use Rattle.std.specs.Prelude.{◌≡◌, ℕ, zero, suc, ◌<◌, ◌≤◌, Lis
 use Rattle.std.specs.Option.{option_map, option_or}
 use Rattle.cu_lex.specs.Located.{Position, Located}
 
--- What classes say of a front of a text before what follows it: what it is, or None where it is of no class.
+-- What classes say of a front of a text before what follows it: what it is, or None where it is of
+-- no class.
 abbrev pub Classes : Type 0 → Type 0
 Classes X = List Located → List Located → Option X
 
@@ -18,22 +19,27 @@ abbrev pub cut_at : {X : Type 0} → List Located → List Located → X → Cut
 cut_at begun left x = record { front = begun; what = x; rest = left }
 
 -- The longest front of a class, of the fronts that begin with `begun` and go on into `text`.
-unfoldable pub longest_after : {X : Type 0} → Classes X → List Located → List Located → Option (Cut X)
+unfoldable pub longest_after : {X : Type 0} → Classes X → List Located → List Located
+    → Option (Cut X)
 longest_after classes begun [] = None
 longest_after classes begun (c ∷ text) =
     let front = begun ++ c ∷ [] in
-    option_or (longest_after classes front text) (option_map (cut_at front text) (classes front text))
+    option_or (longest_after classes front text)
+    (option_map (cut_at front text) (classes front text))
 
 -- The longest front of a class.
 abbrev pub longest : {X : Type 0} → Classes X → List Located → Option (Cut X)
 longest classes text = longest_after classes [] text
 
--- What makes a cut the longest: it has a character at least, it is of a class, and no longer front is.
-pub record IsLongest {X : Type 0} (classes : Classes X) (text : List Located) (cut : Cut X) : Type 0 where
+-- What makes a cut the longest: it has a character at least, it is of a class, and no longer front
+-- is.
+pub record IsLongest {X : Type 0} (classes : Classes X) (text : List Located)
+    (cut : Cut X) : Type 0 where
   pub whole : cut.front ++ cut.rest ≡ text
   pub some : 0 < length cut.front
   pub allowed : classes cut.front cut.rest ≡ Some cut.what
-  pub most : (front rest : List Located) → front ++ rest ≡ text → IsSome (classes front rest) → length front ≤ length cut.front
+  pub most : (front rest : List Located) → front ++ rest ≡ text → IsSome (classes front rest)
+      → length front ≤ length cut.front
 
 -- A piece of a text, at the place of its first character.
 pub record Placed (X : Type 0) : Type 0 where
@@ -51,10 +57,12 @@ no_pieces text = record { pieces = []; left = text }
 
 -- One more piece, before the others.
 abbrev pub with_piece : {X : Type 0} → X → Position → Pieces X → Pieces X
-with_piece x p more = record { pieces = record { what = x; at = p } ∷ more.pieces; left = more.left }
+with_piece x p more =
+    record { pieces = record { what = x; at = p } ∷ more.pieces; left = more.left }
 
 -- The pieces from a cut on, where `further` gives those of what follows.
-abbrev pub pieces_from : {X : Type 0} → (List Located → Pieces X) → Located → List Located → Option (Cut X) → Pieces X
+abbrev pub pieces_from : {X : Type 0} → (List Located → Pieces X) → Located → List Located
+    → Option (Cut X) → Pieces X
 pieces_from further c text None = no_pieces (c ∷ text)
 pieces_from further c text (Some cut) = with_piece cut.what c.at (further cut.rest)
 
@@ -62,8 +70,10 @@ pieces_from further c text (Some cut) = with_piece cut.what c.at (further cut.re
 unfoldable pub cut_within : {X : Type 0} → Classes X → ℕ → List Located → Pieces X
 cut_within classes zero text = no_pieces text
 cut_within classes (suc n) [] = no_pieces []
-cut_within classes (suc n) (c ∷ text) = pieces_from (cut_within classes n) c text (longest classes (c ∷ text))
+cut_within classes (suc n) (c ∷ text) =
+    pieces_from (cut_within classes n) c text (longest classes (c ∷ text))
 
--- The longest pieces from the left. Each takes a character at least, so there are no more of them than characters.
+-- The longest pieces from the left. Each takes a character at least, so there are no more of them
+-- than characters.
 abbrev pub cut_all : {X : Type 0} → Classes X → List Located → Pieces X
 cut_all classes text = cut_within classes (length text) text

@@ -35,12 +35,20 @@ blank word = if is_blank word then Some Blank else None
 
 -- The names that mean something of their own in some places.
 unfoldable pub special_of : List ℕ → Option Special
-special_of = entry ((codes "qualified", special.Qualified) ∷ (codes "as", special.As) ∷ (codes "hiding", special.Hiding) ∷ (codes "-", special.Minus) ∷ [])
+special_of =
+    entry ((codes "qualified", special.Qualified) ∷ (codes "as", special.As)
+    ∷ (codes "hiding", special.Hiding) ∷ (codes "-", special.Minus) ∷ [])
 
 -- A word with its qualifier, if it has one.
 abbrev pub spelled : Option (List ℕ) → List ℕ → Spelling
 spelled None word = record { text = word; qualifier = None; base = word; special = special_of word }
-spelled (Some outer) word = record { text = outer ++ codes "." ++ word; qualifier = Some outer; base = word; special = None }
+spelled (Some outer) word =
+    record {
+      text = outer ++ codes "." ++ word;
+      qualifier = Some outer;
+      base = word;
+      special = None;
+    }
 
 -- The kind of an operator: a ConOp begins with a colon.
 abbrev pub operator : List ℕ → Spelling → Kind
@@ -63,9 +71,9 @@ word_kind word =
     (option_or (name_kind None word)
     (option_and_then (λ parts. name_kind (Some parts.0) parts.1) (qualified_parts word)))))
 
--- Whether a word of this kind may stand before these characters. No character of names follows a name or a keyword,
--- and no symbol follows an operator, reserved or not. A brace before a dash is none, since it begins a comment. Any
--- other mark may stand before anything.
+-- Whether a word of this kind may stand before these characters. No character of names follows a
+-- name or a keyword, and no symbol follows an operator, reserved or not. A brace before a dash is
+-- none, since it begins a comment. Any other mark may stand before anything.
 abbrev pub stands_before : Kind → List ℕ → Bool
 stands_before (VarId name) next = not (begins_with is_name_character next)
 stands_before (ConId name) next = not (begins_with is_name_character next)
@@ -92,7 +100,8 @@ number_at p n = if is_integer (pos n) then Token (Int (pos n)) else OutOfRange p
 
 -- A front that is a number.
 abbrev pub number : Position → List ℕ → List ℕ → Option Piece
-number p front next = option_map (number_at p) (option_or (decimal_number front next) (based_number front))
+number p front next =
+    option_map (number_at p) (option_or (decimal_number front next) (based_number front))
 
 -- The value of a character literal: it is a Unicode scalar value.
 abbrev pub character_at : Position → ℕ → Piece
@@ -104,10 +113,12 @@ one_character [] = None
 one_character (i ∷ []) = option_map (character_at i.at) i.what
 one_character (i ∷ j ∷ items) = None
 
--- What an item at a place adds to the value of a string: nothing, a scalar value, or that it is out of range.
+-- What an item at a place adds to the value of a string: nothing, a scalar value, or that it is out
+-- of range.
 abbrev pub with_code : Option ℕ → Position → Result (List ℕ) Position → Result (List ℕ) Position
 with_code None p more = more
-with_code (Some code) p more = if scalar code then result_map_both (λ later. code ∷ later) (λ fault. fault) more else Err p
+with_code (Some code) p more = if scalar code
+    then result_map_both (λ later. code ∷ later) (λ fault. fault) more else Err p
 
 -- The value of a string literal, or the place of its first item out of range.
 abbrev pub codes_of : List (Placed (Option ℕ)) → Result (List ℕ) Position
@@ -130,7 +141,8 @@ abbrev pub start : List Located → Position
 start [] = first_position
 start (first ∷ text) = first.at
 
--- What a front of a text is before what follows it: a blank, a word, a number, a character literal, a string literal.
+-- What a front of a text is before what follows it: a blank, a word, a number, a character literal,
+-- a string literal.
 unfoldable pub piece : Classes Piece
 piece front rest =
     option_or (blank (characters front))

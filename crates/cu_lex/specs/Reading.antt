@@ -48,12 +48,15 @@ position_of place = record { line = place.line; column = place.column }
 abbrev pub lexeme_of : List (List ℕ) → Token → Lexeme
 lexeme_of names t = record { what = kind_of names t.kind; at = position_of t.place }
 
--- The fault that an answer tells is the text's own, at a place of the module. Want of memory says nothing.
+-- The fault that an answer tells is the text's own, at a place of the module. Want of memory says
+-- nothing.
 abbrev pub Tells : NameId → LexFault → Result (List Lexeme) Fault → Type 0
 Tells owner answer.SourceTooBig outcome = outcome ≡ Err SourceTooBig
 Tells owner (answer.NotUtf8 offset) outcome = outcome ≡ Err (NotUtf8 offset)
-Tells owner (answer.BadToken place) outcome = (place.«module» ≡ owner) × (outcome ≡ Err (BadToken (position_of place)))
-Tells owner (answer.LiteralRange place) outcome = (place.«module» ≡ owner) × (outcome ≡ Err (LiteralRange (position_of place)))
+Tells owner (answer.BadToken place) outcome =
+    (place.«module» ≡ owner) × (outcome ≡ Err (BadToken (position_of place)))
+Tells owner (answer.LiteralRange place) outcome =
+    (place.«module» ≡ owner) × (outcome ≡ Err (LiteralRange (position_of place)))
 Tells owner answer.NoMemory outcome = Unit {0}
 
 -- The tokens that an answer gives are the text's own, under a table of names.
@@ -62,7 +65,8 @@ Gives names found outcome = outcome ≡ Ok (map (lexeme_of names) found)
 
 -- A table has the parts of a name.
 abbrev pub HasName : List (List ℕ) → Name → Type 0
-HasName names name = IsKnown names name.text × IfSome name.qualifier (IsKnown names) × IsKnown names name.base
+HasName names name = IsKnown names name.text × IfSome name.qualifier (IsKnown names)
+    × IsKnown names name.base
 
 -- A table has the names of a token of this kind.
 abbrev pub HasKind : List (List ℕ) → TokenKind → Type 0

@@ -89,17 +89,20 @@ digits base text = characters (run (is_digit_of base) text)
 abbrev pub StepsTo : ℕ → List Located → Option (ℕ × Cursor) → Type 0
 StepsTo depth text None = comment_end depth text ≡ None
 StepsTo depth text (Some (deeper, rest)) =
-    (comment_end deeper (left rest) ≡ comment_end depth text) × (length (left rest) < length text) × (deeper + length (left rest) ≤ depth + length text)
+    (comment_end deeper (left rest) ≡ comment_end depth text) × (length (left rest) < length text)
+    × (deeper + length (left rest) ≤ depth + length text)
 
 -- ---- numbers
 
 -- The base that the first two characters write.
 abbrev pub prefix_base : List Located → Option ℕ
-prefix_base text = entry ((codes "0x", 16) ∷ (codes "0o", 8) ∷ (codes "0b", 2) ∷ []) (take 2 (characters text))
+prefix_base text = entry ((codes "0x", 16) ∷ (codes "0o", 8) ∷ (codes "0b", 2) ∷ [])
+    (take 2 (characters text))
 
 -- The number that the first digits of a base write, if there are any, and what follows them.
 abbrev pub digits_scan : ℕ → List Located → Option (ℕ × List Located)
-digits_scan base text = if begins_with (is_digit_of base) (characters text) then Some (digits_from base 0 (digits base text), skip (is_digit_of base) text) else None
+digits_scan base text = if begins_with (is_digit_of base) (characters text)
+    then Some (digits_from base 0 (digits base text), skip (is_digit_of base) text) else None
 
 -- A number with its base before it.
 abbrev pub based_scan : List Located → Option (ℕ × List Located)
@@ -159,7 +162,8 @@ is_base (kind.Keyword k) = false
 is_base (kind.Reserved k) = false
 is_base kind.Dashes = false
 
--- A text begins with a word of a kind, which is the whole run of its first characters, before an end.
+-- A text begins with a word of a kind, which is the whole run of its first characters, before an
+-- end.
 pub record IsWord (text : List Located) (kind : WordKind) (end : List Located) : Type 0 where
   pub front : List Located
   pub whole : front ++ end ≡ text
@@ -188,7 +192,8 @@ FindsWord text found = MatchOption found (HasNoWord text) (λ w. IsWord text w.k
 
 -- A text begins with no word that may follow a qualifier.
 abbrev pub HasNoBase : List Located → Type 0
-HasNoBase text = HasNoWord text ⊎ ((kind : WordKind) × (end : List Located) × IsWord text kind end × (is_base kind ≡ false))
+HasNoBase text = HasNoWord text
+    ⊎ ((kind : WordKind) × (end : List Located) × IsWord text kind end × (is_base kind ≡ false))
 
 abbrev pub con_id_kind : WordKind
 con_id_kind = kind.ConId

@@ -27,10 +27,12 @@ most_bytes = 16777216
 -- What a piece adds to the tokens after it.
 abbrev pub with_lexeme : Piece → Position → Result (List Lexeme) Fault → Result (List Lexeme) Fault
 with_lexeme Blank p more = more
-with_lexeme (Token kind) p more = result_map_both (λ lexemes. record { what = kind; at = p } ∷ lexemes) (λ fault. fault) more
+with_lexeme (Token kind) p more =
+    result_map_both (λ lexemes. record { what = kind; at = p } ∷ lexemes) (λ fault. fault) more
 with_lexeme (OutOfRange place) p more = Err (LiteralRange place)
 
--- The tokens among the pieces of a text, or its first fault: a literal out of range, or a place where no piece begins.
+-- The tokens among the pieces of a text, or its first fault: a literal out of range, or a place
+-- where no piece begins.
 abbrev pub lexemes_of : List (Placed Piece) → List Located → Result (List Lexeme) Fault
 lexemes_of [] [] = Ok []
 lexemes_of [] (c ∷ left) = Err (BadToken c.at)

@@ -56,11 +56,16 @@ entry table word = lookup (bytes_eq word) table
 -- The keywords.
 abbrev pub keywords : List (List ℕ × Keyword)
 keywords =
-    (codes "case", keyword.Case) ∷ (codes "data", keyword.Data) ∷ (codes "do", keyword.Do) ∷ (codes "else", keyword.Else)
-    ∷ (codes "external", keyword.External) ∷ (codes "fcase", keyword.Fcase) ∷ (codes "foreign", keyword.Foreign) ∷ (codes "free", keyword.Free)
-    ∷ (codes "if", keyword.If) ∷ (codes "import", keyword.Import) ∷ (codes "in", keyword.In) ∷ (codes "infix", keyword.Infix)
-    ∷ (codes "infixl", keyword.Infixl) ∷ (codes "infixr", keyword.Infixr) ∷ (codes "let", keyword.Let) ∷ (codes "module", keyword.Module)
-    ∷ (codes "newtype", keyword.Newtype) ∷ (codes "of", keyword.Of) ∷ (codes "then", keyword.Then) ∷ (codes "type", keyword.Type)
+    (codes "case", keyword.Case) ∷ (codes "data", keyword.Data) ∷ (codes "do", keyword.Do)
+    ∷ (codes "else", keyword.Else)
+    ∷ (codes "external", keyword.External) ∷ (codes "fcase", keyword.Fcase)
+    ∷ (codes "foreign", keyword.Foreign) ∷ (codes "free", keyword.Free)
+    ∷ (codes "if", keyword.If) ∷ (codes "import", keyword.Import) ∷ (codes "in", keyword.In)
+    ∷ (codes "infix", keyword.Infix)
+    ∷ (codes "infixl", keyword.Infixl) ∷ (codes "infixr", keyword.Infixr)
+    ∷ (codes "let", keyword.Let) ∷ (codes "module", keyword.Module)
+    ∷ (codes "newtype", keyword.Newtype) ∷ (codes "of", keyword.Of) ∷ (codes "then", keyword.Then)
+    ∷ (codes "type", keyword.Type)
     ∷ (codes "where", keyword.Where) ∷ []
 
 -- The keyword that a word is.
@@ -70,8 +75,10 @@ keyword_of = entry keywords
 -- The reserved operators.
 abbrev pub reserved_operators : List (List ℕ × ReservedOperator)
 reserved_operators =
-    (codes "..", reserved.DotDot) ∷ (codes "::", reserved.DoubleColon) ∷ (codes "=", reserved.Equals) ∷ (codes "\\", reserved.Backslash)
-    ∷ (codes "|", reserved.Bar) ∷ (codes "<-", reserved.LeftArrow) ∷ (codes "->", reserved.RightArrow) ∷ (codes "@", reserved.At)
+    (codes "..", reserved.DotDot) ∷ (codes "::", reserved.DoubleColon)
+    ∷ (codes "=", reserved.Equals) ∷ (codes "\\", reserved.Backslash)
+    ∷ (codes "|", reserved.Bar) ∷ (codes "<-", reserved.LeftArrow)
+    ∷ (codes "->", reserved.RightArrow) ∷ (codes "@", reserved.At)
     ∷ (codes "~", reserved.Tilde) ∷ []
 
 -- The reserved operator that a word is.
@@ -81,8 +88,10 @@ reserved_of = entry reserved_operators
 -- The marks.
 abbrev pub marks : List (List ℕ × Mark)
 marks =
-    (codes "(", mark.OpenParen) ∷ (codes ")", mark.CloseParen) ∷ (codes "[", mark.OpenSquare) ∷ (codes "]", mark.CloseSquare)
-    ∷ (codes "{", mark.OpenBrace) ∷ (codes "}", mark.CloseBrace) ∷ (codes ",", mark.Comma) ∷ (codes ";", mark.Semicolon)
+    (codes "(", mark.OpenParen) ∷ (codes ")", mark.CloseParen) ∷ (codes "[", mark.OpenSquare)
+    ∷ (codes "]", mark.CloseSquare)
+    ∷ (codes "{", mark.OpenBrace) ∷ (codes "}", mark.CloseBrace) ∷ (codes ",", mark.Comma)
+    ∷ (codes ";", mark.Semicolon)
     ∷ (codes "`", mark.Backquote) ∷ (codes "_", mark.Underscore) ∷ []
 
 -- The mark that a word is.
@@ -94,7 +103,8 @@ mark_of = entry marks
 -- Any number of underscores, a small letter, and then characters of names.
 abbrev pub has_variable_form : List ℕ → Bool
 has_variable_form [] = false
-has_variable_form (c ∷ cs) = (c == byte "_" && has_variable_form cs) || (is_ascii_lowercase c && list_all is_name_character cs)
+has_variable_form (c ∷ cs) = (c == byte "_" && has_variable_form cs)
+    || (is_ascii_lowercase c && list_all is_name_character cs)
 
 -- A VarId: of this form, and no keyword.
 unfoldable pub is_var_id : List ℕ → Bool
@@ -120,7 +130,8 @@ with_first c (part ∷ parts) = (c ∷ part) ∷ parts
 -- The parts of a text between its dots.
 abbrev pub between_dots : List ℕ → List (List ℕ)
 between_dots [] = [] ∷ []
-between_dots (c ∷ cs) = if c == byte "." then [] ∷ between_dots cs else with_first c (between_dots cs)
+between_dots (c ∷ cs) = if c == byte "." then [] ∷ between_dots cs
+    else with_first c (between_dots cs)
 
 -- The name of a module: ConIds joined by dots.
 unfoldable pub is_module_name : List ℕ → Bool
@@ -133,15 +144,19 @@ around_dots (c ∷ cs) =
     let later = map (λ parts. (c ∷ parts.0, parts.1)) (around_dots cs) in
     if c == byte "." then ([], cs) ∷ later else later
 
--- The parts of a qualified word: ConIds joined by dots and, after one more dot, a VarId, a ConId or an operator.
+-- The parts of a qualified word: ConIds joined by dots and, after one more dot, a VarId, a ConId or
+-- an operator.
 unfoldable pub qualified_parts : List ℕ → Option (List ℕ × List ℕ)
-qualified_parts word = find (λ parts. is_module_name parts.0 && (is_var_id parts.1 || (is_con_id parts.1 || is_operator parts.1))) (around_dots word)
+qualified_parts word =
+    find (λ parts. is_module_name parts.0
+    && (is_var_id parts.1 || (is_con_id parts.1 || is_operator parts.1))) (around_dots word)
 
 -- ---- numbers
 
 -- The number that one or more digits of a base write.
 unfoldable pub digits_value : ℕ → List ℕ → Option ℕ
-digits_value base word = if is_run (λ c. is_digit c base) word then Some (fold (λ n c. n * base + digit_value c) 0 word) else None
+digits_value base word = if is_run (λ c. is_digit c base) word
+    then Some (fold (λ n c. n * base + digit_value c) 0 word) else None
 
 -- `0x`, `0o` or `0b`, and then digits of that base.
 unfoldable pub based_number : List ℕ → Option ℕ
@@ -149,7 +164,8 @@ based_number word =
     let base_of = entry ((codes "0x", 16) ∷ (codes "0o", 8) ∷ (codes "0b", 2) ∷ []) in
     option_and_then (λ base. digits_value base (drop 2 word)) (base_of (take 2 word))
 
--- Characters that go on with a decimal number: another digit, or a dot and a digit. The longest number has no digit behind it, and before a dot and a digit there is none.
+-- Characters that go on with a decimal number: another digit, or a dot and a digit. The longest
+-- number has no digit behind it, and before a dot and a digit there is none.
 abbrev pub goes_on_with_number : List ℕ → Bool
 goes_on_with_number [] = false
 goes_on_with_number (c ∷ cs) = is_ascii_digit c || (c == byte "." && begins_with is_ascii_digit cs)
@@ -164,7 +180,8 @@ decimal_number word next = if goes_on_with_number next then None else digits_val
 unfoldable pub is_line_comment : List ℕ → Bool
 is_line_comment word =
     let dashes = prefix_len is_dash word in
-    nat_le 2 dashes && (not (begins_with is_symbol (drop dashes word)) && not (list_any (λ c. c == byte "\n") word))
+    nat_le 2 dashes && (not (begins_with is_symbol (drop dashes word))
+    && not (list_any (λ c. c == byte "\n") word))
 
 -- Whether the characters close so many open comments, and the last two of them close the first.
 unfoldable pub closes : ℕ → List ℕ → Bool

@@ -85,7 +85,8 @@ impl<'a> Cursor<'a> {
     /// The text from here to a later cursor.
     pub fn text_to(self, end: Cursor<'a>) -> &'a str
         requires { EndsIn (left self) (left end) }
-        ensures { (front : List Located) → front ++ left end.entry ≡ left self.entry → result.now ≡ encodes (characters front) }
+        ensures { (front : List Located) → front ++ left end.entry ≡ left self.entry
+            → result.now ≡ encodes (characters front) }
     {
         &self.text[..self.text.len() - end.text.len()]
     }
@@ -94,7 +95,8 @@ impl<'a> Cursor<'a> {
     pub fn place(self, module: NameId) -> Place
         ensures owner { result.«module» ≡ «module» }
         ensures position { position_of result ≡ position self.entry }
-        ensures at { (first : Located) (rest : List Located) → left self.entry ≡ first ∷ rest → position_of result ≡ first.at }
+        ensures at { (first : Located) (rest : List Located) → left self.entry ≡ first ∷ rest
+            → position_of result ≡ first.at }
     {
         Place {
             module,

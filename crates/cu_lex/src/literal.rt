@@ -60,7 +60,8 @@ fn add_code<'a>(
     code: Option<u32>,
     at: Cursor<'a>,
 ) -> Result<Option<Cursor<'a>>, AllocError>
-    ensures { IfOk result (λ found. Adds (so_far value.old bad.entry) code (position at.entry) (so_far value.new found)) }
+    ensures { IfOk result (λ found. Adds (so_far value.old bad.entry) code (position at.entry)
+        (so_far value.new found)) }
 {
     let code = match code {
         Some(code) => code,
@@ -156,7 +157,8 @@ fn escape<'a>(start: Cursor<'a>) -> Option<Item<'a>>
 
 fn numeric<'a>(start: Cursor<'a>, base: u32) -> Option<Item<'a>>
     requires { 0 < base }
-    ensures { option_map read_item result ≡ option_map capped (numeric_scan base (left start.entry)) }
+    ensures { option_map read_item result
+        ≡ option_map capped (numeric_scan base (left start.entry)) }
 {
     if !Class::Digit(base).begins(start) {
         return None;

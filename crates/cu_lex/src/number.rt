@@ -52,7 +52,8 @@ fn base_at<'a>(start: Cursor<'a>) -> Option<u32>
 }
 
 fn base_of(letter: char) -> Option<u32>
-    ensures base { result ≡ entry ((codes "0x", 16) ∷ (codes "0o", 8) ∷ (codes "0b", 2) ∷ []) (byte "0" ∷ letter ∷ []) }
+    ensures base { result ≡ entry ((codes "0x", 16) ∷ (codes "0o", 8) ∷ (codes "0b", 2) ∷ [])
+        (byte "0" ∷ letter ∷ []) }
     ensures some { IfSome result (λ base. 0 < base) }
 {
     match letter {

@@ -58,7 +58,8 @@ fn constructor<'a>(start: Cursor<'a>) -> Word<'a>
 }
 
 fn variable<'a>(start: Cursor<'a>) -> Option<Word<'a>>
-    ensures { MatchOption result (HasNoVariable (left start.entry)) (λ w. IsWord (left start.entry) w.kind (left w.end)) }
+    ensures { MatchOption result (HasNoVariable (left start.entry))
+        (λ w. IsWord (left start.entry) w.kind (left w.end)) }
 {
     let letter = Class::Underscore.skip(start);
     if !Class::Small.begins(letter) {
@@ -81,7 +82,8 @@ fn variable_kind(text: &str) -> WordKind
 }
 
 fn operator<'a>(start: Cursor<'a>) -> Option<Word<'a>>
-    ensures { MatchOption result (begins_with is_symbol (characters (left start.entry)) ≡ false) (λ w. IsWord (left start.entry) w.kind (left w.end)) }
+    ensures { MatchOption result (begins_with is_symbol (characters (left start.entry)) ≡ false)
+        (λ w. IsWord (left start.entry) w.kind (left w.end)) }
 {
     if !Class::Symbol.begins(start) {
         return None;
@@ -160,7 +162,8 @@ pub fn qualified_at<'a>(start: Cursor<'a>) -> Qualified<'a>
 
 /// The name or operator after a ConId and a dot.
 fn after_dot<'a>(kind: WordKind, end: Cursor<'a>) -> Option<Word<'a>>
-    ensures none { IsNone result → kind ≡ con_id_kind → first_of (left end.entry) ≡ Some (byte ".") → HasNoBase (later (left end.entry)) }
+    ensures none { IsNone result → kind ≡ con_id_kind → first_of (left end.entry) ≡ Some (byte ".")
+        → HasNoBase (later (left end.entry)) }
     ensures some { IfSome result (IsLink kind (left end.entry)) }
 {
     if !is_con_id(kind) || end.peek() != Some('.') {

@@ -1,5 +1,6 @@
--- Lambda lifting (Johnsson, "Lambda lifting: transforming programs to recursive equations", 1985): each local function becomes a
--- function of the program, which takes the variables that it captures before its own parameters, and each use of it passes them.
+-- Lambda lifting (Johnsson, "Lambda lifting: transforming programs to recursive equations", 1985):
+-- each local function becomes a function of the program, which takes the variables that it captures
+-- before its own parameters, and each use of it passes them.
 use Rattle.std.specs.Prelude.{◌≡◌, ℕ, ◌+◌, Bool, false, ◌&&◌, ◌||◌, List, [], ◌∷◌, ◌++◌, Some, IsTrue, codes, decimal, if◌then◌else◌, length, map, nat_eq, nat_lt, option_map, slice_get, slice_index_or}
 use Rattle.std.specs.List.{list_all}
 use Rattle.cu_calculus.specs.Program as calculus
@@ -34,9 +35,11 @@ pub record Numbered : Type 0 where
 -- put into a list in the order of places: before the first that doesn't stand before it
 abbrev pub put_in : Numbered → List Numbered → List Numbered
 put_in f [] = f ∷ []
-put_in f (g ∷ gs) = if stands_before g.function.place f.function.place then g ∷ put_in f gs else f ∷ g ∷ gs
+put_in f (g ∷ gs) = if stands_before g.function.place f.function.place then g ∷ put_in f gs
+    else f ∷ g ∷ gs
 
--- local functions, numbered from a number on, in the order of their places; those at one place stay in the order of their numbers
+-- local functions, numbered from a number on, in the order of their places; those at one place stay
+-- in the order of their numbers
 abbrev pub in_order_from : ℕ → List LocalFunction → List Numbered
 in_order_from n [] = []
 in_order_from n (f ∷ fs) = put_in (record { number = n; function = f }) (in_order_from (n + 1) fs)
@@ -52,7 +55,8 @@ rank_in k (f ∷ fs) = if nat_eq f.number k then 0 else rank_in k fs + 1
 abbrev pub rank : List LocalFunction → ℕ → ℕ
 rank locals k = rank_in k (in_order locals)
 
--- Top-level functions keep their order, and each has its local functions behind it: the numbers of some from a number on.
+-- Top-level functions keep their order, and each has its local functions behind it: the numbers of
+-- some from a number on.
 abbrev pub top_numbers : ℕ → List TopFunction → List ℕ
 top_numbers n [] = []
 top_numbers n (f ∷ fs) = n ∷ top_numbers (n + 1 + length f.locals) fs
@@ -66,8 +70,9 @@ local_number number locals k = number + 1 + rank locals k
 
 -- ---- terms
 
--- what becomes of the functions that the rules of one top-level function and its local functions use: the numbers of top-level
--- functions and of these local functions, and the variables that each of these captures
+-- what becomes of the functions that the rules of one top-level function and its local functions
+-- use: the numbers of top-level functions and of these local functions, and the variables that each
+-- of these captures
 pub record Lifting : Type 0 where
   pub top : ℕ → ℕ
   pub inner : ℕ → ℕ
@@ -102,13 +107,16 @@ abbrev mutual
   pub lifted_term : Lifting → LocalTerm → clean.Term
   lifted_term l (local.Variable x) = clean.Variable x
   lifted_term l (local.Literal n) = clean.Literal n
-  lifted_term l (local.Whole h ts) = clean.Whole (lifted_head l h) (behind_variables (passed l h) (lifted_terms l ts))
-  lifted_term l (local.Part h ts) = clean.Part (lifted_head l h) (behind_variables (passed l h) (lifted_terms l ts))
+  lifted_term l (local.Whole h ts) =
+      clean.Whole (lifted_head l h) (behind_variables (passed l h) (lifted_terms l ts))
+  lifted_term l (local.Part h ts) =
+      clean.Part (lifted_head l h) (behind_variables (passed l h) (lifted_terms l ts))
   lifted_term l (local.Apply f a) = clean.Apply (lifted_term l f) (lifted_term l a)
   lifted_term l (local.Let x a b) = clean.Let x (lifted_term l a) (lifted_term l b)
   lifted_term l (local.Free x t) = clean.Free x (lifted_term l t)
   lifted_term l (local.Or a b) = clean.Or (lifted_term l a) (lifted_term l b)
-  lifted_term l (local.Case mode a alternatives) = clean.Case mode (lifted_term l a) (lifted_alternatives l alternatives)
+  lifted_term l (local.Case mode a alternatives) =
+      clean.Case mode (lifted_term l a) (lifted_alternatives l alternatives)
 
   pub lifted_terms : Lifting → LocalTerms → clean.Terms
   lifted_terms l local.NoTerm = clean.NoTerm
@@ -123,7 +131,8 @@ abbrev mutual
 
 -- a rule of a function that takes these variables first
 abbrev pub lifted_rule : Lifting → List ℕ → LocalRule → calculus.Rule
-lifted_rule l xs rule = record { params = behind_parameters xs rule.params; body = lifted_term l rule.body }
+lifted_rule l xs rule =
+    record { params = behind_parameters xs rule.params; body = lifted_term l rule.body }
 
 abbrev pub lifted_body : Lifting → LocalBody → calculus.Body
 lifted_body l (kernel.Rules rules) = calculus.Rules (map (lifted_rule l []) rules)
@@ -158,7 +167,8 @@ mark_group captured mark f = mark ∷ map (local_mark mark captured) (in_order f
 
 -- ---- programs
 
--- of local function k of top-level function i, at i and then k: the variables that it captures, and its new name
+-- of local function k of top-level function i, at i and then k: the variables that it captures, and
+-- its new name
 pub record Locals : Type 0 where
   pub captured : ℕ → ℕ → List ℕ
   pub name : ℕ → ℕ → NameId
@@ -174,14 +184,17 @@ lifting_of number locals i f = record {
 abbrev pub functions_from : (ℕ → ℕ) → Locals → ℕ → List TopFunction → List Function
 functions_from number locals i [] = []
 functions_from number locals i (f ∷ fs) =
-    lifted_group (lifting_of number locals i f) (locals.name i) f ++ functions_from number locals (i + 1) fs
+    lifted_group (lifting_of number locals i f) (locals.name i) f
+    ++ functions_from number locals (i + 1) fs
 
 abbrev pub marks_from : Locals → ℕ → List Mark → List TopFunction → List Mark
-marks_from locals i (m ∷ ms) (f ∷ fs) = mark_group (locals.captured i) m f ++ marks_from locals (i + 1) ms fs
+marks_from locals i (m ∷ ms) (f ∷ fs) =
+    mark_group (locals.captured i) m f ++ marks_from locals (i + 1) ms fs
 marks_from locals i _ _ = []
 
 abbrev pub lifted_goal : (ℕ → ℕ) → Goal → Goal
-lifted_goal number goal = record { function = record { 0 = number goal.function.0 }; names = goal.names }
+lifted_goal number goal =
+    record { function = record { 0 = number goal.function.0 }; names = goal.names }
 
 abbrev pub lifted_special : (ℕ → ℕ) → Special → Special
 lifted_special number special = record {
@@ -212,9 +225,11 @@ local_name text rank = text ++ (codes "#" ++ decimal (rank + 1))
 pub record Lifts (texts : List (List ℕ)) (program : LocalKernel) (result : Kernel) : Type 0 where
   pub locals : Locals
   -- the least sets of captured variables, in the order of their declaration
-  pub captured : (i k : ℕ) (f : TopFunction) (g : LocalFunction) → slice_get program.functions i ≡ Some f → slice_get f.locals k ≡ Some g
+  pub captured : (i k : ℕ) (f : TopFunction) (g : LocalFunction)
+      → slice_get program.functions i ≡ Some f → slice_get f.locals k ≡ Some g
       → AreCaptured f.locals k (locals.captured i k)
-  pub named : (i k : ℕ) (f : TopFunction) (g : LocalFunction) → slice_get program.functions i ≡ Some f → slice_get f.locals k ≡ Some g
+  pub named : (i k : ℕ) (f : TopFunction) (g : LocalFunction)
+      → slice_get program.functions i ≡ Some f → slice_get f.locals k ≡ Some g
       → text_of texts (locals.name i k) ≡ local_name (text_of texts f.name) (rank f.locals k)
   pub whole : result ≡ lifted locals program
 
@@ -224,4 +239,5 @@ HaveArities program = IsTrue (list_all (λ f. is_arity f.arity) program.function
 
 -- the names of the top-level functions have texts
 abbrev pub AreNamed : List (List ℕ) → LocalKernel → Type 0
-AreNamed texts program = (i : ℕ) (f : TopFunction) → slice_get program.functions i ≡ Some f → IsKnown texts f.name
+AreNamed texts program = (i : ℕ) (f : TopFunction) → slice_get program.functions i ≡ Some f
+    → IsKnown texts f.name

@@ -1,5 +1,5 @@
--- Recursion through set calls: closed walks on which a function collects the next one. A program has levels exactly where it
--- has no such walk.
+-- Recursion through set calls: closed walks on which a function collects the next one. A program
+-- has levels exactly where it has no such walk.
 use Rattle.std.specs.Prelude.{◌≡◌, ℕ, ◌≤◌, List, ◌∷◌, ◌++◌}
 use Rattle.std.specs.List.{Contains}
 use Rattle.cu_calculus.specs.Claims.{AreLevels, Collected}
@@ -9,8 +9,8 @@ use Rattle.cu_lift.specs.Walks.{Has, Walk}
 use Rattle.cu_lift.specs.declared.set_levels.LevelFault.TheVariants as fault
 use Rattle.cu_lift.specs.declared.set_levels.LevelFault.{LevelFault}
 
--- A closed walk from a function, which is also the first of the list, through a set call: each function of the list mentions the
--- next one, and the last the first.
+-- A closed walk from a function, which is also the first of the list, through a set call: each
+-- function of the list mentions the next one, and the last the first.
 pub record IsSetCycle (program : Program) (start : FunId) (cycle : List FunId) : Type 0 where
   pub caller : FunId
   pub collected : FunId
@@ -23,9 +23,11 @@ pub record IsSetCycle (program : Program) (start : FunId) (cycle : List FunId) :
 
 -- a function stands on such a walk
 abbrev pub StandsOn : Program → FunId → Type 0
-StandsOn program f = (start : FunId) × (cycle : List FunId) × IsSetCycle program start cycle × Contains cycle f
+StandsOn program f = (start : FunId) × (cycle : List FunId) × IsSetCycle program start cycle
+    × Contains cycle f
 
--- such a walk from the first function, in program order, that stands on one, where the program has no levels
+-- such a walk from the first function, in program order, that stands on one, where the program has
+-- no levels
 pub record IsSetRecursion (program : Program) (cycle : List FunId) : Type 0 where
   pub first : FunId
   pub is_cycle : IsSetCycle program first cycle

@@ -15,10 +15,12 @@ pub record Has (program : Program) (f : FunId) (mention : Mention) : Type 0 wher
 abbrev pub Mentions : Program → FunId → FunId → Type 0
 Mentions program f g = Has program f (Plain g) ⊎ Has program f (Collected g)
 
--- a walk along edges from one function to another; the list has the functions that it leaves, in order
+-- a walk along edges from one function to another; the list has the functions that it leaves, in
+-- order
 pub data Walk (program : Program) : FunId → List FunId → FunId → Type 0 where
   stay : (f : FunId) → Walk program f [] f
-  go : (f g h : FunId) (fs : List FunId) → Mentions program f g → Walk program g fs h → Walk program f (f ∷ fs) h
+  go : (f g h : FunId) (fs : List FunId) → Mentions program f g → Walk program g fs h
+      → Walk program f (f ∷ fs) h
 
 abbrev pub Reaches : Program → FunId → FunId → Type 0
 Reaches program f g = (fs : List FunId) × Walk program f fs g

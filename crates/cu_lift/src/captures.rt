@@ -45,7 +45,8 @@ fn push_head(found: &mut Vec<Part>, head: LocalHead) -> Result<(), AllocError>
 #[cycle(bound)]
 #[tactic(auto, using(cu_kernel::specs::TermsOf::patterns_of_variants))]
 fn push_pattern(found: &mut Vec<Part>, pattern: &Pattern) -> Result<(), AllocError>
-    ensures { OnOk result (found.new.items ≡ found.old.items ++ bound (variables_of (pattern_of pattern.now))) }
+    ensures { OnOk result (found.new.items
+        ≡ found.old.items ++ bound (variables_of (pattern_of pattern.now))) }
 {
     match pattern {
         Pattern::Var(x) => {
@@ -64,7 +65,8 @@ fn push_pattern(found: &mut Vec<Part>, pattern: &Pattern) -> Result<(), AllocErr
 /// Pushes the variables that these patterns bind.
 #[cycle(bound)]
 fn push_patterns(found: &mut Vec<Part>, patterns: &[Pattern]) -> Result<(), AllocError>
-    ensures { OnOk result (found.new.items ≡ found.old.items ++ bound (all_variables (patterns_of patterns.now))) }
+    ensures { OnOk result (found.new.items
+        ≡ found.old.items ++ bound (all_variables (patterns_of patterns.now))) }
 {
     for pattern in patterns {
         push_pattern(found, pattern)?;
@@ -121,7 +123,8 @@ fn push_call(
 #[cycle(parts)]
 fn push_two(found: &mut Vec<Part>, first: &LocalTerm, second: &LocalTerm) -> Result<(), AllocError>
     ensures { OnOk result (found.new.items
-        ≡ found.old.items ++ (parts (local_term_of first.now) ++ parts (local_term_of second.now))) }
+        ≡ found.old.items ++ (parts (local_term_of first.now)
+        ++ parts (local_term_of second.now))) }
 {
     push_term(found, first)?;
     push_term(found, second)
@@ -130,7 +133,8 @@ fn push_two(found: &mut Vec<Part>, first: &LocalTerm, second: &LocalTerm) -> Res
 /// Pushes what these terms use and bind.
 #[cycle(parts)]
 fn push_terms(found: &mut Vec<Part>, terms: &[LocalTerm]) -> Result<(), AllocError>
-    ensures { OnOk result (found.new.items ≡ found.old.items ++ all_parts (local_terms_of terms.now)) }
+    ensures { OnOk result (found.new.items
+        ≡ found.old.items ++ all_parts (local_terms_of terms.now)) }
 {
     for term in terms {
         push_term(found, term)?;
@@ -190,7 +194,8 @@ struct Local {
 impl Local {
     /// Notes what stands in a rule.
     fn note(&mut self, part: Part) -> Result<(), AllocError>
-        ensures { OnOk result ((ps : List Part) → IsLocal ps self.old → IsLocal (ps ++ part ∷ []) self.new) }
+        ensures { OnOk result ((ps : List Part) → IsLocal ps self.old
+            → IsLocal (ps ++ part ∷ []) self.new) }
     {
         match part {
             Part::Uses(x) => {
@@ -242,8 +247,10 @@ impl Local {
 /// Whether a variable is bound in the local function at a place.
 fn is_bound(locals: &[Local], place: usize, x: u32) -> bool
     requires { place < length locals.now }
-    ensures holds { IsTrue result → (l : Local) → slice_get locals.now place ≡ Some l → IsIn l.binds.keys x }
-    ensures fails { IsFalse result → (l : Local) → slice_get locals.now place ≡ Some l → IsIn l.binds.keys x → ⊥ }
+    ensures holds { IsTrue result → (l : Local) → slice_get locals.now place ≡ Some l
+        → IsIn l.binds.keys x }
+    ensures fails { IsFalse result → (l : Local) → slice_get locals.now place ≡ Some l
+        → IsIn l.binds.keys x → ⊥ }
 {
     locals[place].binds(x)
 }
@@ -436,7 +443,8 @@ fn push_captured(sets: &mut Vec<Vec<u32>>, met: &[bool], x: u32) -> Result<(), A
 pub fn captured(alloc: Global, function: &TopFunction) -> Result<Vec<Vec<u32>>, AllocError>
     requires { IsScoped (top_function_meaning function.now) }
     ensures sized { IfOk result (λ sets. length sets.items ≡ length function.now.locals.items) }
-    ensures captured { IfOk result (λ sets. (k : ℕ) (set : Vec ℕ Global) → slice_get sets.items k ≡ Some set
+    ensures captured { IfOk result (λ sets. (k : ℕ) (set : Vec ℕ Global)
+        → slice_get sets.items k ≡ Some set
         → AreCaptured (map local_function_meaning function.now.locals.items) k set.items) }
 {
     let Survey {

@@ -72,8 +72,10 @@ impl Search {
 
     /// Whether the last part begins behind a place of the path.
     fn begins_behind(&self, at: usize) -> bool
-        ensures behind { IsTrue result → (p : Part) × IsLast self.now.parts.items p × (at < p.start) }
-        ensures before { IsFalse result → (p : Part) → IsLast self.now.parts.items p → p.start ≤ at }
+        ensures behind { IsTrue result → (p : Part) × IsLast self.now.parts.items p
+            × (at < p.start) }
+        ensures before { IsFalse result → (p : Part) → IsLast self.now.parts.items p
+            → p.start ≤ at }
     {
         match self.parts.last() {
             Some(part) => at < part.start,
@@ -95,8 +97,10 @@ impl Search {
     /// Closes the functions of the path from a place on.
     fn close_from(&mut self, start: usize)
         requires start { start ≤ length self.old.path.items }
-        requires open_at { (s v : ℕ) → slice_get self.old.path.items s ≡ Some v → slice_get self.old.places.items v ≡ Some (Place.Open s) }
-        requires at_open { (v s : ℕ) → slice_get self.old.places.items v ≡ Some (Place.Open s) → slice_get self.old.path.items s ≡ Some v }
+        requires open_at { (s v : ℕ) → slice_get self.old.path.items s ≡ Some v
+            → slice_get self.old.places.items v ≡ Some (Place.Open s) }
+        requires at_open { (v s : ℕ) → slice_get self.old.places.items v ≡ Some (Place.Open s)
+            → slice_get self.old.path.items s ≡ Some v }
         ensures places { AreShut start self.old.closed self.old.places.items self.new.places.items }
         ensures sized { length self.new.places.items ≡ length self.old.places.items }
         ensures path { self.new.path.items ≡ take start self.old.path.items }
@@ -116,9 +120,12 @@ impl Search {
         requires last { IsLast self.old.parts.items part }
         requires start { part.start ≤ length self.old.path.items }
         requires room { self.old.closed + 1 < 2 ^ 64 }
-        requires open_at { (s v : ℕ) → slice_get self.old.path.items s ≡ Some v → slice_get self.old.places.items v ≡ Some (Place.Open s) }
-        requires at_open { (v s : ℕ) → slice_get self.old.places.items v ≡ Some (Place.Open s) → slice_get self.old.path.items s ≡ Some v }
-        ensures good { (g : Graph) → IsGood g self.old → length self.old.pending.items ≤ part.pending → IsGood g self.new }
+        requires open_at { (s v : ℕ) → slice_get self.old.path.items s ≡ Some v
+            → slice_get self.old.places.items v ≡ Some (Place.Open s) }
+        requires at_open { (v s : ℕ) → slice_get self.old.places.items v ≡ Some (Place.Open s)
+            → slice_get self.old.path.items s ≡ Some v }
+        ensures good { (g : Graph) → IsGood g self.old
+            → length self.old.pending.items ≤ part.pending → IsGood g self.new }
         ensures falls { (g : Graph) → work g self.new + 1 ≡ work g self.old }
         ensures meets { Meets self.old self.new }
     {
@@ -129,7 +136,8 @@ impl Search {
 
     /// The last of what is pending from a place on.
     fn pending_from(&self, start: usize) -> Option<usize>
-        ensures some { IfSome result (λ target. (start < length self.now.pending.items) × IsLast self.now.pending.items target) }
+        ensures some { IfSome result (λ target. (start < length self.now.pending.items)
+            × IsLast self.now.pending.items target) }
         ensures none { IfNone result (length self.now.pending.items ≤ start) }
     {
         if start < self.pending.len() {
@@ -284,7 +292,8 @@ pub(crate) fn find_components(
 /// As many empty rows as there are components.
 pub(crate) fn empty_rows<T: Drop>(alloc: Global, count: usize) -> Result<Vec<Vec<T>>, AllocError>
     ensures sized { IfOk result (λ rows. length rows.items ≡ count) }
-    ensures empty { IfOk result (λ rows. (r : ℕ) (row : Vec T Global) → slice_get rows.items r ≡ Some row → row.items ≡ []) }
+    ensures empty { IfOk result (λ rows. (r : ℕ) (row : Vec T Global)
+        → slice_get rows.items r ≡ Some row → row.items ≡ []) }
 {
     let mut rows = Vec::new(alloc);
     let mut number = 0;
@@ -299,7 +308,8 @@ pub(crate) fn empty_rows<T: Drop>(alloc: Global, count: usize) -> Result<Vec<Vec
 /// The functions of each component, in program order.
 pub(crate) fn members(alloc: Global, found: &Components) -> Result<Vec<Vec<FunId>>, AllocError>
     requires { (u r : ℕ) → slice_get found.now.ranks.items u ≡ Some r → r < found.now.count }
-    ensures { IfOk result (λ members. AreMembers found.now.ranks.items found.now.count members.items) }
+    ensures { IfOk result
+        (λ members. AreMembers found.now.ranks.items found.now.count members.items) }
 {
     let mut members = empty_rows(alloc, found.count)?;
     for (function, rank) in found.ranks.iter().enumerate() {

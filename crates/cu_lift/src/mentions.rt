@@ -21,7 +21,8 @@ pub(crate) struct Mention {
 
 /// Pushes what a head mentions.
 fn push_head(found: &mut Vec<Mention>, head: Head) -> Result<(), AllocError>
-    ensures { OnOk result (mention_meanings found.new.items ≡ mention_meanings found.old.items ++ head_mentions head) }
+    ensures { OnOk result (mention_meanings found.new.items
+        ≡ mention_meanings found.old.items ++ head_mentions head) }
 {
     let (function, collected) = match head {
         Head::Con(_) => return Ok(()),
@@ -39,7 +40,8 @@ fn push_head(found: &mut Vec<Mention>, head: Head) -> Result<(), AllocError>
 #[cycle(mentions)]
 #[tactic(auto, using(cu_kernel::specs::TermsOf::terms_of_variants))]
 fn push_term(found: &mut Vec<Mention>, term: &Term) -> Result<(), AllocError>
-    ensures { OnOk result (mention_meanings found.new.items ≡ mention_meanings found.old.items ++ mentions (term_of term.now)) }
+    ensures { OnOk result (mention_meanings found.new.items
+        ≡ mention_meanings found.old.items ++ mentions (term_of term.now)) }
 {
     match term {
         Term::Var(_) => Ok(()),
@@ -61,7 +63,8 @@ fn push_term(found: &mut Vec<Mention>, term: &Term) -> Result<(), AllocError>
 #[cycle(mentions)]
 fn push_call(found: &mut Vec<Mention>, head: Head, arguments: &[Term]) -> Result<(), AllocError>
     ensures { OnOk result (mention_meanings found.new.items
-        ≡ mention_meanings found.old.items ++ (head_mentions head ++ all_mentions (terms_of arguments.now))) }
+        ≡ mention_meanings found.old.items
+        ++ (head_mentions head ++ all_mentions (terms_of arguments.now))) }
 {
     push_head(found, head)?;
     push_terms(found, arguments)
@@ -71,7 +74,8 @@ fn push_call(found: &mut Vec<Mention>, head: Head, arguments: &[Term]) -> Result
 #[cycle(mentions)]
 fn push_two(found: &mut Vec<Mention>, first: &Term, second: &Term) -> Result<(), AllocError>
     ensures { OnOk result (mention_meanings found.new.items
-        ≡ mention_meanings found.old.items ++ (mentions (term_of first.now) ++ mentions (term_of second.now))) }
+        ≡ mention_meanings found.old.items
+        ++ (mentions (term_of first.now) ++ mentions (term_of second.now))) }
 {
     push_term(found, first)?;
     push_term(found, second)
@@ -96,7 +100,8 @@ fn push_alternatives(
     alternatives: &[(Pattern, Term)],
 ) -> Result<(), AllocError>
     ensures { OnOk result (mention_meanings found.new.items
-        ≡ mention_meanings found.old.items ++ alternative_mentions (alternatives_of alternatives.now)) }
+        ≡ mention_meanings found.old.items
+        ++ alternative_mentions (alternatives_of alternatives.now)) }
 {
     for (_, body) in alternatives {
         push_term(found, body)?;
@@ -107,7 +112,8 @@ fn push_alternatives(
 /// Pushes what the right sides of rules mention.
 fn push_rules(found: &mut Vec<Mention>, rules: &[Rule]) -> Result<(), AllocError>
     ensures { OnOk result (mention_meanings found.new.items
-        ≡ mention_meanings found.old.items ++ flat_map (λ rule. mentions rule.body) (map rule_meaning rules.now)) }
+        ≡ mention_meanings found.old.items
+        ++ flat_map (λ rule. mentions rule.body) (map rule_meaning rules.now)) }
 {
     for rule in rules {
         push_term(found, &rule.body)?;
@@ -117,7 +123,8 @@ fn push_rules(found: &mut Vec<Mention>, rules: &[Rule]) -> Result<(), AllocError
 
 /// What a function's rules mention.
 fn mentions_of(alloc: Global, body: &Body) -> Result<Vec<Mention>, AllocError>
-    ensures { IfOk result (λ found. mention_meanings found.items ≡ body_mentions (body_meaning body.now)) }
+    ensures { IfOk result (λ found. mention_meanings found.items
+        ≡ body_mentions (body_meaning body.now)) }
 {
     let mut found = Vec::new(alloc);
     match body {

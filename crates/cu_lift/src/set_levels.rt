@@ -40,7 +40,8 @@ fn demand_of(levels: &[usize], mention: Mention) -> usize
 
 /// The greatest of what a row's mentions demand, and of a level.
 fn row_demand(levels: &[usize], row: &[Mention], least: usize) -> usize
-    requires within { (k : ℕ) (m : Mention) → slice_get row.now k ≡ Some m → m.function.0 < length levels.now }
+    requires within { (k : ℕ) (m : Mention) → slice_get row.now k ≡ Some m
+        → m.function.0 < length levels.now }
     requires fits { AreBelow (length levels.now) levels.now }
     ensures { IsDemand levels.now row.now least result }
 {
@@ -56,7 +57,8 @@ fn row_demand(levels: &[usize], row: &[Mention], least: usize) -> usize
 fn demands(graph: &[Vec<Mention>], levels: &[usize], members: &[FunId]) -> usize
     requires whole { IsWhole graph.now }
     requires sized { length levels.now ≡ length graph.now }
-    requires within { (k : ℕ) (f : FunId) → slice_get members.now k ≡ Some f → f.0 < length graph.now }
+    requires within { (k : ℕ) (f : FunId) → slice_get members.now k ≡ Some f
+        → f.0 < length graph.now }
     requires fits { AreBelow (length levels.now) levels.now }
     ensures { AreDemands graph.now levels.now members.now result }
 {
@@ -70,7 +72,8 @@ fn demands(graph: &[Vec<Mention>], levels: &[usize], members: &[FunId]) -> usize
 
 /// Gives functions a level.
 fn raise(levels: &mut Vec<usize>, members: &[FunId], level: usize)
-    requires { (k : ℕ) (f : FunId) → slice_get members.now k ≡ Some f → f.0 < length levels.old.items }
+    requires { (k : ℕ) (f : FunId) → slice_get members.now k ≡ Some f
+        → f.0 < length levels.old.items }
     ensures { AreRaised members.now level levels.old.items levels.new.items }
 {
     for function in members {
@@ -87,7 +90,8 @@ fn least_levels(
     requires whole { IsWhole graph.now }
     requires ranks { AreRanks graph.now found.now.ranks.items found.now.count }
     requires calm { IsCalm graph.now found.now.ranks.items }
-    ensures { IfOk result (λ levels. LevelsTo graph.now found.now.ranks.items found.now.count levels.items) }
+    ensures { IfOk result
+        (λ levels. LevelsTo graph.now found.now.ranks.items found.now.count levels.items) }
 {
     let rows = members(alloc, found)?;
     let groups = rows.as_slice();
@@ -112,8 +116,10 @@ struct Call {
 /// Whether a mention collects a function of a rank.
 fn collects(ranks: &[usize], mention: Mention, rank: usize) -> bool
     requires { mention.function.0 < length ranks.now }
-    ensures holds { IsTrue result → (mention.collected ≡ true) × (slice_get ranks.now mention.function.0 ≡ Some rank) }
-    ensures fails { IsFalse result → mention.collected ≡ true → slice_get ranks.now mention.function.0 ≡ Some rank → ⊥ }
+    ensures holds { IsTrue result → (mention.collected ≡ true)
+        × (slice_get ranks.now mention.function.0 ≡ Some rank) }
+    ensures fails { IsFalse result → mention.collected ≡ true
+        → slice_get ranks.now mention.function.0 ≡ Some rank → ⊥ }
 {
     if mention.collected {
         return ranks[mention.function.0] == rank;
@@ -123,7 +129,8 @@ fn collects(ranks: &[usize], mention: Mention, rank: usize) -> bool
 
 /// The first function of a rank that a row collects.
 fn collected_in(ranks: &[usize], row: &[Mention], rank: usize) -> Option<usize>
-    requires { (k : ℕ) (m : Mention) → slice_get row.now k ≡ Some m → m.function.0 < length ranks.now }
+    requires { (k : ℕ) (m : Mention) → slice_get row.now k ≡ Some m
+        → m.function.0 < length ranks.now }
     ensures some { IfSome result (Collects ranks.now row.now rank) }
     ensures none { IfNone result ((f : ℕ) → Collects ranks.now row.now rank f → ⊥) }
 {
@@ -143,7 +150,8 @@ fn calls(
 ) -> Result<Vec<Option<Call>>, AllocError>
     requires whole { IsWhole graph.now }
     requires ranks { AreRanks graph.now found.now.ranks.items found.now.count }
-    ensures { IfOk result (λ calls. AreCalls graph.now found.now.ranks.items found.now.count (length graph.now) calls.items) }
+    ensures { IfOk result (λ calls. AreCalls graph.now found.now.ranks.items found.now.count
+        (length graph.now) calls.items) }
 {
     let mut calls = vec![in alloc; None; found.count]?;
     let ranks = found.ranks.as_slice();
@@ -161,7 +169,8 @@ fn calls(
 fn first_recursion(ranks: &[usize], calls: &[Option<Call>]) -> Option<(usize, Call)>
     requires { (f r : ℕ) → slice_get ranks.now f ≡ Some r → r < length calls.now }
     ensures some { IfSome result (λ found. IsFirstCall ranks.now calls.now found.0 found.1) }
-    ensures none { IfNone result ((f r : ℕ) → slice_get ranks.now f ≡ Some r → slice_get calls.now r ≡ Some None) }
+    ensures none { IfNone result ((f r : ℕ) → slice_get ranks.now f ≡ Some r
+        → slice_get calls.now r ≡ Some None) }
 {
     for (function, rank) in ranks.iter().enumerate() {
         if let Some(call) = calls[*rank] {
@@ -183,7 +192,8 @@ fn cycle(
     requires collected { call.collected < length graph.now }
     requires to { Reach graph.now first call.caller }
     requires back { Reach graph.now call.collected first }
-    ensures { IfOk result (λ cycle. IsCycleOf graph.now first call.caller call.collected cycle.items) }
+    ensures { IfOk result
+        (λ cycle. IsCycleOf graph.now first call.caller call.collected cycle.items) }
 {
     let mut cycle = walk(alloc, graph, first, call.caller)?;
     cycle.push(FunId(call.caller))?;

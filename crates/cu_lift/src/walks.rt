@@ -85,7 +85,8 @@ impl Spread {
         requires trail { IsTrail graph.now self.old }
         ensures trail { OnOk result (IsTrail graph.now self.new) }
         ensures grows { OnOk result (Grows self.old self.new) }
-        ensures done { OnOk result ((i : ℕ) → i < length self.new.found.items → IsDone graph.now self.new i) }
+        ensures done { OnOk result ((i : ℕ) → i < length self.new.found.items
+            → IsDone graph.now self.new i) }
     {
         let mut next = 0;
         while next < self.found.len() {
@@ -97,8 +98,10 @@ impl Spread {
 
     /// The place of a function among those found.
     fn place_of(&self, function: usize) -> Option<usize>
-        ensures some { IfSome result (λ i. (f : Found) × (slice_get self.now.found.items i ≡ Some f) × (f.function ≡ function)) }
-        ensures none { IfNone result ((i : ℕ) (f : Found) → slice_get self.now.found.items i ≡ Some f → f.function ≡ function → ⊥) }
+        ensures some { IfSome result (λ i. (f : Found) × (slice_get self.now.found.items i ≡ Some f)
+            × (f.function ≡ function)) }
+        ensures none { IfNone result ((i : ℕ) (f : Found)
+            → slice_get self.now.found.items i ≡ Some f → f.function ≡ function → ⊥) }
     {
         for (i, found) in self.found.iter().enumerate() {
             if found.function == function {
@@ -111,9 +114,12 @@ impl Spread {
     /// The walk from the start to the function at a place.
     fn trace(&self, alloc: Global, place: usize) -> Result<Vec<FunId>, AllocError>
         requires within { place < length self.now.found.items }
-        requires falls { (i : ℕ) (f : Found) → slice_get self.now.found.items i ≡ Some f → 0 < i → f.from < i }
-        ensures { IfOk result (λ walk. (g : Graph) (first last : Found) → IsTrail g self.now → slice_get self.now.found.items 0 ≡ Some first
-            → slice_get self.now.found.items place ≡ Some last → Steps g first.function walk.items last.function) }
+        requires falls { (i : ℕ) (f : Found) → slice_get self.now.found.items i ≡ Some f → 0 < i
+            → f.from < i }
+        ensures { IfOk result (λ walk. (g : Graph) (first last : Found) → IsTrail g self.now
+            → slice_get self.now.found.items 0 ≡ Some first
+            → slice_get self.now.found.items place ≡ Some last
+            → Steps g first.function walk.items last.function) }
     {
         let mut walk = Vec::new(alloc);
         let mut at = place;

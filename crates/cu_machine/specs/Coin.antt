@@ -42,10 +42,12 @@ functions =
     ∷ record { arity = 0; body = Rule [] (e 12) }
     ∷ []
 
--- the constructors False, True, [], (:), and Values, which holds the list of all values that a search found
+-- the constructors False, True, [], (:), and Values, which holds the list of all values that a
+-- search found
 abbrev constructors : List Constructor
 constructors =
-    record { of_type = 0; arity = 0 } ∷ record { of_type = 0; arity = 0 } ∷ record { of_type = 1; arity = 0 }
+    record { of_type = 0; arity = 0 } ∷ record { of_type = 0; arity = 0 }
+    ∷ record { of_type = 1; arity = 0 }
     ∷ record { of_type = 1; arity = 2 } ∷ record { of_type = 2; arity = 1 } ∷ []
 
 abbrev special : Special
@@ -70,7 +72,8 @@ expressions =
     ∷ Whole (Fun (function 2)) []
     ∷ Whole (Con (constructor 0)) []
     ∷ Case Flex (1 ∷ []) (e 3)
-    (record { pattern = Built (constructor 0) []; body = e 7 } ∷ record { pattern = Built (constructor 1) []; body = e 4 } ∷ [])
+    (record { pattern = Built (constructor 0) []; body = e 7 }
+    ∷ record { pattern = Built (constructor 1) []; body = e 4 } ∷ [])
     ∷ Whole (Fun (function 0)) []
     ∷ Whole (Fun (function 1)) (e 0 ∷ e 1 ∷ [])
     ∷ Whole (Fun (function 1)) (e 6 ∷ e 1 ∷ [])
@@ -78,7 +81,12 @@ expressions =
     ∷ []
 
 abbrev pub coin_code : Code
-coin_code = record { functions = functions; constructors = constructors; special = special; expressions = expressions }
+coin_code = record {
+  functions = functions;
+  constructors = constructors;
+  special = special;
+  expressions = expressions;
+}
 
 -- the coin itself
 abbrev pub coin_function : FunId
@@ -120,4 +128,10 @@ list_of (v ∷ vs) = Constructed (constructor 3) (MoreValues v (MoreValues (list
 
 -- the answer of all values that a set function's call has, in a round, of a goal without variables
 abbrev pub all_at : ℕ → List Value → Line
-all_at round values = Answered round (record { bindings = []; value = Constructed (constructor 4) (MoreValues (list_of values) NoValue) })
+all_at round values =
+    Answered round
+    (record {
+      bindings = [];
+      value = Constructed (constructor 4)
+          (MoreValues (list_of values) NoValue);
+    })

@@ -1,4 +1,5 @@
--- The place of an answer in a listing: what the rounds list before it, and how a listing may have ended before it.
+-- The place of an answer in a listing: what the rounds list before it, and how a listing may have
+-- ended before it.
 use Rattle.std.specs.Prelude.{◌≡◌, ◌<◌, ◌≤◌, ℕ, zero, suc, ◌+◌, List, [], ◌∷◌, ◌++◌, Some, map, flat_map}
 use Rattle.cu_calculus.specs.Code.{Code}
 use Rattle.cu_machine.specs.declared.End.{End}
@@ -28,15 +29,19 @@ events program limits start round = events_of program limits (level program limi
 -- what the rounds before one list, where nothing ends the listing
 abbrev pub lines_before : (ℕ → List Next) → ℕ → List Line
 lines_before in_round zero = []
-lines_before in_round (suc round) = lines_before in_round round ++ flat_map (lines_of round) (in_round round)
+lines_before in_round (suc round) =
+    lines_before in_round round ++ flat_map (lines_of round) (in_round round)
 
 -- what is listed before a state of a round's level, behind these states of the level
 abbrev pub earlier : Code → SearchLimits → State → ℕ → List State → List Line
 earlier program limits start round states =
-    lines_before (events program limits start) round ++ flat_map (lines_of round) (events_of program limits states)
+    lines_before (events program limits start) round
+    ++ flat_map (lines_of round) (events_of program limits states)
 
--- a state that a run reaches from one of a round's level, which stands behind these states of the level
-pub record IsReached (program : Code) (limits : SearchLimits) (start : State) (round : ℕ) (before : List State) (state : State) : Type 0 where
+-- a state that a run reaches from one of a round's level, which stands behind these states of the
+-- level
+pub record IsReached (program : Code) (limits : SearchLimits) (start : State) (round : ℕ)
+    (before : List State) (state : State) : Type 0 where
   pub from : State
   pub after : List State
   pub level_is : level program limits start round ≡ before ++ from ∷ after
@@ -48,20 +53,24 @@ answers_in (Answered round reading ∷ lines) = answers_in lines + 1
 answers_in (Waiting round names ∷ lines) = answers_in lines
 
 -- a listing that lists an answer of a round right behind these lines
-pub record IsListed (round : ℕ) (lines : List Line) (reading : Reading) (listing : Listing) : Type 0 where
+pub record IsListed (round : ℕ) (lines : List Line) (reading : Reading)
+    (listing : Listing) : Type 0 where
   pub rest : List Line
   pub behind : listing.lines ≡ lines ++ Answered round reading ∷ rest
 
--- an end that comes by the time of a round, where these lines were listed: by the limit on rounds, by that on answers, or by a
--- search that stops
+-- an end that comes by the time of a round, where these lines were listed: by the limit on rounds,
+-- by that on answers, or by a search that stops
 abbrev pub EndsBy : SearchLimits → ℕ → List Line → End → Type 0
 EndsBy limits round lines (NoMore waits) = ⊥
 EndsBy limits round lines (Rounds last count) = (last ≡ limits.rounds) × (last < round)
-EndsBy limits round lines (Answers count) = (limits.answers ≡ Some count) × (count ≡ answers_in lines)
+EndsBy limits round lines (Answers count) = (limits.answers ≡ Some count)
+    × (count ≡ answers_in lines)
 EndsBy limits round lines (Stopped stop last) = last ≤ round
 
--- a listing that ended before a place in a round: its lines are the first ones of those before that place
-pub record EndedBefore (limits : SearchLimits) (round : ℕ) (lines : List Line) (listing : Listing) : Type 0 where
+-- a listing that ended before a place in a round: its lines are the first ones of those before that
+-- place
+pub record EndedBefore (limits : SearchLimits) (round : ℕ) (lines : List Line)
+    (listing : Listing) : Type 0 where
   pub rest : List Line
   pub first : lines ≡ listing.lines ++ rest
   pub end : EndsBy limits round listing.lines listing.end

@@ -1,5 +1,5 @@
--- What a search for all values of a function finds. It is told as a whole, when the search is exhausted: a set function's
--- values are not read lazily.
+-- What a search for all values of a function finds. It is told as a whole, when the search is
+-- exhausted: a set function's values are not read lazily.
 use Rattle.std.specs.Prelude.{◌≡◌, ℕ, zero, suc, Bool, true, false, List, [], ◌++◌, ◌∷◌, Some, IsTrue, flat_map, map}
 use Rattle.std.specs.List.{list_all}
 use Rattle.cu_calculus.specs.declared.FunId.{FunId}
@@ -15,7 +15,8 @@ use Rattle.cu_machine.specs.Validity.{are_built}
 
 -- the events of the states at a depth of the tree of a call on values
 abbrev pub inner_events : Code → Limits → FunId → Values → ℕ → List Next
-inner_events program limits f arguments depth = map (next program limits) (step_level program limits (call_on program f arguments) depth)
+inner_events program limits f arguments depth =
+    map (next program limits) (step_level program limits (call_on program f arguments) depth)
 
 -- an event that leaves the search going: no answer that isn't ground data, no wait and no stop
 abbrev pub is_quiet : Next → Bool
@@ -32,11 +33,13 @@ answered_by _ = []
 -- what the events of so many levels answered, from the first level on
 abbrev pub answers_before : (ℕ → List Next) → ℕ → List Value
 answers_before events zero = []
-answers_before events (suc depth) = answers_before events depth ++ flat_map answered_by (events depth)
+answers_before events (suc depth) =
+    answers_before events depth ++ flat_map answered_by (events depth)
 
--- The search of a function on ground data of the program ends, at an empty level; all events before it are quiet, and these are
--- the values that were answered, sorted and without repeats.
-pub record Found (program : Code) (limits : Limits) (f : FunId) (arguments : Values) (values : List Value) : Type 0 where
+-- The search of a function on ground data of the program ends, at an empty level; all events before
+-- it are quiet, and these are the values that were answered, sorted and without repeats.
+pub record Found (program : Code) (limits : Limits) (f : FunId) (arguments : Values)
+    (values : List Value) : Type 0 where
   pub whole : function_arity program f ≡ Some (count arguments)
   -- the arguments are ground data of the program
   pub built : IsTrue (are_built program arguments)

@@ -36,10 +36,12 @@ abbrev pub followed : (ℕ → ℕ) → ℕ → Kind → List ℕ → ℕ
 followed follow id kind.Ind (other ∷ args) = follow other
 followed follow id _ _ = id
 
--- The place of a node's head, which is found by following Ind. The first number bounds how many nodes are visited.
+-- The place of a node's head, which is found by following Ind. The first number bounds how many
+-- nodes are visited.
 unfoldable pub head_within : ℕ → Graph → ℕ → ℕ
 head_within zero graph id = id
-head_within (suc visits) graph id = followed (head_within visits graph) id (node_at graph id).kind (node_at graph id).args
+head_within (suc visits) graph id =
+    followed (head_within visits graph) id (node_at graph id).kind (node_at graph id).args
 
 -- as many visits as the graph has nodes suffice wherever it has no cycle
 abbrev pub head_of : Graph → ℕ → ℕ

@@ -15,10 +15,12 @@ go_list Fails = []
 go_list (Waits names) = []
 go_list (Stops stop) = []
 
--- the states at a depth of the tree in which `event` says what becomes of a state, from left to right
+-- the states at a depth of the tree in which `event` says what becomes of a state, from left to
+-- right
 unfoldable pub level_by : (State → Next) → State → ℕ → List State
 level_by event start zero = start ∷ []
-level_by event start (suc depth) = flat_map (λ state. go_list (event state)) (level_by event start depth)
+level_by event start (suc depth) =
+    flat_map (λ state. go_list (event state)) (level_by event start depth)
 
 -- the levels of a search, whose rounds take each state on by its stride
 abbrev pub level : Code → SearchLimits → State → ℕ → List State

@@ -1,4 +1,5 @@
--- The listing of a goal: level by level, in rounds. A round takes each state on by at most so many steps, the stride.
+-- The listing of a goal: level by level, in rounds. A round takes each state on by at most so many
+-- steps, the stride.
 use Rattle.std.specs.Prelude.{ℕ, zero, suc, ◌+◌, List, [], ◌∷◌, ◌++◌, Option, None, Some, Bool, false, if◌then◌else◌, nat_lt, nat_eq, length, map, flat_map}
 use Rattle.cu_calculus.specs.Code.{Code}
 use Rattle.cu_machine.specs.declared.End.{End}
@@ -26,7 +27,8 @@ pub record Tally : Type 0 where
   pub answers : ℕ
   pub waits : ℕ
 
--- what a round listed: its lines, the count after them, and the end where the listing ends inside the round
+-- what a round listed: its lines, the count after them, and the end where the listing ends inside
+-- the round
 pub record Round : Type 0 where
   pub lines : List Line
   pub tally : Tally
@@ -51,17 +53,19 @@ abbrev pub is_last : Option ℕ → ℕ → Bool
 is_last None answers = false
 is_last (Some limit) answers = nat_eq answers limit
 
--- One round over the outcomes of its level, in order. Answers and waiting branches give a line each. The last answer that
--- is wanted, and a branch that stops, end the listing.
+-- One round over the outcomes of its level, in order. Answers and waiting branches give a line
+-- each. The last answer that is wanted, and a branch that stops, end the listing.
 unfoldable pub round_of : ℕ → Option ℕ → Tally → List Next → Round
 round_of d limit tally [] = nothing tally None
 round_of d limit tally (Go states ∷ outcomes) = round_of d limit tally outcomes
 round_of d limit tally (Answer reading ∷ outcomes) =
     with_line (Answered d reading)
-    (if is_last limit (tally.answers + 1) then nothing (one_answer tally) (Some (Answers (tally.answers + 1)))
+    (if is_last limit (tally.answers + 1)
+    then nothing (one_answer tally) (Some (Answers (tally.answers + 1)))
     else round_of d limit (one_answer tally) outcomes)
 round_of d limit tally (Fails ∷ outcomes) = round_of d limit tally outcomes
-round_of d limit tally (Waits names ∷ outcomes) = with_line (Waiting d names) (round_of d limit (one_wait tally) outcomes)
+round_of d limit tally (Waits names ∷ outcomes) =
+    with_line (Waiting d names) (round_of d limit (one_wait tally) outcomes)
 round_of d limit tally (Stops stop ∷ outcomes) = nothing tally (Some (Stopped stop d))
 
 -- lines before a listing
@@ -76,30 +80,36 @@ abbrev pub unless_ended : Option End → Listing → Listing
 unless_ended None listing = listing
 unless_ended (Some end) listing = only_end end
 
--- An exhausted tree ends the listing, with the number of the branches that wait; otherwise the others are listed.
+-- An exhausted tree ends the listing, with the number of the branches that wait; otherwise the
+-- others are listed.
 abbrev pub unless_exhausted : (Tally → List State → Listing) → Tally → List State → Listing
 unless_exhausted others tally [] = only_end (NoMore tally.waits)
 unless_exhausted others tally (state ∷ states) = others tally (state ∷ states)
 
 -- one level, and what `others` lists of the level after it
-abbrev pub list_level : (Tally → List State → Listing) → Code → SearchLimits → ℕ → Tally → List State → Listing
+abbrev pub list_level : (Tally → List State → Listing) → Code → SearchLimits → ℕ → Tally
+    → List State → Listing
 list_level others program limits d tally states =
     let outcomes = map (run limits.stride program limits.step) states in
     let round = round_of d limits.answers tally outcomes
-    in after_lines round.lines (unless_ended round.end (unless_exhausted others round.tally (flat_map go_list outcomes)))
+    in after_lines round.lines
+    (unless_ended round.end (unless_exhausted others round.tally (flat_map go_list outcomes)))
 
--- The rounds from round d on, whose level is given, where `left` more may follow it. After the last of them the round limit
--- ends the listing; after an earlier one a level that is too wide does.
+-- The rounds from round d on, whose level is given, where `left` more may follow it. After the last
+-- of them the round limit ends the listing; after an earlier one a level that is too wide does.
 unfoldable pub rounds : ℕ → Code → SearchLimits → ℕ → Tally → List State → Listing
 rounds zero program limits d tally states =
-    list_level (λ after following. only_end (Rounds d (length following))) program limits d tally states
+    list_level (λ after following. only_end (Rounds d (length following))) program limits d tally
+    states
 rounds (suc left) program limits d tally states =
     list_level
     (λ after following.
-    if nat_lt limits.step.width (length following) then only_end (Stopped (TooWide (length following)) (d + 1))
+    if nat_lt limits.step.width (length following)
+    then only_end (Stopped (TooWide (length following)) (d + 1))
     else rounds left program limits (d + 1) after following)
     program limits d tally states
 
 -- the listing of a search from its start
 abbrev pub listing : Code → SearchLimits → State → Listing
-listing program limits start = rounds limits.rounds program limits 0 (record { answers = 0; waits = 0 }) (start ∷ [])
+listing program limits start =
+    rounds limits.rounds program limits 0 (record { answers = 0; waits = 0 }) (start ∷ [])

@@ -1,7 +1,8 @@
--- What the value of a node needs: the node that is to be rewritten next, found from the node on. It follows the strategy of
--- needed narrowing (Antoy, Echahed and Hanus, A needed narrowing strategy, 2000) with residuation for what is rigid. Beyond
--- the paper, rules may overlap, by a choice; a variable is bound in one step and the call rewritten in the next; and a value
--- is needed whole, not to its head alone.
+-- What the value of a node needs: the node that is to be rewritten next, found from the node on. It
+-- follows the strategy of needed narrowing (Antoy, Echahed and Hanus, A needed narrowing strategy,
+-- 2000) with residuation for what is rigid. Beyond the paper, rules may overlap, by a choice; a
+-- variable is bound in one step and the call rewritten in the next; and a value is needed whole,
+-- not to its head alone.
 use Rattle.std.specs.Prelude.{ℕ, zero, suc, List, [], ◌∷◌, Bool, true, false, map, length, if◌then◌else◌}
 use Rattle.cu_calculus.specs.declared.Mode.{Mode}
 use Rattle.cu_calculus.specs.declared.Mode.TheVariants.{Flex, Rigid}
@@ -29,7 +30,8 @@ pub data Extent : Type 0 where
   Outermost : Extent
   Throughout : Extent
 
--- one need before another: the first that asks for a step or has no value decides, and waits are joined
+-- one need before another: the first that asks for a step or has no value decides, and waits are
+-- joined
 abbrev pub before : Need → Need → Need
 before (At id) other = At id
 before Dead other = Dead
@@ -61,7 +63,8 @@ abbrev pub unless_rigid : Mode → ℕ → Kind → Need
 unless_rigid Rigid id k = unless_free id k
 unless_rigid Flex id k = Done
 
--- a side of `&`: True is there, a free variable is waited for, and anything else makes the node at `id` fail
+-- a side of `&`: True is there, a free variable is waited for, and anything else makes the node at
+-- `id` fail
 abbrev pub unless_true : ConId → ℕ → ℕ → Kind → Need
 unless_true truth id side (kind.Cons c) = if same_constructor c truth then Done else At id
 unless_true truth id side kind.Free = Wait (side ∷ [])
@@ -69,10 +72,13 @@ unless_true truth id side _ = At id
 
 -- The parts of the table that look at an argument's head, `part` being what an argument needs.
 abbrev pub strict : Graph → (Extent → ℕ → Need) → ℕ → Need
-strict graph part id = unless_done (part Outermost id) (unless_free (head_of graph id) (head_at graph id).kind)
+strict graph part id =
+    unless_done (part Outermost id) (unless_free (head_of graph id) (head_at graph id).kind)
 
 abbrev pub side : ConId → Graph → (Extent → ℕ → Need) → ℕ → ℕ → Need
-side truth graph part id argument = unless_done (part Outermost argument) (unless_true truth id (head_of graph argument) (head_at graph argument).kind)
+side truth graph part id argument =
+    unless_done (part Outermost argument)
+    (unless_true truth id (head_of graph argument) (head_at graph argument).kind)
 
 -- a built-in operation: `=:=` wants its sides, `&` wants them True, and the others want them bound
 abbrev pub operands : ConId → Graph → (Extent → ℕ → Need) → ℕ → Primitive → List ℕ → Need
@@ -99,7 +105,9 @@ free_at part id _ _ = []
 -- The free variables in the value of a node. The first number bounds how deep it is looked at.
 unfoldable pub free_within : ℕ → Graph → ℕ → List ℕ
 free_within zero graph id = []
-free_within (suc depth) graph id = free_at (free_within depth graph) (head_of graph id) (head_at graph id).kind (head_at graph id).args
+free_within (suc depth) graph id =
+    free_at (free_within depth graph) (head_of graph id) (head_at graph id).kind
+    (head_at graph id).args
 
 abbrev pub free_of : Graph → List ℕ → List ℕ
 free_of graph ids = all_free (free_within (length graph) graph) ids
@@ -112,7 +120,8 @@ is_head (kind.Part h) = true
 is_head kind.Free = true
 is_head _ = false
 
--- The table: what the node at the place `id`, which is no Ind, needs so that the head of its value is there.
+-- The table: what the node at the place `id`, which is no Ind, needs so that the head of its value
+-- is there.
 abbrev pub need_at : ConId → Graph → (Extent → ℕ → Need) → ℕ → Kind → List ℕ → Need
 need_at truth graph part id (kind.Cons c) args = Done
 need_at truth graph part id (kind.Lit l) args = Done
@@ -120,28 +129,36 @@ need_at truth graph part id (kind.Part h) args = Done
 need_at truth graph part id kind.Free args = Done
 need_at truth graph part id (kind.Call f) args = At id
 need_at truth graph part id kind.Or args = At id
-need_at truth graph part id (kind.Prim operation) args = unless_done (operands truth graph part id operation args) (At id)
-need_at truth graph part id kind.Apply (function ∷ args) = unless_done (strict graph part function) (At id)
+need_at truth graph part id (kind.Prim operation) args =
+    unless_done (operands truth graph part id operation args) (At id)
+need_at truth graph part id kind.Apply (function ∷ args) =
+    unless_done (strict graph part function) (At id)
 need_at truth graph part id (kind.Case mode e) (scrutinee ∷ values) =
-    unless_done (part Outermost scrutinee) (unless_done (unless_rigid mode (head_of graph scrutinee) (head_at graph scrutinee).kind) (At id))
+    unless_done (part Outermost scrutinee)
+    (unless_done (unless_rigid mode (head_of graph scrutinee) (head_at graph scrutinee).kind)
+    (At id))
 need_at truth graph part id (kind.SetCall f) args =
-    unless_done (first (map (part Throughout) args)) (unless_done (waiting (free_of graph args)) (At id))
+    unless_done (first (map (part Throughout) args))
+    (unless_done (waiting (free_of graph args)) (At id))
 need_at truth graph part id kind.Fail args = Dead
 need_at truth graph part id kind.Stuck args = Wait []
 -- an Ind that leads nowhere, and a node without the arguments of its kind
 need_at truth graph part id _ _ = Wait []
 
--- the same for all of its value: the arguments of a constructor and of a partial application are wanted too
+-- the same for all of its value: the arguments of a constructor and of a partial application are
+-- wanted too
 abbrev pub rest_at : (Extent → ℕ → Need) → Extent → Kind → List ℕ → Need
 rest_at part Throughout (kind.Cons c) args = first (map (part Throughout) args)
 rest_at part Throughout (kind.Part h) args = first (map (part Throughout) args)
 rest_at part _ _ _ = Done
 
--- What a node needs. The first number bounds how deep the graph is looked at; past it nothing is said but that it waits.
+-- What a node needs. The first number bounds how deep the graph is looked at; past it nothing is
+-- said but that it waits.
 unfoldable pub need_within : ℕ → ConId → Graph → Extent → ℕ → Need
 need_within zero truth graph extent id = Wait []
 need_within (suc depth) truth graph extent id =
-    unless_done (need_at truth graph (need_within depth truth graph) (head_of graph id) (head_at graph id).kind (head_at graph id).args)
+    unless_done (need_at truth graph (need_within depth truth graph) (head_of graph id)
+    (head_at graph id).kind (head_at graph id).args)
     (rest_at (need_within depth truth graph) extent (head_at graph id).kind (head_at graph id).args)
 
 -- Need and NeedAll

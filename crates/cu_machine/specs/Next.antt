@@ -19,7 +19,8 @@ use Rattle.cu_machine.specs.Sort.{sorted}
 use Rattle.cu_machine.specs.Spell.{cells_of_all, ordinal, push_value, renumbered, spelled, variables_of_all}
 use Rattle.cu_machine.specs.State.{Branch, Idle, MoreStates, NoState, Running, State, States, call_on, graph_of, states_of}
 
--- what is read off a state whose value is there: what the goal variables are bound to, and the value
+-- what is read off a state whose value is there: what the goal variables are bound to, and the
+-- value
 pub record Reading : Type 0 where
   pub bindings : List Value
   pub value : Value
@@ -38,7 +39,8 @@ pub data Next : Type 0 where
 abbrev pub spelled_all : Graph → ℕ → List ℕ → List Value
 spelled_all graph root goals = map (spelled graph) (goals ++ root ∷ [])
 
--- Read: free variables are numbered from 1, in the order in which they are met in the bindings and then in the value
+-- Read: free variables are numbered from 1, in the order in which they are met in the bindings and
+-- then in the value
 abbrev pub read : Graph → ℕ → List ℕ → Reading
 read graph root goals =
     let number = ordinal (variables_of_all (spelled_all graph root goals)) in
@@ -53,13 +55,17 @@ read graph root goals =
 abbrev pub goal_for : Graph → List ℕ → ℕ → Option ℕ
 goal_for graph [] id = None
 goal_for graph (goal ∷ goals) id =
-    if nat_eq (head_of graph goal) id then Some 0 else elim (goal_for graph goals id) [ Some k ↦ Some (k + 1) | None ↦ None ]
+    if nat_eq (head_of graph goal) id then Some 0
+    else elim (goal_for graph goals id) [ Some k ↦ Some (k + 1) | None ↦ None ]
 
--- the names of places that are waited for; those that no goal variable stands for are numbered from `next` on
+-- the names of places that are waited for; those that no goal variable stands for are numbered from
+-- `next` on
 abbrev pub named : Graph → List ℕ → ℕ → List ℕ → List Waited
 named graph goals next [] = []
-named graph goals next (id ∷ ids) = elim (goal_for graph goals id)
-    [ Some k ↦ Named k ∷ named graph goals next ids | None ↦ Other next ∷ named graph goals (next + 1) ids ]
+named graph goals next (id ∷ ids) = elim (goal_for graph goals id) [
+  | Some k ↦ Named k ∷ named graph goals next ids
+  | None ↦ Other next ∷ named graph goals (next + 1) ids
+]
 
 -- ** Limits
 
@@ -74,34 +80,41 @@ abbrev pub is_too_large : Limits → State → Bool
 is_too_large limits state = is_above limits (length (graph_of state))
 
 abbrev pub unless_one_is_large : Limits → List State → Next
-unless_one_is_large limits states = if list_any (is_too_large limits) states then too_large limits else Go states
+unless_one_is_large limits states = if list_any (is_too_large limits) states then too_large limits
+    else Go states
 
 -- ** A state without a running search
 
 -- an answer, unless it has too many cells
 abbrev pub answered : Limits → Graph → ℕ → List ℕ → Next
 answered limits graph root goals =
-    if is_above limits (cells_of_all (spelled_all graph root goals)) then too_large limits else Answer (read graph root goals)
+    if is_above limits (cells_of_all (spelled_all graph root goals)) then too_large limits
+    else Answer (read graph root goals)
 
 -- the search for all values of a function begins, at the node at a place
 abbrev pub begun : Limits → Graph → ℕ → List ℕ → ℕ → State → Next
 begun limits graph root goals id inner =
-    if is_too_large limits inner then too_large limits else Go (Branch graph root goals (Running id [] (MoreStates inner NoState)) ∷ [])
+    if is_too_large limits inner then too_large limits
+    else Go (Branch graph root goals (Running id [] (MoreStates inner NoState)) ∷ [])
 
 abbrev pub moved : Code → Limits → ℕ → List ℕ → Graph → ℕ → Move → Next
-moved program limits root goals graph id (Become graphs) = unless_one_is_large limits (map (λ after. Branch after root goals Idle) graphs)
+moved program limits root goals graph id (Become graphs) =
+    unless_one_is_large limits (map (λ after. Branch after root goals Idle) graphs)
 moved program limits root goals graph id (Overflows operation m n) = Stops (Overflow operation m n)
-moved program limits root goals graph id (Collect f arguments) = begun limits graph root goals id (call_on program f arguments)
+moved program limits root goals graph id (Collect f arguments) =
+    begun limits graph root goals id (call_on program f arguments)
 
 abbrev pub next_by : Code → Limits → Graph → ℕ → List ℕ → Need → Next
 next_by program limits graph root goals Done = answered limits graph root goals
 next_by program limits graph root goals Dead = Fails
 next_by program limits graph root goals (Wait ids) = Waits (named graph goals 1 ids)
-next_by program limits graph root goals (At id) = moved program limits root goals graph id (move program graph id)
+next_by program limits graph root goals (At id) =
+    moved program limits root goals graph id (move program graph id)
 
 -- ** A running search
 
--- What became of an inner level: the values that were found, and the states that follow, or what ends the search.
+-- What became of an inner level: the values that were found, and the states that follow, or what
+-- ends the search.
 pub data LevelEvent : Type 0 where
   On : List Value → List State → LevelEvent
   -- an answer that isn't ground data, or a branch that waits
@@ -123,46 +136,58 @@ with_states front (Halts stop) = Halts stop
 abbrev pub with_outcome : Next → LevelEvent → LevelEvent
 with_outcome (Stops stop) others = Halts stop
 with_outcome (Waits names) others = Blocked
-with_outcome (Answer reading) others = if is_ground reading.value then with_found reading.value others else Blocked
+with_outcome (Answer reading) others = if is_ground reading.value
+    then with_found reading.value others else Blocked
 with_outcome Fails others = others
 with_outcome (Go states) others = with_states states others
 
--- the node becomes the list of the values that were found, sorted and without repeats, behind its constructor
+-- the node becomes the list of the values that were found, sorted and without repeats, behind its
+-- constructor
 abbrev pub delivered : Code → Graph → ℕ → List Value → Graph
 delivered program graph id found = elim program.special.values [
   | Some c ↦ written graph id (push_value (length graph)
-      (value.Constructed c (value.MoreValues (listed program.special.nil program.special.cons (sorted found)) value.NoValue)))
+      (value.Constructed c
+      (value.MoreValues (listed program.special.nil program.special.cons (sorted found))
+      value.NoValue)))
   | None ↦ put graph id stuck
 ]
 
 -- what follows one inner level
 abbrev pub after_level : Limits → Graph → ℕ → List ℕ → ℕ → List Value → LevelEvent → Next
-after_level limits graph root goals id found Blocked = Go (Branch (put graph id stuck) root goals Idle ∷ [])
+after_level limits graph root goals id found Blocked =
+    Go (Branch (put graph id stuck) root goals Idle ∷ [])
 after_level limits graph root goals id found (Halts stop) = Stops stop
 after_level limits graph root goals id found (On values states) =
     if nat_lt limits.width (length states) then Stops (TooWide (length states))
     else Go (Branch graph root goals (Running id (found ++ values) (states_of states)) ∷ [])
 
 -- a search with this level, whose states' outcomes give `inner`
-abbrev pub searched : Code → Limits → Graph → ℕ → List ℕ → ℕ → List Value → States → LevelEvent → Next
-searched program limits graph root goals id found NoState inner = unless_one_is_large limits (Branch (delivered program graph id found) root goals Idle ∷ [])
-searched program limits graph root goals id found (MoreStates state states) inner = after_level limits graph root goals id found inner
+abbrev pub searched : Code → Limits → Graph → ℕ → List ℕ → ℕ → List Value → States → LevelEvent
+    → Next
+searched program limits graph root goals id found NoState inner =
+    unless_one_is_large limits (Branch (delivered program graph id found) root goals Idle ∷ [])
+searched program limits graph root goals id found (MoreStates state states) inner =
+    after_level limits graph root goals id found inner
 
 -- ** All states
 
 -- a state that isn't too large
 abbrev pub unless_too_large : Limits → Graph → Next → Next
-unless_too_large limits graph next = if is_above limits (length graph) then too_large limits else next
+unless_too_large limits graph next = if is_above limits (length graph) then too_large limits
+    else next
 
 -- Next
 unfoldable mutual
   pub next : Code → Limits → State → Next
   next program limits (Branch graph root goals Idle) =
-      unless_too_large limits graph (next_by program limits graph root goals (need_all program.special.truth graph root))
+      unless_too_large limits graph
+      (next_by program limits graph root goals (need_all program.special.truth graph root))
   next program limits (Branch graph root goals (Running id found level)) =
-      unless_too_large limits graph (searched program limits graph root goals id found level (stepped program limits level))
+      unless_too_large limits graph
+      (searched program limits graph root goals id found level (stepped program limits level))
 
   -- what becomes of an inner level
   pub stepped : Code → Limits → States → LevelEvent
   stepped program limits NoState = On [] []
-  stepped program limits (MoreStates state states) = with_outcome (next program limits state) (stepped program limits states)
+  stepped program limits (MoreStates state states) =
+      with_outcome (next program limits state) (stepped program limits states)

@@ -1,5 +1,6 @@
--- The step table: what becomes of a graph where the node at a place is rewritten. A call's arguments are shared by all their
--- uses, which is call-time choice; a flexible case distinction on a free variable narrows it, once for each branch.
+-- The step table: what becomes of a graph where the node at a place is rewritten. A call's
+-- arguments are shared by all their uses, which is call-time choice; a flexible case distinction on
+-- a free variable narrows it, once for each branch.
 use Rattle.std.specs.Prelude.{ℕ, zero, suc, ◌+◌, Bool, true, false, ◌&&◌, List, [], ◌∷◌, ◌++◌, Option, None, Some, if◌then◌else◌, length, map, nat_eq, nat_lt, zip, ℤ, pos, negsuc, ◌+ℤ◌, ◌-ℤ◌, ◌*ℤ◌, int_lt, int_le}
 use Rattle.std.specs.List.{list_any}
 use Rattle.std.specs.Ordering.{int_eq}
@@ -61,14 +62,16 @@ tells special graph id answer = puts graph id (truth_node special answer)
 
 -- the function's body written over its call, whose arguments its parameters stand for
 abbrev pub unfolded : Code → Graph → ℕ → List ℕ → Option code.Body → Move
-unfolded program graph id args (Some (code.Rule params body)) = alone_follows (write program (zip params args) graph id body)
+unfolded program graph id args (Some (code.Rule params body)) =
+    alone_follows (write program (zip params args) graph id body)
 unfolded program graph id args _ = sticks graph id
 
 -- ** Choices
 
 -- a choice is its left argument, and its right one
 abbrev pub chosen : Graph → ℕ → List ℕ → Move
-chosen graph id (left ∷ right ∷ []) = Become (put graph id (renaming left) ∷ put graph id (renaming right) ∷ [])
+chosen graph id (left ∷ right ∷ []) =
+    Become (put graph id (renaming left) ∷ put graph id (renaming right) ∷ [])
 chosen graph id _ = sticks graph id
 
 -- ** Case distinctions
@@ -84,23 +87,28 @@ takes_constructor c (code.Built d xs) = same_constructor c d
 
 abbrev pub branch_for : (Shallow → Bool) → List Branch → Option Branch
 branch_for test [] = None
-branch_for test (branch ∷ branches) = if test branch.pattern then Some branch else branch_for test branches
+branch_for test (branch ∷ branches) = if test branch.pattern then Some branch
+    else branch_for test branches
 
 -- a branch is written over the case distinction, where the pattern's variables stand for arguments
 abbrev pub takes_branch : Code → Scope → Graph → ℕ → List ℕ → Option Branch → Move
 takes_branch program scope graph id args None = fails graph id
-takes_branch program scope graph id args (Some branch) = alone_follows (write program (scope ++ zip (bound_by branch.pattern) args) graph id branch.body)
+takes_branch program scope graph id args (Some branch) =
+    alone_follows (write program (scope ++ zip (bound_by branch.pattern) args) graph id branch.body)
 
--- a free variable becomes what a pattern asks for: a literal, or a constructor over new free variables
+-- a free variable becomes what a pattern asks for: a literal, or a constructor over new free
+-- variables
 abbrev pub bound_to : Graph → ℕ → Shallow → Graph
 bound_to graph v (code.Exactly l) = put graph v (alone (kind.Lit l))
 bound_to graph v (code.Built c xs) =
-    put (graph ++ free_nodes (length xs)) v (record { kind = kind.Cons c; args = numbers (length graph) (length xs) })
+    put (graph ++ free_nodes (length xs)) v
+    (record { kind = kind.Cons c; args = numbers (length graph) (length xs) })
 
 abbrev pub narrows : Graph → ℕ → List Branch → Move
 narrows graph v branches = Become (map (λ branch. bound_to graph v branch.pattern) branches)
 
--- A case distinction, by the head of its scrutinee. On a free variable it is a flexible one, since a rigid one waits there.
+-- A case distinction, by the head of its scrutinee. On a free variable it is a flexible one, since
+-- a rigid one waits there.
 abbrev pub distinguished : Code → Scope → Graph → ℕ → List Branch → ℕ → Kind → List ℕ → Move
 distinguished program scope graph id branches v (kind.Lit l) args =
     takes_branch program scope graph id [] (branch_for (takes_literal l) branches)
@@ -113,7 +121,8 @@ distinguished program scope graph id branches v _ _ = sticks graph id
 -- the code of a case distinction, over the values that its node keeps
 abbrev pub case_of : Code → Graph → ℕ → ℕ → List ℕ → Option code.Expr → Move
 case_of program graph id scrutinee values (Some (code.Case mode variables e branches)) =
-    distinguished program (zip variables values) graph id branches (head_of graph scrutinee) (head_at graph scrutinee).kind
+    distinguished program (zip variables values) graph id branches (head_of graph scrutinee)
+    (head_at graph scrutinee).kind
     (head_at graph scrutinee).args
 case_of program graph id scrutinee values _ = sticks graph id
 
@@ -123,7 +132,8 @@ case_of program graph id scrutinee values _ = sticks graph id
 abbrev pub extended : Code → Head → List ℕ → Option ℕ → Node
 extended program h args None = alone kind.Stuck
 extended program h args (Some arity) =
-    if nat_lt (length args) arity then record { kind = kind.Part h; args = args } else record { kind = kind_of_whole program h; args = args }
+    if nat_lt (length args) arity then record { kind = kind.Part h; args = args }
+    else record { kind = kind_of_whole program h; args = args }
 
 abbrev pub applied : Code → Graph → ℕ → ℕ → Kind → List ℕ → Move
 applied program graph id argument (kind.Part h) args =
@@ -135,14 +145,17 @@ applied program graph id argument _ _ = fails graph id
 -- an integer, or an overflow
 abbrev pub counted : Graph → ℕ → Primitive → ℤ → ℤ → ℤ → Move
 counted graph id operation m n result =
-    if is_integer result then puts graph id (alone (kind.Lit (Int result))) else Overflows operation m n
+    if is_integer result then puts graph id (alone (kind.Lit (Int result)))
+    else Overflows operation m n
 
 abbrev pub calculated : Special → Graph → ℕ → Primitive → ℤ → ℤ → Move
 calculated special graph id prim.Add m n = counted graph id prim.Add m n (m +ℤ n)
 calculated special graph id prim.Sub m n = counted graph id prim.Sub m n (m -ℤ n)
 calculated special graph id prim.Mul m n = counted graph id prim.Mul m n (m *ℤ n)
-calculated special graph id prim.Div m n = if int_eq n (pos 0) then fails graph id else counted graph id prim.Div m n (floor_quotient m n)
-calculated special graph id prim.Mod m n = if int_eq n (pos 0) then fails graph id else counted graph id prim.Mod m n (floor_rest m n)
+calculated special graph id prim.Div m n = if int_eq n (pos 0) then fails graph id
+    else counted graph id prim.Div m n (floor_quotient m n)
+calculated special graph id prim.Mod m n = if int_eq n (pos 0) then fails graph id
+    else counted graph id prim.Mod m n (floor_rest m n)
 calculated special graph id prim.Less m n = tells special graph id (int_lt m n)
 calculated special graph id prim.AtMost m n = tells special graph id (int_le m n)
 calculated special graph id prim.Greater m n = tells special graph id (int_lt n m)
@@ -151,13 +164,16 @@ calculated special graph id _ m n = fails graph id
 
 -- the character of a number
 abbrev pub puts_character : Graph → ℕ → ℤ → Move
-puts_character graph id (pos n) = if is_scalar n then puts graph id (alone (kind.Lit (Char n))) else fails graph id
+puts_character graph id (pos n) = if is_scalar n then puts graph id (alone (kind.Lit (Char n)))
+    else fails graph id
 puts_character graph id (negsuc n) = fails graph id
 
 -- an operation on literals; on anything else it has no value
 abbrev pub computed : Special → Graph → ℕ → Primitive → List Kind → Move
-computed special graph id operation (kind.Lit (Int m) ∷ kind.Lit (Int n) ∷ []) = calculated special graph id operation m n
-computed special graph id prim.Ord (kind.Lit (Char c) ∷ []) = puts graph id (alone (kind.Lit (Int (pos c))))
+computed special graph id operation (kind.Lit (Int m) ∷ kind.Lit (Int n) ∷ []) =
+    calculated special graph id operation m n
+computed special graph id prim.Ord (kind.Lit (Char c) ∷ []) =
+    puts graph id (alone (kind.Lit (Int (pos c))))
 computed special graph id prim.Chr (kind.Lit (Int n) ∷ []) = puts_character graph id n
 computed special graph id _ _ = fails graph id
 
@@ -168,8 +184,8 @@ abbrev pub pair_nodes : Kind → List (ℕ × ℕ) → List Node
 pair_nodes each [] = []
 pair_nodes each ((a, b) ∷ pairs) = record { kind = each; args = a ∷ b ∷ [] } ∷ pair_nodes each pairs
 
--- Nodes at the places from `id` on, `more` of them after the first, joined from the right by nodes of a kind, which begin at
--- the place `next`; the outermost is still to be placed.
+-- Nodes at the places from `id` on, `more` of them after the first, joined from the right by nodes
+-- of a kind, which begin at the place `next`; the outermost is still to be placed.
 abbrev pub joined_from_right : Kind → ℕ → ℕ → ℕ → Built
 joined_from_right joint next id zero = record { parts = []; top = Shared id }
 joined_from_right joint next id (suc more) =
@@ -179,28 +195,33 @@ joined_from_right joint next id (suc more) =
       top = Fresh (record { kind = joint; args = id ∷ place_of next rest ∷ [] });
     }
 
--- Pairs of arguments: one node over a single pair, and for more of them nodes that are pushed from the left and joined from
--- the right.
+-- Pairs of arguments: one node over a single pair, and for more of them nodes that are pushed from
+-- the left and joined from the right.
 abbrev pub build_pairs : Kind → Kind → ℕ → ℕ × ℕ → List (ℕ × ℕ) → Built
 build_pairs each joint next (a, b) [] = build_alone (record { kind = each; args = a ∷ b ∷ [] })
 build_pairs each joint next pair (other ∷ pairs) =
     let nodes = pair_nodes each (pair ∷ other ∷ pairs) in
     after nodes (joined_from_right joint (next + length nodes) next (length pairs + 1))
 
--- the arguments of two like constructors in pairs, written over the node at a place; True where there are none
+-- the arguments of two like constructors in pairs, written over the node at a place; True where
+-- there are none
 abbrev pub in_pairs : Special → Kind → Kind → Graph → ℕ → List (ℕ × ℕ) → Move
 in_pairs special each joint graph id [] = tells special graph id true
-in_pairs special each joint graph id (pair ∷ pairs) = alone_follows (written graph id (build_pairs each joint (length graph) pair pairs))
+in_pairs special each joint graph id (pair ∷ pairs) =
+    alone_follows (written graph id (build_pairs each joint (length graph) pair pairs))
 
 -- comparisons of arguments, joined by calls of `&&`
 abbrev pub compared_in_pairs : Special → Graph → ℕ → List (ℕ × ℕ) → Move
-compared_in_pairs special graph id pairs = in_pairs special (kind.Prim prim.Equal) (kind.Call special.both) graph id pairs
+compared_in_pairs special graph id pairs =
+    in_pairs special (kind.Prim prim.Equal) (kind.Call special.both) graph id pairs
 
 -- `==` on heads; on a partial application it has no value
 abbrev pub compared : Special → Graph → ℕ → Kind → List ℕ → Kind → List ℕ → Move
 compared special graph id (kind.Cons c) us (kind.Cons d) vs =
-    if same_constructor c d then compared_in_pairs special graph id (zip us vs) else tells special graph id false
-compared special graph id (kind.Lit l) us (kind.Lit m) vs = tells special graph id (same_literal l m)
+    if same_constructor c d then compared_in_pairs special graph id (zip us vs)
+    else tells special graph id false
+compared special graph id (kind.Lit l) us (kind.Lit m) vs =
+    tells special graph id (same_literal l m)
 compared special graph id (kind.Lit l) us (kind.Cons d) vs = tells special graph id false
 compared special graph id (kind.Cons c) us (kind.Lit m) vs = tells special graph id false
 compared special graph id _ _ _ _ = fails graph id
@@ -211,10 +232,11 @@ is_true special _ = false
 
 -- `&` on heads
 abbrev pub conjoined : Special → Graph → ℕ → Kind → Kind → Move
-conjoined special graph id a b = if is_true special a && is_true special b then tells special graph id true else fails graph id
+conjoined special graph id a b = if is_true special a && is_true special b
+    then tells special graph id true else fails graph id
 
--- Whether a free variable is reached from a node by Ind and constructors alone. The first number bounds how deep the graph
--- is looked at.
+-- Whether a free variable is reached from a node by Ind and constructors alone. The first number
+-- bounds how deep the graph is looked at.
 abbrev pub occurs_at : (ℕ → Bool) → ℕ → ℕ → Kind → List ℕ → Bool
 occurs_at part v id kind.Free args = nat_eq v id
 occurs_at part v id (kind.Cons c) args = list_any part args
@@ -222,30 +244,36 @@ occurs_at part v id _ _ = false
 
 unfoldable pub occurs_within : ℕ → Graph → ℕ → ℕ → Bool
 occurs_within zero graph v id = false
-occurs_within (suc depth) graph v id = occurs_at (occurs_within depth graph v) v (head_of graph id) (head_at graph id).kind (head_at graph id).args
+occurs_within (suc depth) graph v id =
+    occurs_at (occurs_within depth graph v) v (head_of graph id) (head_at graph id).kind
+    (head_at graph id).args
 
 abbrev pub occurs_in : Graph → ℕ → List ℕ → Bool
 occurs_in graph v ids = list_any (occurs_within (length graph) graph v) ids
 
 -- equations of arguments, joined by `&`
 abbrev pub equated_in_pairs : Special → Graph → ℕ → List (ℕ × ℕ) → Move
-equated_in_pairs special graph id pairs = in_pairs special (kind.Prim prim.Unify) (kind.Prim prim.And) graph id pairs
+equated_in_pairs special graph id pairs =
+    in_pairs special (kind.Prim prim.Unify) (kind.Prim prim.And) graph id pairs
 
 -- a free variable becomes another name of a node, and the equation holds
 abbrev pub renames : Special → Graph → ℕ → ℕ → ℕ → Move
 renames special graph id v other = puts (put graph v (renaming other)) id (truth_node special true)
 
--- A free variable is equated with a constructor: without arguments it becomes another name of it; with arguments it becomes
--- that constructor over new free variables, which are equated with the arguments, unless it is reached from them.
+-- A free variable is equated with a constructor: without arguments it becomes another name of it;
+-- with arguments it becomes that constructor over new free variables, which are equated with the
+-- arguments, unless it is reached from them.
 abbrev pub imitates : Special → Graph → ℕ → ℕ → ℕ → ConId → List ℕ → Move
 imitates special graph id v other c [] = renames special graph id v other
 imitates special graph id v other c (arg ∷ args) =
     if occurs_in graph v (arg ∷ args) then fails graph id
     else
     let fresh = numbers (length graph) (length args + 1) in
-    equated_in_pairs special (put (graph ++ free_nodes (length args + 1)) v (record { kind = kind.Cons c; args = fresh })) id (zip fresh (arg ∷ args))
+    equated_in_pairs special (put (graph ++ free_nodes (length args + 1)) v
+    (record { kind = kind.Cons c; args = fresh })) id (zip fresh (arg ∷ args))
 
--- `=:=` on heads and their places; a partial application equals nothing, and neither do a literal and a constructor
+-- `=:=` on heads and their places; a partial application equals nothing, and neither do a literal
+-- and a constructor
 abbrev pub equated : Special → Graph → ℕ → ℕ → Kind → List ℕ → ℕ → Kind → List ℕ → Move
 equated special graph id v kind.Free us w kind.Free vs =
     if nat_eq v w then tells special graph id true else renames special graph id v w
@@ -268,14 +296,19 @@ collects graph id f arguments = if are_data arguments then Collect f arguments e
 -- ** All rows
 
 abbrev pub operated : Special → Graph → ℕ → Primitive → List ℕ → Move
-operated special graph id prim.Equal (a ∷ b ∷ []) = compared special graph id (head_at graph a).kind (head_at graph a).args (head_at graph b).kind (head_at graph b).args
+operated special graph id prim.Equal (a ∷ b ∷ []) =
+    compared special graph id (head_at graph a).kind (head_at graph a).args (head_at graph b).kind
+    (head_at graph b).args
 operated special graph id prim.Unify (a ∷ b ∷ []) =
-    equated special graph id (head_of graph a) (head_at graph a).kind (head_at graph a).args (head_of graph b) (head_at graph b).kind (head_at graph b).args
-operated special graph id prim.And (a ∷ b ∷ []) = conjoined special graph id (head_at graph a).kind (head_at graph b).kind
+    equated special graph id (head_of graph a) (head_at graph a).kind (head_at graph a).args
+    (head_of graph b) (head_at graph b).kind (head_at graph b).args
+operated special graph id prim.And (a ∷ b ∷ []) =
+    conjoined special graph id (head_at graph a).kind (head_at graph b).kind
 operated special graph id prim.Equal _ = sticks graph id
 operated special graph id prim.Unify _ = sticks graph id
 operated special graph id prim.And _ = sticks graph id
-operated special graph id operation args = computed special graph id operation (map (λ arg. (head_at graph arg).kind) args)
+operated special graph id operation args =
+    computed special graph id operation (map (λ arg. (head_at graph arg).kind) args)
 
 -- what becomes of the graph where the node at a place is rewritten
 abbrev pub rewritten : Code → Graph → ℕ → Kind → List ℕ → Move
@@ -283,9 +316,12 @@ rewritten program graph id (kind.Call f) args = unfolded program graph id args (
 rewritten program graph id kind.Or args = chosen graph id args
 rewritten program graph id (kind.Case mode e) (scrutinee ∷ values) =
     case_of program graph id scrutinee values (expr_of program (record { 0 = e }))
-rewritten program graph id kind.Apply (function ∷ argument ∷ []) = applied program graph id argument (head_at graph function).kind (head_at graph function).args
-rewritten program graph id (kind.Prim operation) args = operated program.special graph id operation args
-rewritten program graph id (kind.SetCall f) args = collects graph id f (values_of (map (spelled graph) args))
+rewritten program graph id kind.Apply (function ∷ argument ∷ []) =
+    applied program graph id argument (head_at graph function).kind (head_at graph function).args
+rewritten program graph id (kind.Prim operation) args =
+    operated program.special graph id operation args
+rewritten program graph id (kind.SetCall f) args =
+    collects graph id f (values_of (map (spelled graph) args))
 rewritten program graph id _ _ = sticks graph id
 
 abbrev pub move : Code → Graph → ℕ → Move

@@ -1,4 +1,5 @@
--- Several steps of a state at once: it is taken on while one state alone follows, for so many steps at most.
+-- Several steps of a state at once: it is taken on while one state alone follows, for so many steps
+-- at most.
 use Rattle.std.specs.Prelude.{ℕ, zero, suc, ◌-◌, [], ◌∷◌, Option, None, Some}
 use Rattle.cu_calculus.specs.Code.{Code}
 use Rattle.cu_machine.specs.declared.Limits.{Limits}
@@ -14,7 +15,10 @@ only_state _ = None
 unfoldable pub run_on : ℕ → Code → Limits → State → Next
 run_on zero program limits state = next program limits state
 run_on (suc more) program limits state =
-    elim (only_state (next program limits state)) [ Some after ↦ run_on more program limits after | None ↦ next program limits state ]
+    elim (only_state (next program limits state)) [
+      | Some after ↦ run_on more program limits after
+      | None ↦ next program limits state
+    ]
 
 -- Run: what becomes of a state in at most so many steps, which are one or more
 abbrev pub run : ℕ → Code → Limits → State → Next
@@ -24,7 +28,8 @@ run steps program limits state = run_on (steps - 1) program limits state
 unfoldable pub reached_on : ℕ → Code → Limits → State → State
 reached_on zero program limits state = state
 reached_on (suc more) program limits state =
-    elim (only_state (next program limits state)) [ Some after ↦ reached_on more program limits after | None ↦ state ]
+    elim (only_state (next program limits state))
+    [ Some after ↦ reached_on more program limits after | None ↦ state ]
 
 abbrev pub reached : ℕ → Code → Limits → State → State
 reached steps program limits state = reached_on (steps - 1) program limits state

@@ -34,4 +34,5 @@ graph_is_without_sets graph = list_all (λ node. not (is_set_kind node.kind)) gr
 
 -- no set function stands in a state, and no search runs
 pub data IsWithoutSets : State → Type 0 where
-  without : (graph : Graph) (root : ℕ) (goals : List ℕ) → IsTrue (graph_is_without_sets graph) → IsWithoutSets (Branch graph root goals Idle)
+  without : (graph : Graph) (root : ℕ) (goals : List ℕ) → IsTrue (graph_is_without_sets graph)
+      → IsWithoutSets (Branch graph root goals Idle)

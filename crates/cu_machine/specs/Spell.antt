@@ -15,11 +15,13 @@ spelled_at part id (kind.Part h) args = value.Partial h (values_of (map part arg
 spelled_at part id kind.Free args = value.Variable id
 spelled_at part id _ _ = value.Bottom
 
--- The value that a node spells, in which a free variable has the number of its place, and what isn't there yet is Bottom.
--- The first number bounds how deep the graph is looked at.
+-- The value that a node spells, in which a free variable has the number of its place, and what
+-- isn't there yet is Bottom. The first number bounds how deep the graph is looked at.
 unfoldable pub spelled_within : ℕ → Graph → ℕ → Value
 spelled_within zero graph id = value.Bottom
-spelled_within (suc depth) graph id = spelled_at (spelled_within depth graph) (head_of graph id) (head_at graph id).kind (head_at graph id).args
+spelled_within (suc depth) graph id =
+    spelled_at (spelled_within depth graph) (head_of graph id) (head_at graph id).kind
+    (head_at graph id).args
 
 abbrev pub spelled : Graph → ℕ → Value
 spelled graph id = spelled_within (length graph) graph id
@@ -58,7 +60,8 @@ abbrev mutual
 
   pub all_renumbered : (ℕ → ℕ) → Values → Values
   all_renumbered number value.NoValue = value.NoValue
-  all_renumbered number (value.MoreValues v vs) = value.MoreValues (renumbered number v) (all_renumbered number vs)
+  all_renumbered number (value.MoreValues v vs) =
+      value.MoreValues (renumbered number v) (all_renumbered number vs)
 
 -- how many cells values have
 abbrev mutual
@@ -77,8 +80,8 @@ abbrev pub cells_of_all : List Value → ℕ
 cells_of_all [] = 0
 cells_of_all (v ∷ vs) = cells v + cells_of_all vs
 
--- The nodes of a value, without sharing: those of its arguments from left to right, and then its own. What has no node of
--- its own, a variable or Bottom, is stuck.
+-- The nodes of a value, without sharing: those of its arguments from left to right, and then its
+-- own. What has no node of its own, a variable or Bottom, is stuck.
 abbrev mutual
   pub push_value : ℕ → Value → Built
   push_value next value.Bottom = build_alone stuck

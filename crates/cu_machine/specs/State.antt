@@ -1,5 +1,5 @@
--- States of a branch of the search. A state may hold an inner search for all values of a function, begun by a call of its
--- set function, whose level is a list of states.
+-- States of a branch of the search. A state may hold an inner search for all values of a function,
+-- begun by a call of its set function, whose level is a list of states.
 use Rattle.std.specs.Prelude.{ℕ, zero, suc, ◌+◌, List, [], ◌∷◌, ◌++◌, None, Some, length}
 use Rattle.cu_calculus.specs.declared.FunId.{FunId}
 use Rattle.cu_calculus.specs.Value.{Value, Values}
@@ -10,13 +10,15 @@ use Rattle.cu_machine.specs.Graph.{Graph, Node, alone}
 use Rattle.cu_machine.specs.Spell.{push_values}
 
 mutual
-  -- a graph, the place of the node whose value is sought, the places of the goal variables, and an inner search
+  -- a graph, the place of the node whose value is sought, the places of the goal variables, and an
+  -- inner search
   pub data State : Type 0 where
     Branch : Graph → ℕ → List ℕ → Search → State
 
   pub data Search : Type 0 where
     Idle : Search
-    -- the place of the set function's call, the values found so far, and the level that is to be stepped next
+    -- the place of the set function's call, the values found so far, and the level that is to be
+    -- stepped next
     Running : ℕ → List Value → States → Search
 
   pub data States : Type 0 where
@@ -40,18 +42,24 @@ abbrev pub free_nodes : ℕ → List Node
 free_nodes zero = []
 free_nodes (suc n) = alone kind.Free ∷ free_nodes n
 
--- the state of a goal with so many variables: a free variable for each, and the call of the goal on them
+-- the state of a goal with so many variables: a free variable for each, and the call of the goal on
+-- them
 abbrev pub start_on : Code → FunId → ℕ → State
 start_on program goal variables =
-    Branch (free_nodes variables ++ record { kind = kind_of_call goal (body_of program goal); args = numbers 0 variables } ∷ [])
+    Branch (free_nodes variables ++ record {
+      kind = kind_of_call goal (body_of program goal);
+      args = numbers 0 variables;
+    } ∷ [])
     variables (numbers 0 variables) Idle
 
 -- the state in which a goal begins, which has a variable for each of its parameters
 abbrev pub start_of : Code → FunId → State
-start_of program goal = start_on program goal (elim (function_arity program goal) [ Some n ↦ n | None ↦ 0 ])
+start_of program goal =
+    start_on program goal (elim (function_arity program goal) [ Some n ↦ n | None ↦ 0 ])
 
 -- the state in which an inner search begins: the arguments cell by cell, and the call on them
 abbrev pub call_on : Code → FunId → Values → State
 call_on program f arguments =
     let pushed = push_values 0 arguments in
-    Branch (pushed.nodes ++ record { kind = kind_of_call f (body_of program f); args = pushed.ids } ∷ []) (length pushed.nodes) [] Idle
+    Branch (pushed.nodes ++ record { kind = kind_of_call f (body_of program f); args = pushed.ids }
+    ∷ []) (length pushed.nodes) [] Idle

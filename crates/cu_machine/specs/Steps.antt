@@ -1,6 +1,6 @@
--- The step table as a relation, one constructor for each row that gives graphs: which graphs follow where the node at a place
--- is rewritten. It says the same as the function of Rewrite wherever the node is needed in a valid state. Rows that end a
--- branch or begin a search have none.
+-- The step table as a relation, one constructor for each row that gives graphs: which graphs follow
+-- where the node at a place is rewritten. It says the same as the function of Rewrite wherever the
+-- node is needed in a valid state. Rows that end a branch or begin a search have none.
 use Rattle.std.specs.Prelude.{◌≡◌, ◌≢◌, ◌<◌, ℕ, ◌+◌, Bool, true, false, ◌&&◌, ◌||◌, List, [], ◌∷◌, ◌++◌, Option, None, Some, IsTrue, IsFalse, if◌then◌else◌, length, map, zip, ℤ, pos, ◌+ℤ◌, ◌-ℤ◌, ◌*ℤ◌, int_lt, int_le}
 use Rattle.std.specs.Ordering.{int_eq}
 use Rattle.cu_calculus.specs.declared.ConId.{ConId}
@@ -44,8 +44,10 @@ telling program graph id answer = put graph id (truth_node program.special answe
 
 -- ** Premises
 
--- a case distinction at a place, of the mode that its code has, with the places of the variables that it keeps and its branches
-pub record CaseAt (program : Code) (graph : Graph) (id : ℕ) (mode : Mode) (scrutinee : ℕ) (scope : Scope) (branches : List Branch) : Type 0 where
+-- a case distinction at a place, of the mode that its code has, with the places of the variables
+-- that it keeps and its branches
+pub record CaseAt (program : Code) (graph : Graph) (id : ℕ) (mode : Mode) (scrutinee : ℕ)
+    (scope : Scope) (branches : List Branch) : Type 0 where
   pub number : ℕ
   pub inner : ExprId
   pub kept : List ℕ
@@ -58,11 +60,14 @@ abbrev pub is_partial : Kind → Bool
 is_partial (kind.Part h) = true
 is_partial _ = false
 
--- an equation's two sides: a free variable at a place, on the left or on the right, and another node
+-- an equation's two sides: a free variable at a place, on the left or on the right, and another
+-- node
 pub data FreeBeside (graph : Graph) (a b v other : ℕ) (k : Kind) (args : List ℕ) : Type 0 where
-  on_the_left : (us : List ℕ) → head_of graph a ≡ v → head_at graph a ≡ node kind.Free us → head_of graph b ≡ other → head_at graph b ≡ node k args
+  on_the_left : (us : List ℕ) → head_of graph a ≡ v → head_at graph a ≡ node kind.Free us
+      → head_of graph b ≡ other → head_at graph b ≡ node k args
       → FreeBeside graph a b v other k args
-  on_the_right : (us : List ℕ) → head_of graph b ≡ v → head_at graph b ≡ node kind.Free us → head_of graph a ≡ other → head_at graph a ≡ node k args
+  on_the_right : (us : List ℕ) → head_of graph b ≡ v → head_at graph b ≡ node kind.Free us
+      → head_of graph a ≡ other → head_at graph a ≡ node k args
       → FreeBeside graph a b v other k args
 
 -- a literal and a constructor, in either order
@@ -117,122 +122,208 @@ kinds_of graph args = map (λ arg. (head_at graph arg).kind) args
 
 -- a free variable bound to a constructor over new ones
 abbrev pub imitating : Graph → ℕ → ConId → ℕ → Graph
-imitating graph v c n = put (graph ++ free_nodes n) v (node (kind.Cons c) (numbers (length graph) n))
+imitating graph v c n =
+    put (graph ++ free_nodes n) v (node (kind.Cons c) (numbers (length graph) n))
 
 -- ** Rows
 
 pub data Steps (program : Code) (graph : Graph) (id : ℕ) (after : Graph) : Type 0 where
   -- a call: the function's body
-  call : (f : FunId) (args params : List ℕ) (body : ExprId) → node_at graph id ≡ node (kind.Call f) args → body_of program f ≡ Some (code.Rule params body)
+  call : (f : FunId) (args params : List ℕ) (body : ExprId)
+      → node_at graph id ≡ node (kind.Call f) args
+      → body_of program f ≡ Some (code.Rule params body)
       → after ≡ write program (zip params args) graph id body → Steps program graph id after
   -- a choice: its left argument, and its right one
-  left : (one two : ℕ) → node_at graph id ≡ node kind.Or (one ∷ two ∷ []) → after ≡ put graph id (renaming one) → Steps program graph id after
-  right : (one two : ℕ) → node_at graph id ≡ node kind.Or (one ∷ two ∷ []) → after ≡ put graph id (renaming two) → Steps program graph id after
-  -- a case distinction on a literal, a constructor or a partial application: the branch that matches, or failure
-  literal_branch : (mode : Mode) (scrutinee : ℕ) (scope : Scope) (branches : List Branch) (l : Lit) (args : List ℕ) (branch : Branch)
-      → CaseAt program graph id mode scrutinee scope branches → head_at graph scrutinee ≡ node (kind.Lit l) args → branch_for (takes_literal l) branches ≡ Some branch
-      → after ≡ write program (scope ++ zip (bound_by branch.pattern) []) graph id branch.body → Steps program graph id after
-  constructor_branch : (mode : Mode) (scrutinee : ℕ) (scope : Scope) (branches : List Branch) (c : ConId) (args : List ℕ) (branch : Branch)
-      → CaseAt program graph id mode scrutinee scope branches → head_at graph scrutinee ≡ node (kind.Cons c) args → branch_for (takes_constructor c) branches ≡ Some branch
-      → after ≡ write program (scope ++ zip (bound_by branch.pattern) args) graph id branch.body → Steps program graph id after
-  no_literal_branch : (mode : Mode) (scrutinee : ℕ) (scope : Scope) (branches : List Branch) (l : Lit) (args : List ℕ)
-      → CaseAt program graph id mode scrutinee scope branches → head_at graph scrutinee ≡ node (kind.Lit l) args → branch_for (takes_literal l) branches ≡ None
+  left : (one two : ℕ) → node_at graph id ≡ node kind.Or (one ∷ two ∷ [])
+      → after ≡ put graph id (renaming one) → Steps program graph id after
+  right : (one two : ℕ) → node_at graph id ≡ node kind.Or (one ∷ two ∷ [])
+      → after ≡ put graph id (renaming two) → Steps program graph id after
+  -- a case distinction on a literal, a constructor or a partial application: the branch that
+  -- matches, or failure
+  literal_branch : (mode : Mode) (scrutinee : ℕ) (scope : Scope) (branches : List Branch) (l : Lit)
+      (args : List ℕ) (branch : Branch)
+      → CaseAt program graph id mode scrutinee scope branches
+      → head_at graph scrutinee ≡ node (kind.Lit l) args
+      → branch_for (takes_literal l) branches ≡ Some branch
+      → after ≡ write program (scope ++ zip (bound_by branch.pattern) []) graph id branch.body
+      → Steps program graph id after
+  constructor_branch : (mode : Mode) (scrutinee : ℕ) (scope : Scope) (branches : List Branch)
+      (c : ConId) (args : List ℕ) (branch : Branch)
+      → CaseAt program graph id mode scrutinee scope branches
+      → head_at graph scrutinee ≡ node (kind.Cons c) args
+      → branch_for (takes_constructor c) branches ≡ Some branch
+      → after ≡ write program (scope ++ zip (bound_by branch.pattern) args) graph id branch.body
+      → Steps program graph id after
+  no_literal_branch : (mode : Mode) (scrutinee : ℕ) (scope : Scope) (branches : List Branch)
+      (l : Lit) (args : List ℕ)
+      → CaseAt program graph id mode scrutinee scope branches
+      → head_at graph scrutinee ≡ node (kind.Lit l) args
+      → branch_for (takes_literal l) branches ≡ None
       → after ≡ failing graph id → Steps program graph id after
-  no_constructor_branch : (mode : Mode) (scrutinee : ℕ) (scope : Scope) (branches : List Branch) (c : ConId) (args : List ℕ)
-      → CaseAt program graph id mode scrutinee scope branches → head_at graph scrutinee ≡ node (kind.Cons c) args → branch_for (takes_constructor c) branches ≡ None
+  no_constructor_branch : (mode : Mode) (scrutinee : ℕ) (scope : Scope) (branches : List Branch)
+      (c : ConId) (args : List ℕ)
+      → CaseAt program graph id mode scrutinee scope branches
+      → head_at graph scrutinee ≡ node (kind.Cons c) args
+      → branch_for (takes_constructor c) branches ≡ None
       → after ≡ failing graph id → Steps program graph id after
-  no_partial_branch : (mode : Mode) (scrutinee : ℕ) (scope : Scope) (branches : List Branch) (h : Head) (args : List ℕ)
-      → CaseAt program graph id mode scrutinee scope branches → head_at graph scrutinee ≡ node (kind.Part h) args → after ≡ failing graph id
+  no_partial_branch : (mode : Mode) (scrutinee : ℕ) (scope : Scope) (branches : List Branch)
+      (h : Head) (args : List ℕ)
+      → CaseAt program graph id mode scrutinee scope branches
+      → head_at graph scrutinee ≡ node (kind.Part h) args → after ≡ failing graph id
       → Steps program graph id after
   -- a flexible case distinction on a free variable, which becomes what one of the branches asks for
-  narrowing : (scrutinee : ℕ) (scope : Scope) (branches : List Branch) (args : List ℕ) (branch : Branch)
-      → CaseAt program graph id Flex scrutinee scope branches → head_at graph scrutinee ≡ node kind.Free args → Among branch branches
-      → after ≡ bound_to graph (head_of graph scrutinee) branch.pattern → Steps program graph id after
+  narrowing : (scrutinee : ℕ) (scope : Scope) (branches : List Branch) (args : List ℕ)
+      (branch : Branch)
+      → CaseAt program graph id Flex scrutinee scope branches
+      → head_at graph scrutinee ≡ node kind.Free args → Among branch branches
+      → after ≡ bound_to graph (head_of graph scrutinee) branch.pattern
+      → Steps program graph id after
   -- an application of a partial application, which is partial still, or whole; and of anything else
-  still_partial : (function argument : ℕ) (h : Head) (args : List ℕ) (arity : ℕ) → node_at graph id ≡ node kind.Apply (function ∷ argument ∷ [])
-      → head_at graph function ≡ node (kind.Part h) args → arity_of program h ≡ Some arity → length (args ++ argument ∷ []) < arity
-      → after ≡ put graph id (node (kind.Part h) (args ++ argument ∷ [])) → Steps program graph id after
-  whole : (function argument : ℕ) (h : Head) (args : List ℕ) → node_at graph id ≡ node kind.Apply (function ∷ argument ∷ [])
-      → head_at graph function ≡ node (kind.Part h) args → arity_of program h ≡ Some (length (args ++ argument ∷ []))
-      → after ≡ put graph id (node (kind_of_whole program h) (args ++ argument ∷ [])) → Steps program graph id after
-  not_applicable : (function argument : ℕ) → node_at graph id ≡ node kind.Apply (function ∷ argument ∷ [])
-      → IsFalse (is_partial (head_at graph function).kind) → after ≡ failing graph id → Steps program graph id after
+  still_partial : (function argument : ℕ) (h : Head) (args : List ℕ) (arity : ℕ)
+      → node_at graph id ≡ node kind.Apply (function ∷ argument ∷ [])
+      → head_at graph function ≡ node (kind.Part h) args → arity_of program h ≡ Some arity
+      → length (args ++ argument ∷ []) < arity
+      → after ≡ put graph id (node (kind.Part h) (args ++ argument ∷ []))
+      → Steps program graph id after
+  whole : (function argument : ℕ) (h : Head) (args : List ℕ)
+      → node_at graph id ≡ node kind.Apply (function ∷ argument ∷ [])
+      → head_at graph function ≡ node (kind.Part h) args
+      → arity_of program h ≡ Some (length (args ++ argument ∷ []))
+      → after ≡ put graph id (node (kind_of_whole program h) (args ++ argument ∷ []))
+      → Steps program graph id after
+  not_applicable : (function argument : ℕ) → node_at graph id
+      ≡ node kind.Apply (function ∷ argument ∷ [])
+      → IsFalse (is_partial (head_at graph function).kind) → after ≡ failing graph id
+      → Steps program graph id after
   -- arithmetic: an integer of the language, what a comparison tells, division by 0
-  number : (operation : Primitive) (args : List ℕ) (m n result : ℤ) → node_at graph id ≡ node (kind.Prim operation) args
-      → kinds_of graph args ≡ kind.Lit (Int m) ∷ kind.Lit (Int n) ∷ [] → number_of operation m n ≡ Some result → IsTrue (is_integer result)
+  number : (operation : Primitive) (args : List ℕ) (m n result : ℤ)
+      → node_at graph id ≡ node (kind.Prim operation) args
+      → kinds_of graph args ≡ kind.Lit (Int m) ∷ kind.Lit (Int n) ∷ []
+      → number_of operation m n ≡ Some result → IsTrue (is_integer result)
       → after ≡ put graph id (alone (kind.Lit (Int result))) → Steps program graph id after
-  test : (operation : Primitive) (args : List ℕ) (m n : ℤ) (answer : Bool) → node_at graph id ≡ node (kind.Prim operation) args
-      → kinds_of graph args ≡ kind.Lit (Int m) ∷ kind.Lit (Int n) ∷ [] → test_of operation m n ≡ Some answer
+  test : (operation : Primitive) (args : List ℕ) (m n : ℤ) (answer : Bool)
+      → node_at graph id ≡ node (kind.Prim operation) args
+      → kinds_of graph args ≡ kind.Lit (Int m) ∷ kind.Lit (Int n) ∷ []
+      → test_of operation m n ≡ Some answer
       → after ≡ telling program graph id answer → Steps program graph id after
-  division_by_zero : (operation : Primitive) (args : List ℕ) (m n : ℤ) → node_at graph id ≡ node (kind.Prim operation) args
-      → kinds_of graph args ≡ kind.Lit (Int m) ∷ kind.Lit (Int n) ∷ [] → IsTrue (divides operation) → IsTrue (int_eq n (pos 0))
+  division_by_zero : (operation : Primitive) (args : List ℕ) (m n : ℤ)
+      → node_at graph id ≡ node (kind.Prim operation) args
+      → kinds_of graph args ≡ kind.Lit (Int m) ∷ kind.Lit (Int n) ∷ [] → IsTrue (divides operation)
+      → IsTrue (int_eq n (pos 0))
       → after ≡ failing graph id → Steps program graph id after
   -- characters and their numbers
-  code_point : (args : List ℕ) (c : ℕ) → node_at graph id ≡ node (kind.Prim prim.Ord) args → kinds_of graph args ≡ kind.Lit (Char c) ∷ []
+  code_point : (args : List ℕ) (c : ℕ) → node_at graph id ≡ node (kind.Prim prim.Ord) args
+      → kinds_of graph args ≡ kind.Lit (Char c) ∷ []
       → after ≡ put graph id (alone (kind.Lit (Int (pos c)))) → Steps program graph id after
-  character : (args : List ℕ) (c : ℕ) → node_at graph id ≡ node (kind.Prim prim.Chr) args → kinds_of graph args ≡ kind.Lit (Int (pos c)) ∷ []
-      → IsTrue (is_scalar c) → after ≡ put graph id (alone (kind.Lit (Char c))) → Steps program graph id after
-  no_character : (args : List ℕ) (n : ℤ) → node_at graph id ≡ node (kind.Prim prim.Chr) args → kinds_of graph args ≡ kind.Lit (Int n) ∷ []
-      → ((c : ℕ) → n ≡ pos c → IsFalse (is_scalar c)) → after ≡ failing graph id → Steps program graph id after
+  character : (args : List ℕ) (c : ℕ) → node_at graph id ≡ node (kind.Prim prim.Chr) args
+      → kinds_of graph args ≡ kind.Lit (Int (pos c)) ∷ []
+      → IsTrue (is_scalar c) → after ≡ put graph id (alone (kind.Lit (Char c)))
+      → Steps program graph id after
+  no_character : (args : List ℕ) (n : ℤ) → node_at graph id ≡ node (kind.Prim prim.Chr) args
+      → kinds_of graph args ≡ kind.Lit (Int n) ∷ []
+      → ((c : ℕ) → n ≡ pos c → IsFalse (is_scalar c)) → after ≡ failing graph id
+      → Steps program graph id after
   -- an operation on what isn't a literal of its kind
-  no_operands : (operation : Primitive) (args : List ℕ) → node_at graph id ≡ node (kind.Prim operation) args → IsTrue (is_on_literals operation)
-      → IsFalse (are_operands operation (kinds_of graph args)) → after ≡ failing graph id → Steps program graph id after
-  -- a comparison: of two literals, of a literal and a constructor, of two constructors, and with a partial application
-  compared_literals : (a b : ℕ) (l m : Lit) (us vs : List ℕ) → node_at graph id ≡ node (kind.Prim prim.Equal) (a ∷ b ∷ [])
-      → head_at graph a ≡ node (kind.Lit l) us → head_at graph b ≡ node (kind.Lit m) vs → after ≡ telling program graph id (same_literal l m)
+  no_operands : (operation : Primitive) (args : List ℕ)
+      → node_at graph id ≡ node (kind.Prim operation) args → IsTrue (is_on_literals operation)
+      → IsFalse (are_operands operation (kinds_of graph args)) → after ≡ failing graph id
+      → Steps program graph id after
+  -- a comparison: of two literals, of a literal and a constructor, of two constructors, and with a
+  -- partial application
+  compared_literals : (a b : ℕ) (l m : Lit) (us vs : List ℕ)
+      → node_at graph id ≡ node (kind.Prim prim.Equal) (a ∷ b ∷ [])
+      → head_at graph a ≡ node (kind.Lit l) us → head_at graph b ≡ node (kind.Lit m) vs
+      → after ≡ telling program graph id (same_literal l m)
       → Steps program graph id after
   compared_mixed : (a b : ℕ) → node_at graph id ≡ node (kind.Prim prim.Equal) (a ∷ b ∷ [])
-      → IsTrue (are_mixed (head_at graph a).kind (head_at graph b).kind) → after ≡ telling program graph id false → Steps program graph id after
-  compared_unlike : (a b : ℕ) (c d : ConId) (us vs : List ℕ) → node_at graph id ≡ node (kind.Prim prim.Equal) (a ∷ b ∷ [])
-      → head_at graph a ≡ node (kind.Cons c) us → head_at graph b ≡ node (kind.Cons d) vs → IsFalse (same_constructor c d)
+      → IsTrue (are_mixed (head_at graph a).kind (head_at graph b).kind)
       → after ≡ telling program graph id false → Steps program graph id after
-  compared_alike : (a b : ℕ) (c d : ConId) (us vs : List ℕ) → node_at graph id ≡ node (kind.Prim prim.Equal) (a ∷ b ∷ [])
-      → head_at graph a ≡ node (kind.Cons c) us → head_at graph b ≡ node (kind.Cons d) vs → IsTrue (same_constructor c d)
-      → compared_in_pairs program.special graph id (zip us vs) ≡ alone_follows after → Steps program graph id after
+  compared_unlike : (a b : ℕ) (c d : ConId) (us vs : List ℕ)
+      → node_at graph id ≡ node (kind.Prim prim.Equal) (a ∷ b ∷ [])
+      → head_at graph a ≡ node (kind.Cons c) us → head_at graph b ≡ node (kind.Cons d) vs
+      → IsFalse (same_constructor c d)
+      → after ≡ telling program graph id false → Steps program graph id after
+  compared_alike : (a b : ℕ) (c d : ConId) (us vs : List ℕ)
+      → node_at graph id ≡ node (kind.Prim prim.Equal) (a ∷ b ∷ [])
+      → head_at graph a ≡ node (kind.Cons c) us → head_at graph b ≡ node (kind.Cons d) vs
+      → IsTrue (same_constructor c d)
+      → compared_in_pairs program.special graph id (zip us vs) ≡ alone_follows after
+      → Steps program graph id after
   compared_partial : (a b : ℕ) → node_at graph id ≡ node (kind.Prim prim.Equal) (a ∷ b ∷ [])
-      → IsTrue (is_partial (head_at graph a).kind || is_partial (head_at graph b).kind) → after ≡ failing graph id → Steps program graph id after
+      → IsTrue (is_partial (head_at graph a).kind || is_partial (head_at graph b).kind)
+      → after ≡ failing graph id → Steps program graph id after
   -- a conjunction: True where both sides are, or failure
   both_true : (a b : ℕ) → node_at graph id ≡ node (kind.Prim prim.And) (a ∷ b ∷ [])
-      → IsTrue (is_true program.special (head_at graph a).kind && is_true program.special (head_at graph b).kind) → after ≡ telling program graph id true
+      → IsTrue (is_true program.special (head_at graph a).kind
+      && is_true program.special (head_at graph b).kind) → after ≡ telling program graph id true
       → Steps program graph id after
   not_both_true : (a b : ℕ) → node_at graph id ≡ node (kind.Prim prim.And) (a ∷ b ∷ [])
-      → IsFalse (is_true program.special (head_at graph a).kind && is_true program.special (head_at graph b).kind) → after ≡ failing graph id
+      → IsFalse (is_true program.special (head_at graph a).kind
+      && is_true program.special (head_at graph b).kind) → after ≡ failing graph id
       → Steps program graph id after
   -- an equation of a free variable with itself, and with another one
-  same_variable : (a b : ℕ) (us vs : List ℕ) → node_at graph id ≡ node (kind.Prim prim.Unify) (a ∷ b ∷ []) → head_at graph a ≡ node kind.Free us
-      → head_at graph b ≡ node kind.Free vs → head_of graph a ≡ head_of graph b → after ≡ telling program graph id true → Steps program graph id after
-  two_variables : (a b : ℕ) (us vs : List ℕ) → node_at graph id ≡ node (kind.Prim prim.Unify) (a ∷ b ∷ []) → head_at graph a ≡ node kind.Free us
+  same_variable : (a b : ℕ) (us vs : List ℕ) → node_at graph id
+      ≡ node (kind.Prim prim.Unify) (a ∷ b ∷ []) → head_at graph a ≡ node kind.Free us
+      → head_at graph b ≡ node kind.Free vs → head_of graph a ≡ head_of graph b
+      → after ≡ telling program graph id true → Steps program graph id after
+  two_variables : (a b : ℕ) (us vs : List ℕ) → node_at graph id
+      ≡ node (kind.Prim prim.Unify) (a ∷ b ∷ []) → head_at graph a ≡ node kind.Free us
       → head_at graph b ≡ node kind.Free vs → head_of graph a ≢ head_of graph b
-      → after ≡ telling program (put graph (head_of graph a) (renaming (head_of graph b))) id true → Steps program graph id after
-  -- of a free variable with a literal or a constructor without arguments, and with one that has arguments
-  bound_to_literal : (a b v other : ℕ) (l : Lit) (args : List ℕ) → node_at graph id ≡ node (kind.Prim prim.Unify) (a ∷ b ∷ [])
-      → FreeBeside graph a b v other (kind.Lit l) args → after ≡ telling program (put graph v (renaming other)) id true → Steps program graph id after
-  bound_to_constant : (a b v other : ℕ) (c : ConId) → node_at graph id ≡ node (kind.Prim prim.Unify) (a ∷ b ∷ [])
-      → FreeBeside graph a b v other (kind.Cons c) [] → after ≡ telling program (put graph v (renaming other)) id true → Steps program graph id after
-  occurs : (a b v other : ℕ) (c : ConId) (arg : ℕ) (args : List ℕ) → node_at graph id ≡ node (kind.Prim prim.Unify) (a ∷ b ∷ [])
-      → FreeBeside graph a b v other (kind.Cons c) (arg ∷ args) → IsTrue (occurs_in graph v (arg ∷ args)) → after ≡ failing graph id
+      → after ≡ telling program (put graph (head_of graph a) (renaming (head_of graph b))) id true
       → Steps program graph id after
-  imitation : (a b v other : ℕ) (c : ConId) (arg : ℕ) (args : List ℕ) → node_at graph id ≡ node (kind.Prim prim.Unify) (a ∷ b ∷ [])
-      → FreeBeside graph a b v other (kind.Cons c) (arg ∷ args) → IsFalse (occurs_in graph v (arg ∷ args))
-      → equated_in_pairs program.special (imitating graph v c (length args + 1)) id (zip (numbers (length graph) (length args + 1)) (arg ∷ args)) ≡ alone_follows after
+  -- of a free variable with a literal or a constructor without arguments, and with one that has
+  -- arguments
+  bound_to_literal : (a b v other : ℕ) (l : Lit) (args : List ℕ)
+      → node_at graph id ≡ node (kind.Prim prim.Unify) (a ∷ b ∷ [])
+      → FreeBeside graph a b v other (kind.Lit l) args
+      → after ≡ telling program (put graph v (renaming other)) id true
+      → Steps program graph id after
+  bound_to_constant : (a b v other : ℕ) (c : ConId)
+      → node_at graph id ≡ node (kind.Prim prim.Unify) (a ∷ b ∷ [])
+      → FreeBeside graph a b v other (kind.Cons c) []
+      → after ≡ telling program (put graph v (renaming other)) id true
+      → Steps program graph id after
+  occurs : (a b v other : ℕ) (c : ConId) (arg : ℕ) (args : List ℕ)
+      → node_at graph id ≡ node (kind.Prim prim.Unify) (a ∷ b ∷ [])
+      → FreeBeside graph a b v other (kind.Cons c) (arg ∷ args)
+      → IsTrue (occurs_in graph v (arg ∷ args)) → after ≡ failing graph id
+      → Steps program graph id after
+  imitation : (a b v other : ℕ) (c : ConId) (arg : ℕ) (args : List ℕ)
+      → node_at graph id ≡ node (kind.Prim prim.Unify) (a ∷ b ∷ [])
+      → FreeBeside graph a b v other (kind.Cons c) (arg ∷ args)
+      → IsFalse (occurs_in graph v (arg ∷ args))
+      → equated_in_pairs program.special (imitating graph v c (length args + 1)) id
+      (zip (numbers (length graph) (length args + 1)) (arg ∷ args)) ≡ alone_follows after
       → Steps program graph id after
   -- of two literals, of two constructors, and of what never is equal
-  equal_literals : (a b : ℕ) (l m : Lit) (us vs : List ℕ) → node_at graph id ≡ node (kind.Prim prim.Unify) (a ∷ b ∷ [])
-      → head_at graph a ≡ node (kind.Lit l) us → head_at graph b ≡ node (kind.Lit m) vs → IsTrue (same_literal l m) → after ≡ telling program graph id true
+  equal_literals : (a b : ℕ) (l m : Lit) (us vs : List ℕ)
+      → node_at graph id ≡ node (kind.Prim prim.Unify) (a ∷ b ∷ [])
+      → head_at graph a ≡ node (kind.Lit l) us → head_at graph b ≡ node (kind.Lit m) vs
+      → IsTrue (same_literal l m) → after ≡ telling program graph id true
       → Steps program graph id after
-  unlike_literals : (a b : ℕ) (l m : Lit) (us vs : List ℕ) → node_at graph id ≡ node (kind.Prim prim.Unify) (a ∷ b ∷ [])
-      → head_at graph a ≡ node (kind.Lit l) us → head_at graph b ≡ node (kind.Lit m) vs → IsFalse (same_literal l m) → after ≡ failing graph id
+  unlike_literals : (a b : ℕ) (l m : Lit) (us vs : List ℕ)
+      → node_at graph id ≡ node (kind.Prim prim.Unify) (a ∷ b ∷ [])
+      → head_at graph a ≡ node (kind.Lit l) us → head_at graph b ≡ node (kind.Lit m) vs
+      → IsFalse (same_literal l m) → after ≡ failing graph id
       → Steps program graph id after
-  decomposition : (a b : ℕ) (c d : ConId) (us vs : List ℕ) → node_at graph id ≡ node (kind.Prim prim.Unify) (a ∷ b ∷ [])
-      → head_at graph a ≡ node (kind.Cons c) us → head_at graph b ≡ node (kind.Cons d) vs → IsTrue (same_constructor c d)
-      → equated_in_pairs program.special graph id (zip us vs) ≡ alone_follows after → Steps program graph id after
-  clash : (a b : ℕ) (c d : ConId) (us vs : List ℕ) → node_at graph id ≡ node (kind.Prim prim.Unify) (a ∷ b ∷ [])
-      → head_at graph a ≡ node (kind.Cons c) us → head_at graph b ≡ node (kind.Cons d) vs → IsFalse (same_constructor c d) → after ≡ failing graph id
+  decomposition : (a b : ℕ) (c d : ConId) (us vs : List ℕ)
+      → node_at graph id ≡ node (kind.Prim prim.Unify) (a ∷ b ∷ [])
+      → head_at graph a ≡ node (kind.Cons c) us → head_at graph b ≡ node (kind.Cons d) vs
+      → IsTrue (same_constructor c d)
+      → equated_in_pairs program.special graph id (zip us vs) ≡ alone_follows after
       → Steps program graph id after
-  mixed : (a b : ℕ) → node_at graph id ≡ node (kind.Prim prim.Unify) (a ∷ b ∷ []) → IsTrue (are_mixed (head_at graph a).kind (head_at graph b).kind)
+  clash : (a b : ℕ) (c d : ConId) (us vs : List ℕ)
+      → node_at graph id ≡ node (kind.Prim prim.Unify) (a ∷ b ∷ [])
+      → head_at graph a ≡ node (kind.Cons c) us → head_at graph b ≡ node (kind.Cons d) vs
+      → IsFalse (same_constructor c d) → after ≡ failing graph id
+      → Steps program graph id after
+  mixed : (a b : ℕ) → node_at graph id ≡ node (kind.Prim prim.Unify) (a ∷ b ∷ [])
+      → IsTrue (are_mixed (head_at graph a).kind (head_at graph b).kind)
       → after ≡ failing graph id → Steps program graph id after
   with_partial : (a b : ℕ) → node_at graph id ≡ node (kind.Prim prim.Unify) (a ∷ b ∷ [])
-      → IsTrue (is_partial (head_at graph a).kind || is_partial (head_at graph b).kind) → after ≡ failing graph id → Steps program graph id after
+      → IsTrue (is_partial (head_at graph a).kind || is_partial (head_at graph b).kind)
+      → after ≡ failing graph id → Steps program graph id after
   -- a set function's call with a partial application in an argument, which can't go on
-  set_of_partial : (f : FunId) (args : List ℕ) → node_at graph id ≡ node (kind.SetCall f) args → IsFalse (are_data (values_of (map (spelled graph) args)))
+  set_of_partial : (f : FunId) (args : List ℕ) → node_at graph id ≡ node (kind.SetCall f) args
+      → IsFalse (are_data (values_of (map (spelled graph) args)))
       → after ≡ put graph id (alone kind.Stuck) → Steps program graph id after

@@ -1,4 +1,5 @@
--- Valid states: numbers name something, nodes have what their kinds ask for, no cycles, and a goal variable stands for data.
+-- Valid states: numbers name something, nodes have what their kinds ask for, no cycles, and a goal
+-- variable stands for data.
 use Rattle.std.specs.Prelude.{ℕ, ◌<◌, suc, Bool, true, false, ◌&&◌, List, [], ◌∷◌, Option, Some, IsTrue, length, nat_eq, nat_lt}
 use Rattle.std.specs.List.{list_all}
 use Rattle.cu_calculus.specs.declared.Head.TheVariants as head
@@ -30,9 +31,11 @@ abbrev pub is_operation : Primitive → ℕ → Bool
 is_operation prim.Failed n = false
 is_operation operation n = nat_eq (external_arity operation) n
 
--- a case distinction of this mode, whose node has a scrutinee and a value for each variable that it keeps
+-- a case distinction of this mode, whose node has a scrutinee and a value for each variable that it
+-- keeps
 abbrev pub is_case : Mode → Option code.Expr → ℕ → Bool
-is_case mode (Some (code.Case other variables e branches)) n = same_mode mode other && nat_eq n (suc (length variables))
+is_case mode (Some (code.Case other variables e branches)) n =
+    same_mode mode other && nat_eq n (suc (length variables))
 is_case mode _ n = false
 
 -- a node of this kind has so many arguments
@@ -41,13 +44,15 @@ has_arguments program (kind.Cons c) n = takes (arity_of program (head.Con c)) n
 has_arguments program (kind.Lit l) n = is_literal l && nat_eq n 0
 has_arguments program (kind.Part h) n = is_allowed program h && takes_more (arity_of program h) n
 has_arguments program kind.Free n = nat_eq n 0
-has_arguments program (kind.Call f) n = is_call (arity_of program (head.Fun f)) (body_of program f) n
+has_arguments program (kind.Call f) n =
+    is_call (arity_of program (head.Fun f)) (body_of program f) n
 has_arguments program (kind.Prim operation) n = is_operation operation n
 has_arguments program kind.Apply n = nat_eq n 2
 has_arguments program (kind.Case mode e) n = is_case mode (expr_of program (record { 0 = e })) n
 has_arguments program kind.Or n = nat_eq n 2
 has_arguments program kind.Ind n = nat_eq n 1
-has_arguments program (kind.SetCall f) n = is_allowed program (head.Set f) && takes (arity_of program (head.Set f)) n
+has_arguments program (kind.SetCall f) n =
+    is_allowed program (head.Set f) && takes (arity_of program (head.Set f)) n
 has_arguments program kind.Fail n = nat_eq n 0
 has_arguments program kind.Stuck n = nat_eq n 0
 
@@ -57,11 +62,13 @@ are_places n ids = list_all (λ id. nat_lt id n) ids
 
 -- every node of a graph is one of the program's
 abbrev pub NodesFit : Code → Graph → Type 0
-NodesFit program graph = (id : ℕ) → id < length graph → IsTrue (has_arguments program (node_at graph id).kind (length (node_at graph id).args))
+NodesFit program graph = (id : ℕ) → id < length graph
+    → IsTrue (has_arguments program (node_at graph id).kind (length (node_at graph id).args))
 
 -- the arguments of every node are nodes of the graph
 abbrev pub ArgumentsThere : Graph → Type 0
-ArgumentsThere graph = (id : ℕ) → id < length graph → IsTrue (are_places (length graph) (node_at graph id).args)
+ArgumentsThere graph = (id : ℕ) → id < length graph
+    → IsTrue (are_places (length graph) (node_at graph id).args)
 
 -- ** No cycles
 
@@ -72,7 +79,8 @@ mutual
 
   pub data AllFounded (graph : Graph) : List ℕ → Type 0 where
     none : AllFounded graph []
-    more : (id : ℕ) (ids : List ℕ) → Founded graph id → AllFounded graph ids → AllFounded graph (id ∷ ids)
+    more : (id : ℕ) (ids : List ℕ) → Founded graph id → AllFounded graph ids
+        → AllFounded graph (id ∷ ids)
 
 abbrev pub IsAcyclic : Graph → Type 0
 IsAcyclic graph = (id : ℕ) → id < length graph → Founded graph id
@@ -89,7 +97,8 @@ is_plain _ = false
 -- a node from which free variables, literals, constructors and Inds alone are reached
 mutual
   pub data Plain (graph : Graph) : ℕ → Type 0 where
-    plain : (id : ℕ) → IsTrue (is_plain (node_at graph id).kind) → AllPlain graph (node_at graph id).args → Plain graph id
+    plain : (id : ℕ) → IsTrue (is_plain (node_at graph id).kind)
+        → AllPlain graph (node_at graph id).args → Plain graph id
 
   pub data AllPlain (graph : Graph) : List ℕ → Type 0 where
     none : AllPlain graph []
@@ -103,7 +112,8 @@ abbrev mutual
   is_built program value.Bottom = false
   is_built program (value.Variable x) = false
   is_built program (value.Literal l) = is_literal l
-  is_built program (value.Constructed c vs) = takes (arity_of program (head.Con c)) (count vs) && are_built program vs
+  is_built program (value.Constructed c vs) =
+      takes (arity_of program (head.Con c)) (count vs) && are_built program vs
   is_built program (value.Partial h vs) = false
 
   pub are_built : Code → Values → Bool
@@ -122,18 +132,21 @@ pub record IsValidBranch (program : Code) (graph : Graph) (root : ℕ) (goals : 
   pub acyclic : IsAcyclic graph
   pub goals_plain : AllPlain graph goals
 
-pub record IsValidSearch (program : Code) (graph : Graph) (id : ℕ) (found : List Value) : Type 0 where
+pub record IsValidSearch (program : Code) (graph : Graph) (id : ℕ)
+    (found : List Value) : Type 0 where
   pub there : id < length graph
   pub set_call : IsTrue (is_set_call (node_at graph id).kind)
   pub built : IsTrue (list_all (is_built program) found)
 
 unfoldable mutual
   pub IsValid : Code → State → Type 0
-  IsValid program (Branch graph root goals search) = IsValidBranch program graph root goals × SearchIsValid program graph search
+  IsValid program (Branch graph root goals search) =
+      IsValidBranch program graph root goals × SearchIsValid program graph search
 
   pub SearchIsValid : Code → Graph → Search → Type 0
   SearchIsValid program graph Idle = Unit {0}
-  SearchIsValid program graph (Running id found level) = IsValidSearch program graph id found × AllValid program level
+  SearchIsValid program graph (Running id found level) =
+      IsValidSearch program graph id found × AllValid program level
 
   pub AllValid : Code → States → Type 0
   AllValid program NoState = Unit {0}

@@ -16,7 +16,8 @@ entity owner sort name = record { owner = owner; name = name; sort = sort }
 -- the names of the operations that are built in, in the order in which the Prelude has them
 abbrev pub external_names : List (List ℕ)
 external_names =
-    codes "+" ∷ codes "-" ∷ codes "*" ∷ codes "div" ∷ codes "mod" ∷ codes "<" ∷ codes "<=" ∷ codes ">" ∷ codes ">=" ∷ codes "==" ∷ codes "=:=" ∷
+    codes "+" ∷ codes "-" ∷ codes "*" ∷ codes "div" ∷ codes "mod" ∷ codes "<" ∷ codes "<="
+    ∷ codes ">" ∷ codes ">=" ∷ codes "==" ∷ codes "=:=" ∷
     codes "&" ∷ codes "ord" ∷ codes "chr" ∷ codes "failed" ∷ []
 
 -- the commas between so many components and one more
@@ -26,7 +27,8 @@ commas (suc n) = codes "," ++ commas n
 
 -- a type with one constructor, both of this name
 abbrev pub single_type : List ℕ → List Entity
-single_type name = entity prelude_name DataType name ∷ entity prelude_name (Constructor name) name ∷ []
+single_type name = entity prelude_name DataType name ∷ entity prelude_name (Constructor name) name
+    ∷ []
 
 -- the name of tuples with so many commas
 abbrev pub tuple_name : ℕ → List ℕ
@@ -34,7 +36,8 @@ tuple_name n = codes "(" ++ (commas n ++ codes ")")
 
 -- unit, and the tuples of 2 to 15 components
 abbrev pub single_names : List (List ℕ)
-single_names = codes "()" ∷ map tuple_name (1 ∷ 2 ∷ 3 ∷ 4 ∷ 5 ∷ 6 ∷ 7 ∷ 8 ∷ 9 ∷ 10 ∷ 11 ∷ 12 ∷ 13 ∷ 14 ∷ [])
+single_names =
+    codes "()" ∷ map tuple_name (1 ∷ 2 ∷ 3 ∷ 4 ∷ 5 ∷ 6 ∷ 7 ∷ 8 ∷ 9 ∷ 10 ∷ 11 ∷ 12 ∷ 13 ∷ 14 ∷ [])
 
 -- the types of literals
 abbrev pub literal_names : List (List ℕ)
@@ -45,21 +48,25 @@ abbrev pub cons : Entity
 cons = entity prelude_name (Constructor (codes "[]")) (codes ":")
 
 abbrev pub list_type : List Entity
-list_type = entity prelude_name DataType (codes "[]") ∷ entity prelude_name (Constructor (codes "[]")) (codes "[]") ∷ cons ∷ []
+list_type = entity prelude_name DataType (codes "[]")
+    ∷ entity prelude_name (Constructor (codes "[]")) (codes "[]") ∷ cons ∷ []
 
 -- lists, unit, the tuples of 2 to 15 components, and the types of literals
 abbrev pub first_types : List Entity
-first_types = list_type ++ flat_map single_type single_names ++ map (entity prelude_name DataType) literal_names
+first_types = list_type ++ flat_map single_type single_names
+    ++ map (entity prelude_name DataType) literal_names
 
 -- the names of the functions that give all values of calls of functions of 0 to 7 parameters
 abbrev pub set_function_names : List (List ℕ)
 set_function_names =
-    codes "set0" ∷ codes "set1" ∷ codes "set2" ∷ codes "set3" ∷ codes "set4" ∷ codes "set5" ∷ codes "set6" ∷ codes "set7" ∷ []
+    codes "set0" ∷ codes "set1" ∷ codes "set2" ∷ codes "set3" ∷ codes "set4" ∷ codes "set5"
+    ∷ codes "set6" ∷ codes "set7" ∷ []
 
 -- such functions, the first for functions of so many parameters, the next for one more
 abbrev pub set_functions : List ℕ → ℕ → List (List ℕ) → List Entity
 set_functions owner n [] = []
-set_functions owner n (name ∷ names) = entity owner (SetFunction n) name ∷ set_functions owner (n + 1) names
+set_functions owner n (name ∷ names) =
+    entity owner (SetFunction n) name ∷ set_functions owner (n + 1) names
 
 -- what a module has without a declaration
 abbrev pub built_in_entities : List ℕ → List Entity
@@ -68,7 +75,8 @@ built_in_entities owner =
     else if bytes_eq owner set_functions_name then set_functions owner 0 set_function_names
     else []
 
--- A table has the names of the built-in modules, and those of the entities that have no declaration.
+-- A table has the names of the built-in modules, and those of the entities that have no
+-- declaration.
 pub record HasBuiltIn (names : List (List ℕ)) : Type 0 where
   pub modules : All (Contains names) (prelude_name ∷ set_functions_name ∷ [])
   pub lists : All (Contains names) (codes "[]" ∷ codes ":" ∷ [])

@@ -22,16 +22,19 @@ unless false name = wrong_name NotExported name ∷ []
 
 -- the constructors in a list beside a type, where these entities could be meant
 abbrev pub constructor_faults : List Entity → ConstructorsNamed → List Fault
-constructor_faults entities (syntax.Only names) = flat_map (λ (c : Name). unless (list_any (is_called c) entities) c) names
+constructor_faults entities (syntax.Only names) =
+    flat_map (λ (c : Name). unless (list_any (is_called c) entities) c) names
 constructor_faults entities _ = []
 
 -- ---- imports
 
 abbrev pub import_entity_faults : List Entity → syntax.Entity → List Fault
-import_entity_faults exports (syntax.VariableEntity at name) = unless (list_any (λ e. names_entity exports e (syntax.VariableEntity at name)) exports) name
+import_entity_faults exports (syntax.VariableEntity at name) =
+    unless (list_any (λ e. names_entity exports e (syntax.VariableEntity at name)) exports) name
 import_entity_faults exports (syntax.TypeEntity at name constructors) =
     let ts = types_called name exports in
-    (unless (list_any (λ (t : Entity). true) ts) name ++ constructor_faults (filter (λ e. list_any (is_type_of e) ts) exports) constructors)
+    (unless (list_any (λ (t : Entity). true) ts) name
+    ++ constructor_faults (filter (λ e. list_any (is_type_of e) ts) exports) constructors)
 
 abbrev pub import_list_faults : List Entity → Option ImportList → List Fault
 import_list_faults exports None = []
@@ -48,11 +51,14 @@ constructors_of bindings ts = flat_map (constructors_in bindings syntax.AllOfThe
 
 abbrev pub export_faults : List Interface → Named → Export → List Fault
 export_faults before m (syntax.ModuleExport at name) =
-    if bytes_eq name.text m.name || list_any (names_module name.text) (imports_of m) then [] else wrong_module NotExported name ∷ []
-export_faults before m (syntax.EntityExport (syntax.VariableEntity at name)) = unless_one NotExported name (meant (scope before m) Values name)
+    if bytes_eq name.text m.name || list_any (names_module name.text) (imports_of m) then []
+    else wrong_module NotExported name ∷ []
+export_faults before m (syntax.EntityExport (syntax.VariableEntity at name)) =
+    unless_one NotExported name (meant (scope before m) Values name)
 export_faults before m (syntax.EntityExport (syntax.TypeEntity at name constructors)) =
     let ts = meant (scope before m) Types name in
-    (unless_one NotExported name ts ++ constructor_faults (constructors_of (scope before m) ts) constructors)
+    (unless_one NotExported name ts ++ constructor_faults
+    (constructors_of (scope before m) ts) constructors)
 
 abbrev pub export_list_faults : List Interface → Named → Option (List Export) → List Fault
 export_list_faults before m None = []
@@ -62,13 +68,15 @@ export_list_faults before m (Some exports) = flat_map (export_faults before m) e
 
 -- the texts of a module's own functions and constructors
 abbrev pub own_values : Named → List (List ℕ)
-own_values m = flat_map (λ (e : Entity). if same_space Values (space_of e.sort) then e.name ∷ [] else []) (own_entities m)
+own_values m = flat_map (λ (e : Entity). if same_space Values (space_of e.sort) then e.name ∷ []
+    else []) (own_entities m)
 
 -- All that is wrong with a module, behind the interfaces of the modules that it imports.
 abbrev pub faults : List Interface → Named → List Fault
 faults before m =
     export_list_faults before m (export_list m.syntax.header) ++
-    (flat_map (import_faults before) (imports_of m) ++ demand_faults (scope before m) (items_demands (own_values m) m.syntax.items))
+    (flat_map (import_faults before) (imports_of m)
+    ++ demand_faults (scope before m) (items_demands (own_values m) m.syntax.items))
 
 -- All that is wrong with a goal in a module.
 abbrev pub goal_faults : List Interface → Named → Goal → List Fault

@@ -19,6 +19,7 @@ option_names None = []
 option_names (Some id) = id ∷ []
 
 -- Numbers of these names, all of which a table has.
-pub record AreImports (names : List (List ℕ)) (texts : List (List ℕ)) (found : List NameId) : Type 0 where
+pub record AreImports (names : List (List ℕ)) (texts : List (List ℕ))
+    (found : List NameId) : Type 0 where
   pub are : texts_of names found ≡ texts
   pub known : All (IsKnown names) found

@@ -11,6 +11,7 @@ abbrev pub listed_texts : List (Bor (List ℕ)) → List (List ℕ)
 listed_texts texts = map (λ (t : Bor (List ℕ)). t.now) texts
 
 -- These are the entities, and a table has all their names.
-pub record AreEntities (names : List (List ℕ)) (meant : List Entity) (entities : List code.Entity) : Type 0 where
+pub record AreEntities (names : List (List ℕ)) (meant : List Entity)
+    (entities : List code.Entity) : Type 0 where
   pub are : entities_meaning names entities ≡ meant
   pub known : All (EntityIsKnown names) entities

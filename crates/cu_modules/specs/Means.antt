@@ -10,8 +10,10 @@ use Rattle.cu_modules.specs.Scopes.{Interface, Named, interfaces, meant, scope}
 abbrev pub interfaces_before : List Named → ℕ → List Interface
 interfaces_before modules number = interfaces [] (take number modules)
 
--- Among modules, each behind those that it imports, the name means this entity alone in the module of a number.
-pub record Means (modules : List Named) (number : ℕ) (space : Space) (name : Name) (entity : Entity) : Type 0 where
+-- Among modules, each behind those that it imports, the name means this entity alone in the module
+-- of a number.
+pub record Means (modules : List Named) (number : ℕ) (space : Space) (name : Name)
+    (entity : Entity) : Type 0 where
   pub m : Named
   pub is_there : slice_get modules number ≡ Some m
   pub is_alone : meant (scope (interfaces_before modules number) m) space name ≡ entity ∷ []
@@ -19,7 +21,8 @@ pub record Means (modules : List Named) (number : ℕ) (space : Space) (name : N
 -- Nothing is wrong with the names of modules, behind these interfaces.
 pub data AreScoped : List Interface → List Named → Type 0 where
   no_module : (before : List Interface) → AreScoped before []
-  one_more : (before : List Interface) (m : Named) (modules : List Named) → faults before m ≡ [] → AreScoped (interfaces before (m ∷ [])) modules
+  one_more : (before : List Interface) (m : Named) (modules : List Named) → faults before m ≡ []
+      → AreScoped (interfaces before (m ∷ [])) modules
       → AreScoped before (m ∷ modules)
 
 -- The first module with a fault, behind others without, and its first fault.
@@ -39,7 +42,8 @@ pub record IsGoalScoped (modules : List Named) (root : ℕ) (goal : Goal) : Type
   pub right : goal_faults (interfaces_before modules root) m goal ≡ []
 
 -- The first fault of a goal in the module of a number.
-pub record IsGoalWrong (modules : List Named) (root : ℕ) (goal : Goal) (fault : Fault) : Type 0 where
+pub record IsGoalWrong (modules : List Named) (root : ℕ) (goal : Goal)
+    (fault : Fault) : Type 0 where
   pub m : Named
   pub is_there : slice_get modules root ≡ Some m
   pub is_first : IsFirst (goal_faults (interfaces_before modules root) m goal) fault

@@ -34,13 +34,17 @@ in_text_at names place fault = InText (text_of names place.«module») fault
 abbrev pub in_text : List (List ℕ) → NameId → TextFault → Refusal
 in_text names id fault = InText (text_of names id) fault
 
--- A refusal that an answer tells has this property. A fault of the library and want of memory say nothing.
+-- A refusal that an answer tells has this property. A fault of the library and want of memory say
+-- nothing.
 abbrev pub Tells : List (List ℕ) → (Refusal → Type 0) → OrderFault → Type 0
 Tells names P (answer.MissingModule id) = P (MissingModule (text_of names id))
 Tells names P (answer.SourceTooBig id) = P (in_text names id (Tokens tokens.Fault.SourceTooBig))
-Tells names P (answer.NotUtf8 id offset) = P (in_text names id (Tokens (tokens.Fault.NotUtf8 offset)))
-Tells names P (answer.BadToken place) = P (in_text_at names place (Tokens (tokens.Fault.BadToken (position_of place))))
-Tells names P (answer.LiteralRange place) = P (in_text_at names place (Tokens (tokens.Fault.LiteralRange (position_of place))))
+Tells names P (answer.NotUtf8 id offset) =
+    P (in_text names id (Tokens (tokens.Fault.NotUtf8 offset)))
+Tells names P (answer.BadToken place) =
+    P (in_text_at names place (Tokens (tokens.Fault.BadToken (position_of place))))
+Tells names P (answer.LiteralRange place) =
+    P (in_text_at names place (Tokens (tokens.Fault.LiteralRange (position_of place))))
 Tells names P (answer.TooDeep place) = P (in_text_at names place (TooDeep (position_of place)))
 Tells names P (answer.TooLong id line) = P (in_text names id (Syntax (parsing.TooLong line)))
 Tells names P (answer.Syntax id line) = P (in_text names id (Syntax (parsing.Syntax line)))
@@ -60,12 +64,14 @@ FaultCount _ old new = new ≡ old
 -- each name is another than those before it
 abbrev pub AllNew : List (List ℕ) → List Named → Type 0
 AllNew before [] = Unit {0}
-AllNew before (m ∷ modules) = (is_among before m.name ≡ false) × AllNew (before ++ m.name ∷ []) modules
+AllNew before (m ∷ modules) = (is_among before m.name ≡ false)
+    × AllNew (before ++ m.name ∷ []) modules
 
 -- each module stands behind all that it imports
 abbrev pub AllBehind : List (List ℕ) → List Named → Type 0
 AllBehind before [] = Unit {0}
-AllBehind before (m ∷ modules) = All (λ name. is_among before name ≡ true) (import_names m) × AllBehind (before ++ m.name ∷ []) modules
+AllBehind before (m ∷ modules) = All (λ name. is_among before name ≡ true) (import_names m)
+    × AllBehind (before ++ m.name ∷ []) modules
 
 -- A module that is built in is its own text's.
 abbrev pub IsOwn : Named → Type 0

@@ -8,14 +8,16 @@ use Rattle.cu_modules.specs.BuiltInEntities.{built_in_entities, entity}
 
 -- constructors that are declared with a type
 abbrev pub constructors_declared : List ℕ → List ℕ → List ConstructorDeclaration → List Entity
-constructors_declared owner t constructors = map (λ (c : ConstructorDeclaration). entity owner (Constructor t) c.name.text) constructors
+constructors_declared owner t constructors =
+    map (λ (c : ConstructorDeclaration). entity owner (Constructor t) c.name.text) constructors
 
 -- what an item declares
 abbrev pub declared_by : List ℕ → Item → List Entity
 declared_by owner (syntax.Data at name parameters constructors) =
     entity owner DataType name.text ∷ constructors_declared owner name.text constructors
 declared_by owner (syntax.Synonym at name parameters meant) = entity owner Synonym name.text ∷ []
-declared_by owner (syntax.DeclarationItem (syntax.FunctionRule at name parameters right)) = entity owner Function name.text ∷ []
+declared_by owner (syntax.DeclarationItem (syntax.FunctionRule at name parameters right)) =
+    entity owner Function name.text ∷ []
 declared_by owner _ = []
 
 -- the entities of a module of these items

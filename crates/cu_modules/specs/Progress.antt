@@ -24,17 +24,21 @@ is_met path modules name = is_among path name || is_there modules name
 
 -- how many of the modules that are built in are on the path or done
 abbrev pub built_in_met : List (List ℕ) → List Named → ℕ
-built_in_met path modules = one_if (is_met path modules prelude_name) + one_if (is_met path modules set_functions_name)
+built_in_met path modules =
+    one_if (is_met path modules prelude_name) + one_if (is_met path modules set_functions_name)
 
--- What holds between visits, where a path leads to the module at hand, these modules are done and so many were fetched.
-pub record StandsFor (names : List (List ℕ)) (prelude : NameId) (path : List NameId) (done : List Module) (count : ℕ) : Type 0 where
+-- What holds between visits, where a path leads to the module at hand, these modules are done and
+-- so many were fetched.
+pub record StandsFor (names : List (List ℕ)) (prelude : NameId) (path : List NameId)
+    (done : List Module) (count : ℕ) : Type 0 where
   pub differ : AllDiffer names
   pub has_prelude : HasPrelude names prelude
   pub path_known : All (IsKnown names) path
   pub done_known : All (HasModule names) done
   pub counted : count ≡ fetched (texts_of names path) (modules_of names done)
   pub few : count ≤ most_modules
-  pub room : length path + length done ≡ count + built_in_met (texts_of names path) (modules_of names done)
+  pub room : length path + length done
+      ≡ count + built_in_met (texts_of names path) (modules_of names done)
   pub apart : All (λ id. is_there (modules_of names done) (text_of names id) ≡ false) path
   pub ordered : AreOrdered (modules_of names done)
 
@@ -49,7 +53,8 @@ pub record Came (names : List (List ℕ)) (before after : Progress) : Type 0 whe
   pub done : after.done.items ≡ before.done.items ++ more
 
 -- A module that is read stands at the end of the path.
-pub record Enters (names : List (List ℕ)) (before after : Progress) (name : NameId) (m : Module) (found : List NameId) : Type 0 where
+pub record Enters (names : List (List ℕ)) (before after : Progress) (name : NameId) (m : Module)
+    (found : List NameId) : Type 0 where
   pub stands : Stands names after
   pub path : after.path.items ≡ before.path.items ++ name ∷ []
   pub done : after.done.items ≡ before.done.items
@@ -67,17 +72,22 @@ abbrev pub IsFree : ℕ → List ℕ → Type 0
 IsFree count name = is_built_in name ≡ true ⊎ ¬ (count ≡ most_modules)
 
 -- The text of a module is looked at, and what it is read as.
-pub record IsFound (held : List ℕ → Option (List ℕ)) (count : ℕ) (name : List ℕ) (found : syntax.Module) : Type 0 where
+pub record IsFound (held : List ℕ → Option (List ℕ)) (count : ℕ) (name : List ℕ)
+    (found : syntax.Module) : Type 0 where
   pub free : IsFree count name
   pub text : List ℕ
   pub is : source held name ≡ Some text
   pub read : IsRead name text (Ok found)
 
 -- why a module isn't found
-pub data IsLacking (held : List ℕ → Option (List ℕ)) (count : ℕ) (name : List ℕ) : Refusal → Type 0 where
-  too_many : is_built_in name ≡ false → count ≡ most_modules → IsLacking held count name (TooManyModules name)
-  missing : IsFree count name → source held name ≡ None → IsLacking held count name (MissingModule name)
-  unread : (refusal : Refusal) (text : List ℕ) → IsFree count name → source held name ≡ Some text → IsFaultOf name text refusal → IsLacking held count name refusal
+pub data IsLacking (held : List ℕ → Option (List ℕ)) (count : ℕ) (name : List ℕ) : Refusal
+    → Type 0 where
+  too_many : is_built_in name ≡ false → count ≡ most_modules
+      → IsLacking held count name (TooManyModules name)
+  missing : IsFree count name → source held name ≡ None
+      → IsLacking held count name (MissingModule name)
+  unread : (refusal : Refusal) (text : List ℕ) → IsFree count name → source held name ≡ Some text
+      → IsFaultOf name text refusal → IsLacking held count name refusal
 
 -- a module on the path is met again
 pub record IsCycle (path : List (List ℕ)) (name : List ℕ) (refusal : Refusal) : Type 0 where

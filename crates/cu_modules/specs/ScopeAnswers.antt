@@ -20,14 +20,20 @@ use Rattle.cu_modules.specs.Ordering.{AllNew}
 use Rattle.cu_modules.specs.Scopes.{Named, interfaces, scope}
 
 abbrev pub fault_at : List (List ℕ) → Wrong → Place → NameId → Fault
-fault_at names wrong place id = record { wrong = wrong; at = position_of place; name = text_of names id }
+fault_at names wrong place id =
+    record { wrong = wrong; at = position_of place; name = text_of names id }
 
--- The module of the fault that an answer tells, and the fault, have this property. Want of memory says nothing.
+-- The module of the fault that an answer tells, and the fault, have this property. Want of memory
+-- says nothing.
 abbrev pub TellsFault : List (List ℕ) → (List ℕ → Fault → Type 0) → ScopeFault → Type 0
-TellsFault names P (answer.NotExported place id) = P (text_of names place.«module») (fault_at names wrong.NotExported place id)
-TellsFault names P (answer.UnknownName place id) = P (text_of names place.«module») (fault_at names wrong.UnknownName place id)
-TellsFault names P (answer.Ambiguous place id) = P (text_of names place.«module») (fault_at names wrong.Ambiguous place id)
-TellsFault names P (answer.Duplicate place id) = P (text_of names place.«module») (fault_at names wrong.Duplicate place id)
+TellsFault names P (answer.NotExported place id) =
+    P (text_of names place.«module») (fault_at names wrong.NotExported place id)
+TellsFault names P (answer.UnknownName place id) =
+    P (text_of names place.«module») (fault_at names wrong.UnknownName place id)
+TellsFault names P (answer.Ambiguous place id) =
+    P (text_of names place.«module») (fault_at names wrong.Ambiguous place id)
+TellsFault names P (answer.Duplicate place id) =
+    P (text_of names place.«module») (fault_at names wrong.Duplicate place id)
 TellsFault names P answer.NoMemory = Unit {0}
 
 -- A table has the names of an answer: that of the module, and that of the token.
@@ -38,8 +44,10 @@ FaultIsKnown names (answer.Ambiguous place id) = IsKnown names place.«module» 
 FaultIsKnown names (answer.Duplicate place id) = IsKnown names place.«module» × IsKnown names id
 FaultIsKnown names answer.NoMemory = Unit {0}
 
--- A qualifier, if there is one, and what stands behind it are those of a name, and a table has them.
-pub record IsNamed (names : List (List ℕ)) (qualifier : Option NameId) (base : NameId) (name : Name) : Type 0 where
+-- A qualifier, if there is one, and what stands behind it are those of a name, and a table has
+-- them.
+pub record IsNamed (names : List (List ℕ)) (qualifier : Option NameId) (base : NameId)
+    (name : Name) : Type 0 where
   pub qualifier_is : name.qualifier ≡ option_map (text_of names) qualifier
   pub base_is : name.base ≡ text_of names base
   pub qualifier_known : IfSome qualifier (IsKnown names)
@@ -49,7 +57,8 @@ pub record IsNamed (names : List (List ℕ)) (qualifier : Option NameId) (base :
 -- name, and each has its exports under its name.
 pub record AreScopes (names : List (List ℕ)) (modules : List Named) (scopes : Scopes) : Type 0 where
   pub each : length scopes.tables.items ≡ length modules
-  pub tells : (k : ℕ) (m : Named) (table : NameTable) → slice_get modules k ≡ Some m → slice_get scopes.tables.items k ≡ Some table
+  pub tells : (k : ℕ) (m : Named) (table : NameTable) → slice_get modules k ≡ Some m
+      → slice_get scopes.tables.items k ≡ Some table
       → Tells names (scope (interfaces_before modules k) m) table
   pub differ : AllNew [] modules
   pub exports : AreInterfaces names (interfaces [] modules) scopes.interfaces

@@ -1,4 +1,5 @@
--- Which entities a module's names mean, and which of them the module exports (Curry Report, "Modules").
+-- Which entities a module's names mean, and which of them the module exports (Curry Report,
+-- "Modules").
 use Rattle.std.specs.Prelude.{ℕ, Bool, true, false, ◌&&◌, ◌||◌, not, List, [], ◌∷◌, ◌++◌, Option, None, Some, map, is_none, if◌then◌else◌}
 use Rattle.std.specs.List.{filter, flat_map, list_any}
 use Rattle.std.specs.Str.{bytes_eq}
@@ -39,15 +40,19 @@ prelude_import = record {
   list = None;
 }
 
--- The imports of a module. That of the whole Prelude is the first, unless the module is the Prelude or one of its imports names it.
+-- The imports of a module. That of the whole Prelude is the first, unless the module is the Prelude
+-- or one of its imports names it.
 abbrev pub imports_of : Named → List Import
 imports_of m =
     let written = flat_map imports_by m.syntax.items in
-    (if bytes_eq m.name prelude_name || list_any (names_module prelude_name) written then written else prelude_import ∷ written)
+    (if bytes_eq m.name prelude_name || list_any (names_module prelude_name) written then written
+    else prelude_import ∷ written)
 
 -- what the module of a name exports, of those before
 abbrev pub exports_of : List Interface → List ℕ → List Entity
-exports_of before name = flat_map (λ (i : Interface). i.entities) (filter (λ (i : Interface). bytes_eq i.name name) before)
+exports_of before name =
+    flat_map (λ (i : Interface). i.entities)
+    (filter (λ (i : Interface). bytes_eq i.name name) before)
 
 -- ---- entities that a list names
 
@@ -88,7 +93,8 @@ types_called name entities = filter (λ (t : Entity). is_type t.sort && is_calle
 abbrev pub names_entity : List Entity → Entity → syntax.Entity → Bool
 names_entity exports e (syntax.VariableEntity at name) = is_function e.sort && is_called name e
 names_entity exports e (syntax.TypeEntity at name constructors) =
-    (is_type e.sort && is_called name e) || (comes_with constructors e && list_any (is_type_of e) (types_called name exports))
+    (is_type e.sort && is_called name e)
+    || (comes_with constructors e && list_any (is_type_of e) (types_called name exports))
 
 -- what an import takes of the exports of its module
 abbrev pub taken : Option ImportList → List Entity → List Entity
@@ -112,15 +118,19 @@ imported before found = taken found.list (exports_of before found.name.text)
 
 -- whether an own entity hides an imported one of its unqualified name
 abbrev pub is_hidden : List Entity → Entity → Bool
-is_hidden mine e = list_any (λ (o : Entity). bytes_eq o.name e.name && same_space (space_of o.sort) (space_of e.sort)) mine
+is_hidden mine e =
+    list_any (λ (o : Entity). bytes_eq o.name e.name
+    && same_space (space_of o.sort) (space_of e.sort)) mine
 
 -- the entities that an import brings without a qualifier, where these are the module's own
 abbrev pub unqualified : List Entity → List Interface → Import → List Entity
-unqualified mine before found = if found.qualified then [] else filter (λ e. not (is_hidden mine e)) (imported before found)
+unqualified mine before found = if found.qualified then []
+    else filter (λ e. not (is_hidden mine e)) (imported before found)
 
 abbrev pub import_bindings : List Entity → List Interface → Import → List Binding
 import_bindings mine before found =
-    map (binding (Some (qualifier_of found.alias found.name))) (imported before found) ++ map (binding None) (unqualified mine before found)
+    map (binding (Some (qualifier_of found.alias found.name))) (imported before found)
+    ++ map (binding None) (unqualified mine before found)
 
 abbrev pub own_bindings : List ℕ → List Entity → List Binding
 own_bindings name mine = map (binding (Some name)) mine ++ map (binding None) mine
@@ -131,7 +141,8 @@ own_entities m = own m.name m.syntax.items
 -- The scope of a module. The constructor `:` is always in scope.
 abbrev pub scope : List Interface → Named → List Binding
 scope before m =
-    binding None cons ∷ own_bindings m.name (own_entities m) ++ flat_map (import_bindings (own_entities m) before) (imports_of m)
+    binding None cons ∷ own_bindings m.name (own_entities m)
+    ++ flat_map (import_bindings (own_entities m) before) (imports_of m)
 
 -- the entities that a name means in a scope, each once
 abbrev pub meant : List Binding → Space → Name → List Entity
@@ -150,8 +161,10 @@ type_exports bindings constructors ts = ts ++ flat_map (constructors_in bindings
 abbrev pub exports_by : List Interface → Named → Export → List Entity
 exports_by before m (syntax.ModuleExport at name) =
     if bytes_eq name.text m.name then own_entities m
-    else flat_map (unqualified (own_entities m) before) (filter (names_module name.text) (imports_of m))
-exports_by before m (syntax.EntityExport (syntax.VariableEntity at name)) = meant (scope before m) Values name
+    else flat_map (unqualified (own_entities m) before)
+    (filter (names_module name.text) (imports_of m))
+exports_by before m (syntax.EntityExport (syntax.VariableEntity at name)) =
+    meant (scope before m) Values name
 exports_by before m (syntax.EntityExport (syntax.TypeEntity at name constructors)) =
     type_exports (scope before m) constructors (meant (scope before m) Types name)
 

@@ -34,11 +34,16 @@ pub record HasLayout (text : List ℕ) (laid : List Lexeme) : Type 0 where
 
 -- what a text is read as, that was looked for under a name
 pub data IsRead (name text : List ℕ) : Result Module TextFault → Type 0 where
-  no_tokens : (fault : tokens.Fault) → tokens.tokens text ≡ Err fault → IsRead name text (Err (Tokens fault))
-  too_deep : (found : List Lexeme) (number : ℕ) (token : Lexeme) → tokens.tokens text ≡ Ok found → block lexeme_view true found ≡ Err number
+  no_tokens : (fault : tokens.Fault) → tokens.tokens text ≡ Err fault
+      → IsRead name text (Err (Tokens fault))
+  too_deep : (found : List Lexeme) (number : ℕ) (token : Lexeme) → tokens.tokens text ≡ Ok found
+      → block lexeme_view true found ≡ Err number
       → slice_get found number ≡ Some token → IsRead name text (Err (TooDeep token.at))
-  no_syntax : (laid : List Lexeme) (fault : parsing.Fault) → HasLayout text laid → ModuleRead laid (Err fault) → IsRead name text (Err (Syntax fault))
-  other_name : (laid : List Lexeme) (syntax : Module) → HasLayout text laid → ModuleRead laid (Ok syntax) → allows syntax.header name ≡ false
+  no_syntax : (laid : List Lexeme) (fault : parsing.Fault) → HasLayout text laid
+      → ModuleRead laid (Err fault) → IsRead name text (Err (Syntax fault))
+  other_name : (laid : List Lexeme) (syntax : Module) → HasLayout text laid
+      → ModuleRead laid (Ok syntax) → allows syntax.header name ≡ false
       → IsRead name text (Err HeaderName)
-  right : (laid : List Lexeme) (syntax : Module) → HasLayout text laid → ModuleRead laid (Ok syntax) → allows syntax.header name ≡ true
+  right : (laid : List Lexeme) (syntax : Module) → HasLayout text laid → ModuleRead laid (Ok syntax)
+      → allows syntax.header name ≡ true
       → IsRead name text (Ok syntax)

@@ -1,4 +1,5 @@
--- The modules that a root reaches by its imports: depth first in the order of the texts, each once, imports before importers.
+-- The modules that a root reaches by its imports: depth first in the order of the texts, each once,
+-- imports before importers.
 use Rattle.std.specs.Prelude.{◌≡◌, ℕ, Bool, true, false, ◌+◌, ◌⊎◌, not, List, [], ◌∷◌, ◌++◌, Option, None, Some, Result, Ok, Err, is_some, length, map, if◌then◌else◌}
 use Rattle.std.specs.List.{filter, list_any}
 use Rattle.std.specs.Str.{bytes_eq}
@@ -40,7 +41,8 @@ fetched_names names = filter (λ name. not (is_built_in name)) names
 
 -- how many modules were fetched, where these are done and those of the path aren't
 abbrev pub fetched : List (List ℕ) → List Named → ℕ
-fetched path modules = length (fetched_names path) + length (fetched_names (map (λ (m : Named). m.name) modules))
+fetched path modules =
+    length (fetched_names path) + length (fetched_names (map (λ (m : Named). m.name) modules))
 
 -- the names of a path, from this one on
 abbrev pub from : List ℕ → List (List ℕ) → List (List ℕ)
@@ -61,40 +63,63 @@ abbrev pub import_names : Named → List (List ℕ)
 import_names m = map (λ (i : Import). i.name.text) (imports_of m)
 
 mutual
-  -- the modules that are done after a visit, where `path` leads to the module and `before` were done before
-  pub data Visits (held : List ℕ → Option (List ℕ)) : List (List ℕ) → List Named → List ℕ → Result (List Named) Refusal → Type 0 where
-    done : (path : List (List ℕ)) (before : List Named) (name : List ℕ) → is_there before name ≡ true → Visits held path before name (Ok before)
-    cyclic : (path : List (List ℕ)) (before : List Named) (name : List ℕ) → is_there before name ≡ false → is_among path name ≡ true
+  -- the modules that are done after a visit, where `path` leads to the module and `before` were
+  -- done before
+  pub data Visits (held : List ℕ → Option (List ℕ)) : List (List ℕ) → List Named → List ℕ
+      → Result (List Named) Refusal → Type 0 where
+    done : (path : List (List ℕ)) (before : List Named) (name : List ℕ)
+        → is_there before name ≡ true → Visits held path before name (Ok before)
+    cyclic : (path : List (List ℕ)) (before : List Named) (name : List ℕ)
+        → is_there before name ≡ false → is_among path name ≡ true
         → Visits held path before name (Err (ImportCycle (from name path)))
-    too_many : (path : List (List ℕ)) (before : List Named) (name : List ℕ) → IsNew path before name → is_built_in name ≡ false
-        → fetched path before ≡ most_modules → Visits held path before name (Err (TooManyModules name))
-    missing : (path : List (List ℕ)) (before : List Named) (name : List ℕ) → IsOpen path before name → source held name ≡ None
+    too_many : (path : List (List ℕ)) (before : List Named) (name : List ℕ) → IsNew path before name
+        → is_built_in name ≡ false
+        → fetched path before ≡ most_modules
+        → Visits held path before name (Err (TooManyModules name))
+    missing : (path : List (List ℕ)) (before : List Named) (name : List ℕ) → IsOpen path before name
+        → source held name ≡ None
         → Visits held path before name (Err (MissingModule name))
-    unread : (path : List (List ℕ)) (before : List Named) (name text : List ℕ) (fault : TextFault) → IsOpen path before name
-        → source held name ≡ Some text → IsRead name text (Err fault) → Visits held path before name (Err (InText name fault))
-    refused : (path : List (List ℕ)) (before : List Named) (name text : List ℕ) (syntax : Module) (refusal : Refusal) → IsOpen path before name
+    unread : (path : List (List ℕ)) (before : List Named) (name text : List ℕ) (fault : TextFault)
+        → IsOpen path before name
+        → source held name ≡ Some text → IsRead name text (Err fault)
+        → Visits held path before name (Err (InText name fault))
+    refused : (path : List (List ℕ)) (before : List Named) (name text : List ℕ) (syntax : Module)
+        (refusal : Refusal) → IsOpen path before name
         → source held name ≡ Some text → IsRead name text (Ok syntax)
-        → VisitAll held (path ++ name ∷ []) before (import_names (record { name = name; syntax = syntax })) (Err refusal)
+        → VisitAll held (path ++ name ∷ []) before
+        (import_names (record { name = name; syntax = syntax })) (Err refusal)
         → Visits held path before name (Err refusal)
-    visited : (path : List (List ℕ)) (before after : List Named) (name text : List ℕ) (syntax : Module) → IsOpen path before name
+    visited : (path : List (List ℕ)) (before after : List Named) (name text : List ℕ)
+        (syntax : Module) → IsOpen path before name
         → source held name ≡ Some text → IsRead name text (Ok syntax)
-        → VisitAll held (path ++ name ∷ []) before (import_names (record { name = name; syntax = syntax })) (Ok after)
+        → VisitAll held (path ++ name ∷ []) before
+        (import_names (record { name = name; syntax = syntax })) (Ok after)
         → Visits held path before name (Ok (after ++ record { name = name; syntax = syntax } ∷ []))
 
   -- the same for modules one after another
-  pub data VisitAll (held : List ℕ → Option (List ℕ)) : List (List ℕ) → List Named → List (List ℕ) → Result (List Named) Refusal → Type 0 where
-    no_more : (path : List (List ℕ)) (before : List Named) → VisitAll held path before [] (Ok before)
-    stopped : (path : List (List ℕ)) (before : List Named) (name : List ℕ) (names : List (List ℕ)) (refusal : Refusal)
-        → Visits held path before name (Err refusal) → VisitAll held path before (name ∷ names) (Err refusal)
-    next : (path : List (List ℕ)) (before after : List Named) (name : List ℕ) (names : List (List ℕ)) (outcome : Result (List Named) Refusal)
-        → Visits held path before name (Ok after) → VisitAll held path after names outcome → VisitAll held path before (name ∷ names) outcome
+  pub data VisitAll (held : List ℕ → Option (List ℕ)) : List (List ℕ) → List Named → List (List ℕ)
+      → Result (List Named) Refusal → Type 0 where
+    no_more : (path : List (List ℕ)) (before : List Named)
+        → VisitAll held path before [] (Ok before)
+    stopped : (path : List (List ℕ)) (before : List Named) (name : List ℕ) (names : List (List ℕ))
+        (refusal : Refusal)
+        → Visits held path before name (Err refusal)
+        → VisitAll held path before (name ∷ names) (Err refusal)
+    next : (path : List (List ℕ)) (before after : List Named) (name : List ℕ)
+        (names : List (List ℕ)) (outcome : Result (List Named) Refusal)
+        → Visits held path before name (Ok after) → VisitAll held path after names outcome
+        → VisitAll held path before (name ∷ names) outcome
 
 -- the modules that are built in, and then the others
 abbrev pub built_in_first : List Named → List Named
 built_in_first modules =
-    filter (λ (m : Named). is_built_in m.name) modules ++ filter (λ (m : Named). not (is_built_in m.name)) modules
+    filter (λ (m : Named). is_built_in m.name) modules
+    ++ filter (λ (m : Named). not (is_built_in m.name)) modules
 
 -- what a root reaches, where texts are held under the names of modules
-pub data Walk (held : List ℕ → Option (List ℕ)) (root : List ℕ) : Result (List Named) Refusal → Type 0 where
-  refused : (refusal : Refusal) → Visits held [] [] root (Err refusal) → Walk held root (Err refusal)
-  walked : (modules : List Named) → Visits held [] [] root (Ok modules) → Walk held root (Ok (built_in_first modules))
+pub data Walk (held : List ℕ → Option (List ℕ)) (root : List ℕ) : Result (List Named) Refusal
+    → Type 0 where
+  refused : (refusal : Refusal) → Visits held [] [] root (Err refusal)
+      → Walk held root (Err refusal)
+  walked : (modules : List Named) → Visits held [] [] root (Ok modules)
+      → Walk held root (Ok (built_in_first modules))

@@ -63,7 +63,8 @@ impl ModuleScope {
             → AllDiffer names → IfSome qualifier (IsKnown names)
             → All (EntityIsKnown names) entities.now → IsScope names bindings self.old
             → OnOk result (IsScope names
-            (bindings ++ map (binding (option_map (text_of names) qualifier)) (entities_meaning names entities.now))
+            (bindings ++ map (binding (option_map (text_of names) qualifier))
+            (entities_meaning names entities.now))
             self.new) }
     {
         'entities: for entity in entities {
@@ -82,8 +83,10 @@ pub(crate) fn own_scope(
     own: &[Entity],
 ) -> Result<ModuleScope, AllocError>
     requires { HasBuiltIn names.now }
-    ensures { (mine : List meant.Entity) → AllDiffer names.now → IsKnown names.now name → AreEntities names.now mine own.now
-        → IfOk result (IsScope names.now (binding None cons ∷ own_bindings (text_of names.now name) mine)) }
+    ensures { (mine : List meant.Entity) → AllDiffer names.now → IsKnown names.now name
+        → AreEntities names.now mine own.now
+        → IfOk result
+        (IsScope names.now (binding None cons ∷ own_bindings (text_of names.now name) mine)) }
 {
     let mut scope = ModuleScope::new(alloc);
     scope.bind(None, cons(names))?;
@@ -94,7 +97,8 @@ pub(crate) fn own_scope(
 
 /// A module's own entities, without a qualifier.
 pub(crate) fn unqualified(alloc: Global, own: &[Entity]) -> Result<ModuleScope, AllocError>
-    ensures { (names : List (List ℕ)) (mine : List meant.Entity) → AllDiffer names → AreEntities names mine own.now
+    ensures { (names : List (List ℕ)) (mine : List meant.Entity) → AllDiffer names
+        → AreEntities names mine own.now
         → IfOk result (IsScope names (map (binding None) mine)) }
 {
     let mut scope = ModuleScope::new(alloc);

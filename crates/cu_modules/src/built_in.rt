@@ -59,7 +59,8 @@ pub(crate) fn built_in_entities(
 ) -> Result<Vec<Entity>, AllocError>
     requires built_in { HasBuiltIn names.now }
     requires known { IsKnown names.now owner }
-    ensures { IfOk result (λ found. AreEntities names.now (built_in_entities (text_of names.now owner)) found.items) }
+    ensures { IfOk result (λ found. AreEntities names.now
+        (built_in_entities (text_of names.now owner)) found.items) }
 {
     let mut entities = Vec::new(alloc);
     let text = names.text(owner);
@@ -91,7 +92,8 @@ fn add_first(names: &Names, owner: NameId, entities: &mut Vec<Entity>) -> Result
     requires known { IsKnown names.now owner }
     requires prelude { text_of names.now owner ≡ prelude_name }
     ensures { (before : List meant.Entity) → AreEntities names.now before entities.old.items
-        → OnOk result (AreEntities names.now (before ++ built_in_entities prelude_name) entities.new.items) }
+        → OnOk result (AreEntities names.now
+        (before ++ built_in_entities prelude_name) entities.new.items) }
 {
     add_list(names, owner, entities)?;
     add_single_types(names, owner, &SINGLE_TYPES, entities)?;
@@ -145,7 +147,8 @@ fn add_single_types(
     requires known { IsKnown names.now owner }
     requires prelude { text_of names.now owner ≡ prelude_name }
     ensures { (before : List meant.Entity) → AreEntities names.now before entities.old.items
-        → OnOk result (AreEntities names.now (before ++ flat_map single_type (listed_texts texts.now)) entities.new.items) }
+        → OnOk result (AreEntities names.now
+        (before ++ flat_map single_type (listed_texts texts.now)) entities.new.items) }
 {
     'types: for text in texts {
         let name = found(names, text);
@@ -175,7 +178,9 @@ fn add_named(
     requires known { IsKnown names.now owner }
     requires sort { SortIsKnown names.now sort }
     ensures { (before : List meant.Entity) → AreEntities names.now before entities.old.items
-        → OnOk result (AreEntities names.now (before ++ map (entity (text_of names.now owner) (sort_meaning names.now sort)) (listed_texts texts.now)) entities.new.items) }
+        → OnOk result (AreEntities names.now
+        (before ++ map (entity (text_of names.now owner) (sort_meaning names.now sort))
+        (listed_texts texts.now)) entities.new.items) }
 {
     'texts: for text in texts {
         let name = found(names, text);
@@ -195,7 +200,9 @@ fn add_set_functions(
     requires there { All (Contains names.now) (listed_texts texts.now) }
     requires known { IsKnown names.now owner }
     ensures { (before : List meant.Entity) → AreEntities names.now before entities.old.items
-        → OnOk result (AreEntities names.now (before ++ set_functions (text_of names.now owner) 0 (listed_texts texts.now)) entities.new.items) }
+        → OnOk result (AreEntities names.now
+        (before ++ set_functions (text_of names.now owner) 0 (listed_texts texts.now))
+        entities.new.items) }
 {
     'texts: for (parameters, text) in texts.iter().enumerate() {
         let name = found(names, text);

@@ -42,7 +42,8 @@ pub(crate) fn scoped(
 ) -> Result<Scoped, AllocError>
     requires built_in { HasBuiltIn names.now }
     requires has { HasModule names.now «module».now }
-    ensures { (before : List Interface) → AllDiffer names.now → AreInterfaces names.now before interfaces.now
+    ensures { (before : List Interface) → AllDiffer names.now
+        → AreInterfaces names.now before interfaces.now
         → IfOk result (IsScoped names.now before «module».now) }
 {
     let own = own_entities(alloc, names, module)?;
@@ -110,7 +111,8 @@ fn own_values(alloc: Global, own: &[Entity]) -> Result<TextSet, AllocError>
     ensures { (names : List (List ℕ)) (mine : List meant.Entity)
         → AllDiffer names → AreEntities names mine own.now
         → IfOk result (HasTexts names
-        (flat_map (λ (e : meant.Entity). if same_space Values (space_of e.sort) then e.name ∷ [] else [])
+        (flat_map (λ (e : meant.Entity). if same_space Values (space_of e.sort) then e.name ∷ []
+        else [])
         mine)) }
 {
     let mut values = TextSet::new(alloc);

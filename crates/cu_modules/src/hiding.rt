@@ -31,7 +31,8 @@ pub(crate) fn unhidden(
     ensures { (names : List (List ℕ)) (mine imported : List meant.Entity)
         → IsScope names (map (binding None) mine) own.now
         → AreEntities names imported entities.now
-        → IfOk result (λ found. AreEntities names (filter (λ e. not (is_hidden mine e)) imported) found.items) }
+        → IfOk result (λ found. AreEntities names
+        (filter (λ e. not (is_hidden mine e)) imported) found.items) }
 {
     let mut seen = Vec::new(alloc);
     'entities: for entity in entities {

@@ -38,7 +38,9 @@ pub(crate) fn imports(
 ) -> Result<Vec<Import>, AllocError>
     requires built_in { HasBuiltIn names.now }
     requires has { HasModule names.now «module».now }
-    ensures { AllDiffer names.now → IfOk result (λ found. AreImportsOf «module».now.name names.now (imports_of (module_of names.now «module».now)) found.items) }
+    ensures { AllDiffer names.now
+        → IfOk result (λ found. AreImportsOf «module».now.name names.now
+        (imports_of (module_of names.now «module».now)) found.items) }
 {
     let prelude = found(names, "Prelude");
     let written = written(alloc, module)?;
@@ -76,7 +78,9 @@ fn prelude_import(owner: NameId, prelude: NameId) -> Import
 fn add_imports(alloc: Global, module: &Module, imports: &mut Vec<Import>) -> Result<(), AllocError>
     ensures { (names : List (List ℕ)) (before : List syntax.Import) → HasModule names «module».now
         → AreImportsOf «module».now.name names before imports.old.items
-        → OnOk result (AreImportsOf «module».now.name names (before ++ flat_map imports_by (module_of names «module».now).syntax.items) imports.new.items) }
+        → OnOk result (AreImportsOf «module».now.name names
+        (before ++ flat_map imports_by (module_of names «module».now).syntax.items)
+        imports.new.items) }
 {
     'items: for item in module.syntax.items() {
         let Some(import) = import_of(alloc, item)? else {
@@ -90,7 +94,8 @@ fn add_imports(alloc: Global, module: &Module, imports: &mut Vec<Import>) -> Res
 /// What an item imports, if it is an import.
 fn import_of(alloc: Global, item: &Item) -> Result<Option<Import>, AllocError>
     ensures { (owner : NameId) (names : List (List ℕ)) → ItemIsOf owner names item.now
-        → IfOk result (λ found. AreImportsOf owner names (imports_by (item_meaning names item.now)) (option_imports found)) }
+        → IfOk result (λ found. AreImportsOf owner names (imports_by (item_meaning names item.now))
+        (option_imports found)) }
 {
     match item.node(alloc)? {
         ItemNode::Import(import) => Ok(Some(import)),
@@ -112,10 +117,14 @@ pub(crate) fn bind_import(
     interfaces: &Interfaces,
     scope: &mut ModuleScope,
 ) -> Result<(), AllocError>
-    ensures { (owner : NameId) (names : List (List ℕ)) (mine : List meant.Entity) (before : List Interface) (bindings : List Binding)
-        → AllDiffer names → ImportIsOf owner names import.now → IsScope names (map (binding None) mine) own.now
+    ensures { (owner : NameId) (names : List (List ℕ)) (mine : List meant.Entity)
+        (before : List Interface) (bindings : List Binding)
+        → AllDiffer names → ImportIsOf owner names import.now
+        → IsScope names (map (binding None) mine) own.now
         → AreInterfaces names before interfaces.now → IsScope names bindings scope.old
-        → OnOk result (IsScope names (bindings ++ import_bindings mine before (import_meaning names import.now)) scope.new) }
+        → OnOk result
+        (IsScope names (bindings ++ import_bindings mine before
+        (import_meaning names import.now)) scope.new) }
 {
     let exports = interfaces.of(import.name.text);
     let taken = taken(alloc, &import.list, exports)?;
@@ -129,8 +138,11 @@ pub(crate) fn bind_import(
 
 /// The qualifier that an import gives.
 fn qualifier_of(import: &Import) -> NameId
-    ensures text { (names : List (List ℕ)) → text_of names result ≡ qualifier_of (import_meaning names import.now).alias (import_meaning names import.now).name }
-    ensures known { (owner : NameId) (names : List (List ℕ)) → ImportIsOf owner names import.now → IsKnown names result }
+    ensures text { (names : List (List ℕ)) → text_of names result
+        ≡ qualifier_of (import_meaning names import.now).alias
+        (import_meaning names import.now).name }
+    ensures known { (owner : NameId) (names : List (List ℕ)) → ImportIsOf owner names import.now
+        → IsKnown names result }
 {
     match import.alias {
         Some(alias) => alias.text,
@@ -150,10 +162,14 @@ pub(crate) fn bind_imports(
     interfaces: &Interfaces,
     scope: &mut ModuleScope,
 ) -> Result<(), AllocError>
-    ensures { (owner : NameId) (names : List (List ℕ)) (mine : List meant.Entity) (before : List Interface) (bindings : List Binding) (imported : List syntax.Import)
-        → AllDiffer names → AreImportsOf owner names imported imports.now → IsScope names (map (binding None) mine) own.now
+    ensures { (owner : NameId) (names : List (List ℕ)) (mine : List meant.Entity)
+        (before : List Interface) (bindings : List Binding) (imported : List syntax.Import)
+        → AllDiffer names → AreImportsOf owner names imported imports.now
+        → IsScope names (map (binding None) mine) own.now
         → AreInterfaces names before interfaces.now → IsScope names bindings scope.old
-        → OnOk result (IsScope names (bindings ++ flat_map (import_bindings mine before) imported) scope.new) }
+        → OnOk result
+        (IsScope names (bindings ++ flat_map (import_bindings mine before) imported)
+        scope.new) }
 {
     'imports: for import in imports {
         bind_import(alloc, import, own, interfaces, scope)?;

@@ -27,8 +27,10 @@ pub fn import_names(
     module: &Module,
     prelude: NameId,
 ) -> Result<Vec<NameId>, AllocError>
-    ensures { (names : List (List ℕ)) → AllDiffer names → HasModule names «module».now → HasPrelude names prelude
-        → IfOk result (λ found. AreImports names (import_names (module_of names «module».now)) found.items) }
+    ensures { (names : List (List ℕ)) → AllDiffer names → HasModule names «module».now
+        → HasPrelude names prelude
+        → IfOk result (λ found. AreImports names
+        (import_names (module_of names «module».now)) found.items) }
 {
     let written = written(alloc, module)?;
     if says_so(module, prelude, written.as_slice()) {
@@ -41,14 +43,17 @@ pub fn import_names(
 
 /// Whether a module is the Prelude or writes that it imports it.
 pub(crate) fn says_so(module: &Module, prelude: NameId, written: &[NameId]) -> bool
-    ensures { result ≡ (nat_eq «module».now.name.0 prelude.0 || list_any (λ (id : NameId). nat_eq id.0 prelude.0) written.now) }
+    ensures { result ≡ (nat_eq «module».now.name.0 prelude.0
+        || list_any (λ (id : NameId). nat_eq id.0 prelude.0) written.now) }
 {
     module.name == prelude || written.contains(&prelude)
 }
 
 /// The names in a module's import declarations.
 pub(crate) fn written(alloc: Global, module: &Module) -> Result<Vec<NameId>, AllocError>
-    ensures { (names : List (List ℕ)) → HasModule names «module».now → IfOk result (λ found. AreImports names (written_in (module_of names «module».now)) found.items) }
+    ensures { (names : List (List ℕ)) → HasModule names «module».now
+        → IfOk result (λ found. AreImports names
+        (written_in (module_of names «module».now)) found.items) }
 {
     let mut names = Vec::new(alloc);
     'items: for item in module.syntax.items() {
@@ -63,7 +68,8 @@ pub(crate) fn written(alloc: Global, module: &Module) -> Result<Vec<NameId>, All
 /// The name of the module that an item imports, if it is an import.
 fn imported(alloc: Global, item: &Item) -> Result<Option<NameId>, AllocError>
     ensures { (owner : NameId) (names : List (List ℕ)) → ItemIsOf owner names item.now
-        → IfOk result (λ found. AreImports names (import_texts (imports_by (item_meaning names item.now))) (option_names found)) }
+        → IfOk result (λ found. AreImports names
+        (import_texts (imports_by (item_meaning names item.now))) (option_names found)) }
 {
     match item.node(alloc)? {
         ItemNode::Import(import) => Ok(Some(import.name.text)),

@@ -40,7 +40,8 @@ use std::alloc::{AllocError, Global};
 
 /// Whether a key is that of what is bound.
 fn is_key(bound: &Bound, key: Key) -> bool
-    ensures { (names : List (List ℕ)) → AllDiffer names → BoundIsKnown names bound.now → KeyIsKnown names key
+    ensures { (names : List (List ℕ)) → AllDiffer names → BoundIsKnown names bound.now
+        → KeyIsKnown names key
         → result ≡ is_key names key (bound_meaning names bound.now) }
 {
     Key::of(bound.qualifier, bound.entity) == key
@@ -48,8 +49,11 @@ fn is_key(bound: &Bound, key: Key) -> bool
 
 /// The bound entities that a key finds.
 fn matching(alloc: Global, bound: &[Bound], key: Key) -> Result<Vec<Entity>, AllocError>
-    ensures { (names : List (List ℕ)) → AllDiffer names → All (BoundIsKnown names) bound.now → KeyIsKnown names key
-        → IfOk result (λ found. AreEntities names (entities_of (filter (is_key names key) (map (bound_meaning names) bound.now))) found.items) }
+    ensures { (names : List (List ℕ)) → AllDiffer names → All (BoundIsKnown names) bound.now
+        → KeyIsKnown names key
+        → IfOk result (λ found. AreEntities names
+        (entities_of (filter (is_key names key) (map (bound_meaning names) bound.now)))
+        found.items) }
 {
     let mut found = Vec::new(alloc);
     'bound: for one in bound {
@@ -63,7 +67,8 @@ fn matching(alloc: Global, bound: &[Bound], key: Key) -> Result<Vec<Entity>, All
 
 /// Entities, each once.
 pub(crate) fn each_once(alloc: Global, entities: &[Entity]) -> Result<Vec<Entity>, AllocError>
-    ensures { (names : List (List ℕ)) (meant : List meant.Entity) → AllDiffer names → AreEntities names meant entities.now
+    ensures { (names : List (List ℕ)) (meant : List meant.Entity) → AllDiffer names
+        → AreEntities names meant entities.now
         → IfOk result (λ found. AreEntities names (distinct meant) found.items) }
 {
     let mut set = EntitySet::new(alloc);
@@ -82,7 +87,8 @@ pub(crate) fn meant(
 ) -> Result<Vec<Entity>, AllocError>
     ensures { (owner : NameId) (names : List (List ℕ)) (bindings : List Binding)
         → AllDiffer names → NameIsOf owner names name.now → IsScope names bindings scope.now
-        → IfOk result (λ found. AreEntities names (meant bindings (space_meaning space) (name_meaning names name.now)) found.items) }
+        → IfOk result (λ found. AreEntities names
+        (meant bindings (space_meaning space) (name_meaning names name.now)) found.items) }
 {
     let key = Key {
         qualifier: name.qualifier,
@@ -108,8 +114,12 @@ fn constructors_in(
     of: Entity,
 ) -> Result<Vec<Entity>, AllocError>
     ensures { (owner : NameId) (names : List (List ℕ))
-        → AllDiffer names → All (BoundIsKnown names) bound.now → EntityIsKnown names of → ConstructorsAreOf owner names constructors.now
-        → IfOk result (λ found. AreEntities names (constructors_in (map (bound_meaning names) bound.now) (constructors_meaning names constructors.now) (entity_meaning names of)) found.items) }
+        → AllDiffer names → All (BoundIsKnown names) bound.now → EntityIsKnown names of
+        → ConstructorsAreOf owner names constructors.now
+        → IfOk result (λ found. AreEntities names
+        (constructors_in (map (bound_meaning names) bound.now)
+        (constructors_meaning names constructors.now) (entity_meaning names of))
+        found.items) }
 {
     let mut found = Vec::new(alloc);
     'bound: for one in bound {
@@ -128,9 +138,13 @@ pub(crate) fn constructors_of(
     constructors: &Constructors,
     types: &[Entity],
 ) -> Result<Vec<Entity>, AllocError>
-    ensures { (owner : NameId) (names : List (List ℕ)) (bindings : List Binding) (ts : List meant.Entity)
-        → AllDiffer names → IsScope names bindings scope.now → AreEntities names ts types.now → ConstructorsAreOf owner names constructors.now
-        → IfOk result (λ found. AreEntities names (flat_map (constructors_in bindings (constructors_meaning names constructors.now)) ts) found.items) }
+    ensures { (owner : NameId) (names : List (List ℕ)) (bindings : List Binding)
+        (ts : List meant.Entity)
+        → AllDiffer names → IsScope names bindings scope.now → AreEntities names ts types.now
+        → ConstructorsAreOf owner names constructors.now
+        → IfOk result (λ found. AreEntities names
+        (flat_map (constructors_in bindings (constructors_meaning names constructors.now)) ts)
+        found.items) }
 {
     let mut all = Vec::new(alloc);
     'types: for t in types {
@@ -147,9 +161,12 @@ fn type_exports(
     constructors: &Constructors,
     types: Vec<Entity>,
 ) -> Result<Vec<Entity>, AllocError>
-    ensures { (owner : NameId) (names : List (List ℕ)) (bindings : List Binding) (ts : List meant.Entity)
-        → AllDiffer names → IsScope names bindings scope.now → AreEntities names ts types.items → ConstructorsAreOf owner names constructors.now
-        → IfOk result (λ found. AreEntities names (type_exports bindings (constructors_meaning names constructors.now) ts) found.items) }
+    ensures { (owner : NameId) (names : List (List ℕ)) (bindings : List Binding)
+        (ts : List meant.Entity)
+        → AllDiffer names → IsScope names bindings scope.now → AreEntities names ts types.items
+        → ConstructorsAreOf owner names constructors.now
+        → IfOk result (λ found. AreEntities names
+        (type_exports bindings (constructors_meaning names constructors.now) ts) found.items) }
 {
     let more = constructors_of(alloc, scope, constructors, types.as_slice())?;
     let mut all = types;
@@ -164,10 +181,13 @@ fn unqualified_by(
     own: &ModuleScope,
     interfaces: &Interfaces,
 ) -> Result<Vec<Entity>, AllocError>
-    ensures { (owner : NameId) (names : List (List ℕ)) (mine : List meant.Entity) (before : List Interface)
-        → AllDiffer names → ImportIsOf owner names import.now → IsScope names (map (binding None) mine) own.now
+    ensures { (owner : NameId) (names : List (List ℕ)) (mine : List meant.Entity)
+        (before : List Interface)
+        → AllDiffer names → ImportIsOf owner names import.now
+        → IsScope names (map (binding None) mine) own.now
         → AreInterfaces names before interfaces.now
-        → IfOk result (λ found. AreEntities names (unqualified mine before (import_meaning names import.now)) found.items) }
+        → IfOk result (λ found. AreEntities names
+        (unqualified mine before (import_meaning names import.now)) found.items) }
 {
     if import.qualified {
         return Ok(Vec::new(alloc));
@@ -192,10 +212,14 @@ fn module_exports(
     own: &ModuleScope,
     interfaces: &Interfaces,
 ) -> Result<Vec<Entity>, AllocError>
-    ensures { (owner : NameId) (names : List (List ℕ)) (mine : List meant.Entity) (before : List Interface) (imported : List syntax.Import)
-        → AllDiffer names → IsKnown names name → AreImportsOf owner names imported imports.now → IsScope names (map (binding None) mine) own.now
+    ensures { (owner : NameId) (names : List (List ℕ)) (mine : List meant.Entity)
+        (before : List Interface) (imported : List syntax.Import)
+        → AllDiffer names → IsKnown names name → AreImportsOf owner names imported imports.now
+        → IsScope names (map (binding None) mine) own.now
         → AreInterfaces names before interfaces.now
-        → IfOk result (λ found. AreEntities names (flat_map (unqualified mine before) (filter (names_module (text_of names name)) imported)) found.items) }
+        → IfOk result (λ found. AreEntities names
+        (flat_map (unqualified mine before)
+        (filter (names_module (text_of names name)) imported)) found.items) }
 {
     let mut all = Vec::new(alloc);
     'imports: for import in imports {

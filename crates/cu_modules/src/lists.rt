@@ -88,7 +88,8 @@ pub(crate) fn taken(
     ensures { (owner : NameId) (names : List (List ℕ)) (exported : List meant.Entity)
         → AllDiffer names → IfSome list.now (ImportListIsOf owner names)
         → AreEntities names exported exports.now
-        → IfOk result (λ found. AreEntities names (taken (option_map (import_list_meaning names) list.now) exported) found.items) }
+        → IfOk result (λ found. AreEntities names
+        (taken (option_map (import_list_meaning names) list.now) exported) found.items) }
 {
     match list {
         Some(list) => chosen(alloc, list, exports),
@@ -101,7 +102,8 @@ fn chosen(alloc: Global, list: &ImportList, exports: &[Entity]) -> Result<Vec<En
     ensures { (owner : NameId) (names : List (List ℕ)) (exported : List meant.Entity)
         → AllDiffer names → ImportListIsOf owner names list.now
         → AreEntities names exported exports.now
-        → IfOk result (λ found. AreEntities names (taken (Some (import_list_meaning names list.now)) exported) found.items) }
+        → IfOk result (λ found. AreEntities names
+        (taken (Some (import_list_meaning names list.now)) exported) found.items) }
 {
     let mut kept = Vec::new(alloc);
     'exports: for entity in exports {

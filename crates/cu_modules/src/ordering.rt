@@ -31,8 +31,12 @@ pub fn order<L: Library>(
     dir: &str,
     lib: &mut L,
 ) -> Result<Vec<Module>, OrderFault>
-    ensures walked { IfSome (L.holdings lib.old) (λ held. IfOk result (λ modules. Walk (held.module_at dir.now) root.now (Ok (modules_of names.new modules.items)))) }
-    ensures refused { IfSome (L.holdings lib.old) (λ held. IfErr result (Tells names.new (λ refusal. Walk (held.module_at dir.now) root.now (Err refusal)))) }
+    ensures walked { IfSome (L.holdings lib.old)
+        (λ held. IfOk result (λ modules. Walk (held.module_at dir.now) root.now
+        (Ok (modules_of names.new modules.items)))) }
+    ensures refused { IfSome (L.holdings lib.old)
+        (λ held. IfErr result
+        (Tells names.new (λ refusal. Walk (held.module_at dir.now) root.now (Err refusal)))) }
     ensures ordered { IfOk result (λ modules. AreOrdered (modules_of names.new modules.items)) }
     ensures known { IfOk result (λ modules. All (HasModule names.new) modules.items) }
     ensures built_in { OnOk result (HasBuiltIn names.new) }
@@ -81,7 +85,8 @@ fn built_in_first(
     modules: Vec<Module>,
 ) -> Result<Vec<Module>, AllocError>
     requires { All (HasModule names.now) modules.items }
-    ensures sorted { IfOk result (λ found. modules_of names.now found.items ≡ built_in_first (modules_of names.now modules.items)) }
+    ensures sorted { IfOk result (λ found. modules_of names.now found.items
+        ≡ built_in_first (modules_of names.now modules.items)) }
     ensures known { IfOk result (λ found. All (HasModule names.now) found.items) }
 {
     let mut built_in = Vec::new(alloc);

@@ -29,7 +29,8 @@ pub(crate) fn own_entities(
 ) -> Result<Vec<Entity>, AllocError>
     requires built_in { HasBuiltIn names.now }
     requires has { HasModule names.now «module».now }
-    ensures { IfOk result (λ found. AreEntities names.now (own_entities (module_of names.now «module».now)) found.items) }
+    ensures { IfOk result (λ found. AreEntities names.now
+        (own_entities (module_of names.now «module».now)) found.items) }
 {
     let mut entities = built_in_entities(alloc, names, module.name)?;
     'items: for item in module.syntax.items() {
@@ -46,8 +47,12 @@ fn declare(
     entities: &mut Vec<Entity>,
 ) -> Result<(), AllocError>
     ensures { (names : List (List ℕ)) (before : List meant.Entity)
-        → IsKnown names owner → ItemIsOf owner names item.now → AreEntities names before entities.old.items
-        → OnOk result (AreEntities names (before ++ declared_by (text_of names owner) (item_meaning names item.now)) entities.new.items) }
+        → IsKnown names owner → ItemIsOf owner names item.now
+        → AreEntities names before entities.old.items
+        → OnOk result
+        (AreEntities names
+        (before ++ declared_by (text_of names owner) (item_meaning names item.now))
+        entities.new.items) }
 {
     match item.node(alloc)? {
         ItemNode::Data(_, name, _, constructors) => {
@@ -92,9 +97,13 @@ fn add_constructors(
     entities: &mut Vec<Entity>,
 ) -> Result<(), AllocError>
     ensures { (names : List (List ℕ)) (before : List meant.Entity)
-        → IsKnown names owner → IsKnown names type_name → All (ConstructorDeclarationIsOf owner names) constructors.now
+        → IsKnown names owner → IsKnown names type_name
+        → All (ConstructorDeclarationIsOf owner names) constructors.now
         → AreEntities names before entities.old.items
-        → OnOk result (AreEntities names (before ++ constructors_declared (text_of names owner) (text_of names type_name) (map (constructor_meaning names) constructors.now)) entities.new.items) }
+        → OnOk result
+        (AreEntities names
+        (before ++ constructors_declared (text_of names owner) (text_of names type_name)
+        (map (constructor_meaning names) constructors.now)) entities.new.items) }
 {
     'constructors: for constructor in constructors {
         entities.push(Entity {

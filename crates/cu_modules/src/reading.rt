@@ -29,7 +29,8 @@ pub(crate) fn read(
 ) -> Result<Module, OrderFault>
     requires known { IsKnown names.old name }
     requires differ { AllDiffer names.old }
-    ensures read { IfOk result (λ found. IsRead (text_of names.new name) text.now (Ok (module_meaning names.new found))) }
+    ensures read { IfOk result
+        (λ found. IsRead (text_of names.new name) text.now (Ok (module_meaning names.new found))) }
     ensures fault { IfErr result (Tells names.new (IsFaultOf (text_of names.new name) text.now)) }
     ensures count { IfErr result (λ fault. (count : ℕ) → FaultCount fault count count) }
     ensures owned { IfOk result (ModuleIsOf name names.new) }
@@ -52,10 +53,14 @@ pub(crate) fn read(
 
 /// A module, if its header lets it have a name.
 fn named(module: Module, name: NameId) -> Result<Module, OrderFault>
-    ensures right { (names : List (List ℕ)) → IsKnown names name → AllDiffer names → ModuleIsOf name names «module»
-        → IfOk result (λ found. (found ≡ «module») × (allows (module_meaning names «module»).header (text_of names name) ≡ true)) }
-    ensures wrong { (names : List (List ℕ)) → IsKnown names name → AllDiffer names → ModuleIsOf name names «module»
-        → IfErr result (λ fault. (fault ≡ HeaderName name) × (allows (module_meaning names «module»).header (text_of names name) ≡ false)) }
+    ensures right { (names : List (List ℕ)) → IsKnown names name → AllDiffer names
+        → ModuleIsOf name names «module»
+        → IfOk result (λ found. (found ≡ «module»)
+        × (allows (module_meaning names «module»).header (text_of names name) ≡ true)) }
+    ensures wrong { (names : List (List ℕ)) → IsKnown names name → AllDiffer names
+        → ModuleIsOf name names «module»
+        → IfErr result (λ fault. (fault ≡ HeaderName name)
+        × (allows (module_meaning names «module»).header (text_of names name) ≡ false)) }
     ensures count { IfErr result (λ fault. (count : ℕ) → FaultCount fault count count) }
 {
     if allows(&module, name) {
@@ -67,7 +72,8 @@ fn named(module: Module, name: NameId) -> Result<Module, OrderFault>
 
 /// Whether a module's header lets it have a name.
 fn allows(module: &Module, name: NameId) -> bool
-    ensures { (names : List (List ℕ)) → IsKnown names name → AllDiffer names → ModuleIsOf name names «module».now
+    ensures { (names : List (List ℕ)) → IsKnown names name → AllDiffer names
+        → ModuleIsOf name names «module».now
         → result ≡ allows (module_meaning names «module».now).header (text_of names name) }
 {
     match module.header() {

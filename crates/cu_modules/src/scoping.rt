@@ -46,7 +46,8 @@ pub fn scope(alloc: Global, names: &Names, modules: &[Module]) -> Result<Scopes,
     requires ordered { AreOrdered (modules_of names.now modules.now) }
     ensures right { OnOk result (AreScoped [] (modules_of names.now modules.now)) }
     ensures scopes { IfOk result (AreScopes names.now (modules_of names.now modules.now)) }
-    ensures wrong { IfErr result (TellsFault names.now (IsWrong (modules_of names.now modules.now))) }
+    ensures wrong { IfErr result
+        (TellsFault names.now (IsWrong (modules_of names.now modules.now))) }
     ensures known { IfErr result (FaultIsKnown names.now) }
 {
     let mut interfaces = Interfaces::new(alloc);
@@ -67,10 +68,14 @@ fn scope_module(
 ) -> Result<NameTable, ScopeFault>
     requires built_in { HasBuiltIn names.now }
     requires has { HasModule names.now «module».now }
-    ensures right { (before : List Interface) → exports_of before (text_of names.now «module».now.name) ≡ [] → AreInterfaces names.now before interfaces.old
-        → IfOk result (λ table. IsRight names.now before (module_of names.now «module».now) table interfaces.new) }
+    ensures right { (before : List Interface)
+        → exports_of before (text_of names.now «module».now.name) ≡ []
+        → AreInterfaces names.now before interfaces.old
+        → IfOk result (λ table. IsRight names.now before
+        (module_of names.now «module».now) table interfaces.new) }
     ensures wrong { (before : List Interface) → AreInterfaces names.now before interfaces.old
-        → IfErr result (TellsFault names.now (IsWrongIn before (module_of names.now «module».now))) }
+        → IfErr result
+        (TellsFault names.now (IsWrongIn before (module_of names.now «module».now))) }
     ensures known { (before : List Interface) → AreInterfaces names.now before interfaces.old
         → IfErr result (FaultIsKnown names.now) }
 {
@@ -114,10 +119,12 @@ pub fn scope_goal(
     requires scopes { AreScopes names.now (modules_of names.now modules.now) scopes }
     requires root { root < length modules.now }
     ensures right { (owner : NameId) → GoalIsOf owner names.now goal.now
-        → OnOk result (IsGoalScoped (modules_of names.now modules.now) root (goal_meaning names.now goal.now)) }
+        → OnOk result (IsGoalScoped (modules_of names.now modules.now) root
+        (goal_meaning names.now goal.now)) }
     ensures wrong { (owner : NameId) → GoalIsOf owner names.now goal.now
         → IfErr result (TellsFault names.now (λ name fault. (name ≡ text_of names.now owner)
-        × IsGoalWrong (modules_of names.now modules.now) root (goal_meaning names.now goal.now) fault)) }
+        × IsGoalWrong (modules_of names.now modules.now) root
+        (goal_meaning names.now goal.now) fault)) }
     ensures same { IfOk result (λ found. found ≡ scopes) }
     ensures known { (owner : NameId) → IsKnown names.now owner → GoalIsOf owner names.now goal.now
         → IfErr result (FaultIsKnown names.now) }
@@ -153,9 +160,11 @@ impl Scopes {
         qualifier: Option<NameId>,
         base: NameId,
     ) -> Option<Entity>
-        ensures meaning { (names : List (List ℕ)) (modules : List Named) (name : Name) (entity : meant.Entity)
+        ensures meaning { (names : List (List ℕ)) (modules : List Named) (name : Name)
+            (entity : meant.Entity)
             → AreScopes names modules self.now → IsNamed names qualifier base name
-            → ((option_map (entity_meaning names) result ≡ Some entity) ↔ Means modules «module» (space_meaning space) name entity) }
+            → ((option_map (entity_meaning names) result ≡ Some entity) ↔ Means modules «module»
+            (space_meaning space) name entity) }
         ensures known { (names : List (List ℕ)) (modules : List Named)
             → AreScopes names modules self.now → IfSome result (EntityIsKnown names) }
     {

@@ -68,7 +68,8 @@ impl Progress {
     }
 
     fn is_done(&self, name: NameId) -> bool
-        ensures { (names : List (List ℕ)) → AllDiffer names → All (HasModule names) self.now.done.items → IsKnown names name
+        ensures { (names : List (List ℕ)) → AllDiffer names
+            → All (HasModule names) self.now.done.items → IsKnown names name
             → result ≡ is_there (modules_of names self.now.done.items) (text_of names name) }
     {
         self.done.iter().any(|module| module.name == name)
@@ -77,7 +78,8 @@ impl Progress {
     /// Takes imports up to the first that isn't done.
     fn first_new(&self, left: &mut vec::IntoIter<NameId>) -> Option<NameId>
         ensures { (names : List (List ℕ)) → AllDiffer names
-            → All (HasModule names) self.now.done.items → All (IsKnown names) (into_iter_items left.old)
+            → All (HasModule names) self.now.done.items
+            → All (IsKnown names) (into_iter_items left.old)
             → Seeks names self.now.done.items (into_iter_items left.old) result
             (into_iter_items left.new) }
     {
@@ -106,12 +108,16 @@ pub(crate) fn visit<L: Library>(
     requires stands { Stands names.old progress.old }
     requires known { IsKnown names.old name }
     ensures came { OnOk result (Came names.new progress.old progress.new) }
-    ensures there { OnOk result (is_there (modules_of names.new progress.new.done.items) (text_of names.old name) ≡ true) }
+    ensures there { OnOk result
+        (is_there (modules_of names.new progress.new.done.items) (text_of names.old name) ≡ true) }
     ensures visited { IfSome (L.holdings lib.old) (λ held. OnOk result
-        (Visits (held.module_at dir.now) (texts_of names.old progress.old.path.items) (modules_of names.old progress.old.done.items) (text_of names.old name)
+        (Visits (held.module_at dir.now) (texts_of names.old progress.old.path.items)
+        (modules_of names.old progress.old.done.items) (text_of names.old name)
         (Ok (modules_of names.new progress.new.done.items)))) }
     ensures refused { IfSome (L.holdings lib.old) (λ held. IfErr result (Tells names.new (λ refusal.
-        Visits (held.module_at dir.now) (texts_of names.old progress.old.path.items) (modules_of names.old progress.old.done.items) (text_of names.old name) (Err refusal)))) }
+        Visits (held.module_at dir.now) (texts_of names.old progress.old.path.items)
+        (modules_of names.old progress.old.done.items) (text_of names.old name)
+        (Err refusal)))) }
     ensures names { Extends names.old names.new }
     ensures same { L.holdings lib.new ≡ L.holdings lib.old }
     ensures count { MatchResult result
@@ -175,9 +181,11 @@ fn begin<L: Library>(
 
 /// Nothing, if a module isn't on the path, or else the cycle that it closes.
 fn not_met(alloc: Global, path: &[NameId], name: NameId) -> Result<(), OrderFault>
-    ensures new { (names : List (List ℕ)) → AllDiffer names → All (IsKnown names) path.now → IsKnown names name
+    ensures new { (names : List (List ℕ)) → AllDiffer names → All (IsKnown names) path.now
+        → IsKnown names name
         → OnOk result (is_among (texts_of names path.now) (text_of names name) ≡ false) }
-    ensures met { (names : List (List ℕ)) → AllDiffer names → All (IsKnown names) path.now → IsKnown names name
+    ensures met { (names : List (List ℕ)) → AllDiffer names → All (IsKnown names) path.now
+        → IsKnown names name
         → IfErr result (Tells names (IsCycle (texts_of names path.now) (text_of names name))) }
     ensures count { IfErr result (λ fault. (count : ℕ) → FaultCount fault count count) }
 {
@@ -201,10 +209,13 @@ fn enter<L: Library>(
 ) -> Result<(Module, Vec<NameId>), OrderFault>
     requires stands { Stands names.old progress.old }
     requires known { IsKnown names.old name }
-    requires new { IsNew (texts_of names.old progress.old.path.items) (modules_of names.old progress.old.done.items) (text_of names.old name) }
-    ensures enters { IfOk result (λ found. Enters names.new progress.old progress.new name found.0 found.1.items) }
+    requires new { IsNew (texts_of names.old progress.old.path.items)
+        (modules_of names.old progress.old.done.items) (text_of names.old name) }
+    ensures enters { IfOk result
+        (λ found. Enters names.new progress.old progress.new name found.0 found.1.items) }
     ensures found { IfSome (L.holdings lib.old) (λ held. IfOk result (λ found.
-        IsFound (held.module_at dir.now) progress.old.fetched (text_of names.old name) (module_meaning names.new found.0.syntax))) }
+        IsFound (held.module_at dir.now) progress.old.fetched (text_of names.old name)
+        (module_meaning names.new found.0.syntax))) }
     ensures lacking { IfSome (L.holdings lib.old) (λ held. IfErr result (Tells names.new
         (IsLacking (held.module_at dir.now) progress.old.fetched (text_of names.old name)))) }
     ensures names { Extends names.old names.new }
@@ -233,11 +244,15 @@ fn look_up<L: Library>(
     requires differ { AllDiffer names.old }
     requires few { fetched.old ≤ most_modules }
     ensures owned { IfOk result (ModuleIsOf name names.new) }
-    ensures own { IfOk result (λ found. IsOwn (record { name = text_of names.new name; syntax = module_meaning names.new found })) }
-    ensures fetched { OnOk result (fetched.new ≡ fetched_with (text_of names.old name) fetched.old) }
+    ensures own { IfOk result
+        (λ found. IsOwn
+        (record { name = text_of names.new name; syntax = module_meaning names.new found })) }
+    ensures fetched { OnOk result (fetched.new
+        ≡ fetched_with (text_of names.old name) fetched.old) }
     ensures few { OnOk result (fetched.new ≤ most_modules) }
     ensures found { IfSome (L.holdings lib.old) (λ held. IfOk result (λ found.
-        IsFound (held.module_at dir.now) fetched.old (text_of names.old name) (module_meaning names.new found))) }
+        IsFound (held.module_at dir.now) fetched.old (text_of names.old name)
+        (module_meaning names.new found))) }
     ensures lacking { IfSome (L.holdings lib.old) (λ held. IfErr result (Tells names.new
         (IsLacking (held.module_at dir.now) fetched.old (text_of names.old name)))) }
     ensures names { Extends names.old names.new }

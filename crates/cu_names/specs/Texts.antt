@@ -18,7 +18,8 @@ interned texts text = if list_any (bytes_eq text) texts then texts else texts ++
 
 -- Each text stands once.
 abbrev pub AllDiffer : List (List ℕ) → Type 0
-AllDiffer texts = (i j : ℕ) (text : List ℕ) → slice_get texts i ≡ Some text → slice_get texts j ≡ Some text → i ≡ j
+AllDiffer texts = (i j : ℕ) (text : List ℕ) → slice_get texts i ≡ Some text
+    → slice_get texts j ≡ Some text → i ≡ j
 
 -- The new table is the old one with more texts at its end.
 pub record Extends (old new : List (List ℕ)) : Type 0 where

@@ -13,7 +13,8 @@ use std::alloc::{AllocError, Global};
 #[cycle(bound)]
 #[tactic(auto, using(cu_kernel::specs::TermsOf::patterns_of_variants))]
 pub(crate) fn push_pattern(found: &mut Vec<u32>, pattern: &Pattern) -> Result<(), AllocError>
-    ensures { OnOk result (found.new.items ≡ found.old.items ++ variables_of (pattern_of pattern.now)) }
+    ensures { OnOk result (found.new.items
+        ≡ found.old.items ++ variables_of (pattern_of pattern.now)) }
 {
     match pattern {
         Pattern::Var(x) => {
@@ -32,7 +33,8 @@ pub(crate) fn push_pattern(found: &mut Vec<u32>, pattern: &Pattern) -> Result<()
 /// Pushes the variables that these patterns bind, from left to right.
 #[cycle(bound)]
 pub(crate) fn push_patterns(found: &mut Vec<u32>, patterns: &[Pattern]) -> Result<(), AllocError>
-    ensures { OnOk result (found.new.items ≡ found.old.items ++ all_variables (patterns_of patterns.now)) }
+    ensures { OnOk result (found.new.items
+        ≡ found.old.items ++ all_variables (patterns_of patterns.now)) }
 {
     for pattern in patterns {
         push_pattern(found, pattern)?;
@@ -72,7 +74,8 @@ fn push_term(found: &mut Vec<u32>, term: &LocalTerm) -> Result<(), AllocError>
 #[cycle(binders)]
 fn push_two(found: &mut Vec<u32>, first: &LocalTerm, second: &LocalTerm) -> Result<(), AllocError>
     ensures { OnOk result (found.new.items
-        ≡ found.old.items ++ (binders (local_term_of first.now) ++ binders (local_term_of second.now))) }
+        ≡ found.old.items ++ (binders (local_term_of first.now)
+        ++ binders (local_term_of second.now))) }
 {
     push_term(found, first)?;
     push_term(found, second)
@@ -81,7 +84,8 @@ fn push_two(found: &mut Vec<u32>, first: &LocalTerm, second: &LocalTerm) -> Resu
 /// Pushes the variables that these terms bind.
 #[cycle(binders)]
 fn push_terms(found: &mut Vec<u32>, terms: &[LocalTerm]) -> Result<(), AllocError>
-    ensures { OnOk result (found.new.items ≡ found.old.items ++ binders_all (local_terms_of terms.now)) }
+    ensures { OnOk result (found.new.items
+        ≡ found.old.items ++ binders_all (local_terms_of terms.now)) }
 {
     for term in terms {
         push_term(found, term)?;
@@ -97,7 +101,8 @@ fn push_alternative(
     body: &LocalTerm,
 ) -> Result<(), AllocError>
     ensures { OnOk result (found.new.items
-        ≡ found.old.items ++ (variables_of (pattern_of pattern.now) ++ binders (local_term_of body.now))) }
+        ≡ found.old.items ++ (variables_of (pattern_of pattern.now)
+        ++ binders (local_term_of body.now))) }
 {
     push_pattern(found, pattern)?;
     push_term(found, body)
@@ -120,7 +125,8 @@ fn push_alternatives(
 
 /// Pushes the variables that rules bind.
 pub(crate) fn push_rules(found: &mut Vec<u32>, rules: &[LocalRule]) -> Result<(), AllocError>
-    ensures { OnOk result (found.new.items ≡ found.old.items ++ rules_binders (map local_rule_meaning rules.now)) }
+    ensures { OnOk result (found.new.items
+        ≡ found.old.items ++ rules_binders (map local_rule_meaning rules.now)) }
 {
     for rule in rules {
         push_patterns(found, rule.params.as_slice())?;
@@ -162,7 +168,8 @@ pub(crate) fn all_binders(alloc: Global, function: &TopFunction) -> Result<Vec<u
 
 /// Whether rules bind a variable.
 pub(crate) fn bind(alloc: Global, rules: &[LocalRule], x: u32) -> Result<bool, AllocError>
-    ensures { IfOk result (λ bound. bound ≡ holds x (rules_binders (map local_rule_meaning rules.now))) }
+    ensures { IfOk result (λ bound. bound
+        ≡ holds x (rules_binders (map local_rule_meaning rules.now))) }
 {
     let mut found = Vec::new(alloc);
     push_rules(&mut found, rules)?;

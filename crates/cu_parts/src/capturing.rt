@@ -92,7 +92,8 @@ fn terms_use(met: &[bool], x: u32, terms: &[LocalTerm]) -> bool
 /// Whether one of these alternatives uses a variable so.
 #[cycle(uses)]
 fn alternatives_use(met: &[bool], x: u32, alternatives: &[(Pattern, LocalTerm)]) -> bool
-    ensures { result ≡ alternatives_use (is_met met.now) x (local_alternatives_of alternatives.now) }
+    ensures { result ≡ alternatives_use (is_met met.now) x
+        (local_alternatives_of alternatives.now) }
 {
     for (pattern, body) in alternatives {
         if !pattern_binds(x, pattern) && term_uses(met, x, body) {
@@ -163,7 +164,8 @@ pub(crate) fn capturing(
     x: u32,
 ) -> Result<Vec<bool>, AllocError>
     ensures sized { IfOk result (λ met. length met.items ≡ length locals.now) }
-    ensures capturing { IfOk result (λ met. AreCapturing (map local_function_meaning locals.now) x met.items) }
+    ensures capturing { IfOk result
+        (λ met. AreCapturing (map local_function_meaning locals.now) x met.items) }
 {
     let mut met = vec![in alloc; false; locals.len()]?;
     while spread(met.as_mut_slice(), locals, x) {}

@@ -97,7 +97,8 @@ fn different_variables(first: Option<u32>, second: Option<u32>) -> bool
 
 /// Whether a rule is `True && x = x`.
 fn is_true_rule(special: &Special, rule: &LocalRule) -> bool
-    ensures { result ≡ is_local_true special.now (local_term_of rule.now.body) (patterns_of rule.now.params.items) }
+    ensures { result ≡ is_local_true special.now (local_term_of rule.now.body)
+        (patterns_of rule.now.params.items) }
 {
     match rule.params.as_slice() {
         [first, second] => {
@@ -110,7 +111,8 @@ fn is_true_rule(special: &Special, rule: &LocalRule) -> bool
 
 /// Whether a rule is `False && _ = False`.
 fn is_false_rule(special: &Special, rule: &LocalRule) -> bool
-    ensures { result ≡ is_local_false special.now (local_term_of rule.now.body) (patterns_of rule.now.params.items) }
+    ensures { result ≡ is_local_false special.now (local_term_of rule.now.body)
+        (patterns_of rule.now.params.items) }
 {
     match rule.params.as_slice() {
         [first, second] => {
@@ -164,7 +166,8 @@ fn is_flex(mode: Mode) -> bool
 
 /// Whether a rule is `x && y` by that case distinction.
 fn is_case_rule(special: &Special, rule: &LocalRule) -> bool
-    ensures { result ≡ is_local_case special.now (local_term_of rule.now.body) (patterns_of rule.now.params.items) }
+    ensures { result ≡ is_local_case special.now (local_term_of rule.now.body)
+        (patterns_of rule.now.params.items) }
 {
     match rule.params.as_slice() {
         [first, second] => {

@@ -21,7 +21,8 @@ fn push_term(
     term: &LocalTerm,
     scope: &Scope,
 ) -> Result<(), AllocError>
-    ensures { OnOk result (found.new.items ≡ found.old.items ++ free_uses (bound_in scope.now) (local_term_of term.now)) }
+    ensures { OnOk result (found.new.items
+        ≡ found.old.items ++ free_uses (bound_in scope.now) (local_term_of term.now)) }
 {
     match term {
         LocalTerm::Var(x) => push_variable(found, *x, scope),
@@ -113,7 +114,8 @@ fn push_alternative(
     scope: &Scope,
 ) -> Result<(), AllocError>
     ensures { OnOk result (found.new.items ≡ found.old.items
-        ++ free_uses (also_all (variables_of (pattern_of pattern.now)) (bound_in scope.now)) (local_term_of body.now)) }
+        ++ free_uses (also_all (variables_of (pattern_of pattern.now)) (bound_in scope.now))
+        (local_term_of body.now)) }
 {
     let mut variables = Vec::new(alloc);
     push_pattern(&mut variables, pattern)?;
@@ -134,7 +136,8 @@ fn push_alternatives(
     scope: &Scope,
 ) -> Result<(), AllocError>
     ensures { OnOk result (found.new.items
-        ≡ found.old.items ++ free_in_alternatives (bound_in scope.now) (local_alternatives_of alternatives.now)) }
+        ≡ found.old.items ++ free_in_alternatives (bound_in scope.now)
+        (local_alternatives_of alternatives.now)) }
 {
     for (pattern, body) in alternatives {
         push_alternative(alloc, found, pattern, body, scope)?;
@@ -145,7 +148,8 @@ fn push_alternatives(
 /// Pushes the variables that a rule uses and doesn't bind.
 #[tactic(auto, using(crate::specs::Inside::Scope::bound_variants))]
 fn push_rule(alloc: Global, found: &mut Vec<u32>, rule: &LocalRule) -> Result<(), AllocError>
-    ensures { OnOk result (found.new.items ≡ found.old.items ++ free_in_rule (local_rule_meaning rule.now)) }
+    ensures { OnOk result (found.new.items
+        ≡ found.old.items ++ free_in_rule (local_rule_meaning rule.now)) }
 {
     let mut variables = Vec::new(alloc);
     push_patterns(&mut variables, rule.params.as_slice())?;
@@ -159,7 +163,8 @@ fn push_rule(alloc: Global, found: &mut Vec<u32>, rule: &LocalRule) -> Result<()
 
 /// Pushes the variables that rules use and don't bind.
 fn push_rules(alloc: Global, found: &mut Vec<u32>, rules: &[LocalRule]) -> Result<(), AllocError>
-    ensures { OnOk result (found.new.items ≡ found.old.items ++ free_in_rules (map local_rule_meaning rules.now)) }
+    ensures { OnOk result (found.new.items
+        ≡ found.old.items ++ free_in_rules (map local_rule_meaning rules.now)) }
 {
     for rule in rules {
         push_rule(alloc, found, rule)?;
@@ -185,7 +190,8 @@ fn push_locals(
 /// The variables that the rules of a top-level function and those of its
 /// local functions use and don't bind themselves.
 pub(crate) fn free_uses(alloc: Global, function: &TopFunction) -> Result<Vec<u32>, AllocError>
-    ensures { IfOk result (λ found. found.items ≡ free_in_function (top_function_meaning function.now)) }
+    ensures { IfOk result (λ found. found.items
+        ≡ free_in_function (top_function_meaning function.now)) }
 {
     let mut found = Vec::new(alloc);
     push_rules(alloc, &mut found, rules_of(&function.body))?;

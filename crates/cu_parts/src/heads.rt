@@ -202,7 +202,8 @@ fn terms_pass(known: Known, terms: &[LocalTerm]) -> bool
 /// Whether all of these alternatives pass.
 #[cycle(terms)]
 fn alternatives_pass(known: Known, alternatives: &[(Pattern, LocalTerm)]) -> bool
-    ensures { result ≡ alternatives_pass (known_heads known.entry) (local_alternatives_of alternatives.now) }
+    ensures { result ≡ alternatives_pass (known_heads known.entry)
+        (local_alternatives_of alternatives.now) }
 {
     for (pattern, body) in alternatives {
         if !pattern_passes(known, pattern) || !term_passes(known, body) {
@@ -222,7 +223,8 @@ fn rule_passes(known: Known, rule: &LocalRule) -> bool
 /// Whether the heads, literals and patterns of all of these rules may stand
 /// there.
 pub(crate) fn rules_pass(known: Known, rules: &[LocalRule]) -> bool
-    ensures { result ≡ list_all (rule_passes (known_heads known.entry)) (map local_rule_meaning rules.now) }
+    ensures { result ≡ list_all (rule_passes (known_heads known.entry))
+        (map local_rule_meaning rules.now) }
 {
     for rule in rules {
         if !rule_passes(known, rule) {

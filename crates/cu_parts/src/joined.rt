@@ -45,7 +45,8 @@ fn names_fit(parts: &LocalParts) -> bool
 /// that they have, and so the types that its local functions declare.
 fn function_fits(parts: &LocalParts, heads: &Heads, function: &TopFunction) -> bool
     requires { table.heads_program heads.now ≡ heads_program (local_kernel_of parts.now) }
-    ensures { result ≡ function_fits (local_kernel_of parts.now) (top_function_meaning function.now) }
+    ensures { result ≡ function_fits (local_kernel_of parts.now)
+        (top_function_meaning function.now) }
 {
     all_rules_pass(Known::Program(heads), function)
         && local_signatures_fit(parts, function.locals.as_slice())
@@ -54,7 +55,8 @@ fn function_fits(parts: &LocalParts, heads: &Heads, function: &TopFunction) -> b
 /// Whether this is so of all functions.
 fn functions_fit(parts: &LocalParts, heads: &Heads, functions: &[TopFunction]) -> bool
     requires { table.heads_program heads.now ≡ heads_program (local_kernel_of parts.now) }
-    ensures { result ≡ list_all (function_fits (local_kernel_of parts.now)) (map top_function_meaning functions.now) }
+    ensures { result ≡ list_all (function_fits (local_kernel_of parts.now))
+        (map top_function_meaning functions.now) }
 {
     for function in functions {
         if !function_fits(parts, heads, function) {
@@ -77,7 +79,8 @@ fn has_values(heads: &Heads, values: Option<ConId>) -> bool
 
 /// Whether `&&` is there, with two parameters and its rules.
 fn has_both(special: &Special, functions: &[TopFunction]) -> bool
-    ensures { result ≡ is_local_both special.now (slice_get (map top_function_meaning functions.now) special.now.both.0) }
+    ensures { result ≡ is_local_both special.now
+        (slice_get (map top_function_meaning functions.now) special.now.both.0) }
 {
     match functions.get(special.both.0) {
         Some(function) => function.arity == 2 && is_conjunction(special, &function.body),

@@ -45,7 +45,8 @@ pub fn is_part(alloc: Global, parts: &LocalParts) -> Result<bool, AllocError>
 /// The program of these parts, where all is right that can be told of them
 /// alone; otherwise nothing. Takes what [`is_part`] takes.
 pub fn checked(alloc: Global, parts: LocalParts) -> Result<Option<LocalProgram>, AllocError>
-    ensures checked { IfOk result (λ checked. MatchOption checked (IsPart (local_kernel_of parts) → ⊥)
+    ensures checked { IfOk result (λ checked. MatchOption checked (IsPart (local_kernel_of parts)
+        → ⊥)
         (λ program. (program ≡ local_kernel_of parts) × IsPart (local_kernel_of parts))) }
 {
     if !is_part(alloc, &parts)? {

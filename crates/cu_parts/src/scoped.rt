@@ -98,7 +98,8 @@ pub(crate) fn locals_pass(known: Known, locals: &[LocalFunction]) -> bool
 
 /// Whether all rules of a top-level function and of its local functions pass.
 pub(crate) fn all_rules_pass(known: Known, function: &TopFunction) -> bool
-    ensures { result ≡ list_all (rule_passes (known_heads known.entry)) (all_rules (top_function_meaning function.now)) }
+    ensures { result ≡ list_all (rule_passes (known_heads known.entry))
+        (all_rules (top_function_meaning function.now)) }
 {
     rules_pass(known, rules_of(&function.body)) && locals_pass(known, function.locals.as_slice())
 }
@@ -119,7 +120,8 @@ fn fits_capturing(
     bound: bool,
     captures: bool,
 ) -> Result<bool, AllocError>
-    ensures { IfOk result (λ fits. fits ≡ fits_capturing x bound captures (local_function_meaning function.now)) }
+    ensures { IfOk result (λ fits. fits
+        ≡ fits_capturing x bound captures (local_function_meaning function.now)) }
 {
     if !captures {
         return Ok(true);
@@ -140,7 +142,8 @@ fn are_capturing(
     met: &[bool],
 ) -> Result<bool, AllocError>
     requires { length met.now ≡ length locals.now }
-    ensures { IfOk result (λ fit. IsTrue fit ↔ MayCapture (map local_function_meaning locals.now) x bound met.now) }
+    ensures { IfOk result (λ fit. IsTrue fit ↔ MayCapture
+        (map local_function_meaning locals.now) x bound met.now) }
 {
     for (place, function) in locals.iter().enumerate() {
         if !fits_capturing(alloc, function, x, bound, met[place])? {
@@ -160,7 +163,8 @@ fn variable_fits(
 ) -> Result<bool, AllocError>
     requires all { all.now ≡ all_binders (top_function_meaning function.now) }
     requires once { is_linear all.now ≡ true }
-    ensures { IfOk result (λ fits. IsTrue fits ↔ VariableFits (top_function_meaning function.now) x) }
+    ensures { IfOk result (λ fits. IsTrue fits ↔ VariableFits
+        (top_function_meaning function.now) x) }
 {
     let locals = function.locals.as_slice();
     let met = capturing(alloc, locals, x)?;
@@ -186,7 +190,8 @@ fn collected(alloc: Global, variables: &[u32]) -> Result<BTreeSet<u32>, AllocErr
 fn variables_fit(alloc: Global, function: &TopFunction, all: &[u32]) -> Result<bool, AllocError>
     requires all { all.now ≡ all_binders (top_function_meaning function.now) }
     requires once { is_linear all.now ≡ true }
-    ensures { IfOk result (λ fit. IsTrue fit ↔ ((x : ℕ) → VariableFits (top_function_meaning function.now) x)) }
+    ensures { IfOk result (λ fit. IsTrue fit ↔ ((x : ℕ)
+        → VariableFits (top_function_meaning function.now) x)) }
 {
     let used = free_uses(alloc, function)?;
     let mut left = collected(alloc, used.as_slice())?;
@@ -214,7 +219,8 @@ fn is_scoped(alloc: Global, function: &TopFunction) -> Result<bool, AllocError>
 
 /// Whether all of these top-level functions are right by themselves.
 pub(crate) fn are_scoped(alloc: Global, functions: &[TopFunction]) -> Result<bool, AllocError>
-    ensures { IfOk result (λ scoped. IsTrue scoped ↔ AreScoped (map top_function_meaning functions.now)) }
+    ensures { IfOk result (λ scoped. IsTrue scoped ↔ AreScoped
+        (map top_function_meaning functions.now)) }
 {
     for function in functions {
         if !is_scoped(alloc, function)? {

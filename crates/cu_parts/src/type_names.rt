@@ -61,7 +61,8 @@ fn is_module(parts: &LocalParts, place: u32) -> bool
 
 /// Whether the names of a declared type are there, where one is declared.
 fn signature_names_types(parts: &LocalParts, declared: &Option<TypeTerm>) -> bool
-    ensures { result ≡ signature_names_types (local_kernel_of parts.now) (option_map type_of declared.now) }
+    ensures { result ≡ signature_names_types (local_kernel_of parts.now)
+        (option_map type_of declared.now) }
 {
     match declared {
         Some(t) => names_types(parts, t),
@@ -72,14 +73,16 @@ fn signature_names_types(parts: &LocalParts, declared: &Option<TypeTerm>) -> boo
 /// Whether the names of a constructor's types are there.
 #[tactic(auto, using(crate::proofs::TypeLists::listed))]
 fn constructor_names_types(parts: &LocalParts, constructor: &Constructor) -> bool
-    ensures { result ≡ constructor_names_types (local_kernel_of parts.now) (constructor_meaning constructor.now) }
+    ensures { result ≡ constructor_names_types (local_kernel_of parts.now)
+        (constructor_meaning constructor.now) }
 {
     all_name_types(parts, constructor.fields.as_slice())
 }
 
 /// Whether the names of these constructors' types are there.
 fn constructors_name_types(parts: &LocalParts, constructors: &[Constructor]) -> bool
-    ensures { result ≡ list_all (constructor_names_types (local_kernel_of parts.now)) (map constructor_meaning constructors.now) }
+    ensures { result ≡ list_all (constructor_names_types (local_kernel_of parts.now))
+        (map constructor_meaning constructors.now) }
 {
     for constructor in constructors {
         if !constructor_names_types(parts, constructor) {
@@ -99,7 +102,8 @@ fn type_is_placed(parts: &LocalParts, data_type: &DataType) -> bool
 
 /// Whether this is so of all of these data types.
 pub(crate) fn types_are_placed(parts: &LocalParts, types: &[DataType]) -> bool
-    ensures { result ≡ list_all (type_is_placed (local_kernel_of parts.now)) (map type_meaning types.now) }
+    ensures { result ≡ list_all (type_is_placed (local_kernel_of parts.now))
+        (map type_meaning types.now) }
 {
     for data_type in types {
         if !type_is_placed(parts, data_type) {
@@ -118,7 +122,8 @@ fn synonym_is_placed(parts: &LocalParts, synonym: &Synonym) -> bool
 
 /// Whether this is so of all of these synonyms.
 pub(crate) fn synonyms_are_placed(parts: &LocalParts, synonyms: &[Synonym]) -> bool
-    ensures { result ≡ list_all (synonym_is_placed (local_kernel_of parts.now)) (map synonym_meaning synonyms.now) }
+    ensures { result ≡ list_all (synonym_is_placed (local_kernel_of parts.now))
+        (map synonym_meaning synonyms.now) }
 {
     for synonym in synonyms {
         if !synonym_is_placed(parts, synonym) {
@@ -137,7 +142,8 @@ fn mark_is_placed(parts: &LocalParts, mark: &Mark) -> bool
 
 /// Whether this is so of all of these marks.
 pub(crate) fn marks_are_placed(parts: &LocalParts, marks: &[Mark]) -> bool
-    ensures { result ≡ list_all (mark_is_placed (local_kernel_of parts.now)) (map mark_meaning marks.now) }
+    ensures { result ≡ list_all (mark_is_placed (local_kernel_of parts.now))
+        (map mark_meaning marks.now) }
 {
     for mark in marks {
         if !mark_is_placed(parts, mark) {
@@ -149,7 +155,8 @@ pub(crate) fn marks_are_placed(parts: &LocalParts, marks: &[Mark]) -> bool
 
 /// Whether the names of the types that local functions declare are there.
 pub(crate) fn local_signatures_fit(parts: &LocalParts, locals: &[LocalFunction]) -> bool
-    ensures { result ≡ list_all (local_signature_fits (local_kernel_of parts.now)) (map local_function_meaning locals.now) }
+    ensures { result ≡ list_all (local_signature_fits (local_kernel_of parts.now))
+        (map local_function_meaning locals.now) }
 {
     for function in locals {
         if !signature_names_types(parts, &function.declared) {

@@ -10,7 +10,8 @@ use Rattle.cu_peg.specs.WellFormed.{IsNullable}
 
 -- The marks tell which rows can match without taking a token.
 abbrev pub TellsNullable : List Row → List Bool → Type 0
-TellsNullable rows marks = (r : ℕ) → (marked marks r ≡ true → IsNullable rows r) × (IsNullable rows r → marked marks r ≡ true)
+TellsNullable rows marks = (r : ℕ) → (marked marks r ≡ true → IsNullable rows r)
+    × (IsNullable rows r → marked marks r ≡ true)
 
 -- when a row can do so
 abbrev pub nullable_by : Row → Condition

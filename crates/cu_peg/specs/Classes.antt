@@ -1,4 +1,5 @@
--- Which tokens a class has. Names count by their kind, their qualifier and what they mean in some places, and not by their text.
+-- Which tokens a class has. Names count by their kind, their qualifier and what they mean in some
+-- places, and not by their text.
 use Rattle.std.specs.Prelude.{nat_lt, ℤ, pos, negsuc, Bool, true, false, Option, None, Some, is_none, is_some}
 use Rattle.std.specs.Option.{option_map_or}
 use denote.Enum.Bare.{sameb}
@@ -44,7 +45,8 @@ mark_of layout.Separator = mark.Semicolon
 
 -- whether a class has a token of a kind
 abbrev pub has_kind : Class → Kind → Bool
-has_kind (class.Unqualified wanted) token = option_map_or (λ name. is_none name.qualifier) (spelling_in wanted token) false
+has_kind (class.Unqualified wanted) token =
+    option_map_or (λ name. is_none name.qualifier) (spelling_in wanted token) false
 has_kind (class.Name wanted) token = is_some (spelling_in wanted token)
 has_kind (class.Special wanted) (kind.VarId name) = is_special wanted name.special
 has_kind (class.Special wanted) (kind.VarOp name) = is_special wanted name.special

@@ -1,4 +1,5 @@
--- The least set of numbers that is closed under conditions: each number has one, and joins the set where it holds.
+-- The least set of numbers that is closed under conditions: each number has one, and joins the set
+-- where it holds.
 use Rattle.std.specs.Prelude.{◌≡◌, ℕ, ◌+◌, Bool, true, false, List, [], ◌∷◌, ◌++◌, Some, slice_get, slice_index_or, slice_set}
 use Rattle.std.specs.List.{list_all, list_any}
 use Rattle.cu_peg.specs.declared.closure.Condition.{Condition}
@@ -25,14 +26,18 @@ pub record MayJoin (conditions : List Condition) (marks : List Bool) (n : ℕ) :
   pub new : marked marks n ≡ false
 
 -- A set comes from another by adding numbers, in this order, that may join one after another.
-pub data Derived (conditions : List Condition) (start : List Bool) : List Bool → List ℕ → Type 0 where
+pub data Derived (conditions : List Condition) (start : List Bool) : List Bool → List ℕ
+    → Type 0 where
   begun : Derived conditions start start []
-  joined : (marks more : List Bool) (order longer : List ℕ) (n : ℕ) → Derived conditions start marks order → MayJoin conditions marks n
-      → more ≡ slice_set marks n true → longer ≡ order ++ n ∷ [] → Derived conditions start more longer
+  joined : (marks more : List Bool) (order longer : List ℕ) (n : ℕ)
+      → Derived conditions start marks order → MayJoin conditions marks n
+      → more ≡ slice_set marks n true → longer ≡ order ++ n ∷ []
+      → Derived conditions start more longer
 
 -- Each number whose condition holds is in the set.
 abbrev pub IsSaturated : List Condition → List Bool → Type 0
-IsSaturated conditions marks = (n : ℕ) (c : Condition) → slice_get conditions n ≡ Some c → holds marks c ≡ true → marked marks n ≡ true
+IsSaturated conditions marks = (n : ℕ) (c : Condition) → slice_get conditions n ≡ Some c
+    → holds marks c ≡ true → marked marks n ≡ true
 
 -- how many numbers are not in a set
 abbrev pub unmarked : List Bool → ℕ

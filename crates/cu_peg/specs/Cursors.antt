@@ -12,7 +12,8 @@ use Rattle.cu_peg.specs.declared.table.End.{End}
 -- the number of the first alternative that matches
 abbrev pub first_alternative : (ℕ → ℕ → Option End) → List ℕ → ℕ → Option ℕ
 first_alternative cell [] left = None
-first_alternative cell (p ∷ ps) left = if is_some (cell p left) then Some 0 else option_map (λ n. n + 1) (first_alternative cell ps left)
+first_alternative cell (p ∷ ps) left = if is_some (cell p left) then Some 0
+    else option_map (λ n. n + 1) (first_alternative cell ps left)
 
 abbrev pub cursor : ℕ → ℕ → ℕ → Cursor
 cursor r part left = record { row = r; part = part; left = left }
@@ -20,10 +21,14 @@ cursor r part left = record { row = r; part = part; left = left }
 -- the parts of a row where some tokens are left, if it has any
 abbrev pub first_parts : (ℕ → ℕ → Option End) → Row → ℕ → ℕ → Option Cursor
 first_parts cell (row.Token c) r left = None
-first_parts cell (row.Sequence ps) r left = if nat_lt 0 (length ps) then Some (cursor r 0 left) else None
-first_parts cell (row.Choice ps) r left = option_map (λ n. cursor r n left) (first_alternative cell ps left)
-first_parts cell (row.Optional p) r left = if is_some (cell p left) then Some (cursor r 0 left) else None
-first_parts cell (row.Many p) r left = if is_some (cell p left) then Some (cursor r 0 left) else None
+first_parts cell (row.Sequence ps) r left = if nat_lt 0 (length ps) then Some (cursor r 0 left)
+    else None
+first_parts cell (row.Choice ps) r left =
+    option_map (λ n. cursor r n left) (first_alternative cell ps left)
+first_parts cell (row.Optional p) r left = if is_some (cell p left) then Some (cursor r 0 left)
+    else None
+first_parts cell (row.Many p) r left = if is_some (cell p left) then Some (cursor r 0 left)
+    else None
 first_parts cell (row.AtLeastOne p) r left = Some (cursor r 0 left)
 first_parts cell (row.SeparatedBy p s) r left = Some (cursor r 0 left)
 first_parts cell (row.Ahead p) r left = None
@@ -41,11 +46,15 @@ part_at _ part = None
 
 -- the parts behind one that leaves some tokens, if there are any
 abbrev pub next_parts : (ℕ → ℕ → Option End) → Row → Cursor → ℕ → Option Cursor
-next_parts cell (row.Sequence ps) c left = if nat_lt (c.part + 1) (length ps) then Some (cursor c.row (c.part + 1) left) else None
-next_parts cell (row.Many p) c left = if is_some (cell p left) then Some (cursor c.row 0 left) else None
-next_parts cell (row.AtLeastOne p) c left = if is_some (cell p left) then Some (cursor c.row 0 left) else None
+next_parts cell (row.Sequence ps) c left = if nat_lt (c.part + 1) (length ps)
+    then Some (cursor c.row (c.part + 1) left) else None
+next_parts cell (row.Many p) c left = if is_some (cell p left) then Some (cursor c.row 0 left)
+    else None
+next_parts cell (row.AtLeastOne p) c left = if is_some (cell p left) then Some (cursor c.row 0 left)
+    else None
 next_parts cell (row.SeparatedBy p s) c left =
-    option_and_then (λ behind. if is_some (cell p behind.left) then Some (cursor c.row 0 behind.left) else None) (cell s left)
+    option_and_then (λ behind. if is_some (cell p behind.left)
+    then Some (cursor c.row 0 behind.left) else None) (cell s left)
 next_parts cell _ c left = None
 
 -- what the node of a row is, where some of n tokens are left
@@ -56,7 +65,9 @@ form_of cell _ n left = form.Parts
 
 -- the row of the first of some parts, and the parts behind it
 abbrev pub next_part : (ℕ → ℕ → Option End) → Row → Cursor → Option (ℕ × Option Cursor)
-next_part cell e c = option_and_then (λ p. option_map (λ end. (p, next_parts cell e c end.left)) (cell p c.left)) (part_at e c.part)
+next_part cell e c =
+    option_and_then (λ p. option_map (λ end. (p, next_parts cell e c end.left)) (cell p c.left))
+    (part_at e c.part)
 
 -- the number of nodes at an end
 abbrev pub nodes_at : Option End → ℕ

@@ -1,4 +1,5 @@
--- The table of ends: for each row, and each number of tokens that are left of a text, how many are left where the row has matched.
+-- The table of ends: for each row, and each number of tokens that are left of a text, how many are
+-- left where the row has matched.
 use Rattle.std.specs.Prelude.{◌≡◌, ◌+◌, ◌-◌, ◌^◌, ◌<◌, ◌≤◌, ℕ, zero, suc, Bool, List, [], ◌∷◌, Option, None, Some, if◌then◌else◌, length, min, slice_index_or}
 use Rattle.std.specs.Option.{option_and_then, option_map}
 use Rattle.cu_peg.specs.declared.class.Class.{Class}
@@ -18,7 +19,8 @@ abbrev pub capped : ℕ → ℕ
 capped n = min n (2 ^ 64 - 1)
 
 -- A row matches where some tokens are left, up to an end.
-pub record EndsAt (rows : List Row) (has : Class → ℕ → Bool) (n r left : ℕ) (end : End) : Type 0 where
+pub record EndsAt (rows : List Row) (has : Class → ℕ → Bool) (n r left : ℕ)
+    (end : End) : Type 0 where
   pub tree : ParseTree ℕ
   pub within : end.left ≤ left
   pub matched : Matches rows has r (last n left) (last n end.left) tree
@@ -35,7 +37,8 @@ end_at table r left = slice_index_or (slice_index_or table left []) r None
 
 -- All that the table says is so.
 abbrev pub IsRight : List Row → (Class → ℕ → Bool) → ℕ → List (List (Option End)) → Type 0
-IsRight rows has n table = (left r : ℕ) → left < length table → r < length rows → IsEnd rows has n r left (end_at table r left)
+IsRight rows has n table = (left r : ℕ) → left < length table → r < length rows
+    → IsEnd rows has n r left (end_at table r left)
 
 -- the end of a tree of one node
 abbrev pub alone : ℕ → End
@@ -48,7 +51,8 @@ with_nodes nodes end = record { left = end.left; nodes = capped (nodes + end.nod
 -- the parts of a sequence one after another, behind an end
 abbrev pub sequence_end : (ℕ → ℕ → Option End) → List ℕ → End → Option End
 sequence_end cell [] end = Some end
-sequence_end cell (p ∷ ps) end = option_and_then (λ next. sequence_end cell ps (with_nodes end.nodes next)) (cell p end.left)
+sequence_end cell (p ∷ ps) end =
+    option_and_then (λ next. sequence_end cell ps (with_nodes end.nodes next)) (cell p end.left)
 
 -- the first end, if there is one, or another
 abbrev pub chosen_end : Option End → Option End → Option End
@@ -80,15 +84,19 @@ abbrev pub not_ahead_end : ℕ → Option End → Option End
 not_ahead_end left None = Some (alone left)
 not_ahead_end left (Some end) = None
 
--- the end of a row, where those of the rows that it calls are in the table, and its own where fewer tokens are left
+-- the end of a row, where those of the rows that it calls are in the table, and its own where fewer
+-- tokens are left
 abbrev pub row_end : (Class → Bool) → (ℕ → ℕ → Option End) → Row → ℕ → ℕ → Option End
 row_end next cell (row.Token c) r left = if next c then Some (alone (left - 1)) else None
 row_end next cell (row.Sequence ps) r left = sequence_end cell ps (alone left)
 row_end next cell (row.Choice ps) r left = choice_end cell ps left
 row_end next cell (row.Optional p) r left = Some (optional_end left (cell p left))
 row_end next cell (row.Many p) r left = many_end (cell r) left (cell p left)
-row_end next cell (row.AtLeastOne p) r left = option_map (λ end. joined end (cell r end.left)) (cell p left)
+row_end next cell (row.AtLeastOne p) r left =
+    option_map (λ end. joined end (cell r end.left)) (cell p left)
 row_end next cell (row.SeparatedBy p s) r left =
-    option_map (λ end. joined end (option_and_then (λ behind. cell r behind.left) (cell s end.left))) (cell p left)
+    option_map
+    (λ end. joined end (option_and_then (λ behind. cell r behind.left) (cell s end.left)))
+    (cell p left)
 row_end next cell (row.Ahead p) r left = ahead_end left (cell p left)
 row_end next cell (row.NotAhead p) r left = not_ahead_end left (cell p left)

@@ -10,18 +10,23 @@ use Rattle.cu_peg.specs.WellFormed.{IsClosed, IsWellFormed}
 abbrev pub MatchesOnce : {T : Type 0} → (Class → T → Bool) → Type 0
 MatchesOnce {T} has =
     (rows : List Row) (r : ℕ) (text rest other : List T) (tree another : ParseTree T)
-    → Matches rows has r text rest tree → Matches rows has r text other another → (rest ≡ other) × (tree ≡ another)
+    → Matches rows has r text rest tree → Matches rows has r text other another
+    → (rest ≡ other) × (tree ≡ another)
 
 -- It doesn't match and fail.
 abbrev pub NeverBoth : {T : Type 0} → (Class → T → Bool) → Type 0
 NeverBoth {T} has =
-    (rows : List Row) (r : ℕ) (text rest : List T) (tree : ParseTree T) → Matches rows has r text rest tree → ¬ (Fails rows has r text)
+    (rows : List Row) (r : ℕ) (text rest : List T) (tree : ParseTree T)
+    → Matches rows has r text rest tree → ¬ (Fails rows has r text)
 
 -- what a row may do on a text
-pub data Decided {T : Type 0} (rows : List Row) (has : Class → T → Bool) (r : ℕ) (text : List T) : Type 0 where
-  match : (rest : List T) (tree : ParseTree T) → Matches rows has r text rest tree → Decided rows has r text
+pub data Decided {T : Type 0} (rows : List Row) (has : Class → T → Bool) (r : ℕ)
+    (text : List T) : Type 0 where
+  match : (rest : List T) (tree : ParseTree T) → Matches rows has r text rest tree
+      → Decided rows has r text
   fail : Fails rows has r text → Decided rows has r text
 
 -- Each row of a well-formed table matches or fails on each text.
 abbrev pub IsTotal : {T : Type 0} → (Class → T → Bool) → Type 0
-IsTotal {T} has = (rows : List Row) → IsClosed rows → IsWellFormed rows → (r : ℕ) → r < length rows → (text : List T) → Decided rows has r text
+IsTotal {T} has = (rows : List Row) → IsClosed rows → IsWellFormed rows → (r : ℕ) → r < length rows
+    → (text : List T) → Decided rows has r text

@@ -5,9 +5,9 @@ use Rattle.cu_peg.specs.declared.node.Form.TheVariants as form
 use Rattle.cu_peg.specs.declared.node.Node.{Node}
 
 mutual
-  -- A tree over tokens. A sequence, and what is optional, repeated or separated, has the trees of its parts (of what is
-  -- separated, those between the separators); an ordered choice has the number of the alternative, from 0, and its tree. Looking
-  -- ahead has no parts.
+  -- A tree over tokens. A sequence, and what is optional, repeated or separated, has the trees of
+  -- its parts (of what is separated, those between the separators); an ordered choice has the
+  -- number of the alternative, from 0, and its tree. Looking ahead has no parts.
   pub data ParseTree (T : Type 0) : Type 0 where
     Leaf : T → ParseTree T
     Parts : ParseTrees T → ParseTree T
@@ -53,4 +53,5 @@ abbrev mutual
   pub trees_over : {T : Type 0} → List T → ParseTrees ℕ → Option (ParseTrees T)
   trees_over tokens NoTree = Some NoTree
   trees_over tokens (MoreTrees tree trees) =
-      option_and_then (λ first. option_map (MoreTrees first) (trees_over tokens trees)) (tree_over tokens tree)
+      option_and_then (λ first. option_map (MoreTrees first) (trees_over tokens trees))
+      (tree_over tokens tree)

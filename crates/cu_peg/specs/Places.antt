@@ -1,4 +1,5 @@
--- How the table of ends keeps the places that are finished: of each place those rows alone whose end isn't the usual one.
+-- How the table of ends keeps the places that are finished: of each place those rows alone whose
+-- end isn't the usual one.
 use Rattle.std.specs.Prelude.{◌≡◌, ℕ, suc, ◌-◌, ◌≤◌, ◌⊎◌, ◌==◌, Bool, List, [], ◌∷◌, ◌++◌, Option, None, Some, if◌then◌else◌, drop, length, map, take, slice_index_or, MatchOption}
 use Rattle.std.specs.List.{range_with_len}
 use Rattle.cu_peg.specs.Closure.{marked}
@@ -36,11 +37,13 @@ span entries a b = take (b - a) (drop a entries)
 abbrev pub columns : List Bool → List Entry → List ℕ → ℕ → List (List (Option End))
 columns certain entries [] left = []
 columns certain entries (a ∷ []) left = column certain left (drop a entries) ∷ []
-columns certain entries (a ∷ b ∷ begins) left = column certain left (span entries a b) ∷ columns certain entries (b ∷ begins) (suc left)
+columns certain entries (a ∷ b ∷ begins) left =
+    column certain left (span entries a b) ∷ columns certain entries (b ∷ begins) (suc left)
 
 -- the entries of the place of a number
 abbrev pub span_at : List Entry → List ℕ → ℕ → List Entry
-span_at entries begins k = span entries (slice_index_or begins k 0) (slice_index_or begins (suc k) (length entries))
+span_at entries begins k =
+    span entries (slice_index_or begins k 0) (slice_index_or begins (suc k) (length entries))
 
 -- Places begin one behind another, up to the number of entries.
 abbrev pub Rising : List ℕ → ℕ → Type 0
@@ -51,15 +54,18 @@ Rising (a ∷ b ∷ begins) n = (a ≤ b) × Rising (b ∷ begins) n
 -- Of a row at a place nothing is kept, since its end is the usual one; or one entry is.
 abbrev pub KeepsOne : List Bool → ℕ → ℕ → Option End → List Entry → List Entry → Type 0
 KeepsOne certain left r end old new =
-    ((new ≡ old) × (end ≡ usual certain left r)) ⊎ ((e : Entry) × (new ≡ old ++ e ∷ []) × (e.row ≡ r) × (unpacked e ≡ end))
+    ((new ≡ old) × (end ≡ usual certain left r))
+    ⊎ ((e : Entry) × (new ≡ old ++ e ∷ []) × (e.row ≡ r) × (unpacked e ≡ end))
 
 -- Behind the entries of other places stand those that keep the ends of all rows at one.
-pub record Packs (certain : List Bool) (ends : List (Option End)) (left : ℕ) (old entries : List Entry) : Type 0 where
+pub record Packs (certain : List Bool) (ends : List (Option End)) (left : ℕ)
+    (old entries : List Entry) : Type 0 where
   pub kept : List Entry
   pub behind : entries ≡ old ++ kept
   pub same : column certain left kept ≡ ends
 
 -- What a table keeps: where no place is being filled, none is finished.
-pub record IsTable (certain : List Bool) (entries : List Entry) (begins : List ℕ) (filled : Option (List (Option End))) : Type 0 where
+pub record IsTable (certain : List Bool) (entries : List Entry) (begins : List ℕ)
+    (filled : Option (List (Option End))) : Type 0 where
   pub rising : Rising begins (length entries)
   pub wide : MatchOption filled (begins ≡ []) (λ column. length column ≡ length certain)

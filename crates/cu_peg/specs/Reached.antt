@@ -12,7 +12,8 @@ use Rattle.cu_peg.specs.WellFormed.{named}
 
 -- The rows that are marked name no others.
 abbrev pub IsClosedSet : List Row → List Bool → Type 0
-IsClosedSet rows marks = (r : ℕ) (e : Row) → marked marks r ≡ true → slice_get rows r ≡ Some e → All (λ p. marked marks p ≡ true) (named e)
+IsClosedSet rows marks = (r : ℕ) (e : Row) → marked marks r ≡ true → slice_get rows r ≡ Some e
+    → All (λ p. marked marks p ≡ true) (named e)
 
 -- A row is among those that are marked, and they name no others.
 pub record IsReached (rows : List Row) (start : ℕ) (marks : List Bool) : Type 0 where
@@ -31,16 +32,21 @@ kept [] (e ∷ rows) = row.Choice [] ∷ kept [] rows
 kept (mark ∷ marks) (e ∷ rows) = kept_row mark e ∷ kept marks rows
 
 -- All that the table says of the rows that a row reaches is so.
-pub record IsTableOf (rows : List Row) (start : ℕ) (tokens : List Token) (table : List (List (Option End))) : Type 0 where
+pub record IsTableOf (rows : List Row) (start : ℕ) (tokens : List Token)
+    (table : List (List (Option End))) : Type 0 where
   pub marks : List Bool
   pub reached : IsReached rows start marks
-  pub right : (names : List (List ℕ)) → IsRight (kept marks rows) (has_at (map (lexeme_of names) tokens)) (length tokens) table
+  pub right : (names : List (List ℕ))
+      → IsRight (kept marks rows) (has_at (map (lexeme_of names) tokens)) (length tokens) table
 
 -- Rows are marked and put on a list of those that are still to be looked at.
-pub record Spreads (marks : List Bool) (pending : List ℕ) (marks' : List Bool) (pending' : List ℕ) : Type 0 where
+pub record Spreads (marks : List Bool) (pending : List ℕ) (marks' : List Bool)
+    (pending' : List ℕ) : Type 0 where
   pub long : length marks' ≡ length marks
   pub grows : (r : ℕ) → marked marks r ≡ true → marked marks' r ≡ true
   pub fresh : (r : ℕ) → marked marks' r ≡ true → (marked marks r ≡ true) ⊎ Contains pending' r
   pub keeps : (r : ℕ) → Contains pending r → Contains pending' r
-  pub known : ((r : ℕ) → Contains pending r → marked marks r ≡ true) → (r : ℕ) → Contains pending' r → marked marks' r ≡ true
-  pub fewer : unmarked marks' + unmarked marks' + length pending' ≤ unmarked marks + unmarked marks + length pending
+  pub known : ((r : ℕ) → Contains pending r → marked marks r ≡ true) → (r : ℕ) → Contains pending' r
+      → marked marks' r ≡ true
+  pub fewer : unmarked marks' + unmarked marks' + length pending'
+      ≤ unmarked marks + unmarked marks + length pending

@@ -17,8 +17,10 @@ numbers n (suc k) = n ∷ numbers (suc n) k
 abbrev pub has_at : List Lexeme → Class → ℕ → Bool
 has_at text c n = option_map_or (has c) (slice_get text n) false
 
--- A tree over the numbers of a text's tokens is the one that all of them have, and stands for one that the text has.
-pub record IsTreeOf (rows : List Row) (start : ℕ) (text : List Lexeme) (found : ParseTree ℕ) : Type 0 where
+-- A tree over the numbers of a text's tokens is the one that all of them have, and stands for one
+-- that the text has.
+pub record IsTreeOf (rows : List Row) (start : ℕ) (text : List Lexeme)
+    (found : ParseTree ℕ) : Type 0 where
   pub numbered : HasTree rows (has_at text) start (numbers 0 (length text)) found
   pub tree : ParseTree Lexeme
   pub stands : tree_over text found ≡ Some tree

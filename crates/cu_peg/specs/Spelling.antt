@@ -54,33 +54,49 @@ size-positive (Leaf n) = omega arith
 size-positive (Parts trees) = omega arith
 size-positive (Chosen n tree) = omega arith
 
-front-join : (trees others : ParseTrees ℕ) (n : ℕ) → n ≡ sizes trees → front n (join trees others) ≡ trees
+front-join : (trees others : ParseTrees ℕ) (n : ℕ) → n ≡ sizes trees
+    → front n (join trees others) ≡ trees
 front-join NoTree others n e = rw e refl
 front-join (MoreTrees tree trees) others zero e = absurd (omega (arith, size-positive tree))
-front-join (MoreTrees tree trees) others (suc n) e = ap (MoreTrees tree) (front-join trees others (suc n - size tree) (omega arith))
+front-join (MoreTrees tree trees) others (suc n) e =
+    ap (MoreTrees tree) (front-join trees others (suc n - size tree) (omega arith))
 
-back-join : (trees others : ParseTrees ℕ) (n : ℕ) → n ≡ sizes trees → back n (join trees others) ≡ others
+back-join : (trees others : ParseTrees ℕ) (n : ℕ) → n ≡ sizes trees
+    → back n (join trees others) ≡ others
 back-join NoTree others n e = rw e refl
 back-join (MoreTrees tree trees) others zero e = absurd (omega (arith, size-positive tree))
-back-join (MoreTrees tree trees) others (suc n) e = back-join trees others (suc n - size tree) (omega arith)
+back-join (MoreTrees tree trees) others (suc n) e =
+    back-join trees others (suc n - size tree) (omega arith)
 
 mutual
   -- reading what a tree spells gives the tree
-  pub read_all-spelled : (tree : ParseTree ℕ) (nodes : List Node) → read_all (spelled tree ++ nodes) ≡ MoreTrees tree (read_all nodes)
+  pub read_all-spelled : (tree : ParseTree ℕ) (nodes : List Node)
+      → read_all (spelled tree ++ nodes) ≡ MoreTrees tree (read_all nodes)
   read_all-spelled (Leaf n) nodes = refl
   read_all-spelled (Parts trees) nodes =
       let rest = read_all nodes in
       let long : sizes trees ≡ (1 + sizes trees) - 1 = omega arith in
-      rw (read_all-spelled_all trees nodes, ← long, front-join trees rest (sizes trees) refl, back-join trees rest (sizes trees) refl) refl
+      rw (
+        read_all-spelled_all trees nodes,
+        ← long,
+        front-join trees rest (sizes trees) refl,
+        back-join trees rest (sizes trees) refl,
+      ) refl
   read_all-spelled (Chosen n tree) nodes = rw (read_all-spelled tree nodes) refl
 
-  pub read_all-spelled_all : (trees : ParseTrees ℕ) (nodes : List Node) → read_all (spelled_all trees ++ nodes) ≡ join trees (read_all nodes)
+  pub read_all-spelled_all : (trees : ParseTrees ℕ) (nodes : List Node)
+      → read_all (spelled_all trees ++ nodes) ≡ join trees (read_all nodes)
   read_all-spelled_all NoTree nodes = refl
   read_all-spelled_all (MoreTrees tree trees) nodes =
-      rw (append_assoc, read_all-spelled tree (spelled_all trees ++ nodes), read_all-spelled_all trees nodes) refl
+      rw (
+        append_assoc,
+        read_all-spelled tree (spelled_all trees ++ nodes),
+        read_all-spelled_all trees nodes,
+      ) refl
 
 pub read-spelled : (tree : ParseTree ℕ) → read (spelled tree) ≡ tree
-read-spelled tree = ap read (sym (append-nil (spelled tree))) ∙ ap first_of (read_all-spelled tree [])
+read-spelled tree = ap read (sym (append-nil (spelled tree))) ∙ ap first_of
+    (read_all-spelled tree [])
 
 -- how trees are stored
 abbrev form_to : Form → ℕ ⊎ (Unit {0} ⊎ ℕ)
@@ -99,10 +115,13 @@ form_from-to form.Parts = refl
 form_from-to (form.Chosen n) = refl
 
 abbrev form_code : Coded Form
-form_code = code_by (ℕ ⊎ (Unit {0} ⊎ ℕ)) (coded⊎ coded_ℕ (coded⊎ coded_unit coded_ℕ)) form_to form_from form_from-to
+form_code =
+    code_by (ℕ ⊎ (Unit {0} ⊎ ℕ)) (coded⊎ coded_ℕ (coded⊎ coded_unit coded_ℕ)) form_to form_from
+    form_from-to
 
 abbrev node_code : Coded Node
-node_code = code_by (Form × ℕ) (coded× form_code coded_ℕ) (λ n. (n.form, n.size)) (λ p. record { form = p.0; size = p.1 }) (λ _. refl)
+node_code = code_by (Form × ℕ) (coded× form_code coded_ℕ) (λ n. (n.form, n.size))
+    (λ p. record { form = p.0; size = p.1 }) (λ _. refl)
 
 abbrev pub tree_code : Coded (ParseTree ℕ)
 tree_code = code_by (List Node) (coded_list node_code) spelled read read-spelled

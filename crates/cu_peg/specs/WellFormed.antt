@@ -1,5 +1,6 @@
--- Conditions that suffice for the rows of a grammar to match or fail on every text, after those of well-formed parsing expression
--- grammars (Ford, 2004). They look at the table alone, and looking ahead always counts as taking nothing.
+-- Conditions that suffice for the rows of a grammar to match or fail on every text, after those of
+-- well-formed parsing expression grammars (Ford, 2004). They look at the table alone, and looking
+-- ahead always counts as taking nothing.
 use Rattle.std.specs.Prelude.{◌≡◌, ℕ, ◌<◌, ◌⊎◌, Bool, List, [], ◌∷◌, IsTrue, Some, length, nat_lt, slice_get}
 use Rattle.std.specs.List.{list_all}
 use Rattle.cu_peg.specs.declared.row.Row.{Row}
@@ -28,13 +29,16 @@ IsClosed rows = IsTrue (is_closed rows)
 mutual
   -- A row may match without taking a token, as far as the table tells.
   pub data IsNullable (rows : List Row) : ℕ → Type 0 where
-    nullable : (r : ℕ) (e : Row) → slice_get rows r ≡ Some e → RowIsNullable rows e → IsNullable rows r
+    nullable : (r : ℕ) (e : Row) → slice_get rows r ≡ Some e → RowIsNullable rows e
+        → IsNullable rows r
 
   pub data RowIsNullable (rows : List Row) : Row → Type 0 where
     empty : RowIsNullable rows (row.Sequence [])
-    sequence : (p : ℕ) (ps : List ℕ) → IsNullable rows p → RowIsNullable rows (row.Sequence ps) → RowIsNullable rows (row.Sequence (p ∷ ps))
+    sequence : (p : ℕ) (ps : List ℕ) → IsNullable rows p → RowIsNullable rows (row.Sequence ps)
+        → RowIsNullable rows (row.Sequence (p ∷ ps))
     first : (p : ℕ) (ps : List ℕ) → IsNullable rows p → RowIsNullable rows (row.Choice (p ∷ ps))
-    later : (p : ℕ) (ps : List ℕ) → RowIsNullable rows (row.Choice ps) → RowIsNullable rows (row.Choice (p ∷ ps))
+    later : (p : ℕ) (ps : List ℕ) → RowIsNullable rows (row.Choice ps)
+        → RowIsNullable rows (row.Choice (p ∷ ps))
     optional : (p : ℕ) → RowIsNullable rows (row.Optional p)
     many : (p : ℕ) → RowIsNullable rows (row.Many p)
     at_least_one : (p : ℕ) → IsNullable rows p → RowIsNullable rows (row.AtLeastOne p)
@@ -45,9 +49,11 @@ mutual
 -- A row may call a part before it has taken a token.
 pub data RowCalls (rows : List Row) : Row → ℕ → Type 0 where
   first_part : (p : ℕ) (ps : List ℕ) → RowCalls rows (row.Sequence (p ∷ ps)) p
-  later_part : (p : ℕ) (ps : List ℕ) (q : ℕ) → IsNullable rows p → RowCalls rows (row.Sequence ps) q → RowCalls rows (row.Sequence (p ∷ ps)) q
+  later_part : (p : ℕ) (ps : List ℕ) (q : ℕ) → IsNullable rows p → RowCalls rows (row.Sequence ps) q
+      → RowCalls rows (row.Sequence (p ∷ ps)) q
   first_alternative : (p : ℕ) (ps : List ℕ) → RowCalls rows (row.Choice (p ∷ ps)) p
-  later_alternative : (p : ℕ) (ps : List ℕ) (q : ℕ) → RowCalls rows (row.Choice ps) q → RowCalls rows (row.Choice (p ∷ ps)) q
+  later_alternative : (p : ℕ) (ps : List ℕ) (q : ℕ) → RowCalls rows (row.Choice ps) q
+      → RowCalls rows (row.Choice (p ∷ ps)) q
   optional_part : (p : ℕ) → RowCalls rows (row.Optional p) p
   many_part : (p : ℕ) → RowCalls rows (row.Many p) p
   at_least_one_part : (p : ℕ) → RowCalls rows (row.AtLeastOne p) p
@@ -71,11 +77,13 @@ pub data Reaches (rows : List Row) : ℕ → ℕ → Type 0 where
 abbrev pub IsLeftRecursive : List Row → ℕ → Type 0
 IsLeftRecursive rows r = Reaches rows r r
 
--- A row repeats a part that may match without taking a token. What a separated row repeats is the separator and then the part.
+-- A row repeats a part that may match without taking a token. What a separated row repeats is the
+-- separator and then the part.
 pub data RowRepeatsNullable (rows : List Row) : Row → Type 0 where
   repeated_many : (p : ℕ) → IsNullable rows p → RowRepeatsNullable rows (row.Many p)
   repeated_at_least_one : (p : ℕ) → IsNullable rows p → RowRepeatsNullable rows (row.AtLeastOne p)
-  repeated_separated : (p s : ℕ) → IsNullable rows p → IsNullable rows s → RowRepeatsNullable rows (row.SeparatedBy p s)
+  repeated_separated : (p s : ℕ) → IsNullable rows p → IsNullable rows s
+      → RowRepeatsNullable rows (row.SeparatedBy p s)
 
 pub record RepeatsNullable (rows : List Row) (r : ℕ) : Type 0 where
   pub repeater : Row

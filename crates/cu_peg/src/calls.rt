@@ -47,7 +47,8 @@ fn call_conditions(
     nullable: &[bool],
     quantifier: Quantifier,
 ) -> Result<Vec<Condition>, AllocError>
-    ensures { IfOk result (λ conditions. conditions.items ≡ map (calls_by quantifier nullable.now) rows.now) }
+    ensures { IfOk result (λ conditions. conditions.items
+        ≡ map (calls_by quantifier nullable.now) rows.now) }
 {
     let mut conditions = Vec::new(alloc);
     for row in rows {
@@ -101,7 +102,8 @@ pub fn first_bad(
     nullable: &[bool],
 ) -> Result<Option<usize>, AllocError>
     requires { TellsNullable rows.now nullable.now }
-    ensures { IfOk result (λ found. MatchOption found (IsWellFormed rows.now) (IsFirstBad rows.now)) }
+    ensures { IfOk result (λ found. MatchOption found (IsWellFormed rows.now)
+        (IsFirstBad rows.now)) }
 {
     let calls = call_conditions(alloc, rows, nullable, Quantifier::Any)?;
     for number in 0..rows.len() {

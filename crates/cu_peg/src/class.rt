@@ -73,7 +73,8 @@ impl Class {
 
 /// The name that a token is, if it is one of this kind.
 fn name_of(wanted: NameKind, kind: &TokenKind) -> Option<Name>
-    ensures { (names : List (List ℕ)) → option_map (spelling_of names) result ≡ spelling_in wanted (kind_of names kind.now) }
+    ensures { (names : List (List ℕ)) → option_map (spelling_of names) result
+        ≡ spelling_in wanted (kind_of names kind.now) }
 {
     match (wanted, kind) {
         (NameKind::VarId, TokenKind::VarId(name)) => Some(*name),

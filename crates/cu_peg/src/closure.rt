@@ -44,7 +44,8 @@ impl Condition {
         quantifier: Quantifier,
         numbers: &[u32],
     ) -> Result<Condition, AllocError>
-        ensures { IfOk result (λ condition. condition ≡ record { quantifier = quantifier; numbers = numbers.now }) }
+        ensures { IfOk result (λ condition. condition
+            ≡ record { quantifier = quantifier; numbers = numbers.now }) }
     {
         let numbers = RowNumbers::new(Vec::from_slice(alloc, numbers)?);
         Ok(Condition {
@@ -73,7 +74,8 @@ pub fn saturate(
     marks: Vec<bool>,
 ) -> Result<Closure, AllocError>
     requires { vec_len marks ≡ length conditions.now }
-    ensures derived { IfOk result (λ found. Derived conditions.now marks.items found.marks.items found.order.items) }
+    ensures derived { IfOk result
+        (λ found. Derived conditions.now marks.items found.marks.items found.order.items) }
     ensures saturated { IfOk result (λ found. IsSaturated conditions.now found.marks.items) }
 {
     let mut marks = marks;

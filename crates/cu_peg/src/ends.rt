@@ -25,7 +25,8 @@ pub fn row_end(
 ) -> Option<End>
     requires { left ≤ length tokens.now }
     ensures { (names : List (List ℕ)) → result
-        ≡ row_end (λ c. has_at (map (lexeme_of names) tokens.now) c (length tokens.now - left)) (end_at table.now.columns) row.now number left }
+        ≡ row_end (λ c. has_at (map (lexeme_of names) tokens.now) c (length tokens.now - left))
+        (end_at table.now.columns) row.now number left }
 {
     match row {
         Row::Token(class) => {
@@ -92,7 +93,8 @@ fn joined(end: End, others: Option<End>) -> End
 
 /// The end of a row behind a separator.
 fn behind(separator: u32, number: usize, table: &Table, left: usize) -> Option<End>
-    ensures { result ≡ option_and_then (λ between. end_at table.now.columns number between.left) (end_at table.now.columns separator left) }
+    ensures { result ≡ option_and_then (λ between. end_at table.now.columns number between.left)
+        (end_at table.now.columns separator left) }
 {
     let between = table.end(separator as usize, left)?;
     table.end(number, between.left)
@@ -133,7 +135,8 @@ fn kept_end(
 ) -> Option<End>
     requires { left ≤ length tokens.now }
     ensures { (names : List (List ℕ)) → result
-        ≡ row_end (λ c. has_at (map (lexeme_of names) tokens.now) c (length tokens.now - left)) (end_at table.now.columns) (kept_row (marked marks.now number) row.now) number left }
+        ≡ row_end (λ c. has_at (map (lexeme_of names) tokens.now) c (length tokens.now - left))
+        (end_at table.now.columns) (kept_row (marked marks.now number) row.now) number left }
 {
     if !is_marked(marks, number) {
         return None;
@@ -153,10 +156,14 @@ pub fn add_place(
     requires rows { IsGrammar rows.now order.now }
     requires wide { table.old.width ≡ length rows.now }
     requires place { length table.old.columns ≤ length tokens.now }
-    requires right { (names : List (List ℕ)) → IsRight (kept marks.now rows.now) (has_at (map (lexeme_of names) tokens.now)) (length tokens.now) table.old.columns }
+    requires right { (names : List (List ℕ))
+        → IsRight (kept marks.now rows.now) (has_at (map (lexeme_of names) tokens.now))
+        (length tokens.now) table.old.columns }
     ensures wide { OnOk result (table.new.width ≡ length rows.now) }
     ensures long { OnOk result (length table.new.columns ≡ length table.old.columns + 1) }
-    ensures right { (names : List (List ℕ)) → OnOk result (IsRight (kept marks.now rows.now) (has_at (map (lexeme_of names) tokens.now)) (length tokens.now) table.new.columns) }
+    ensures right { (names : List (List ℕ))
+        → OnOk result (IsRight (kept marks.now rows.now) (has_at (map (lexeme_of names) tokens.now))
+        (length tokens.now) table.new.columns) }
 {
     let left = table.len();
     table.add_column(alloc)?;

@@ -102,7 +102,9 @@ impl Grammar {
         tokens: &[Token],
     ) -> Result<Table, AllocError>
         ensures long { IfOk result (λ table. length table.columns ≡ length tokens.now + 1) }
-        ensures right { (names : List (List ℕ)) → IfOk result (λ table. IsRight (kept marks.now self.now) (has_at (map (lexeme_of names) tokens.now)) (length tokens.now) table.columns) }
+        ensures right { (names : List (List ℕ))
+            → IfOk result (λ table. IsRight (kept marks.now self.now)
+            (has_at (map (lexeme_of names) tokens.now)) (length tokens.now) table.columns) }
     {
         let rows = self.rows.as_slice();
         let order = self.order.as_slice();

@@ -25,8 +25,12 @@ pub fn matches(
     tokens: &[Token],
 ) -> Result<Option<Tree>, AllocError>
     requires { start < length grammar.now }
-    ensures tree { (names : List (List ℕ)) → IfOk result (λ found. IfSome found (IsTreeOf grammar.now start (map (lexeme_of names) tokens.now))) }
-    ensures none { (names : List (List ℕ)) → IfOk result (λ found. IfNone found (HasNoTree grammar.now start (map (lexeme_of names) tokens.now))) }
+    ensures tree { (names : List (List ℕ))
+        → IfOk result (λ found. IfSome found
+        (IsTreeOf grammar.now start (map (lexeme_of names) tokens.now))) }
+    ensures none { (names : List (List ℕ))
+        → IfOk result (λ found. IfNone found
+        (HasNoTree grammar.now start (map (lexeme_of names) tokens.now))) }
 {
     let start = start as usize;
     let rows = grammar.rows();

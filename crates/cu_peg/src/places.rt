@@ -128,7 +128,8 @@ pub fn keep(
     left: usize,
 ) -> Result<(), AllocError>
     requires { length ends.now ≡ length certain.now }
-    ensures kept { OnOk result (Packs certain.now ends.now left entries.old.items entries.new.items) }
+    ensures kept { OnOk result
+        (Packs certain.now ends.now left entries.old.items entries.new.items) }
     ensures grows { length entries.old.items ≤ length entries.new.items }
 {
     for row in 0..ends.len() {
@@ -145,7 +146,8 @@ fn keep_one(
     left: usize,
     end: Option<End>,
 ) -> Result<(), AllocError>
-    ensures kept { OnOk result (KeepsOne certain.now left row end entries.old.items entries.new.items) }
+    ensures kept { OnOk result
+        (KeepsOne certain.now left row end entries.old.items entries.new.items) }
     ensures grows { length entries.old.items ≤ length entries.new.items }
 {
     if is_usual(certain, row, left, end) {

@@ -33,9 +33,12 @@ fn reach_row(
     pending: &mut Vec<usize>,
 ) -> Result<(), AllocError>
     requires row { row < length rows.now }
-    requires named { (e : Row) → slice_get rows.now row ≡ Some e → All (λ p. p < length marks.old.items) (named e) }
-    ensures spreads { OnOk result (Spreads marks.old.items pending.old.items marks.new.items pending.new.items) }
-    ensures reached { (e : Row) → slice_get rows.now row ≡ Some e → OnOk result (All (λ p. marked marks.new.items p ≡ true) (named e)) }
+    requires named { (e : Row) → slice_get rows.now row ≡ Some e
+        → All (λ p. p < length marks.old.items) (named e) }
+    ensures spreads { OnOk result
+        (Spreads marks.old.items pending.old.items marks.new.items pending.new.items) }
+    ensures reached { (e : Row) → slice_get rows.now row ≡ Some e
+        → OnOk result (All (λ p. marked marks.new.items p ≡ true) (named e)) }
 {
     reach_named(&rows[row], marks, pending)
 }
@@ -43,7 +46,8 @@ fn reach_row(
 /// Marks the rows that a row names.
 fn reach_named(row: &Row, marks: &mut Vec<bool>, pending: &mut Vec<usize>) -> Result<(), AllocError>
     requires { All (λ p. p < length marks.old.items) (named row.now) }
-    ensures spreads { OnOk result (Spreads marks.old.items pending.old.items marks.new.items pending.new.items) }
+    ensures spreads { OnOk result
+        (Spreads marks.old.items pending.old.items marks.new.items pending.new.items) }
     ensures reached { OnOk result (All (λ p. marked marks.new.items p ≡ true) (named row.now)) }
 {
     match row {
@@ -67,7 +71,8 @@ fn reach_all(
     pending: &mut Vec<usize>,
 ) -> Result<(), AllocError>
     requires { All (λ p. p < length marks.old.items) parts.now }
-    ensures spreads { OnOk result (Spreads marks.old.items pending.old.items marks.new.items pending.new.items) }
+    ensures spreads { OnOk result
+        (Spreads marks.old.items pending.old.items marks.new.items pending.new.items) }
     ensures reached { OnOk result (All (λ p. marked marks.new.items p ≡ true) parts.now) }
 {
     for part in parts {
@@ -79,7 +84,8 @@ fn reach_all(
 /// Marks a row. One that wasn't marked is to be looked at.
 fn reach(row: usize, marks: &mut Vec<bool>, pending: &mut Vec<usize>) -> Result<(), AllocError>
     requires { row < length marks.old.items }
-    ensures spreads { OnOk result (Spreads marks.old.items pending.old.items marks.new.items pending.new.items) }
+    ensures spreads { OnOk result
+        (Spreads marks.old.items pending.old.items marks.new.items pending.new.items) }
     ensures reached { OnOk result (marked marks.new.items row ≡ true) }
 {
     if is_marked(marks.as_slice(), row) {

@@ -121,7 +121,8 @@ fn next_parts(row: &Row, parts: Cursor, table: &Table, left: usize) -> Option<Cu
 
 /// The parts that a row has again, where its part matches.
 fn again(row: usize, part: u32, table: &Table, left: usize) -> Option<Cursor>
-    ensures { result ≡ (if is_some (end_at table.now.columns part left) then Some (cursor row 0 left) else None) }
+    ensures { result ≡ (if is_some (end_at table.now.columns part left)
+        then Some (cursor row 0 left) else None) }
 {
     if table.end(part as usize, left).is_some() {
         return Some(Cursor { row, part: 0, left });
@@ -156,7 +157,8 @@ fn push_parts(pending: &mut Vec<Cursor>, parts: Option<Cursor>) -> Result<(), Al
 /// The row of the first of some parts, and the parts behind it, if there are
 /// any.
 fn next_part(rows: &[Row], table: &Table, parts: Cursor) -> Option<(usize, Option<Cursor>)>
-    ensures { (e : Row) → slice_get rows.now parts.row ≡ Some e → result ≡ next_part (end_at table.now.columns) e parts }
+    ensures { (e : Row) → slice_get rows.now parts.row ≡ Some e
+        → result ≡ next_part (end_at table.now.columns) e parts }
 {
     let row = rows.get(parts.row)?;
     let part = part_at(row, parts.part)?;
@@ -177,8 +179,13 @@ fn visit(
 ) -> Result<(), AllocError>
     requires row { number < length rows.now }
     requires left { left ≤ tokens }
-    ensures nodes { (e : Row) → slice_get rows.now number ≡ Some e → OnOk result (nodes.new.items ≡ nodes.old.items ++ node_of (end_at table.now.columns) e number tokens left ∷ []) }
-    ensures parts { (e : Row) → slice_get rows.now number ≡ Some e → OnOk result (pending.new.items ≡ pending.old.items ++ option_to_list (first_parts (end_at table.now.columns) e number left)) }
+    ensures nodes { (e : Row) → slice_get rows.now number ≡ Some e
+        → OnOk result (nodes.new.items ≡ nodes.old.items
+        ++ node_of (end_at table.now.columns) e number tokens left ∷ []) }
+    ensures parts { (e : Row) → slice_get rows.now number ≡ Some e
+        → OnOk result (pending.new.items
+        ≡ pending.old.items ++ option_to_list
+        (first_parts (end_at table.now.columns) e number left)) }
 {
     let row = &rows[number];
     let form = form_of(row, table, tokens, left);
@@ -205,7 +212,9 @@ pub fn read(
     requires end { end_at table.now.columns start (length tokens.now) ≡ Some end }
     requires all { end.left ≡ 0 }
     requires few { end.nodes < 2 ^ 64 - 1 }
-    ensures { (names : List (List ℕ)) (tree : ParseTree ℕ) → HasTree rows.now (has_at (map (lexeme_of names) tokens.now)) start (last (length tokens.now) (length tokens.now)) tree
+    ensures { (names : List (List ℕ)) (tree : ParseTree ℕ)
+        → HasTree rows.now (has_at (map (lexeme_of names) tokens.now)) start
+        (last (length tokens.now) (length tokens.now)) tree
         → IfOk result (λ nodes. nodes.items ≡ spelled tree) }
 {
     let mut nodes = Vec::new(alloc);

@@ -100,7 +100,11 @@ impl Table {
 
     /// Adds a place where no row matches.
     pub fn add_column(&mut self, alloc: Global) -> Result<(), AllocError>
-        ensures { OnOk result (self.new ≡ record self.old { columns = self.old.columns ++ replicate self.old.width None ∷ [] }) }
+        ensures { OnOk result (self.new
+            ≡ record self.old {
+              columns = self.old.columns ++ replicate self.old.width None
+                  ∷ [];
+            }) }
     {
         if let Some(column) = &self.filled {
             finish(
@@ -139,7 +143,11 @@ impl Table {
     pub fn set(&mut self, row: usize, end: Option<End>)
         requires { row < self.old.width }
         ensures { (left : ℕ) → length self.old.columns ≡ left + 1
-            → self.new ≡ record self.old { columns = slice_set self.old.columns left (slice_set (slice_index_or self.old.columns left []) row end) } }
+            → self.new
+            ≡ record self.old {
+              columns = slice_set self.old.columns left
+                  (slice_set (slice_index_or self.old.columns left []) row end);
+            } }
     {
         set_in(&mut self.filled, row, end);
     }
@@ -165,7 +173,8 @@ fn finish(
     requires rising { Rising begins.old.items (length entries.old.items) }
     requires wide { length column.now ≡ length certain.now }
     ensures rising { Rising begins.new.items (length entries.new.items) }
-    ensures columns { OnOk result (columns certain.now entries.new.items begins.new.items 0 ≡ columns certain.now entries.old.items begins.old.items 0 ++ column.now ∷ []) }
+    ensures columns { OnOk result (columns certain.now entries.new.items begins.new.items 0
+        ≡ columns certain.now entries.old.items begins.old.items 0 ++ column.now ∷ []) }
 {
     let begin = entries.len();
     keep(entries, certain, column.ends.as_slice(), begins.len())?;

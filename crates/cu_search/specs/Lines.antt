@@ -1,5 +1,5 @@
--- The text of a listing: a line for each answer and each branch that waits, and a last line that says how it ends. Texts are
--- lists of bytes, in UTF-8.
+-- The text of a listing: a line for each answer and each branch that waits, and a last line that
+-- says how it ends. Texts are lists of bytes, in UTF-8.
 use Rattle.std.specs.Prelude.{ℕ, zero, suc, List, [], ◌∷◌, ◌++◌, codes, decimal, slice_index_or}
 use Rattle.std.specs.List.{concat}
 use Rattle.cu_calculus.specs.Value.{Value}
@@ -41,7 +41,8 @@ abbrev pub bindings_text : Labels → List (List ℕ) → List Value → List �
 bindings_text labels [] values = []
 bindings_text labels (name ∷ names) [] = []
 bindings_text labels (name ∷ names) (value ∷ values) =
-    codes "{" ++ (binding_text labels name value ++ (further_bindings labels names values ++ codes "} "))
+    codes "{" ++ (binding_text labels name value
+    ++ (further_bindings labels names values ++ codes "} "))
 
 -- ** Waits
 
@@ -53,12 +54,14 @@ waited_text variables (Other n) = variable_text n
 -- the variables after the first
 abbrev pub further_waits : List (List ℕ) → List Waited → List ℕ
 further_waits variables [] = []
-further_waits variables (name ∷ names) = codes ", " ++ (waited_text variables name ++ further_waits variables names)
+further_waits variables (name ∷ names) =
+    codes ", " ++ (waited_text variables name ++ further_waits variables names)
 
 -- what a branch waits for
 abbrev pub waits_text : List (List ℕ) → List Waited → List ℕ
 waits_text variables [] = codes "waits inside a set function"
-waits_text variables (name ∷ names) = codes "waits on " ++ (waited_text variables name ++ further_waits variables names)
+waits_text variables (name ∷ names) =
+    codes "waits on " ++ (waited_text variables name ++ further_waits variables names)
 
 -- ** Lines
 
@@ -67,7 +70,8 @@ abbrev pub line_text : Notation → Line → List ℕ
 line_text notation (Answered d reading) =
     round_mark d ++ (bindings_text notation.labels notation.variables reading.bindings
     ++ (display notation.labels reading.value ++ codes "\n"))
-line_text notation (Waiting d names) = round_mark d ++ (waits_text notation.variables names ++ codes "\n")
+line_text notation (Waiting d names) =
+    round_mark d ++ (waits_text notation.variables names ++ codes "\n")
 
 abbrev pub stop_text : Stop → List ℕ
 stop_text (Overflow operation m n) = codes "overflow"
@@ -82,7 +86,8 @@ floundered_text (suc k) = codes "; " ++ (decimal (suc k) ++ codes " floundered")
 -- the last line
 abbrev pub end_text : End → List ℕ
 end_text (NoMore waits) = codes "no more" ++ (floundered_text waits ++ codes "\n")
-end_text (Rounds d count) = codes "stopped at round " ++ (decimal d ++ (codes "; " ++ (decimal count ++ codes " open\n")))
+end_text (Rounds d count) = codes "stopped at round "
+    ++ (decimal d ++ (codes "; " ++ (decimal count ++ codes " open\n")))
 end_text (Answers count) = codes "stopped at answer " ++ (decimal count ++ codes "\n")
 end_text (Stopped stop d) = stop_text stop ++ (codes " at round " ++ (decimal d ++ codes "\n"))
 

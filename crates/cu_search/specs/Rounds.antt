@@ -8,17 +8,23 @@ use Rattle.cu_search.specs.Lines.{lines_bytes, listing_bytes}
 use Rattle.cu_search.specs.Standing.{IsGoing, Standing, end_at, left_of, next_of, round_at}
 use Rattle.cu_search.specs.Written.{Adds, AddsFront}
 
--- Where the search goes on, it stands before the next round, and the lines of this one and what is left then are what was
--- left before. It ends exactly where the listing ends with this round, with the listing's end; then, or where it broke off,
--- it has ended.
+-- Where the search goes on, it stands before the next round, and the lines of this one and what is
+-- left then are what was left before. It ends exactly where the listing ends with this round, with
+-- the listing's end; then, or where it broke off, it has ended.
 abbrev pub Leaves : {E : Type 0} → Result Round E → Standing → Standing → Type 0
 Leaves (Ok Going) old new =
-    (end_at old ≡ None) × (new ≡ next_of old) × IsGoing new × (left_of old ≡ after_lines (round_at old).lines (left_of new))
-Leaves (Ok (Ended end)) old new = (end_at old ≡ Some end) × (end ≡ (left_of old).end) × (new.ended ≡ true)
+    (end_at old ≡ None) × (new ≡ next_of old) × IsGoing new
+    × (left_of old ≡ after_lines (round_at old).lines (left_of new))
+Leaves (Ok (Ended end)) old new = (end_at old ≡ Some end) × (end ≡ (left_of old).end)
+    × (new.ended ≡ true)
 Leaves (Err fault) old new = new.ended ≡ true
 
--- The lines of this round were written, or all that was left with the line of the end, or a front of that.
+-- The lines of this round were written, or all that was left with the line of the end, or a front
+-- of that.
 abbrev pub Writes : Result Round SearchFault → Standing → Option (List ℕ) → Option (List ℕ) → Type 0
-Writes (Ok Going) old before after = Adds before after (lines_bytes old.notation (round_at old).lines)
-Writes (Ok (Ended end)) old before after = Adds before after (listing_bytes old.notation (left_of old))
-Writes (Err fault) old before after = AddsFront before after (listing_bytes old.notation (left_of old))
+Writes (Ok Going) old before after =
+    Adds before after (lines_bytes old.notation (round_at old).lines)
+Writes (Ok (Ended end)) old before after =
+    Adds before after (listing_bytes old.notation (left_of old))
+Writes (Err fault) old before after =
+    AddsFront before after (listing_bytes old.notation (left_of old))

@@ -50,7 +50,8 @@ left_of s = rounds (s.limits.rounds - s.round) s.code s.limits s.round s.tally s
 abbrev pub outcomes_of : Standing → List Next
 outcomes_of s = map (run s.limits.stride s.code s.limits.step) s.level
 
--- what the next round lists: its lines, the count after them, and the end where the listing ends inside the round
+-- what the next round lists: its lines, the count after them, and the end where the listing ends
+-- inside the round
 abbrev pub round_at : Standing → Round
 round_at s = round_of s.round s.limits.answers s.tally (outcomes_of s)
 
@@ -58,8 +59,9 @@ round_at s = round_of s.round s.limits.answers s.tally (outcomes_of s)
 abbrev pub level_after : Standing → List State
 level_after s = flat_map go_list (outcomes_of s)
 
--- How a listing ends after the lines of round d, if it does, where so many branches wait and so many states follow: the tree
--- is exhausted, or it was the last round, or the next level is too wide.
+-- How a listing ends after the lines of round d, if it does, where so many branches wait and so
+-- many states follow: the tree is exhausted, or it was the last round, or the next level is too
+-- wide.
 abbrev pub end_after : SearchLimits → ℕ → ℕ → ℕ → Option End
 end_after limits d waits count =
     if nat_eq count 0 then Some (NoMore waits)
@@ -68,7 +70,9 @@ end_after limits d waits count =
 
 -- how the listing ends in the next round or after its lines, if it does
 abbrev pub end_at : Standing → Option End
-end_at s = option_or (round_at s).end (end_after s.limits s.round (round_at s).tally.waits (length (level_after s)))
+end_at s =
+    option_or (round_at s).end
+    (end_after s.limits s.round (round_at s).tally.waits (length (level_after s)))
 
 -- after the next round, where the listing doesn't end with it
 abbrev pub next_of : Standing → Standing

@@ -12,7 +12,8 @@ Adds before after bytes = after ≡ option_map (λ told. told ++ bytes) before
 abbrev pub AddsFront : Option (List ℕ) → Option (List ℕ) → List ℕ → Type 0
 AddsFront before after bytes = (n : ℕ) × (n ≤ length bytes) × Adds before after (take n bytes)
 
--- the output's count of faults rose where it failed, and stands otherwise, also where memory ran out
+-- the output's count of faults rose where it failed, and stands otherwise, also where memory ran
+-- out
 abbrev pub HasCause : {A : Type 0} → Result A SearchFault → ℕ → ℕ → Type 0
 HasCause (Ok x) old new = new ≡ old
 HasCause (Err Write) old new = Rose old new

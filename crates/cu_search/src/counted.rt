@@ -28,8 +28,10 @@ impl<'p, S: Store + Send + Sync> Search<'p, S> {
     ) -> Result<(End, Totals), AllocError>
         requires going { IsGoing (standing_of S.content self.old) }
         requires workers { (1 ≤ workers) × (workers ≤ 64) }
-        ensures end { IfOk result (λ found. found.0 ≡ (left_of (standing_of S.content self.old)).end) }
-        ensures totals { IfOk result (λ found. found.1 ≡ totals_of (left_of (standing_of S.content self.old))) }
+        ensures end { IfOk result (λ found. found.0
+            ≡ (left_of (standing_of S.content self.old)).end) }
+        ensures totals { IfOk result (λ found. found.1
+            ≡ totals_of (left_of (standing_of S.content self.old))) }
         ensures ended { (standing_of S.content self.new).ended ≡ true }
     {
         let mut totals = Totals::new();
@@ -51,7 +53,8 @@ impl<'p, S: Store + Send + Sync> Search<'p, S> {
     ) -> Result<Round, AllocError>
         requires going { IsGoing (standing_of S.content self.old) }
         requires workers { (1 ≤ workers) × (workers ≤ 64) }
-        ensures standing { Leaves result (standing_of S.content self.old) (standing_of S.content self.new) }
+        ensures standing { Leaves result (standing_of S.content self.old)
+            (standing_of S.content self.new) }
         ensures totals { OnOk result (totals.new
             ≡ and_lines totals.old (round_at (standing_of S.content self.old)).lines) }
     {

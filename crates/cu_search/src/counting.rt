@@ -22,11 +22,14 @@ pub(crate) fn count_outcomes<S: Store>(
     totals: &mut Totals,
 ) -> Result<Option<End>, AllocError>
     ensures end { IfOk result (λ end. end
-        ≡ (round_of turn.now.round turn.now.limit tally.old (map (next_of S.content) outcomes.now)).end) }
+        ≡ (round_of turn.now.round turn.now.limit tally.old
+        (map (next_of S.content) outcomes.now)).end) }
     ensures tally { OnOk result (tally.new
-        ≡ (round_of turn.now.round turn.now.limit tally.old (map (next_of S.content) outcomes.now)).tally) }
+        ≡ (round_of turn.now.round turn.now.limit tally.old
+        (map (next_of S.content) outcomes.now)).tally) }
     ensures totals { OnOk result (totals.new ≡ and_lines totals.old
-        (round_of turn.now.round turn.now.limit tally.old (map (next_of S.content) outcomes.now)).lines) }
+        (round_of turn.now.round turn.now.limit tally.old
+        (map (next_of S.content) outcomes.now)).lines) }
 {
     for outcome in outcomes {
         let end = count_outcome(turn, outcome, tally, totals)?;
@@ -46,11 +49,14 @@ fn count_outcome<S: Store>(
     totals: &mut Totals,
 ) -> Result<Option<End>, AllocError>
     ensures end { IfOk result (λ end. end
-        ≡ (round_of turn.now.round turn.now.limit tally.old (next_of S.content outcome.now ∷ [])).end) }
+        ≡ (round_of turn.now.round turn.now.limit tally.old
+        (next_of S.content outcome.now ∷ [])).end) }
     ensures tally { OnOk result (tally.new
-        ≡ (round_of turn.now.round turn.now.limit tally.old (next_of S.content outcome.now ∷ [])).tally) }
+        ≡ (round_of turn.now.round turn.now.limit tally.old
+        (next_of S.content outcome.now ∷ [])).tally) }
     ensures totals { OnOk result (totals.new ≡ and_lines totals.old
-        (round_of turn.now.round turn.now.limit tally.old (next_of S.content outcome.now ∷ [])).lines) }
+        (round_of turn.now.round turn.now.limit tally.old
+        (next_of S.content outcome.now ∷ [])).lines) }
 {
     match outcome {
         Outcome::Go(_) => Ok(None),

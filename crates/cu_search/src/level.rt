@@ -35,11 +35,14 @@ pub(crate) fn step_level<S: Store + Send + Sync, R: Threads + Sync, G: Gate + Sy
 ) -> Result<Vec<Outcome<S>>, AllocError>
     requires workers { (1 ≤ workers) × (workers ≤ 64) }
     requires width { length level.items ≤ widest }
-    requires valid { All (λ branch. IsValid steps.now.program.now (state_of S.content branch)) level.items }
+    requires valid { All (λ branch. IsValid steps.now.program.now (state_of S.content branch))
+        level.items }
     ensures next { IfOk result (λ outcomes. map (next_of S.content) outcomes.items
-        ≡ map (run steps.now.limits.stride steps.now.program.now steps.now.limits.step) (map (state_of S.content) level.items)) }
+        ≡ map (run steps.now.limits.stride steps.now.program.now steps.now.limits.step)
+        (map (state_of S.content) level.items)) }
     ensures valid { IfOk result (λ outcomes. All (λ outcome.
-        All (λ branch. IsValid steps.now.program.now (state_of S.content branch)) (branches_of outcome)) outcomes.items) }
+        All (λ branch. IsValid steps.now.program.now (state_of S.content branch))
+        (branches_of outcome)) outcomes.items) }
 {
     let alloc = steps.alloc;
     let program = steps.program;
@@ -50,7 +53,8 @@ pub(crate) fn step_level<S: Store + Send + Sync, R: Threads + Sync, G: Gate + Sy
             ensures next { IfOk result (λ outcome. next_of S.content outcome
                 ≡ run limits.stride program.entry.now limits.step (state_of S.content branch)) }
             ensures valid { IfOk result (λ outcome.
-                All (λ branch. IsValid program.entry.now (state_of S.content branch)) (branches_of outcome)) }
+                All (λ branch. IsValid program.entry.now (state_of S.content branch))
+                (branches_of outcome)) }
         { cu_sets::run(alloc, program, branch, &limits.step, limits.stride) },
         items: PhantomData,
         outcomes: PhantomData,

@@ -42,7 +42,8 @@ fn begin_line(page: &mut Page, round: u64) -> Result<(), AllocError>
 /// Writes what the goal's variables are bound to, where it has some.
 fn push_bindings(page: &mut Page, wording: &Wording, values: &[Value]) -> Result<(), AllocError>
     ensures { OnOk result (page.new.line.items ≡ page.old.line.items
-        ++ bindings_text (notation_of wording.now).labels (notation_of wording.now).variables values.now) }
+        ++ bindings_text (notation_of wording.now).labels
+        (notation_of wording.now).variables values.now) }
 {
     let count = lesser(wording.goal.names.len(), values.len());
     if count == 0 {
@@ -172,7 +173,8 @@ fn push_exhausted(page: &mut Page, waits: u64) -> Result<(), AllocError>
 
 /// Writes that a round was the last one, and how many branches are open.
 fn push_rounds(page: &mut Page, round: u64, count: u64) -> Result<(), AllocError>
-    ensures { OnOk result (page.new.line.items ≡ page.old.line.items ++ end_text (Rounds round count)) }
+    ensures { OnOk result (page.new.line.items
+        ≡ page.old.line.items ++ end_text (Rounds round count)) }
 {
     page.push_str("stopped at round ")?;
     page.push_number(round)?;
@@ -183,7 +185,8 @@ fn push_rounds(page: &mut Page, round: u64, count: u64) -> Result<(), AllocError
 
 /// Writes that a search stopped in a round, and why.
 fn push_stopped(page: &mut Page, stop: Stop, round: u64) -> Result<(), AllocError>
-    ensures { OnOk result (page.new.line.items ≡ page.old.line.items ++ end_text (Stopped stop round)) }
+    ensures { OnOk result (page.new.line.items
+        ≡ page.old.line.items ++ end_text (Stopped stop round)) }
 {
     page.push_str(stop_words(stop))?;
     page.push_str(" at round ")?;

@@ -37,15 +37,19 @@ pub(crate) fn list_outcomes<S: Store, K: Sink>(
     sink: &mut K,
 ) -> Result<Option<End>, SearchFault>
     ensures end { IfOk result (λ end. end
-        ≡ (round_of turn.now.round turn.now.limit tally.old (map (next_of S.content) outcomes.now)).end) }
+        ≡ (round_of turn.now.round turn.now.limit tally.old
+        (map (next_of S.content) outcomes.now)).end) }
     ensures tally { OnOk result (tally.new
-        ≡ (round_of turn.now.round turn.now.limit tally.old (map (next_of S.content) outcomes.now)).tally) }
+        ≡ (round_of turn.now.round turn.now.limit tally.old
+        (map (next_of S.content) outcomes.now)).tally) }
     ensures whole { OnOk result (Adds (K.written sink.old) (K.written sink.new)
         (lines_bytes (notation_of turn.now.wording)
-        (round_of turn.now.round turn.now.limit tally.old (map (next_of S.content) outcomes.now)).lines)) }
+        (round_of turn.now.round turn.now.limit tally.old
+        (map (next_of S.content) outcomes.now)).lines)) }
     ensures front { OnErr result (AddsFront (K.written sink.old) (K.written sink.new)
         (lines_bytes (notation_of turn.now.wording)
-        (round_of turn.now.round turn.now.limit tally.old (map (next_of S.content) outcomes.now)).lines)) }
+        (round_of turn.now.round turn.now.limit tally.old
+        (map (next_of S.content) outcomes.now)).lines)) }
     ensures cause { HasCause result (K.fault_count sink.old) (K.fault_count sink.new) }
 {
     for outcome in outcomes {
@@ -67,15 +71,19 @@ fn list_outcome<S: Store, K: Sink>(
     sink: &mut K,
 ) -> Result<Option<End>, SearchFault>
     ensures end { IfOk result (λ end. end
-        ≡ (round_of turn.now.round turn.now.limit tally.old (next_of S.content outcome.now ∷ [])).end) }
+        ≡ (round_of turn.now.round turn.now.limit tally.old
+        (next_of S.content outcome.now ∷ [])).end) }
     ensures tally { OnOk result (tally.new
-        ≡ (round_of turn.now.round turn.now.limit tally.old (next_of S.content outcome.now ∷ [])).tally) }
+        ≡ (round_of turn.now.round turn.now.limit tally.old
+        (next_of S.content outcome.now ∷ [])).tally) }
     ensures whole { OnOk result (Adds (K.written sink.old) (K.written sink.new)
         (lines_bytes (notation_of turn.now.wording)
-        (round_of turn.now.round turn.now.limit tally.old (next_of S.content outcome.now ∷ [])).lines)) }
+        (round_of turn.now.round turn.now.limit tally.old
+        (next_of S.content outcome.now ∷ [])).lines)) }
     ensures front { OnErr result (AddsFront (K.written sink.old) (K.written sink.new)
         (lines_bytes (notation_of turn.now.wording)
-        (round_of turn.now.round turn.now.limit tally.old (next_of S.content outcome.now ∷ [])).lines)) }
+        (round_of turn.now.round turn.now.limit tally.old
+        (next_of S.content outcome.now ∷ [])).lines)) }
     ensures cause { HasCause result (K.fault_count sink.old) (K.fault_count sink.new) }
 {
     match outcome {
@@ -101,9 +109,11 @@ fn list_answer<K: Sink>(
         then Some (Answers (tally.old.answers + 1)) else None)) }
     ensures tally { OnOk result (tally.new ≡ one_answer tally.old) }
     ensures whole { OnOk result (Adds (K.written sink.old) (K.written sink.new)
-        (line_text (notation_of turn.now.wording) (Answered turn.now.round (reading_of reading.now)))) }
+        (line_text (notation_of turn.now.wording)
+        (Answered turn.now.round (reading_of reading.now)))) }
     ensures front { OnErr result (AddsFront (K.written sink.old) (K.written sink.new)
-        (line_text (notation_of turn.now.wording) (Answered turn.now.round (reading_of reading.now)))) }
+        (line_text (notation_of turn.now.wording)
+        (Answered turn.now.round (reading_of reading.now)))) }
     ensures cause { HasCause result (K.fault_count sink.old) (K.fault_count sink.new) }
 {
     tally.add_answer()?;

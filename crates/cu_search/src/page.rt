@@ -65,8 +65,10 @@ impl Page {
 
     /// Gives the line to the output, as one piece.
     pub(crate) fn write<K: Sink>(&self, sink: &mut K) -> Result<(), SearchFault>
-        ensures whole { OnOk result (Adds (K.written sink.old) (K.written sink.new) self.now.line.items) }
-        ensures front { OnErr result (AddsFront (K.written sink.old) (K.written sink.new) self.now.line.items) }
+        ensures whole { OnOk result
+            (Adds (K.written sink.old) (K.written sink.new) self.now.line.items) }
+        ensures front { OnErr result
+            (AddsFront (K.written sink.old) (K.written sink.new) self.now.line.items) }
         ensures cause { HasCause result (K.fault_count sink.old) (K.fault_count sink.new) }
     {
         match sink.put(self.line.as_slice()) {

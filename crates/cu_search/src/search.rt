@@ -62,7 +62,8 @@ impl<'p, S: Store> Search<'p, S> {
         limits: SearchLimits,
     ) -> Result<Search<'p, S>, AllocError>
         requires rule { IsTrue (is_rule (body_of program.now goal.now.function)) }
-        requires parameters { function_arity program.now goal.now.function ≡ Some (length goal.now.names.items) }
+        requires parameters { function_arity program.now goal.now.function
+            ≡ Some (length goal.now.names.items) }
         requires width { limits.step.width ≤ widest }
         ensures standing { IfOk result (λ search. standing_of S.content search
             ≡ opened program.entry.now
@@ -110,8 +111,10 @@ impl<'p, S: Store + Send + Sync> Search<'p, S> {
     ) -> Result<Round, SearchFault>
         requires going { IsGoing (standing_of S.content self.old) }
         requires workers { (1 ≤ workers) × (workers ≤ 64) }
-        ensures standing { Leaves result (standing_of S.content self.old) (standing_of S.content self.new) }
-        ensures written { Writes result (standing_of S.content self.old) (K.written sink.old) (K.written sink.new) }
+        ensures standing { Leaves result (standing_of S.content self.old)
+            (standing_of S.content self.new) }
+        ensures written { Writes result (standing_of S.content self.old) (K.written sink.old)
+            (K.written sink.new) }
         ensures cause { HasCause result (K.fault_count sink.old) (K.fault_count sink.new) }
     {
         self.ended = true;
@@ -162,9 +165,11 @@ impl<'p, S: Store + Send + Sync> Search<'p, S> {
         requires workers { (1 ≤ workers) × (workers ≤ 64) }
         ensures end { IfOk result (λ end. end ≡ (left_of (standing_of S.content self.old)).end) }
         ensures whole { OnOk result (Adds (K.written sink.old) (K.written sink.new)
-            (listing_bytes (standing_of S.content self.old).notation (left_of (standing_of S.content self.old)))) }
+            (listing_bytes (standing_of S.content self.old).notation
+            (left_of (standing_of S.content self.old)))) }
         ensures front { OnErr result (AddsFront (K.written sink.old) (K.written sink.new)
-            (listing_bytes (standing_of S.content self.old).notation (left_of (standing_of S.content self.old)))) }
+            (listing_bytes (standing_of S.content self.old).notation
+            (left_of (standing_of S.content self.old)))) }
         ensures cause { HasCause result (K.fault_count sink.old) (K.fault_count sink.new) }
         ensures ended { (standing_of S.content self.new).ended ≡ true }
     {
@@ -197,7 +202,8 @@ pub(crate) fn ending(limits: &SearchLimits, round: u64, waits: u64, count: u64) 
 /// Writes the last line of a listing that ends so.
 fn write_end<K: Sink>(page: &mut Page, end: End, sink: &mut K) -> Result<(), SearchFault>
     ensures whole { OnOk result (Adds (K.written sink.old) (K.written sink.new) (end_text end)) }
-    ensures front { OnErr result (AddsFront (K.written sink.old) (K.written sink.new) (end_text end)) }
+    ensures front { OnErr result
+        (AddsFront (K.written sink.old) (K.written sink.new) (end_text end)) }
     ensures cause { HasCause result (K.fault_count sink.old) (K.fault_count sink.new) }
 {
     end_line(page, end)?;
@@ -207,7 +213,8 @@ fn write_end<K: Sink>(page: &mut Page, end: End, sink: &mut K) -> Result<(), Sea
 /// Writes the last line of a listing that ends so, with nothing before it.
 pub fn write_last_line<K: Sink>(alloc: Global, end: End, sink: &mut K) -> Result<(), SearchFault>
     ensures whole { OnOk result (Adds (K.written sink.old) (K.written sink.new) (end_text end)) }
-    ensures front { OnErr result (AddsFront (K.written sink.old) (K.written sink.new) (end_text end)) }
+    ensures front { OnErr result
+        (AddsFront (K.written sink.old) (K.written sink.new) (end_text end)) }
     ensures cause { HasCause result (K.fault_count sink.old) (K.fault_count sink.new) }
 {
     let mut page = Page::with_room(alloc)?;

@@ -9,10 +9,12 @@ use Rattle.cu_machine.specs.Graph.{Graph, put, stuck}
 use Rattle.cu_machine.specs.Sort.{sorted}
 use Rattle.cu_machine.specs.Spell.{push_value}
 
--- the graph in which the values that were found stand at a place, as the definition of a step has it
+-- the graph in which the values that were found stand at a place, as the definition of a step has
+-- it
 abbrev pub delivered_by : Special → Graph → ℕ → List Value → Graph
 delivered_by special graph id found = elim special.values [
   | Some c ↦ written graph id (push_value (length graph)
-      (value.Constructed c (value.MoreValues (listed special.nil special.cons (sorted found)) value.NoValue)))
+      (value.Constructed c
+      (value.MoreValues (listed special.nil special.cons (sorted found)) value.NoValue)))
   | None ↦ put graph id stuck
 ]

@@ -11,13 +11,15 @@ use Rattle.cu_sets.specs.declared.level.Level as code
 use Rattle.cu_sets.specs.declared.level.Stepped as code_event
 use Rattle.cu_sets.specs.declared.level.Stepped.TheVariants as stepped
 
--- What is gathered so far of a level that is being stepped: the values that were found, and the states of the next level.
+-- What is gathered so far of a level that is being stepped: the values that were found, and the
+-- states of the next level.
 pub record Level : Type 0 where
   pub values : List Value
   pub states : List State
 
 abbrev pub level_of : {S : Type 0} → (S → Graph) → code.Level S → Level
-level_of content level = record { values = level.values.items; states = map (state_of content) level.branches.items }
+level_of content level =
+    record { values = level.values.items; states = map (state_of content) level.branches.items }
 
 abbrev pub before : Level → LevelEvent → LevelEvent
 before level (On values states) = On (level.values ++ values) (level.states ++ states)
@@ -31,5 +33,6 @@ ended (ending.Halted stop) = Halts stop
 
 -- what became of a whole level
 abbrev pub event_of : {S : Type 0} → (S → Graph) → code_event.Stepped S → LevelEvent
-event_of content (stepped.On level) = On level.values.items (map (state_of content) level.branches.items)
+event_of content (stepped.On level) =
+    On level.values.items (map (state_of content) level.branches.items)
 event_of content (stepped.Ended e) = ended e

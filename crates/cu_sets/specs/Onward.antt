@@ -10,4 +10,5 @@ use Rattle.cu_sets.specs.declared.runs.Onward.TheVariants as onward
 -- the only branch that an outcome goes on as, or else the outcome itself
 abbrev pub GoesOnward : {S : Type 0} → (S → Graph) → Outcome S → Onward S → Type 0
 GoesOnward content outcome (onward.Only branch) = branches_of outcome ≡ branch ∷ []
-GoesOnward content outcome (onward.Other same) = (same ≡ outcome) × (only_state (next_of content outcome) ≡ None)
+GoesOnward content outcome (onward.Other same) =
+    (same ≡ outcome) × (only_state (next_of content outcome) ≡ None)

@@ -33,7 +33,8 @@ pub(crate) fn too_large(limits: &Limits) -> Stop
 
 /// One branch alone follows.
 fn alone<S: Store>(alloc: Global, branch: Branch<S>) -> Result<Outcome<S>, AllocError>
-    ensures next { IfOk result (λ outcome. next_of S.content outcome ≡ Go (state_of S.content branch ∷ [])) }
+    ensures next { IfOk result (λ outcome. next_of S.content outcome
+        ≡ Go (state_of S.content branch ∷ [])) }
     ensures inner { IfOk result (λ outcome. IsFalse (is_inner outcome)) }
 {
     let mut branches = Vec::with_capacity(alloc, 1)?;
@@ -50,8 +51,10 @@ pub(crate) fn delivered<S: Store>(
     limits: &Limits,
 ) -> Result<Outcome<S>, AllocError>
     requires { running.call < length (S.content running.store) }
-    ensures next { IfOk result (λ outcome. next_of S.content outcome ≡ unless_one_is_large limits.now
-        (state.Branch (delivered_by special.now (S.content running.store) running.call running.found.items)
+    ensures next { IfOk result (λ outcome. next_of S.content outcome
+        ≡ unless_one_is_large limits.now
+        (state.Branch (delivered_by special.now
+        (S.content running.store) running.call running.found.items)
         running.root running.goals.items Idle ∷ [])) }
     ensures inner { IfOk result (λ outcome. IsFalse (is_inner outcome)) }
 {
@@ -94,7 +97,8 @@ fn ends<S: Store>(
     ending: Ending,
 ) -> Result<Outcome<S>, AllocError>
     requires { running.call < length (S.content running.store) }
-    ensures next { IfOk result (λ outcome. (limits : Limits) → next_of S.content outcome ≡ after_level limits
+    ensures next { IfOk result (λ outcome. (limits : Limits)
+        → next_of S.content outcome ≡ after_level limits
         (S.content running.store) running.root running.goals.items running.call running.found.items
         (ended ending)) }
     ensures inner { IfOk result (λ outcome. IsFalse (is_inner outcome)) }

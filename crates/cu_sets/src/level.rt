@@ -74,7 +74,8 @@ impl<S: Store> Level<S> {
         ensures ends { IfOk result (λ ending. IfSome ending (λ ending. (others : LevelEvent)
             → with_outcome (Answer (reading_of reading)) others ≡ ended ending)) }
         ensures adds { IfOk result (λ ending. IfNone ending ((others : LevelEvent)
-            → before (level_of S.content self.old) (with_outcome (Answer (reading_of reading)) others)
+            → before (level_of S.content self.old)
+            (with_outcome (Answer (reading_of reading)) others)
             ≡ before (level_of S.content self.new) others)) }
     {
         if !reading.value.is_ground_data() {

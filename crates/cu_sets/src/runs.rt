@@ -62,7 +62,8 @@ pub fn run<S: Store>(
     ensures run { IfOk result (λ outcome. next_of S.content outcome
         ≡ run stride program.now limits.now (state_of S.content branch)) }
     ensures inner { IfOk result (λ outcome. IsFalse (is_inner outcome)) }
-    ensures valid { IfOk result (λ outcome. All (λ branch. IsValid program.now (state_of S.content branch))
+    ensures valid { IfOk result
+        (λ outcome. All (λ branch. IsValid program.now (state_of S.content branch))
         (branches_of outcome)) }
 {
     let mut branch = branch;

@@ -32,7 +32,8 @@ pub fn advance<S: Store>(
     ensures next { IfOk result (λ outcome. next_of S.content outcome
         ≡ next program.now limits.now (state_of S.content branch)) }
     ensures inner { IfOk result (λ outcome. IsFalse (is_inner outcome)) }
-    ensures valid { IfOk result (λ outcome. All (λ branch. IsValid program.now (state_of S.content branch))
+    ensures valid { IfOk result
+        (λ outcome. All (λ branch. IsValid program.now (state_of S.content branch))
         (branches_of outcome)) }
 {
     match step(alloc, program, branch, limits)? {

@@ -23,7 +23,8 @@ abbrev pub leads_on : Kind → Bool → Bool
 leads_on (kind.Cons c) seen = not seen
 leads_on _ seen = false
 
--- Whether what is sought is reached from a node: the variable occurs in its value, or the value isn't data.
+-- Whether what is sought is reached from a node: the variable occurs in its value, or the value
+-- isn't data.
 abbrev pub reaches : Graph → Sought → ℕ → Bool
 reaches graph (sought.Variable v) id = occurs_within (length graph) graph v id
 reaches graph sought.Part id = not (is_data (spelled graph id))
@@ -39,31 +40,37 @@ sought_at part (sought.Variable v) id k args = occurs_at part v id k args
 sought_at part sought.Part id k args = part_at part k args
 
 abbrev pub head_reaches : Graph → Sought → ℕ → Bool
-head_reaches graph v id = sought_at (reaches graph v) v id (node_at graph id).kind (node_at graph id).args
+head_reaches graph v id =
+    sought_at (reaches graph v) v id (node_at graph id).kind (node_at graph id).args
 
 -- whether it is reached from one of these nodes, and from one that is lower than this
 abbrev pub are_reached : Graph → Sought → List ℕ → Bool
 are_reached graph v ids = list_any (reaches graph v) ids
 
 abbrev pub lower_reaches : Graph → Sought → ℕ → List ℕ → Bool
-lower_reaches graph v top ids = list_any (λ id. reaches graph v id && nat_lt (height graph id) top) ids
+lower_reaches graph v top ids =
+    list_any (λ id. reaches graph v id && nat_lt (height graph id) top) ids
 
 -- nothing was seen where no marks are kept
 abbrev pub seen_at : List Bool → ℕ → Bool
 seen_at seen id = slice_index_or seen id false
 
--- what a look at a head that isn't sought leaves: the marks, and the nodes that are still to be looked at
+-- what a look at a head that isn't sought leaves: the marks, and the nodes that are still to be
+-- looked at
 abbrev pub marks_after : List Bool → ℕ → Kind → List Bool
 marks_after seen id k = if leads_on k (seen_at seen id) then slice_set seen id true else seen
 
 abbrev pub left_after : List Bool → List ℕ → ℕ → Node → List ℕ
-left_after seen left id node = if leads_on node.kind (seen_at seen id) then left ++ reverse node.args else left
+left_after seen left id node = if leads_on node.kind (seen_at seen id)
+    then left ++ reverse node.args else left
 
--- A node that was seen reaches what is sought by way of a lower one that is still to be looked at, if at all; and whether one of
--- those reaches it is whether one of the first did.
-pub record Looks (graph : Graph) (v : Sought) (ids : List ℕ) (seen : List Bool) (left : List ℕ) : Type 0 where
+-- A node that was seen reaches what is sought by way of a lower one that is still to be looked at,
+-- if at all; and whether one of those reaches it is whether one of the first did.
+pub record Looks (graph : Graph) (v : Sought) (ids : List ℕ) (seen : List Bool)
+    (left : List ℕ) : Type 0 where
   pub there : are_places (length graph) left ≡ true
-  pub lower : (id : ℕ) → seen_at seen id ≡ true → head_reaches graph v id ≡ true → lower_reaches graph v (height graph id) left ≡ true
+  pub lower : (id : ℕ) → seen_at seen id ≡ true → head_reaches graph v id ≡ true
+      → lower_reaches graph v (height graph id) left ≡ true
   pub comes : list_any (reaches graph v) left ≡ list_any (reaches graph v) ids
 
 -- the arguments of the nodes that weren't seen, and these nodes

@@ -1,4 +1,5 @@
--- What branches and outcomes stand for, however their graphs are kept: `content` says what a store's nodes are.
+-- What branches and outcomes stand for, however their graphs are kept: `content` says what a
+-- store's nodes are.
 use Rattle.std.specs.Prelude.{Bool, true, false, List, [], ◌∷◌, map}
 use Rattle.cu_machine.specs.Graph.{Graph}
 use Rattle.cu_machine.specs.Next as next
@@ -17,22 +18,27 @@ use Rattle.cu_step.specs.declared.read.Reading.{Reading}
 abbrev mutual
   pub search_of : {S : Type 0} → (S → Graph) → Search S → state.Search
   search_of content search.Idle = state.Idle
-  search_of content (search.Running' call found shape level) = state.Running call found.items (row_of content level)
+  search_of content (search.Running' call found shape level) =
+      state.Running call found.items (row_of content level)
 
   pub row_of : {S : Type 0} → (S → Graph) → {n : _} → Row_of-Branch S n → States
   row_of content search.end_of-Branch = NoState
   row_of content (search.more_of-Branch store root goals inner level) =
-      MoreStates (state.Branch (content store) root goals.items (search_of content inner)) (row_of content level)
+      MoreStates (state.Branch (content store) root goals.items (search_of content inner))
+      (row_of content level)
 
 -- the state of a branch
 abbrev pub state_of : {S : Type 0} → (S → Graph) → Branch S → State
-state_of content branch = state.Branch (content branch.store) branch.root branch.goals.items (search_of content branch.search)
+state_of content branch =
+    state.Branch (content branch.store) branch.root branch.goals.items
+    (search_of content branch.search)
 
 -- the state of a branch in which a search runs
 abbrev pub running_state : {S : Type 0} → (S → Graph) → Running S → State
 running_state content running =
     state.Branch (content running.store) running.root running.goals.items
-    (state.Running running.call running.found.items (states_of (map (state_of content) running.level.items)))
+    (state.Running running.call running.found.items
+    (states_of (map (state_of content) running.level.items)))
 
 abbrev pub is_running : State → Bool
 is_running (state.Branch graph root goals state.Idle) = false
@@ -42,8 +48,8 @@ is_running (state.Branch graph root goals (state.Running id found level)) = true
 abbrev pub reading_of : Reading → next.Reading
 reading_of reading = record { bindings = reading.bindings.items; value = reading.value }
 
--- The event of an outcome. A branch in which a search runs is given back as it was, and goes on so; what follows it is told
--- by whoever steps the search.
+-- The event of an outcome. A branch in which a search runs is given back as it was, and goes on so;
+-- what follows it is told by whoever steps the search.
 abbrev pub next_of : {S : Type 0} → (S → Graph) → Outcome S → Next
 next_of content (outcome.Go branches) = next.Go (map (state_of content) branches.items)
 next_of content (outcome.Answer reading) = next.Answer (reading_of reading)

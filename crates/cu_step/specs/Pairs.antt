@@ -8,4 +8,5 @@ use Rattle.cu_machine.specs.Rewrite.{build_pairs}
 -- the graph in which nodes over pairs are written over the node at a place
 abbrev pub over_pairs : Kind → Kind → Graph → ℕ → List (ℕ × ℕ) → Graph
 over_pairs each joint graph id [] = graph
-over_pairs each joint graph id (pair ∷ pairs) = written graph id (build_pairs each joint (length graph) pair pairs)
+over_pairs each joint graph id (pair ∷ pairs) =
+    written graph id (build_pairs each joint (length graph) pair pairs)

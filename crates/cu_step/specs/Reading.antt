@@ -1,5 +1,5 @@
--- What a node adds to a value that is read: a cell, a variable that is met, and the nodes of which more cells come. The
--- variables that were met are listed in their order.
+-- What a node adds to a value that is read: a cell, a variable that is met, and the nodes of which
+-- more cells come. The variables that were met are listed in their order.
 use Rattle.std.specs.Prelude.{ℕ, List, [], ◌∷◌}
 use Rattle.cu_machine.specs.declared.Kind.{Kind}
 use Rattle.cu_machine.specs.declared.Kind.TheVariants as kind

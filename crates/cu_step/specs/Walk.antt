@@ -28,8 +28,10 @@ inside_of graph id = waiting (free_within (length graph) graph id)
 -- what an argument needs so that what a node asks of it is there
 unfoldable pub asked : ConId → Graph → Ask → ℕ → ℕ → Need
 asked truth graph ask.Head id argument = need_within (length graph) truth graph Outermost argument
-asked truth graph ask.Bound id argument = strict graph (need_within (length graph) truth graph) argument
-asked truth graph ask.Truth id argument = side truth graph (need_within (length graph) truth graph) id argument
+asked truth graph ask.Bound id argument =
+    strict graph (need_within (length graph) truth graph) argument
+asked truth graph ask.Truth id argument =
+    side truth graph (need_within (length graph) truth graph) id argument
 asked truth graph ask.All id argument = need_within (length graph) truth graph Throughout argument
 asked truth graph ask.Ground id argument = inside_of graph argument
 asked truth graph ask.Inside id argument = inside_of graph argument
@@ -47,26 +49,33 @@ looked_at graph id = asked_of (node_at graph id).kind (node_at graph id).args
 abbrev pub then_needed : ConId → Graph → ℕ → Kind → Ask → List ℕ → Need
 then_needed truth graph id (kind.Cons c) a args = need.Done
 then_needed truth graph id (kind.Part h) a args = need.Done
-then_needed truth graph id (kind.SetCall f) ask.All args = unless_done (first (map (asked truth graph ask.Ground id) args)) (need.At id)
+then_needed truth graph id (kind.SetCall f) ask.All args =
+    unless_done (first (map (asked truth graph ask.Ground id) args)) (need.At id)
 then_needed truth graph id _ a args = need.At id
 
 -- what a node needs that asks this
 abbrev pub entered_as : ConId → Graph → ℕ → Ask → Kind → List ℕ → Need
-entered_as truth graph id a k args = unless_done (first (map (asked truth graph a id) (asked_of k args))) (then_needed truth graph id k a args)
+entered_as truth graph id a k args =
+    unless_done (first (map (asked truth graph a id) (asked_of k args)))
+    (then_needed truth graph id k a args)
 
 unfoldable pub entered : ConId → Graph → ℕ → Ask → Need
-entered truth graph id a = entered_as truth graph id a (node_at graph id).kind (node_at graph id).args
+entered truth graph id a =
+    entered_as truth graph id a (node_at graph id).kind (node_at graph id).args
 
 -- what the table says of a head: with regard to all of its value, and to free variables in it
 abbrev pub whole_as : ConId → Graph → ℕ → Kind → List ℕ → Need
 whole_as truth graph id k args =
-    unless_done (need_at truth graph (need_within (length graph) truth graph) id k args) (rest_at (need_within (length graph) truth graph) Throughout k args)
+    unless_done (need_at truth graph (need_within (length graph) truth graph) id k args)
+    (rest_at (need_within (length graph) truth graph) Throughout k args)
 
 unfoldable pub whole_need : ConId → Graph → ℕ → Need
 whole_need truth graph id = whole_as truth graph id (node_at graph id).kind (node_at graph id).args
 
 unfoldable pub inside_need : Graph → ℕ → Need
-inside_need graph id = waiting (free_at (free_within (length graph) graph) id (node_at graph id).kind (node_at graph id).args)
+inside_need graph id =
+    waiting (free_at (free_within (length graph) graph) id (node_at graph id).kind
+    (node_at graph id).args)
 
 abbrev pub is_inside : Ask → Bool
 is_inside ask.Inside = true
@@ -98,13 +107,19 @@ also true (need.At id) = need.At id
 -- what a node needs whose argument that is looked at needs this
 unfoldable pub needed_by : ConId → Graph → Frame → Need → Need
 needed_by truth graph frame n =
-    unless_done (also frame.waits (before n (first (map (asked truth graph frame.ask frame.node) (drop frame.next (looked_at graph frame.node))))))
-    (then_needed truth graph frame.node (node_at graph frame.node).kind frame.ask (node_at graph frame.node).args)
+    unless_done
+    (also frame.waits
+    (before n
+    (first (map (asked truth graph frame.ask frame.node)
+    (drop frame.next (looked_at graph frame.node))))))
+    (then_needed truth graph frame.node (node_at graph frame.node).kind frame.ask
+    (node_at graph frame.node).args)
 
 -- what the outermost node needs where the innermost looks at an argument that needs this
 unfoldable pub needed_outside : ConId → Graph → List Frame → Need → Need
 needed_outside truth graph [] n = n
-needed_outside truth graph (frame ∷ frames) n = needed_by truth graph frame (needed_outside truth graph frames n)
+needed_outside truth graph (frame ∷ frames) n =
+    needed_by truth graph frame (needed_outside truth graph frames n)
 
 -- what was told so far
 abbrev pub told : Bool → List ℕ → Need
@@ -120,7 +135,8 @@ highest f (id ∷ ids) = max (f id) (highest f ids)
 
 unfoldable pub height_within : ℕ → Graph → ℕ → ℕ
 height_within zero graph id = 0
-height_within (suc visits) graph id = suc (highest (height_within visits graph) (node_at graph id).args)
+height_within (suc visits) graph id =
+    suc (highest (height_within visits graph) (node_at graph id).args)
 
 abbrev pub height : Graph → ℕ → ℕ
 height graph id = height_within (length graph) graph id
@@ -152,31 +168,37 @@ regards false a = not (is_inside a)
 
 unfoldable pub is_open : Bool → ℕ → List Frame → Bool
 is_open inside id [] = false
-is_open inside id (frame ∷ frames) = (nat_eq frame.node id && regards inside frame.ask) || is_open inside id frames
+is_open inside id (frame ∷ frames) = (nat_eq frame.node id && regards inside frame.ask)
+    || is_open inside id frames
 
 -- a node below each of those that are being looked at
 unfoldable pub IsBelow : Graph → ℕ → List Frame → Type 0
 IsBelow graph id [] = Unit {0}
-IsBelow graph id (frame ∷ frames) = (height graph id < height graph frame.node) × IsBelow graph id frames
+IsBelow graph id (frame ∷ frames) = (height graph id < height graph frame.node)
+    × IsBelow graph id frames
 
 -- a node above each of them, and nodes of which each is below those before it
 unfoldable pub IsAbove : Graph → ℕ → List Frame → Type 0
 IsAbove graph id [] = Unit {0}
-IsAbove graph id (frame ∷ frames) = (height graph frame.node < height graph id) × IsAbove graph id frames
+IsAbove graph id (frame ∷ frames) = (height graph frame.node < height graph id)
+    × IsAbove graph id frames
 
 unfoldable pub IsPath : Graph → List Frame → Type 0
 IsPath graph [] = Unit {0}
 IsPath graph (frame ∷ frames) = IsAbove graph frame.node frames × IsPath graph frames
 
--- A node that is being looked at is right, where the last argument that was looked at needs this: what those before it need
--- was seen.
-pub record FrameFits (truth : ConId) (graph : Graph) (told_so_far : Need) (frame : Frame) (n : Need) : Type 0 where
+-- A node that is being looked at is right, where the last argument that was looked at needs this:
+-- what those before it need was seen.
+pub record FrameFits (truth : ConId) (graph : Graph) (told_so_far : Need) (frame : Frame)
+    (n : Need) : Type 0 where
   pub there : frame.node < length graph
   pub next : frame.next ≤ length (looked_at graph frame.node)
-  pub needs : marked_need (is_inside frame.ask) truth graph frame.node ≡ entered truth graph frame.node frame.ask
+  pub needs : marked_need (is_inside frame.ask) truth graph frame.node
+      ≡ entered truth graph frame.node frame.ask
   pub earlier : Need
   pub seen : Seen told_so_far frame.waits earlier
-  pub is : first (map (asked truth graph frame.ask frame.node) (take frame.next (looked_at graph frame.node))) ≡ before earlier n
+  pub is : first (map (asked truth graph frame.ask frame.node)
+      (take frame.next (looked_at graph frame.node))) ≡ before earlier n
 
 -- what the outermost of these needs, or this where there are none
 abbrev pub need_in : ConId → Graph → List Frame → Need → Need
@@ -186,7 +208,8 @@ need_in truth graph (frame ∷ frames) n = marked_need (is_inside frame.ask) tru
 unfoldable pub AllFit : ConId → Graph → Need → List Frame → Need → Type 0
 AllFit truth graph told_so_far [] n = Unit {0}
 AllFit truth graph told_so_far (frame ∷ frames) n =
-    FrameFits truth graph told_so_far frame (need_in truth graph frames n) × AllFit truth graph told_so_far frames n
+    FrameFits truth graph told_so_far frame (need_in truth graph frames n)
+    × AllFit truth graph told_so_far frames n
 
 -- what the walk has found
 pub record Found : Type 0 where
@@ -197,15 +220,24 @@ pub record Found : Type 0 where
   pub ids : List ℕ
 
 abbrev pub found : Walk → Found
-found walk = record { frames = walk.frames.items; whole = walk.whole.items; inside = walk.inside.items; waits = walk.waits; ids = walk.ids.keys }
+found walk = record {
+  frames = walk.frames.items;
+  whole = walk.whole.items;
+  inside = walk.inside.items;
+  waits = walk.waits;
+  ids = walk.ids.keys;
+}
 
 abbrev pub so_far : Found → Need
 so_far f = told f.waits f.ids
 
 -- It is right, where the argument that the innermost node looks at needs this.
 pub record Fits (truth : ConId) (graph : Graph) (f : Found) (n : Need) : Type 0 where
-  pub whole : (id : ℕ) → id < length graph → MarkFits (so_far f) (is_open false id f.frames) (mark_at f.whole id) (whole_need truth graph id)
-  pub inside : (id : ℕ) → id < length graph → MarkFits (so_far f) (is_open true id f.frames) (mark_at f.inside id) (inside_need graph id)
+  pub whole : (id : ℕ) → id < length graph
+      → MarkFits (so_far f) (is_open false id f.frames) (mark_at f.whole id)
+      (whole_need truth graph id)
+  pub inside : (id : ℕ) → id < length graph
+      → MarkFits (so_far f) (is_open true id f.frames) (mark_at f.inside id) (inside_need graph id)
   pub none : f.waits ≡ false → f.ids ≡ []
   pub fit : AllFit truth graph (so_far f) f.frames n
   pub path : IsPath graph f.frames
@@ -282,21 +314,26 @@ left_answer frame k false = left_need frame.node k frame.ask
 
 -- marks are kept from now on
 abbrev pub unseen_all : Found → ℕ → Found
-unseen_all f count = record f { whole = replicate count mark.Unseen; inside = replicate count mark.Unseen }
+unseen_all f count =
+    record f { whole = replicate count mark.Unseen; inside = replicate count mark.Unseen }
 
 -- ** What fits a look
 
 abbrev pub LookFits : ConId → Graph → ℕ → Look → Type 0
-LookFits truth graph top (look.Free id) = (id < length graph) × (inside_need graph id ≡ need.Wait (id ∷ [])) × (height graph id ≤ top)
+LookFits truth graph top (look.Free id) = (id < length graph)
+    × (inside_need graph id ≡ need.Wait (id ∷ [])) × (height graph id ≤ top)
 LookFits truth graph top (look.Node id a) =
-    (id < length graph) × (marked_need (is_inside a) truth graph id ≡ entered truth graph id a) × (height graph id ≤ top)
+    (id < length graph) × (marked_need (is_inside a) truth graph id ≡ entered truth graph id a)
+    × (height graph id ≤ top)
 LookFits truth graph top _ = Unit {0}
 
 -- ** How long it takes
 
--- each node is looked at once with regard to all of it and once with regard to free variables in it, and its arguments at most twice each time
+-- each node is looked at once with regard to all of it and once with regard to free variables in
+-- it, and its arguments at most twice each time
 unfoldable pub unseen_cost : Graph → List Mark → ℕ
-unseen_cost (node ∷ graph) (mark.Unseen ∷ marks) = 2 * length node.args + 3 + unseen_cost graph marks
+unseen_cost (node ∷ graph) (mark.Unseen ∷ marks) =
+    2 * length node.args + 3 + unseen_cost graph marks
 unseen_cost (node ∷ graph) (_ ∷ marks) = unseen_cost graph marks
 unseen_cost _ _ = 0
 
@@ -305,7 +342,9 @@ again_cost ask.All n = n + 1
 again_cost _ n = 0
 
 unfoldable pub frame_cost : Graph → Frame → ℕ
-frame_cost graph frame = length (looked_at graph frame.node) - frame.next + again_cost frame.ask (length (looked_at graph frame.node)) + 1
+frame_cost graph frame =
+    length (looked_at graph frame.node) - frame.next + again_cost frame.ask
+    (length (looked_at graph frame.node)) + 1
 
 unfoldable pub frames_cost : Graph → List Frame → ℕ
 frames_cost graph [] = 0
@@ -319,7 +358,8 @@ pub record Marked (graph : Graph) (f : Found) : Type 0 where
   pub whole : length f.whole ≡ length graph
   pub inside : length f.inside ≡ length graph
 
--- the walk goes on: what comes out stays the same, and where marks are kept, some of the cost is paid
+-- the walk goes on: what comes out stays the same, and where marks are kept, some of the cost is
+-- paid
 pub record Goes (truth : ConId) (graph : Graph) (old new : Found) : Type 0 where
   pub fits : Fits truth graph new need.Done
   pub outcome : outcome truth graph new need.Done ≡ outcome truth graph old need.Done
@@ -355,7 +395,8 @@ look_bound id kind.Free args = look.Free id
 look_bound id k args = look_head id k args
 
 abbrev pub look_true : ConId → ℕ → ℕ → Kind → List ℕ → Look
-look_true truth by id (kind.Cons c) args = if same_constructor c truth then look.There else look.At by
+look_true truth by id (kind.Cons c) args = if same_constructor c truth then look.There
+    else look.At by
 look_true truth by id (kind.Lit l) args = look.At by
 look_true truth by id (kind.Part h) args = look.At by
 look_true truth by id k args = look_bound id k args

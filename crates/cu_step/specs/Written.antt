@@ -16,16 +16,20 @@ text number vs = spell_all (all_renumbered number (values_of vs))
 abbrev pub met_in : List ℕ → Graph → ℕ → List ℕ
 met_in variables graph id = joined variables (variables_in (spelled graph id))
 
--- What was written of a node's value, and the values of the nodes that are left, are the whole, where these variables had been
--- met. There was room for as many cells as the limit says, and there is now for so many.
-pub record Written (graph : Graph) (id : ℕ) (variables : List ℕ) (room : ℕ) (written : List Cell) (left : List ℕ) (limit : ℕ) (met : List ℕ) : Type 0 where
+-- What was written of a node's value, and the values of the nodes that are left, are the whole,
+-- where these variables had been met. There was room for as many cells as the limit says, and there
+-- is now for so many.
+pub record Written (graph : Graph) (id : ℕ) (variables : List ℕ) (room : ℕ) (written : List Cell)
+    (left : List ℕ) (limit : ℕ) (met : List ℕ) : Type 0 where
   pub there : are_places (length graph) left ≡ true
   pub meets : joined met (variables_of_all (map (spelled graph) left)) ≡ met_in variables graph id
-  pub writes : written ++ text (ordinal (met_in variables graph id)) (map (spelled graph) left) ≡ spell (renumbered (ordinal (met_in variables graph id)) (spelled graph id))
+  pub writes : written ++ text (ordinal (met_in variables graph id)) (map (spelled graph) left)
+      ≡ spell (renumbered (ordinal (met_in variables graph id)) (spelled graph id))
   pub counts : limit + cells_of_all (map (spelled graph) left) ≡ room + cells (spelled graph id)
 
 -- What was read of the first goal variables.
-pub record AllRead (graph : Graph) (limit : ℕ) (goals : List ℕ) (bindings : List Value) (room : ℕ) (met : List ℕ) : Type 0 where
+pub record AllRead (graph : Graph) (limit : ℕ) (goals : List ℕ) (bindings : List Value) (room : ℕ)
+    (met : List ℕ) : Type 0 where
   pub meets : met ≡ variables_of_all (map (spelled graph) goals)
   pub reads : bindings ≡ map (renumbered (ordinal met)) (map (spelled graph) goals)
   pub counts : room + cells_of_all (map (spelled graph) goals) ≡ limit

@@ -24,7 +24,8 @@ fn extended<S: Store>(
 ) -> Result<Moved<S>, AllocError>
     requires { id < length (S.content store) }
     ensures { IfOk result (λ moved. move_of S.content moved
-        ≡ puts (S.content store) id (extended program.now head args.now (arity_of program.now head))) }
+        ≡ puts (S.content store) id
+        (extended program.now head args.now (arity_of program.now head))) }
 {
     let Some(arity) = program.arity_if_known(head) else {
         return moved::sticks(alloc, store, id);
@@ -46,7 +47,8 @@ pub(crate) fn applied<S: Store>(
 ) -> Result<Moved<S>, AllocError>
     requires { id < length (S.content store) }
     ensures { IfOk result (λ moved. move_of S.content moved
-        ≡ rewritten program.now (S.content store) id kind.Apply (node_at (S.content store) id).args) }
+        ≡ rewritten program.now (S.content store) id kind.Apply
+        (node_at (S.content store) id).args) }
 {
     let args = node::args(alloc, &store, id)?;
     let [function, argument] = args.as_slice() else {

@@ -101,7 +101,8 @@ fn push_arguments(tasks: &mut Vec<Task>, parts: &[ExprId]) -> Result<(), AllocEr
 /// Adds variables whose values are arguments, of which the first is to come
 /// first.
 fn push_variables(tasks: &mut Vec<Task>, variables: &[u32]) -> Result<(), AllocError>
-    ensures { OnOk result (tasks.new.items ≡ tasks.old.items ++ reverse (map Task.Take variables.now)) }
+    ensures { OnOk result (tasks.new.items
+        ≡ tasks.old.items ++ reverse (map Task.Take variables.now)) }
 {
     let mut i = variables.len();
     while i > 0 {
@@ -135,7 +136,8 @@ impl Work {
     ) -> Result<(), AllocError>
         requires { self.old.root < length (S.content store.old) }
         ensures state { OnOk result (state_of (S.content store.new) self.new
-            ≡ with_node target (state_of (S.content store.old) self.old) (record { kind = kind; args = [] })) }
+            ≡ with_node target (state_of (S.content store.old) self.old)
+            (record { kind = kind; args = [] })) }
         ensures tasks { OnOk result (self.new.tasks.items ≡ self.old.tasks.items) }
     {
         match target {
@@ -180,7 +182,8 @@ impl Work {
     fn take<S: Store>(&mut self, store: &mut S, x: u32, target: Target) -> Result<(), AllocError>
         requires { self.old.root < length (S.content store.old) }
         ensures state { OnOk result (state_of (S.content store.new) self.new
-            ≡ with_value target (state_of (S.content store.old) self.old) (place_in self.old.scope.items x)) }
+            ≡ with_value target (state_of (S.content store.old) self.old)
+            (place_in self.old.scope.items x)) }
         ensures tasks { OnOk result (self.new.tasks.items ≡ self.old.tasks.items) }
     {
         let Some(id) = place_in(self.scope.as_slice(), x) else {
@@ -198,7 +201,8 @@ impl Work {
     /// The last argument is what a variable stands for.
     fn bind(&mut self, x: u32) -> Result<(), AllocError>
         ensures state { (graph : Graph) → OnOk result (state_of graph self.new
-            ≡ bound_last x (state_of graph self.old) (slice_get self.old.ids.items (length self.old.ids.items - 1))) }
+            ≡ bound_last x (state_of graph self.old)
+            (slice_get self.old.ids.items (length self.old.ids.items - 1))) }
         ensures tasks { OnOk result (self.new.tasks.items ≡ self.old.tasks.items) }
     {
         if let Some(id) = self.ids.pop() {
@@ -209,7 +213,8 @@ impl Work {
 
     /// A node over parts is left to do.
     fn begin_node(&mut self, kind: Kind, parts: &[ExprId], target: Target) -> Result<(), AllocError>
-        ensures state { (graph : Graph) → OnOk result (state_of graph self.new ≡ state_of graph self.old) }
+        ensures state { (graph : Graph)
+            → OnOk result (state_of graph self.new ≡ state_of graph self.old) }
         ensures tasks { OnOk result (self.new.tasks.items ≡ self.old.tasks.items
             ++ reverse (node_tasks (map argument parts.now) kind (length parts.now) target)) }
     {
@@ -226,9 +231,11 @@ impl Work {
         kept: &[u32],
         target: Target,
     ) -> Result<(), AllocError>
-        ensures state { (graph : Graph) → OnOk result (state_of graph self.new ≡ state_of graph self.old) }
+        ensures state { (graph : Graph)
+            → OnOk result (state_of graph self.new ≡ state_of graph self.old) }
         ensures tasks { OnOk result (self.new.tasks.items ≡ self.old.tasks.items
-            ++ reverse (node_tasks (argument scrutinee ∷ map Task.Take kept.now) kind (length kept.now + 1) target)) }
+            ++ reverse (node_tasks (argument scrutinee ∷ map Task.Take kept.now) kind
+            (length kept.now + 1) target)) }
     {
         self.tasks.push(Task::Finish(kind, kept.len() + 1, target))?;
         push_variables(&mut self.tasks, kept)?;
@@ -238,7 +245,8 @@ impl Work {
 
     /// A body in which one variable more is bound is left to do.
     fn begin_body(&mut self, body: ExprId, target: Target) -> Result<(), AllocError>
-        ensures state { (graph : Graph) → OnOk result (state_of graph self.new ≡ state_of graph self.old) }
+        ensures state { (graph : Graph)
+            → OnOk result (state_of graph self.new ≡ state_of graph self.old) }
         ensures tasks { OnOk result (self.new.tasks.items ≡ self.old.tasks.items
             ++ reverse (Task.Build body target ∷ Task.Unbind ∷ [])) }
     {
@@ -256,7 +264,8 @@ impl Work {
         body: ExprId,
         target: Target,
     ) -> Result<(), AllocError>
-        ensures state { (graph : Graph) → OnOk result (state_of graph self.new ≡ state_of graph self.old) }
+        ensures state { (graph : Graph)
+            → OnOk result (state_of graph self.new ≡ state_of graph self.old) }
         ensures tasks { OnOk result (self.new.tasks.items ≡ self.old.tasks.items
             ++ reverse (argument bound ∷ Task.Bind x ∷ Task.Build body target ∷ Task.Unbind ∷ [])) }
     {
@@ -274,7 +283,8 @@ impl Work {
         body: ExprId,
         target: Target,
     ) -> Result<(), AllocError>
-        ensures state { OnOk result (state_of (S.content store.new) self.new ≡ with_free (state_of (S.content store.old) self.old) x) }
+        ensures state { OnOk result (state_of (S.content store.new) self.new
+            ≡ with_free (state_of (S.content store.old) self.old) x) }
         ensures tasks { OnOk result (self.new.tasks.items ≡ self.old.tasks.items
             ++ reverse (Task.Build body target ∷ Task.Unbind ∷ [])) }
     {
@@ -330,7 +340,8 @@ impl Work {
         requires { self.old.root < length (S.content store.old) }
         ensures state { OnOk result (state_of (S.content store.new) self.new
             ≡ performed program.now (state_of (S.content store.old) self.old) task) }
-        ensures tasks { OnOk result (self.new.tasks.items ≡ self.old.tasks.items ++ reverse (left_by program.now task)) }
+        ensures tasks { OnOk result (self.new.tasks.items
+            ≡ self.old.tasks.items ++ reverse (left_by program.now task)) }
     {
         match task {
             Task::Build(e, target) => self.begin(program, store, e, target),
@@ -358,7 +369,8 @@ pub(crate) fn write<S: Store>(
 ) -> Result<(), AllocError>
     requires id { id < length (S.content store.old) }
     requires nests { nests program.now e ≡ true }
-    ensures { OnOk result (S.content store.new ≡ write program.now scope.now (S.content store.old) id e) }
+    ensures { OnOk result (S.content store.new
+        ≡ write program.now scope.now (S.content store.old) id e) }
 {
     let mut work = Work {
         root: id,

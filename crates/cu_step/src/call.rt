@@ -23,7 +23,8 @@ pub(crate) fn unfolded<S: Store>(
 ) -> Result<Moved<S>, AllocError>
     requires code { IsTrue (is_well_formed program.now) }
     requires id { id < length (S.content store) }
-    ensures { IfOk result (λ moved. move_of S.content moved ≡ unfolded program.now (S.content store) id
+    ensures { IfOk result (λ moved. move_of S.content moved
+        ≡ unfolded program.now (S.content store) id
         (node_at (S.content store) id).args (body_of program.now f)) }
 {
     match program.body(f) {

@@ -74,7 +74,8 @@ fn takes_branch<S: Store>(
     branch: Option<&(Pattern, ExprId)>,
 ) -> Result<Moved<S>, AllocError>
     requires id { id < length (S.content store) }
-    requires nests { branch_nests program.now (option_map (λ branch. branch_meaning branch.now) branch) ≡ true }
+    requires nests { branch_nests program.now
+        (option_map (λ branch. branch_meaning branch.now) branch) ≡ true }
     ensures { IfOk result (λ moved. move_of S.content moved
         ≡ takes_branch program.now scope.now (S.content store) id args.now
         (option_map (λ branch. branch_meaning branch.now) branch.entry)) }
@@ -184,7 +185,8 @@ pub(crate) fn distinguished<S: Store>(
     requires code { IsTrue (is_well_formed program.now) }
     requires id { id < length (S.content store) }
     ensures { IfOk result (λ moved. move_of S.content moved
-        ≡ rewritten program.now (S.content store) id (kind.Case mode e) (node_at (S.content store) id).args) }
+        ≡ rewritten program.now (S.content store) id (kind.Case mode e)
+        (node_at (S.content store) id).args) }
 {
     let args = node::args(alloc, &store, id)?;
     let [scrutinee, values @ ..] = args.as_slice() else {

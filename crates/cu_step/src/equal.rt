@@ -21,7 +21,8 @@ pub(crate) fn compared<S: Store>(
     right: &Operand,
 ) -> Result<Moved<S>, AllocError>
     requires { id < length (S.content store) }
-    ensures { IfOk result (λ moved. move_of S.content moved ≡ compared special.now (S.content store) id
+    ensures { IfOk result (λ moved. move_of S.content moved
+        ≡ compared special.now (S.content store) id
         left.now.kind left.now.args.items right.now.kind right.now.args.items) }
 {
     match left.kind {
@@ -67,7 +68,8 @@ pub(crate) fn conjoined<S: Store>(
     right: Kind,
 ) -> Result<Moved<S>, AllocError>
     requires { id < length (S.content store) }
-    ensures { IfOk result (λ moved. move_of S.content moved ≡ conjoined special.now (S.content store) id left right) }
+    ensures { IfOk result (λ moved. move_of S.content moved
+        ≡ conjoined special.now (S.content store) id left right) }
 {
     if is_true(special, left) && is_true(special, right) {
         moved::tells(alloc, special, store, id, true)

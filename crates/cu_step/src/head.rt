@@ -23,7 +23,8 @@ pub(crate) fn find<S: Store>(store: &S, id: u32) -> u32
 
 /// Where an Ind leads.
 fn target<S: Store>(store: &S, id: u32) -> Option<u32>
-    ensures { result ≡ target_of (node_at (S.content store.now) id).kind (node_at (S.content store.now) id).args }
+    ensures { result ≡ target_of (node_at (S.content store.now) id).kind
+        (node_at (S.content store.now) id).args }
 {
     match node::kind_at(store, id) {
         Kind::Ind => node::first_arg(store, id),

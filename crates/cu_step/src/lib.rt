@@ -110,7 +110,8 @@ fn too_large(limits: &Limits) -> Stop
 
 /// Whether one of the graphs has more nodes than the limit.
 fn any_too_large<S: Store>(stores: &[S], limits: &Limits) -> bool
-    ensures { result ≡ list_any (λ store. is_above limits.now (length (S.content store))) stores.now }
+    ensures { result
+        ≡ list_any (λ store. is_above limits.now (length (S.content store))) stores.now }
 {
     stores.iter().any(|store| is_too_large(store, limits))
 }
@@ -169,7 +170,8 @@ fn following<S: Store>(
     goals: &[u32],
     limits: &Limits,
 ) -> Result<Outcome<S>, AllocError>
-    ensures next { IfOk result (λ outcome. (program : Code) (graph : Graph) (id : ℕ) → next_of S.content outcome
+    ensures next { IfOk result (λ outcome. (program : Code) (graph : Graph) (id : ℕ)
+        → next_of S.content outcome
         ≡ moved program limits.now root goals.now graph id (move_of S.content graphs)) }
     ensures inner { IfOk result (λ outcome. IsFalse (is_inner outcome)) }
 {
@@ -262,12 +264,14 @@ pub fn step<S: Store>(
     limits: &Limits,
 ) -> Result<Outcome<S>, AllocError>
     requires valid { IsValid program.now (state_of S.content branch) }
-    ensures inner { IfOk result (λ outcome. is_inner outcome ≡ is_running (state_of S.content branch)) }
+    ensures inner { IfOk result (λ outcome. is_inner outcome
+        ≡ is_running (state_of S.content branch)) }
     ensures same { IfOk result (λ outcome. IsTrue (is_running (state_of S.content branch))
         → outcome ≡ Inner branch) }
     ensures next { IfOk result (λ outcome. IsFalse (is_running (state_of S.content branch))
         → next_of S.content outcome ≡ next program.now limits.now (state_of S.content branch)) }
-    ensures valid { IfOk result (λ outcome. All (λ branch. IsValid program.now (state_of S.content branch))
+    ensures valid { IfOk result
+        (λ outcome. All (λ branch. IsValid program.now (state_of S.content branch))
         (branches_of outcome)) }
 {
     if branch.is_running() {

@@ -139,7 +139,8 @@ pub(crate) fn find<S: Store>(
 
 /// A look at an argument of a node.
 fn look_at<S: Store>(store: &S, truth: ConId, node: u32, ask: Ask, arg: u32) -> Look
-    ensures { result ≡ looked truth node ask (head_of (S.content store.now) arg) (head_at (S.content store.now) arg).kind (head_at (S.content store.now) arg).args }
+    ensures { result ≡ looked truth node ask (head_of (S.content store.now) arg)
+        (head_at (S.content store.now) arg).kind (head_at (S.content store.now) arg).args }
 {
     let id = head::find(store, arg);
     let kind = node::kind_at(store, id);
@@ -255,7 +256,8 @@ fn looked_at_count<S: Store>(store: &S, id: u32) -> u32
 impl Walk {
     /// A walk that keeps no marks, and has found nothing.
     fn new(alloc: Global) -> Walk
-        ensures { found result ≡ record { frames = []; whole = []; inside = []; waits = false; ids = [] } }
+        ensures { found result
+            ≡ record { frames = []; whole = []; inside = []; waits = false; ids = [] } }
     {
         Walk {
             frames: Vec::new(alloc),
@@ -283,7 +285,8 @@ impl Walk {
         requires acyclic { IsAcyclic (S.content store.now) }
         requires fits { Fits truth (S.content store.now) (found self) need.Done }
         requires marked { Marked (S.content store.now) (found self) }
-        ensures { IfOk result (λ needed. need_of needed ≡ outcome truth (S.content store.now) (found self) need.Done) }
+        ensures { IfOk result (λ needed. need_of needed
+            ≡ outcome truth (S.content store.now) (found self) need.Done) }
     {
         while let Some(frame) = self.frames.pop() {
             if let Some(needed) = self.advance(store, truth, frame)? {
@@ -342,7 +345,8 @@ impl Walk {
 
     /// The node that asked waits if another does.
     fn enter(&mut self, id: u32, ask: Ask) -> Result<(), AllocError>
-        ensures { OnOk result (found self.new ≡ entered_at (found self.old) id ask (mark_of (found self.old) (is_inside ask) id)) }
+        ensures { OnOk result (found self.new
+            ≡ entered_at (found self.old) id ask (mark_of (found self.old) (is_inside ask) id)) }
     {
         match self.mark(id, ask) {
             Mark::There => Ok(()),
@@ -391,9 +395,16 @@ impl Walk {
     ) -> Result<Option<Needed>, AllocError>
         requires arguments { ArgumentsThere (S.content store.now) }
         requires acyclic { IsAcyclic (S.content store.now) }
-        requires fits { Fits truth (S.content store.now) (with_frame (found self.old) frame) need.Done }
-        ensures answer { IfOk result (λ answer. IfSome answer (λ needed. need_of needed ≡ outcome truth (S.content store.now) (with_frame (found self.old) frame) need.Done)) }
-        ensures goes { IfOk result (λ answer. IfNone answer (Goes truth (S.content store.now) (with_frame (found self.old) frame) (found self.new))) }
+        requires fits { Fits truth (S.content store.now)
+            (with_frame (found self.old) frame) need.Done }
+        ensures answer { IfOk result
+            (λ answer. IfSome answer (λ needed. need_of needed
+            ≡ outcome truth (S.content store.now)
+            (with_frame (found self.old) frame) need.Done)) }
+        ensures goes { IfOk result
+            (λ answer. IfNone answer
+            (Goes truth (S.content store.now) (with_frame (found self.old) frame)
+            (found self.new))) }
     {
         if frame.next == looked_at_count(store, frame.node) {
             return self.leave(store, frame);
@@ -409,8 +420,11 @@ impl Walk {
     /// Leaves a node whose arguments were all looked at.
     fn leave<S: Store>(&mut self, store: &S, frame: Frame) -> Result<Option<Needed>, AllocError>
         requires { frame.node < length (S.content store.now) }
-        ensures answer { IfOk result (λ answer. option_map need_of answer ≡ left_answer frame (node_at (S.content store.now) frame.node).kind frame.waits) }
-        ensures found { OnOk result (found self.new ≡ left (found self.old) frame (node_at (S.content store.now) frame.node).kind frame.waits) }
+        ensures answer { IfOk result (λ answer. option_map need_of answer
+            ≡ left_answer frame (node_at (S.content store.now) frame.node).kind frame.waits) }
+        ensures found { OnOk result (found self.new
+            ≡ left (found self.old) frame
+            (node_at (S.content store.now) frame.node).kind frame.waits) }
     {
         if frame.waits {
             self.wait()?;

@@ -108,7 +108,8 @@ fn on_character<S: Store>(
     character: Option<char>,
 ) -> Result<Moved<S>, AllocError>
     requires { id < length (S.content store) }
-    ensures { IfOk result (λ moved. move_of S.content moved ≡ on_character (S.content store) id character) }
+    ensures { IfOk result (λ moved. move_of S.content moved
+        ≡ on_character (S.content store) id character) }
 {
     match character {
         Some(c) => {
@@ -127,7 +128,8 @@ fn on_integer<S: Store>(
     number: Option<Int>,
 ) -> Result<Moved<S>, AllocError>
     requires { id < length (S.content store) }
-    ensures { IfOk result (λ moved. move_of S.content moved ≡ on_integer (S.content store) id number) }
+    ensures { IfOk result (λ moved. move_of S.content moved
+        ≡ on_integer (S.content store) id number) }
 {
     let Some(n) = number else {
         return moved::fails(alloc, store, id);
@@ -147,7 +149,8 @@ fn on_one<S: Store>(
     kind: Kind,
 ) -> Result<Moved<S>, AllocError>
     requires { id < length (S.content store) }
-    ensures { IfOk result (λ moved. move_of S.content moved ≡ on_one (S.content store) id operation kind) }
+    ensures { IfOk result (λ moved. move_of S.content moved
+        ≡ on_one (S.content store) id operation kind) }
 {
     match operation {
         Prim::Ord => on_character(alloc, store, id, character_in(kind)),
@@ -168,7 +171,8 @@ fn on_two<S: Store>(
 ) -> Result<Moved<S>, AllocError>
     requires { id < length (S.content store) }
     ensures { IfOk result (λ moved. move_of S.content moved
-        ≡ on_integers special.now (S.content store) id operation (integer_in left) (integer_in right)) }
+        ≡ on_integers special.now (S.content store) id operation (integer_in left)
+        (integer_in right)) }
 {
     let Some(m) = integer_in(left) else {
         return moved::fails(alloc, store, id);
@@ -189,7 +193,8 @@ pub(crate) fn computed<S: Store>(
     args: &[u32],
 ) -> Result<Moved<S>, AllocError>
     requires { id < length (S.content store) }
-    ensures { IfOk result (λ moved. move_of S.content moved ≡ computed special.now (S.content store) id operation
+    ensures { IfOk result (λ moved. move_of S.content moved
+        ≡ computed special.now (S.content store) id operation
         (map (λ arg. (head_at (S.content store) arg).kind) args.now)) }
 {
     let kinds = operand::kinds(alloc, &store, args)?;

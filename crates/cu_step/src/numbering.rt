@@ -27,7 +27,8 @@ impl Numbering {
     #[tactic(auto, using(crate::proofs::Ordinals::numberings))]
     pub(crate) fn number(&mut self, id: u32) -> Result<u32, AllocError>
         ensures number { IfOk result (λ number. number ≡ ordinal self.new.variables.keys id) }
-        ensures met { OnOk result (self.new.variables.keys ≡ joined self.old.variables.keys (id ∷ [])) }
+        ensures met { OnOk result (self.new.variables.keys
+            ≡ joined self.old.variables.keys (id ∷ [])) }
     {
         let (index, _) = self.variables.insert_full(id)?;
         following(to_u32(index)?)

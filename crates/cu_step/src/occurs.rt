@@ -27,8 +27,8 @@ struct Search {
     seen: Vec<bool>,
 }
 
-/// Whether what is sought is reached from one of these nodes. Marks are kept from when a node must have been met twice. From then
-/// on the arguments of each node are looked at once.
+/// Whether what is sought is reached from one of these nodes. Marks are kept from when a node must
+/// have been met twice. From then on the arguments of each node are looked at once.
 pub(crate) fn are_reached<S: Store>(
     alloc: Global,
     store: &S,
@@ -75,11 +75,15 @@ impl Search {
         requires arguments { ArgumentsThere (S.content store.now) }
         requires acyclic { IsAcyclic (S.content store.now) }
         ensures found { IfOk result (λ found. found
-            ≡ is_sought sought (head_of (S.content store.now) id) (node_at (S.content store.now) (head_of (S.content store.now) id)).kind) }
+            ≡ is_sought sought (head_of (S.content store.now) id)
+            (node_at (S.content store.now) (head_of (S.content store.now) id)).kind) }
         ensures seen { IfOk result (λ found. found ≡ false → self.new.seen.items
-            ≡ marks_after self.old.seen.items (head_of (S.content store.now) id) (node_at (S.content store.now) (head_of (S.content store.now) id)).kind) }
+            ≡ marks_after self.old.seen.items (head_of (S.content store.now) id)
+            (node_at (S.content store.now) (head_of (S.content store.now) id)).kind) }
         ensures pending { IfOk result (λ found. found ≡ false → self.new.pending.items
-            ≡ left_after self.old.seen.items self.old.pending.items (head_of (S.content store.now) id) (node_at (S.content store.now) (head_of (S.content store.now) id))) }
+            ≡ left_after self.old.seen.items self.old.pending.items
+            (head_of (S.content store.now) id)
+            (node_at (S.content store.now) (head_of (S.content store.now) id))) }
     {
         let head = head::find(store, id);
         if is_sought(store, head, sought) {
@@ -96,9 +100,11 @@ impl Search {
     fn finish<S: Store>(mut self, store: &S, sought: Sought) -> Result<bool, AllocError>
         requires arguments { ArgumentsThere (S.content store.now) }
         requires acyclic { IsAcyclic (S.content store.now) }
-        requires looks { Looks (S.content store.now) sought self.pending.items self.seen.items self.pending.items }
+        requires looks { Looks (S.content store.now) sought self.pending.items self.seen.items
+            self.pending.items }
         requires marked { length self.seen.items ≡ length (S.content store.now) }
-        ensures { IfOk result (λ yes. yes ≡ are_reached (S.content store.now) sought self.pending.items) }
+        ensures { IfOk result (λ yes. yes
+            ≡ are_reached (S.content store.now) sought self.pending.items) }
     {
         while let Some(id) = self.pending.pop() {
             let found = self.look(store, sought, id)?;

@@ -22,8 +22,10 @@ pub(crate) struct Operand {
 pub(crate) fn at<S: Store>(alloc: Global, store: &S, id: u32) -> Result<Operand, AllocError>
     ensures id { IfOk result (λ operand. operand.id ≡ head_of (S.content store.now) id) }
     ensures kind { IfOk result (λ operand. operand.kind ≡ (head_at (S.content store.now) id).kind) }
-    ensures args { IfOk result (λ operand. operand.args.items ≡ (head_at (S.content store.now) id).args) }
-    ensures free { IfOk result (λ operand. operand.kind ≡ kind.Free → operand.id < length (S.content store.now)) }
+    ensures args { IfOk result (λ operand. operand.args.items
+        ≡ (head_at (S.content store.now) id).args) }
+    ensures free { IfOk result (λ operand. operand.kind ≡ kind.Free
+        → operand.id < length (S.content store.now)) }
 {
     let id = head::find(store, id);
     let args = if id < store.len() {
@@ -44,7 +46,8 @@ pub(crate) fn kinds<S: Store>(
     store: &S,
     ids: &[u32],
 ) -> Result<Vec<Kind>, AllocError>
-    ensures { IfOk result (λ kinds. kinds.items ≡ map (λ id. (head_at (S.content store.now) id).kind) ids.now) }
+    ensures { IfOk result (λ kinds. kinds.items
+        ≡ map (λ id. (head_at (S.content store.now) id).kind) ids.now) }
 {
     let mut kinds = Vec::with_capacity(alloc, ids.len())?;
     for id in ids {

@@ -50,7 +50,8 @@ fn write_several<S: Store>(
 ) -> Result<(), AllocError>
     requires id { id < length (S.content store.old) }
     requires pairs { 1 < length pairs.now }
-    ensures { OnOk result (S.content store.new ≡ over_pairs each joint (S.content store.old) id pairs.now) }
+    ensures { OnOk result (S.content store.new
+        ≡ over_pairs each joint (S.content store.old) id pairs.now) }
 {
     let first = store.len();
     push_each(store, each, pairs)?;
@@ -70,7 +71,8 @@ fn write<S: Store>(
 ) -> Result<(), AllocError>
     requires id { id < length (S.content store.old) }
     requires pairs { 0 < length pairs.now }
-    ensures { OnOk result (S.content store.new ≡ over_pairs each joint (S.content store.old) id pairs.now) }
+    ensures { OnOk result (S.content store.new
+        ≡ over_pairs each joint (S.content store.old) id pairs.now) }
 {
     if pairs.len() == 1 {
         let (a, b) = pairs[0];

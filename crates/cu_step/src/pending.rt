@@ -12,7 +12,8 @@ pub(crate) fn push_args<S: Store>(
     id: u32,
 ) -> Result<(), AllocError>
     requires { id < length (S.content store.now) }
-    ensures { OnOk result (pending.new.items ≡ pending.old.items ++ reverse (node_at (S.content store.now) id).args) }
+    ensures { OnOk result (pending.new.items
+        ≡ pending.old.items ++ reverse (node_at (S.content store.now) id).args) }
 {
     let mut i = store.arity(id);
     while i > 0 {

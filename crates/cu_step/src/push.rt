@@ -32,7 +32,8 @@ struct Pushing {
 /// outermost one. What has no node of its own, a variable or Bottom, is stuck.
 pub fn push_value<S: Store>(alloc: Global, store: &mut S, value: &Value) -> Result<u32, AllocError>
     ensures place { IfOk result (λ id. id
-        ≡ place_of (length (S.content store.old)) (push_value (length (S.content store.old)) value.now)) }
+        ≡ place_of (length (S.content store.old))
+        (push_value (length (S.content store.old)) value.now)) }
     ensures content { OnOk result (S.content store.new
         ≡ S.content store.old ++ pushed (push_value (length (S.content store.old)) value.now)) }
 {

@@ -48,7 +48,8 @@ pub(crate) fn read<S: Store>(
     requires arguments { ArgumentsThere (S.content store.now) }
     requires acyclic { IsAcyclic (S.content store.now) }
     ensures { IfOk result (λ reading. option_map reading_of reading
-        ≡ (if nat_lt limit (cells_of_all (spelled_all (S.content store.now) root goals.now)) then None
+        ≡ (if nat_lt limit (cells_of_all (spelled_all (S.content store.now) root goals.now))
+        then None
         else Some (read (S.content store.now) root goals.now))) }
 {
     let mut reader = Reader {
@@ -81,9 +82,12 @@ impl Reader {
         requires acyclic { IsAcyclic (S.content store.now) }
         ensures value { IfOk result (λ value. value
             ≡ (if nat_lt self.old.room (cells (spelled (S.content store.now) id)) then None
-            else Some (renumbered (ordinal self.new.numbering.variables.keys) (spelled (S.content store.now) id)))) }
+            else Some (renumbered (ordinal self.new.numbering.variables.keys)
+            (spelled (S.content store.now) id)))) }
         ensures met { IfOk result (λ value. IfSome value (λ _.
-            self.new.numbering.variables.keys ≡ joined self.old.numbering.variables.keys (variables_in (spelled (S.content store.now) id)))) }
+            self.new.numbering.variables.keys
+            ≡ joined self.old.numbering.variables.keys
+            (variables_in (spelled (S.content store.now) id)))) }
         ensures room { IfOk result (λ value. IfSome value (λ _.
             self.new.room + cells (spelled (S.content store.now) id) ≡ self.old.room)) }
     {
@@ -107,7 +111,8 @@ fn cell_at<S: Store>(store: &S, id: u32, numbering: &mut Numbering) -> Result<Ce
     requires id { id < length (S.content store.now) }
     ensures cell { IfOk result (λ cell. cell ≡ cell_at numbering.new.variables.keys id
         (node_at (S.content store.now) id).kind (length (node_at (S.content store.now) id).args)) }
-    ensures met { OnOk result (numbering.new.variables.keys ≡ with_head numbering.old.variables.keys id (node_at (S.content store.now) id).kind) }
+    ensures met { OnOk result (numbering.new.variables.keys
+        ≡ with_head numbering.old.variables.keys id (node_at (S.content store.now) id).kind) }
 {
     match store.kind(id) {
         Kind::Cons(c) => Ok(Cell::Con(c, store.arity(id))),
@@ -122,7 +127,8 @@ fn cell_at<S: Store>(store: &S, id: u32, numbering: &mut Numbering) -> Result<Ce
 fn push_parts<S: Store>(pending: &mut Vec<u32>, store: &S, id: u32) -> Result<(), AllocError>
     requires { id < length (S.content store.now) }
     ensures { OnOk result (pending.new.items ≡ pending.old.items
-        ++ reverse (parts_at (node_at (S.content store.now) id).kind (node_at (S.content store.now) id).args)) }
+        ++ reverse (parts_at (node_at (S.content store.now) id).kind
+        (node_at (S.content store.now) id).args)) }
 {
     match store.kind(id) {
         Kind::Cons(_) | Kind::Part(_) => pending::push_args(pending, store, id),

@@ -113,7 +113,8 @@ pub(crate) fn rewritten<S: Store>(
     requires call { IsTrue (not (is_set_call (node_at (S.content store) id).kind)) }
     requires arguments { ArgumentsThere (S.content store) }
     requires acyclic { IsAcyclic (S.content store) }
-    ensures { IfOk result (λ moved. move_of S.content moved ≡ move program.now (S.content store) id) }
+    ensures { IfOk result (λ moved. move_of S.content moved
+        ≡ move program.now (S.content store) id) }
 {
     match store.kind(id) {
         Kind::Call(f) => call::unfolded(alloc, program, store, id, f),

@@ -33,7 +33,10 @@ fn arguments<S: Store>(
     requires acyclic { IsAcyclic (S.content store.now) }
     ensures { IfOk result (λ values. option_map (λ values. values.items) values
         ≡ (if nat_lt limit (cells_of_all (map (spelled (S.content store.now)) args.now)) then None
-        else Some (map (renumbered (ordinal (variables_of_all (map (spelled (S.content store.now)) args.now))))
+        else Some
+        (map
+        (renumbered
+        (ordinal (variables_of_all (map (spelled (S.content store.now)) args.now))))
         (map (spelled (S.content store.now)) args.now)))) }
 {
     let Some((last, others)) = args.split_last() else {
@@ -75,7 +78,8 @@ fn call_on<S: Store>(
 
 /// One branch alone follows.
 fn alone<S: Store>(alloc: Global, branch: Branch<S>) -> Result<Outcome<S>, AllocError>
-    ensures next { IfOk result (λ outcome. next_of S.content outcome ≡ Go (state_of S.content branch ∷ [])) }
+    ensures next { IfOk result (λ outcome. next_of S.content outcome
+        ≡ Go (state_of S.content branch ∷ [])) }
     ensures inner { IfOk result (λ outcome. IsFalse (is_inner outcome)) }
 {
     let mut branches = Vec::with_capacity(alloc, 1)?;

@@ -98,8 +98,10 @@ pub(crate) fn equated<S: Store>(
     requires right_args { are_places (length (S.content store)) right.now.args.items ≡ true }
     requires arguments { ArgumentsThere (S.content store) }
     requires acyclic { IsAcyclic (S.content store) }
-    ensures { IfOk result (λ moved. move_of S.content moved ≡ equated special.now (S.content store) id
-        left.now.id left.now.kind left.now.args.items right.now.id right.now.kind right.now.args.items) }
+    ensures { IfOk result (λ moved. move_of S.content moved
+        ≡ equated special.now (S.content store) id
+        left.now.id left.now.kind left.now.args.items right.now.id right.now.kind
+        right.now.args.items) }
 {
     match left.kind {
         Kind::Free => match right.kind {

@@ -73,6 +73,8 @@ abbrev pub IsNoItem : Bool → List Lexeme → Type 0
 IsNoItem imports tokens = (item : Item) → ¬ (ItemRead imports tokens item)
 
 -- What was found is added to the items, and an import may stand behind it or not.
-abbrev pub Adds : List (List ℕ) → Bool → List text.Item → List text.Item → Option text.Item → Bool → Type 0
+abbrev pub Adds : List (List ℕ) → Bool → List text.Item → List text.Item → Option text.Item → Bool
+    → Type 0
 Adds names imports before after None behind = (after ≡ before) × (behind ≡ imports)
-Adds names imports before after (Some found) behind = (after ≡ before ++ found ∷ []) × (behind ≡ imports_behind imports (item_meaning names found))
+Adds names imports before after (Some found) behind =
+    (after ≡ before ++ found ∷ []) × (behind ≡ imports_behind imports (item_meaning names found))

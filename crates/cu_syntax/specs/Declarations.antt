@@ -32,7 +32,8 @@ abbrev pub declarations_meaning : List (List ℕ) → List Declaration → synta
 declarations_meaning names ds = declarations_from (map (declaration_meaning names) ds)
 
 abbrev pub right_meaning : List (List ℕ) → RightSide → syntax.RightSide
-right_meaning names r = right_side r.body.symbol (tree_of names r.body) (where_block (tree_of names r.local))
+right_meaning names r =
+    right_side r.body.symbol (tree_of names r.body) (where_block (tree_of names r.local))
 
 -- what follows the equals sign or the arrow, without its place
 pub data Behind : Type 0 where
@@ -44,7 +45,9 @@ right_of at (One e) local = syntax.Plain at e local
 right_of at (Guards guards) local = syntax.Guarded at guards local
 
 abbrev pub with_guard : List (List ℕ) → Guard → syntax.Guards → syntax.Guards
-with_guard names g rest = syntax.MoreGuards (position_of g.place) (expression_meaning names g.condition) (expression_meaning names g.expression) rest
+with_guard names g rest =
+    syntax.MoreGuards (position_of g.place) (expression_meaning names g.condition)
+    (expression_meaning names g.expression) rest
 
 abbrev pub guards_meaning : List (List ℕ) → List Guard → syntax.Guards
 guards_meaning names [] = syntax.NoGuard
@@ -60,16 +63,24 @@ body_meaning names (body.Guarded guards) = Guards (guards_meaning names guards.i
 
 -- what a node says of its right-hand side
 abbrev pub right_node : List (List ℕ) → RightSideNode → syntax.RightSide
-right_node names r = right_of (position_of r.place) (body_meaning names r.body) (declarations_meaning names r.local.items)
+right_node names r = right_of (position_of r.place) (body_meaning names r.body)
+    (declarations_meaning names r.local.items)
 
 abbrev pub left_meaning : List (List ℕ) → Left → LeftSide
-left_meaning names (left.Function name parameters) = OfFunction (name_meaning names name) (patterns_meaning names parameters.items)
+left_meaning names (left.Function name parameters) =
+    OfFunction (name_meaning names name) (patterns_meaning names parameters.items)
 left_meaning names (left.Pattern pattern) = OfPattern (pattern_meaning names pattern)
 
 -- what a node says of its declaration
 abbrev pub declaration_node : List (List ℕ) → DeclarationNode → syntax.Declaration
-declaration_node names (node.FreeVariables at variables) = syntax.FreeVariables (position_of at) (map (name_meaning names) variables.items)
-declaration_node names (node.Signature at functions term) = syntax.Signature (position_of at) (map (name_meaning names) functions.items) (type_meaning names term)
+declaration_node names (node.FreeVariables at variables) =
+    syntax.FreeVariables (position_of at) (map (name_meaning names) variables.items)
+declaration_node names (node.Signature at functions term) =
+    syntax.Signature (position_of at) (map (name_meaning names) functions.items)
+    (type_meaning names term)
 declaration_node names (node.FunctionRule at name parameters right) =
-    syntax.FunctionRule (position_of at) (name_meaning names name) (patterns_meaning names parameters.items) (right_meaning names right)
-declaration_node names (node.PatternBinding at pattern right) = syntax.PatternBinding (position_of at) (pattern_meaning names pattern) (right_meaning names right)
+    syntax.FunctionRule (position_of at) (name_meaning names name)
+    (patterns_meaning names parameters.items) (right_meaning names right)
+declaration_node names (node.PatternBinding at pattern right) =
+    syntax.PatternBinding (position_of at) (pattern_meaning names pattern)
+    (right_meaning names right)

@@ -1,4 +1,5 @@
--- Which trees the grammar gives: a tree's parts are those that the rule of its symbol says. What is looked at ahead leaves no part.
+-- Which trees the grammar gives: a tree's parts are those that the rule of its symbol says. What is
+-- looked at ahead leaves no part.
 use Rattle.std.specs.Prelude.{ℕ, Bool, true, false, ◌&&◌, [], ◌∷◌, is_some, slice_get}
 use Rattle.cu_lex.specs.Tokens.{Lexeme}
 use Rattle.cu_peg.specs.Classes.{has}
@@ -26,7 +27,8 @@ abbrev mutual
   -- whether trees are the parts that a rule says
   pub have_parts : Rule → ParseTrees Lexeme → Bool
   have_parts (Sequence []) NoTree = true
-  have_parts (Sequence (p ∷ parts)) (MoreTrees tree trees) = fits p tree && have_parts (Sequence parts) trees
+  have_parts (Sequence (p ∷ parts)) (MoreTrees tree trees) =
+      fits p tree && have_parts (Sequence parts) trees
   have_parts (Optional p) NoTree = true
   have_parts (Optional p) (MoreTrees tree NoTree) = fits p tree
   have_parts (Many p) NoTree = true

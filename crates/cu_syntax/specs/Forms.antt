@@ -11,14 +11,18 @@ is_among (t ∷ ts) s = sameb symbols.the_type t s || is_among ts s
 
 -- types that are more than another type in parentheses
 abbrev pub is_type_node : Symbol → Bool
-is_type_node = is_among (symbol.TypeExp ∷ symbol.TypeApplication ∷ symbol.QConId ∷ symbol.VarId ∷ symbol.Unit ∷ symbol.TupleType ∷ symbol.ListType ∷ [])
+is_type_node =
+    is_among (symbol.TypeExp ∷ symbol.TypeApplication ∷ symbol.QConId ∷ symbol.VarId ∷ symbol.Unit
+    ∷ symbol.TupleType ∷ symbol.ListType ∷ [])
 
 abbrev pub is_type : Symbol → Bool
 is_type s = is_among (symbol.BType ∷ symbol.AType ∷ []) s || is_type_node s
 
 -- patterns that are more than another pattern in parentheses
 abbrev pub is_pattern_node : Symbol → Bool
-is_pattern_node = is_among (symbol.Pat ∷ symbol.NegativePat ∷ symbol.ConApplication ∷ symbol.AliasPat ∷ symbol.VarId ∷ symbol.Underscore ∷ symbol.Literal ∷
+is_pattern_node =
+    is_among (symbol.Pat ∷ symbol.NegativePat ∷ symbol.ConApplication ∷ symbol.AliasPat
+    ∷ symbol.VarId ∷ symbol.Underscore ∷ symbol.Literal ∷
     symbol.QCon ∷ symbol.Unit ∷ symbol.TuplePat ∷ symbol.ListPat ∷ [])
 
 abbrev pub is_pattern : Symbol → Bool
@@ -26,8 +30,11 @@ is_pattern s = is_among (symbol.ConPat ∷ symbol.APat ∷ []) s || is_pattern_n
 
 -- expressions that are more than another expression in parentheses
 abbrev pub is_expression_node : Symbol → Bool
-is_expression_node = is_among (symbol.Exp ∷ symbol.Lambda ∷ symbol.LetExp ∷ symbol.IfExp ∷ symbol.CaseExp ∷ symbol.Application ∷ symbol.Literal ∷ symbol.QVar ∷
-    symbol.QCon ∷ symbol.Unit ∷ symbol.TupleCon ∷ symbol.RightSection ∷ symbol.LeftSection ∷ symbol.Tuple ∷ symbol.EmptyList ∷ symbol.FromThen ∷ symbol.From ∷
+is_expression_node =
+    is_among (symbol.Exp ∷ symbol.Lambda ∷ symbol.LetExp ∷ symbol.IfExp ∷ symbol.CaseExp
+    ∷ symbol.Application ∷ symbol.Literal ∷ symbol.QVar ∷
+    symbol.QCon ∷ symbol.Unit ∷ symbol.TupleCon ∷ symbol.RightSection ∷ symbol.LeftSection
+    ∷ symbol.Tuple ∷ symbol.EmptyList ∷ symbol.FromThen ∷ symbol.From ∷
     symbol.Comprehension ∷ symbol.ListExp ∷ [])
 
 abbrev pub is_expression : Symbol → Bool
@@ -41,7 +48,9 @@ is_rule = is_among (symbol.Rule ∷ symbol.TopRule ∷ [])
 
 -- items that are no imports
 abbrev pub is_item_node : Symbol → Bool
-is_item_node = is_among (symbol.FixityDecl ∷ symbol.DataDecl ∷ symbol.SynonymDecl ∷ symbol.Signature ∷ symbol.TopRule ∷ [])
+is_item_node =
+    is_among (symbol.FixityDecl ∷ symbol.DataDecl ∷ symbol.SynonymDecl ∷ symbol.Signature
+    ∷ symbol.TopRule ∷ [])
 
 abbrev pub is_constructor_node : Symbol → Bool
 is_constructor_node = is_among (symbol.InfixConDecl ∷ symbol.PrefixConDecl ∷ [])
@@ -59,7 +68,8 @@ left_of symbol.TopRule = symbol.FunctionLhs
 left_of s = symbol.Lhs
 
 abbrev pub is_right_node : Symbol → Bool
-is_right_node = is_among (symbol.PlainRhs ∷ symbol.GuardedRhs ∷ symbol.PlainAlt ∷ symbol.GuardedAlts ∷ [])
+is_right_node =
+    is_among (symbol.PlainRhs ∷ symbol.GuardedRhs ∷ symbol.PlainAlt ∷ symbol.GuardedAlts ∷ [])
 
 abbrev pub is_guard : Symbol → Bool
 is_guard = is_among (symbol.GuardedExp ∷ symbol.GuardedAlt ∷ [])
@@ -73,7 +83,10 @@ is_body = is_among (symbol.RhsBody ∷ symbol.AltBody ∷ [])
 
 -- names and operators, in parentheses or backquotes too
 abbrev pub is_name : Symbol → Bool
-is_name = is_among (symbol.VarId ∷ symbol.ConId ∷ symbol.VarSym ∷ symbol.ConSym ∷ symbol.QVarId ∷ symbol.QConId ∷ symbol.QVarSym ∷ symbol.QConSym ∷
-    symbol.VarOp ∷ symbol.QuotedVar ∷ symbol.ConOp ∷ symbol.QuotedCon ∷ symbol.QVarOp ∷ symbol.QuotedQVar ∷ symbol.QConOp ∷ symbol.QuotedQCon ∷
-    symbol.Op ∷ symbol.QOp ∷ symbol.Var ∷ symbol.ParenthesizedVarOp ∷ symbol.Con ∷ symbol.ParenthesizedConOp ∷ symbol.QVar ∷
+is_name = is_among (symbol.VarId ∷ symbol.ConId ∷ symbol.VarSym ∷ symbol.ConSym ∷ symbol.QVarId
+    ∷ symbol.QConId ∷ symbol.QVarSym ∷ symbol.QConSym ∷
+    symbol.VarOp ∷ symbol.QuotedVar ∷ symbol.ConOp ∷ symbol.QuotedCon ∷ symbol.QVarOp
+    ∷ symbol.QuotedQVar ∷ symbol.QConOp ∷ symbol.QuotedQCon ∷
+    symbol.Op ∷ symbol.QOp ∷ symbol.Var ∷ symbol.ParenthesizedVarOp ∷ symbol.Con
+    ∷ symbol.ParenthesizedConOp ∷ symbol.QVar ∷
     symbol.ParenthesizedQVarOp ∷ symbol.QCon ∷ symbol.ParenthesizedQConOp ∷ [])

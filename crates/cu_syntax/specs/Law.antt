@@ -10,11 +10,13 @@ use Rattle.cu_syntax.specs.Syntax.{Goal, Module}
 
 -- The tokens of a module are read as one module, or have one fault.
 abbrev pub ModulesAreReadOnce : Type 0
-ModulesAreReadOnce = (tokens : List Lexeme) (outcome other : Result Module Fault) → ModuleRead tokens outcome → ModuleRead tokens other → outcome ≡ other
+ModulesAreReadOnce = (tokens : List Lexeme) (outcome other : Result Module Fault)
+    → ModuleRead tokens outcome → ModuleRead tokens other → outcome ≡ other
 
 -- The same of goals.
 abbrev pub GoalsAreReadOnce : Type 0
-GoalsAreReadOnce = (tokens : List Lexeme) (outcome other : Result Goal Fault) → GoalRead tokens outcome → GoalRead tokens other → outcome ≡ other
+GoalsAreReadOnce = (tokens : List Lexeme) (outcome other : Result Goal Fault)
+    → GoalRead tokens outcome → GoalRead tokens other → outcome ≡ other
 
 -- A place is before another: on an earlier line, or in an earlier column of its line.
 abbrev pub IsBefore : Position → Position → Type 0

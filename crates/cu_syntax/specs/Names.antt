@@ -18,7 +18,8 @@ name_meaning table name = record {
 }
 
 abbrev pub module_name_meaning : List (List ℕ) → ModuleName → syntax.ModuleName
-module_name_meaning table name = record { text = text_of table name.text; at = position_of name.place }
+module_name_meaning table name =
+    record { text = text_of table name.text; at = position_of name.place }
 
 abbrev pub literal_meaning : Literal → syntax.Literal
 literal_meaning (literal.Int n) = syntax.Int n

@@ -70,7 +70,8 @@ pub record NameIsOf (owner : NameId) (names : List (List ℕ)) (name : Name) : T
   pub qualifier : IfSome name.qualifier (IsKnown names)
   pub base : IsKnown names name.base
 
-pub record ModuleNameIsOf (owner : NameId) (names : List (List ℕ)) (name : ModuleName) : Type 0 where
+pub record ModuleNameIsOf (owner : NameId) (names : List (List ℕ))
+    (name : ModuleName) : Type 0 where
   pub place : PlaceIsOf owner name.place
   pub text : IsKnown names name.text
 
@@ -100,87 +101,131 @@ RightSideIsOf owner names right = IsOf owner names right.body × IsOf owner name
 
 abbrev pub TypeNodeIsOf : NameId → List (List ℕ) → TypeNode → Type 0
 TypeNodeIsOf owner names (type_term.Variable name) = NameIsOf owner names name
-TypeNodeIsOf owner names (type_term.Named name arguments) = NameIsOf owner names name × All (TypeIsOf owner names) arguments.items
-TypeNodeIsOf owner names (type_term.Function first further result) = TypeIsOf owner names first × All (TypeIsOf owner names) further.items × TypeIsOf owner names result
-TypeNodeIsOf owner names (type_term.Tuple place components) = PlaceIsOf owner place × All (TypeIsOf owner names) components.items
-TypeNodeIsOf owner names (type_term.List place element) = PlaceIsOf owner place × TypeIsOf owner names element
+TypeNodeIsOf owner names (type_term.Named name arguments) =
+    NameIsOf owner names name × All (TypeIsOf owner names) arguments.items
+TypeNodeIsOf owner names (type_term.Function first further result) =
+    TypeIsOf owner names first × All (TypeIsOf owner names) further.items
+    × TypeIsOf owner names result
+TypeNodeIsOf owner names (type_term.Tuple place components) =
+    PlaceIsOf owner place × All (TypeIsOf owner names) components.items
+TypeNodeIsOf owner names (type_term.List place element) =
+    PlaceIsOf owner place × TypeIsOf owner names element
 
 abbrev pub ConstructorItemIsOf : NameId → List (List ℕ) → ConstructorItem → Type 0
-ConstructorItemIsOf owner names i = NameIsOf owner names i.operator × PatternIsOf owner names i.operand
+ConstructorItemIsOf owner names i = NameIsOf owner names i.operator
+    × PatternIsOf owner names i.operand
 
 abbrev pub PatItemsAreOf : NameId → List (List ℕ) → PatItems → Type 0
-PatItemsAreOf owner names i = PlaceIsOf owner i.place × PatternIsOf owner names i.first × All (ConstructorItemIsOf owner names) i.rest.items
+PatItemsAreOf owner names i = PlaceIsOf owner i.place × PatternIsOf owner names i.first
+    × All (ConstructorItemIsOf owner names) i.rest.items
 
 abbrev pub PatternNodeIsOf : NameId → List (List ℕ) → PatternNode → Type 0
 PatternNodeIsOf owner names (pattern.Variable name) = NameIsOf owner names name
-PatternNodeIsOf owner names (pattern.Alias name inner) = NameIsOf owner names name × PatternIsOf owner names inner
+PatternNodeIsOf owner names (pattern.Alias name inner) =
+    NameIsOf owner names name × PatternIsOf owner names inner
 PatternNodeIsOf owner names (pattern.Wildcard place) = PlaceIsOf owner place
-PatternNodeIsOf owner names (pattern.Literal place value) = PlaceIsOf owner place × LiteralIsNatural value
-PatternNodeIsOf owner names (pattern.Negative place number) = PlaceIsOf owner place × IsNonNegative number
-PatternNodeIsOf owner names (pattern.Constructed place name arguments) = PlaceIsOf owner place × NameIsOf owner names name × All (PatternIsOf owner names) arguments.items
-PatternNodeIsOf owner names (pattern.Tuple place components) = PlaceIsOf owner place × All (PatternIsOf owner names) components.items
-PatternNodeIsOf owner names (pattern.List place elements) = PlaceIsOf owner place × All (PatternIsOf owner names) elements.items
+PatternNodeIsOf owner names (pattern.Literal place value) =
+    PlaceIsOf owner place × LiteralIsNatural value
+PatternNodeIsOf owner names (pattern.Negative place number) =
+    PlaceIsOf owner place × IsNonNegative number
+PatternNodeIsOf owner names (pattern.Constructed place name arguments) =
+    PlaceIsOf owner place × NameIsOf owner names name
+    × All (PatternIsOf owner names) arguments.items
+PatternNodeIsOf owner names (pattern.Tuple place components) =
+    PlaceIsOf owner place × All (PatternIsOf owner names) components.items
+PatternNodeIsOf owner names (pattern.List place elements) =
+    PlaceIsOf owner place × All (PatternIsOf owner names) elements.items
 PatternNodeIsOf owner names (pattern.Operators items) = PatItemsAreOf owner names items
 
 abbrev pub OperatorItemIsOf : NameId → List (List ℕ) → OperatorItem → Type 0
-OperatorItemIsOf owner names i = NameIsOf owner names i.operator × IfSome i.minus (PlaceIsOf owner) × ExpressionIsOf owner names i.operand
+OperatorItemIsOf owner names i = NameIsOf owner names i.operator × IfSome i.minus (PlaceIsOf owner)
+    × ExpressionIsOf owner names i.operand
 
 abbrev pub ItemsAreOf : NameId → List (List ℕ) → Items → Type 0
-ItemsAreOf owner names i = PlaceIsOf owner i.place × IfSome i.minus (PlaceIsOf owner) × ExpressionIsOf owner names i.first × All (OperatorItemIsOf owner names) i.rest.items
+ItemsAreOf owner names i = PlaceIsOf owner i.place × IfSome i.minus (PlaceIsOf owner)
+    × ExpressionIsOf owner names i.first × All (OperatorItemIsOf owner names) i.rest.items
 
 abbrev pub AlternativeIsOf : NameId → List (List ℕ) → Alternative → Type 0
-AlternativeIsOf owner names a = PlaceIsOf owner a.place × PatternIsOf owner names a.pattern × RightSideIsOf owner names a.right
+AlternativeIsOf owner names a = PlaceIsOf owner a.place × PatternIsOf owner names a.pattern
+    × RightSideIsOf owner names a.right
 
 abbrev pub EnumerationIsOf : NameId → List (List ℕ) → Enumeration → Type 0
-EnumerationIsOf owner names e = ExpressionIsOf owner names e.first × IfSome e.second (ExpressionIsOf owner names) × IfSome e.last (ExpressionIsOf owner names)
+EnumerationIsOf owner names e = ExpressionIsOf owner names e.first
+    × IfSome e.second (ExpressionIsOf owner names) × IfSome e.last (ExpressionIsOf owner names)
 
 abbrev pub QualifierIsOf : NameId → List (List ℕ) → Qualifier → Type 0
-QualifierIsOf owner names (qualifier.Generator place p list) = PlaceIsOf owner place × PatternIsOf owner names p × ExpressionIsOf owner names list
-QualifierIsOf owner names (qualifier.Declarations place declarations) = PlaceIsOf owner place × All (DeclarationIsOf owner names) declarations.items
-QualifierIsOf owner names (qualifier.Condition place condition) = PlaceIsOf owner place × ExpressionIsOf owner names condition
+QualifierIsOf owner names (qualifier.Generator place p list) =
+    PlaceIsOf owner place × PatternIsOf owner names p × ExpressionIsOf owner names list
+QualifierIsOf owner names (qualifier.Declarations place declarations) =
+    PlaceIsOf owner place × All (DeclarationIsOf owner names) declarations.items
+QualifierIsOf owner names (qualifier.Condition place condition) =
+    PlaceIsOf owner place × ExpressionIsOf owner names condition
 
 abbrev pub ExpressionNodeIsOf : NameId → List (List ℕ) → ExpressionNode → Type 0
-ExpressionNodeIsOf owner names (expression.Variable place name) = PlaceIsOf owner place × NameIsOf owner names name
-ExpressionNodeIsOf owner names (expression.Constructor place name) = PlaceIsOf owner place × NameIsOf owner names name
-ExpressionNodeIsOf owner names (expression.Literal place value) = PlaceIsOf owner place × LiteralIsNatural value
+ExpressionNodeIsOf owner names (expression.Variable place name) =
+    PlaceIsOf owner place × NameIsOf owner names name
+ExpressionNodeIsOf owner names (expression.Constructor place name) =
+    PlaceIsOf owner place × NameIsOf owner names name
+ExpressionNodeIsOf owner names (expression.Literal place value) =
+    PlaceIsOf owner place × LiteralIsNatural value
 ExpressionNodeIsOf owner names (expression.Application place function arguments) =
-    PlaceIsOf owner place × ExpressionIsOf owner names function × All (ExpressionIsOf owner names) arguments.items
+    PlaceIsOf owner place × ExpressionIsOf owner names function
+    × All (ExpressionIsOf owner names) arguments.items
 ExpressionNodeIsOf owner names (expression.Operators items) = ItemsAreOf owner names items
-ExpressionNodeIsOf owner names (expression.Lambda place parameters inner) = PlaceIsOf owner place × All (PatternIsOf owner names) parameters.items × ExpressionIsOf owner names inner
-ExpressionNodeIsOf owner names (expression.Let place declarations inner) = PlaceIsOf owner place × All (DeclarationIsOf owner names) declarations.items × ExpressionIsOf owner names inner
+ExpressionNodeIsOf owner names (expression.Lambda place parameters inner) =
+    PlaceIsOf owner place × All (PatternIsOf owner names) parameters.items
+    × ExpressionIsOf owner names inner
+ExpressionNodeIsOf owner names (expression.Let place declarations inner) =
+    PlaceIsOf owner place × All (DeclarationIsOf owner names) declarations.items
+    × ExpressionIsOf owner names inner
 ExpressionNodeIsOf owner names (expression.If place condition chosen other) =
-    PlaceIsOf owner place × ExpressionIsOf owner names condition × ExpressionIsOf owner names chosen × ExpressionIsOf owner names other
+    PlaceIsOf owner place × ExpressionIsOf owner names condition × ExpressionIsOf owner names chosen
+    × ExpressionIsOf owner names other
 ExpressionNodeIsOf owner names (expression.Case place word subject alternatives) =
-    PlaceIsOf owner place × ExpressionIsOf owner names subject × All (AlternativeIsOf owner names) alternatives.items
-ExpressionNodeIsOf owner names (expression.Tuple place components) = PlaceIsOf owner place × All (ExpressionIsOf owner names) components.items
+    PlaceIsOf owner place × ExpressionIsOf owner names subject
+    × All (AlternativeIsOf owner names) alternatives.items
+ExpressionNodeIsOf owner names (expression.Tuple place components) =
+    PlaceIsOf owner place × All (ExpressionIsOf owner names) components.items
 ExpressionNodeIsOf owner names (expression.TupleConstructor place count) = PlaceIsOf owner place
-ExpressionNodeIsOf owner names (expression.LeftSection place operand operator) = PlaceIsOf owner place × ExpressionIsOf owner names operand × NameIsOf owner names operator
-ExpressionNodeIsOf owner names (expression.RightSection place operator operand) = PlaceIsOf owner place × NameIsOf owner names operator × ExpressionIsOf owner names operand
-ExpressionNodeIsOf owner names (expression.List place elements) = PlaceIsOf owner place × All (ExpressionIsOf owner names) elements.items
-ExpressionNodeIsOf owner names (expression.Enumeration place numbers) = PlaceIsOf owner place × EnumerationIsOf owner names numbers
+ExpressionNodeIsOf owner names (expression.LeftSection place operand operator) =
+    PlaceIsOf owner place × ExpressionIsOf owner names operand × NameIsOf owner names operator
+ExpressionNodeIsOf owner names (expression.RightSection place operator operand) =
+    PlaceIsOf owner place × NameIsOf owner names operator × ExpressionIsOf owner names operand
+ExpressionNodeIsOf owner names (expression.List place elements) =
+    PlaceIsOf owner place × All (ExpressionIsOf owner names) elements.items
+ExpressionNodeIsOf owner names (expression.Enumeration place numbers) =
+    PlaceIsOf owner place × EnumerationIsOf owner names numbers
 ExpressionNodeIsOf owner names (expression.Comprehension place element qualifiers) =
-    PlaceIsOf owner place × ExpressionIsOf owner names element × All (QualifierIsOf owner names) qualifiers.items
+    PlaceIsOf owner place × ExpressionIsOf owner names element
+    × All (QualifierIsOf owner names) qualifiers.items
 
 abbrev pub GuardIsOf : NameId → List (List ℕ) → Guard → Type 0
-GuardIsOf owner names g = PlaceIsOf owner g.place × ExpressionIsOf owner names g.condition × ExpressionIsOf owner names g.expression
+GuardIsOf owner names g = PlaceIsOf owner g.place × ExpressionIsOf owner names g.condition
+    × ExpressionIsOf owner names g.expression
 
 abbrev pub BodyIsOf : NameId → List (List ℕ) → Body → Type 0
 BodyIsOf owner names (body.Plain inner) = ExpressionIsOf owner names inner
 BodyIsOf owner names (body.Guarded guards) = All (GuardIsOf owner names) guards.items
 
 abbrev pub RightSideNodeIsOf : NameId → List (List ℕ) → RightSideNode → Type 0
-RightSideNodeIsOf owner names right = PlaceIsOf owner right.place × BodyIsOf owner names right.body × All (DeclarationIsOf owner names) right.local.items
+RightSideNodeIsOf owner names right = PlaceIsOf owner right.place × BodyIsOf owner names right.body
+    × All (DeclarationIsOf owner names) right.local.items
 
 abbrev pub LeftIsOf : NameId → List (List ℕ) → Left → Type 0
-LeftIsOf owner names (left.Function name parameters) = NameIsOf owner names name × All (PatternIsOf owner names) parameters.items
+LeftIsOf owner names (left.Function name parameters) =
+    NameIsOf owner names name × All (PatternIsOf owner names) parameters.items
 LeftIsOf owner names (left.Pattern p) = PatternIsOf owner names p
 
 abbrev pub DeclarationNodeIsOf : NameId → List (List ℕ) → DeclarationNode → Type 0
-DeclarationNodeIsOf owner names (declaration.FreeVariables place variables) = PlaceIsOf owner place × All (NameIsOf owner names) variables.items
-DeclarationNodeIsOf owner names (declaration.Signature place functions term) = PlaceIsOf owner place × All (NameIsOf owner names) functions.items × TypeIsOf owner names term
+DeclarationNodeIsOf owner names (declaration.FreeVariables place variables) =
+    PlaceIsOf owner place × All (NameIsOf owner names) variables.items
+DeclarationNodeIsOf owner names (declaration.Signature place functions term) =
+    PlaceIsOf owner place × All (NameIsOf owner names) functions.items × TypeIsOf owner names term
 DeclarationNodeIsOf owner names (declaration.FunctionRule place name parameters right) =
-    PlaceIsOf owner place × NameIsOf owner names name × All (PatternIsOf owner names) parameters.items × RightSideIsOf owner names right
-DeclarationNodeIsOf owner names (declaration.PatternBinding place p right) = PlaceIsOf owner place × PatternIsOf owner names p × RightSideIsOf owner names right
+    PlaceIsOf owner place × NameIsOf owner names name
+    × All (PatternIsOf owner names) parameters.items × RightSideIsOf owner names right
+DeclarationNodeIsOf owner names (declaration.PatternBinding place p right) =
+    PlaceIsOf owner place × PatternIsOf owner names p × RightSideIsOf owner names right
 
 -- Items, headers and goals
 
@@ -190,11 +235,14 @@ ConstructorsAreOf owner names constructors.All = Unit {0}
 ConstructorsAreOf owner names (constructors.Only only) = All (NameIsOf owner names) only.items
 
 abbrev pub EntityIsOf : NameId → List (List ℕ) → Entity → Type 0
-EntityIsOf owner names (entity.Variable place name) = PlaceIsOf owner place × NameIsOf owner names name
-EntityIsOf owner names (entity.Type place name which) = PlaceIsOf owner place × NameIsOf owner names name × ConstructorsAreOf owner names which
+EntityIsOf owner names (entity.Variable place name) =
+    PlaceIsOf owner place × NameIsOf owner names name
+EntityIsOf owner names (entity.Type place name which) =
+    PlaceIsOf owner place × NameIsOf owner names name × ConstructorsAreOf owner names which
 
 abbrev pub ExportIsOf : NameId → List (List ℕ) → Export → Type 0
-ExportIsOf owner names (export.Module place name) = PlaceIsOf owner place × ModuleNameIsOf owner names name
+ExportIsOf owner names (export.Module place name) =
+    PlaceIsOf owner place × ModuleNameIsOf owner names name
 ExportIsOf owner names (export.Entity e) = EntityIsOf owner names e
 
 abbrev pub ImportListIsOf : NameId → List (List ℕ) → ImportList → Type 0
@@ -202,18 +250,23 @@ ImportListIsOf owner names list = All (EntityIsOf owner names) list.entities.ite
 
 abbrev pub ImportIsOf : NameId → List (List ℕ) → Import → Type 0
 ImportIsOf owner names i =
-    PlaceIsOf owner i.place × ModuleNameIsOf owner names i.name × IfSome i.alias (ModuleNameIsOf owner names) × IfSome i.list (ImportListIsOf owner names)
+    PlaceIsOf owner i.place × ModuleNameIsOf owner names i.name
+    × IfSome i.alias (ModuleNameIsOf owner names) × IfSome i.list (ImportListIsOf owner names)
 
 abbrev pub ConstructorDeclarationIsOf : NameId → List (List ℕ) → ConstructorDeclaration → Type 0
-ConstructorDeclarationIsOf owner names c = PlaceIsOf owner c.place × NameIsOf owner names c.name × All (TypeIsOf owner names) c.fields.items
+ConstructorDeclarationIsOf owner names c = PlaceIsOf owner c.place × NameIsOf owner names c.name
+    × All (TypeIsOf owner names) c.fields.items
 
 abbrev pub ItemNodeIsOf : NameId → List (List ℕ) → ItemNode → Type 0
 ItemNodeIsOf owner names (item.Import i) = ImportIsOf owner names i
-ItemNodeIsOf owner names (item.Fixity place side level operators) = PlaceIsOf owner place × All (NameIsOf owner names) operators.items
+ItemNodeIsOf owner names (item.Fixity place side level operators) =
+    PlaceIsOf owner place × All (NameIsOf owner names) operators.items
 ItemNodeIsOf owner names (item.Data place name parameters constructors) =
-    PlaceIsOf owner place × NameIsOf owner names name × All (NameIsOf owner names) parameters.items × All (ConstructorDeclarationIsOf owner names) constructors.items
+    PlaceIsOf owner place × NameIsOf owner names name × All (NameIsOf owner names) parameters.items
+    × All (ConstructorDeclarationIsOf owner names) constructors.items
 ItemNodeIsOf owner names (item.Synonym place name parameters term) =
-    PlaceIsOf owner place × NameIsOf owner names name × All (NameIsOf owner names) parameters.items × TypeIsOf owner names term
+    PlaceIsOf owner place × NameIsOf owner names name × All (NameIsOf owner names) parameters.items
+    × TypeIsOf owner names term
 ItemNodeIsOf owner names (item.Declaration d) = DeclarationIsOf owner names d
 
 pub record ParsedIsOf (owner : NameId) (names : List (List ℕ)) (parsed : Parsed) : Type 0 where
@@ -226,7 +279,8 @@ abbrev pub ItemIsOf : NameId → List (List ℕ) → texts.Item → Type 0
 ItemIsOf owner names i = ParsedIsOf owner names i.parsed
 
 abbrev pub ModuleIsOf : NameId → List (List ℕ) → modules.Module → Type 0
-ModuleIsOf owner names m = IfSome m.header (HeaderIsOf owner names) × All (ItemIsOf owner names) m.items.items
+ModuleIsOf owner names m = IfSome m.header (HeaderIsOf owner names)
+    × All (ItemIsOf owner names) m.items.items
 
 abbrev pub GoalIsOf : NameId → List (List ℕ) → GoalText → Type 0
 GoalIsOf owner names goal = ParsedIsOf owner names goal.parsed

@@ -1,5 +1,5 @@
--- What the tokens of a module or a goal are read as, or the first fault in them. Tokens come with the braces and semicolons of the
--- layout.
+-- What the tokens of a module or a goal are read as, or the first fault in them. Tokens come with
+-- the braces and semicolons of the layout.
 use Rattle.std.specs.Prelude.{◌≡◌, ℕ, ◌+◌, ◌-◌, Bool, true, false, ◌&&◌, List, [], ◌∷◌, Option, None, Some, Result, Ok, Err, if◌then◌else◌, length, nat_eq, nat_lt}
 use Rattle.cu_lex.specs.declared.token.LayoutMark.TheVariants as layout
 use Rattle.cu_lex.specs.declared.token.Mark.TheVariants as mark
@@ -59,7 +59,8 @@ after last token = if is_written token.what then token.at.line else last
 -- the line of the first token of the text, if there is one, or the line before
 abbrev pub first_line : ℕ → List Lexeme → ℕ
 first_line before [] = before
-first_line before (token ∷ tokens) = if is_written token.what then token.at.line else first_line before tokens
+first_line before (token ∷ tokens) = if is_written token.what then token.at.line
+    else first_line before tokens
 
 -- a string counts as one more for each of its characters
 abbrev pub token_length : Kind → ℕ
@@ -79,8 +80,8 @@ is_long tokens = nat_lt most (item_length tokens)
 
 -- The parts of a module
 
--- a part of the module's block, between semicolons, with the line of the last token of the text before it; or what stands where no
--- item may stand
+-- a part of the module's block, between semicolons, with the line of the last token of the text
+-- before it; or what stands where no item may stand
 pub record Part : Type 0 where
   pub before : ℕ
   pub tokens : List Lexeme
@@ -98,7 +99,8 @@ part_of before s = record { before = before; tokens = s.first; whole = s.whole }
 -- tokens behind the block
 abbrev pub behind : ℕ → List Lexeme → List Part
 behind last [] = []
-behind last (token ∷ tokens) = (record { before = last; tokens = token ∷ tokens; whole = false }) ∷ []
+behind last (token ∷ tokens) = (record { before = last; tokens = token ∷ tokens; whole = false })
+    ∷ []
 
 abbrev pub with_token : Lexeme → Split → Split
 with_token token s = record { first = token ∷ s.first; whole = s.whole; others = s.others }
@@ -107,28 +109,35 @@ with_token token s = record { first = token ∷ s.first; whole = s.whole; others
 abbrev pub depth_after : ℕ → Kind → ℕ
 depth_after depth k = if opens k then depth + 1 else if closes k then depth - 1 else depth
 
--- What is left of a block, inside so many braces of a part of it; `last` is the line of the last token of the text before.
+-- What is left of a block, inside so many braces of a part of it; `last` is the line of the last
+-- token of the text before.
 unfoldable pub split : ℕ → ℕ → List Lexeme → Split
 split depth last [] = record { first = []; whole = false; others = [] }
 split depth last (token ∷ tokens) =
-    if nat_eq depth 0 && closes token.what then record { first = []; whole = true; others = behind (after last token) tokens }
+    if nat_eq depth 0 && closes token.what
+    then record { first = []; whole = true; others = behind (after last token) tokens }
     else if nat_eq depth 0 && separates token.what then
-    (let next = split 0 (after last token) tokens in record { first = []; whole = true; others = part_of (after last token) next ∷ next.others })
+    (let next = split 0 (after last token) tokens in record {
+      first = [];
+      whole = true;
+      others = part_of (after last token) next ∷ next.others;
+    })
     else with_token token (split (depth_after depth token.what) (after last token) tokens)
 
 -- the parts of a block, from its first token on
 abbrev pub parts : ℕ → List Lexeme → List Part
 parts last tokens = let s = split 0 last tokens in part_of last s ∷ s.others
 
--- the tokens before the first brace, the line of the last token of the text before the block and the block's tokens, if there is a
--- brace
+-- the tokens before the first brace, the line of the last token of the text before the block and
+-- the block's tokens, if there is a brace
 pub record Front : Type 0 where
   pub header : List Lexeme
   pub last : ℕ
   pub block : Option (List Lexeme)
 
 abbrev pub with_header : Lexeme → Front → Front
-with_header token front = record { header = token ∷ front.header; last = front.last; block = front.block }
+with_header token front =
+    record { header = token ∷ front.header; last = front.last; block = front.block }
 
 abbrev pub front : ℕ → List Lexeme → Front
 front last [] = record { header = []; last = last; block = None }
@@ -138,16 +147,22 @@ front last (token ∷ tokens) =
 
 -- What the tokens of an item are read as. Imports stand before all other items.
 pub data ItemRead (imports : Bool) (tokens : List Lexeme) : Item → Type 0 where
-  import : (tree : ParseTree Lexeme) → imports ≡ true → Has symbol.ImportDecl tokens tree → ItemRead imports tokens (ImportItem (import_of tree))
-  declaration : (tree : ParseTree Lexeme) → Has symbol.Item tokens tree → ItemRead imports tokens (item_of tree)
+  import : (tree : ParseTree Lexeme) → imports ≡ true → Has symbol.ImportDecl tokens tree
+      → ItemRead imports tokens (ImportItem (import_of tree))
+  declaration : (tree : ParseTree Lexeme) → Has symbol.Item tokens tree
+      → ItemRead imports tokens (item_of tree)
 
 -- What a part that isn't empty is read as. Its length is looked at first.
 pub data PartRead (imports : Bool) (part : Part) : Result Item Fault → Type 0 where
-  too_long : is_long part.tokens ≡ true → PartRead imports part (Err (TooLong (first_line part.before part.tokens)))
-  not_whole : is_long part.tokens ≡ false → part.whole ≡ false → PartRead imports part (Err (Syntax (first_line part.before part.tokens)))
-  no_item : is_long part.tokens ≡ false → part.whole ≡ true → ¬ (part.tokens ≡ []) → ((item : Item) → ¬ (ItemRead imports part.tokens item))
+  too_long : is_long part.tokens ≡ true
+      → PartRead imports part (Err (TooLong (first_line part.before part.tokens)))
+  not_whole : is_long part.tokens ≡ false → part.whole ≡ false
       → PartRead imports part (Err (Syntax (first_line part.before part.tokens)))
-  item : (found : Item) → is_long part.tokens ≡ false → part.whole ≡ true → ItemRead imports part.tokens found → PartRead imports part (Ok found)
+  no_item : is_long part.tokens ≡ false → part.whole ≡ true → ¬ (part.tokens ≡ [])
+      → ((item : Item) → ¬ (ItemRead imports part.tokens item))
+      → PartRead imports part (Err (Syntax (first_line part.before part.tokens)))
+  item : (found : Item) → is_long part.tokens ≡ false → part.whole ≡ true
+      → ItemRead imports part.tokens found → PartRead imports part (Ok found)
 
 -- whether an import may stand behind an item, where one may stand before it
 abbrev pub imports_behind : Bool → Item → Bool
@@ -157,31 +172,46 @@ imports_behind imports _ = false
 -- What parts are read as: the items of all that aren't empty, or the first fault.
 pub data PartsRead : Bool → List Part → Result (List Item) Fault → Type 0 where
   no_part : (imports : Bool) → PartsRead imports [] (Ok [])
-  empty : (imports : Bool) (part : Part) (others : List Part) (outcome : Result (List Item) Fault) → part.whole ≡ true → part.tokens ≡ []
+  empty : (imports : Bool) (part : Part) (others : List Part) (outcome : Result (List Item) Fault)
+      → part.whole ≡ true → part.tokens ≡ []
       → PartsRead imports others outcome → PartsRead imports (part ∷ others) outcome
-  fault : (imports : Bool) (part : Part) (others : List Part) (fault : Fault) → PartRead imports part (Err fault) → PartsRead imports (part ∷ others) (Err fault)
-  item : (imports : Bool) (part : Part) (others : List Part) (item : Item) (items : List Item) → PartRead imports part (Ok item)
-      → PartsRead (imports_behind imports item) others (Ok items) → PartsRead imports (part ∷ others) (Ok (item ∷ items))
-  later_fault : (imports : Bool) (part : Part) (others : List Part) (item : Item) (fault : Fault) → PartRead imports part (Ok item)
-      → PartsRead (imports_behind imports item) others (Err fault) → PartsRead imports (part ∷ others) (Err fault)
+  fault : (imports : Bool) (part : Part) (others : List Part) (fault : Fault)
+      → PartRead imports part (Err fault) → PartsRead imports (part ∷ others) (Err fault)
+  item : (imports : Bool) (part : Part) (others : List Part) (item : Item) (items : List Item)
+      → PartRead imports part (Ok item)
+      → PartsRead (imports_behind imports item) others (Ok items)
+      → PartsRead imports (part ∷ others) (Ok (item ∷ items))
+  later_fault : (imports : Bool) (part : Part) (others : List Part) (item : Item) (fault : Fault)
+      → PartRead imports part (Ok item)
+      → PartsRead (imports_behind imports item) others (Err fault)
+      → PartsRead imports (part ∷ others) (Err fault)
 
 -- what stands before the block is read as
 pub data HeaderRead : List Lexeme → Option Header → Type 0 where
   no_header : HeaderRead [] None
-  header : (tokens : List Lexeme) (tree : ParseTree Lexeme) → ¬ (tokens ≡ []) → Has symbol.Header tokens tree → HeaderRead tokens (Some (header_of tree))
+  header : (tokens : List Lexeme) (tree : ParseTree Lexeme) → ¬ (tokens ≡ [])
+      → Has symbol.Header tokens tree → HeaderRead tokens (Some (header_of tree))
 
 -- what the tokens of a module are read as
 pub data ModuleRead (tokens : List Lexeme) : Result Module Fault → Type 0 where
   no_block : (front 1 tokens).block ≡ None → ModuleRead tokens (Err (Syntax 1))
-  wrong_header : ¬ ((front 1 tokens).header ≡ []) → HasNone symbol.Header (front 1 tokens).header → ModuleRead tokens (Err (Syntax 1))
-  wrong_item : (block : List Lexeme) (found : Option Header) (fault : Fault) → (front 1 tokens).block ≡ Some block
-      → HeaderRead (front 1 tokens).header found → PartsRead true (parts (front 1 tokens).last block) (Err fault) → ModuleRead tokens (Err fault)
-  right : (block : List Lexeme) (found : Option Header) (items : List Item) → (front 1 tokens).block ≡ Some block
-      → HeaderRead (front 1 tokens).header found → PartsRead true (parts (front 1 tokens).last block) (Ok items)
+  wrong_header : ¬ ((front 1 tokens).header ≡ []) → HasNone symbol.Header (front 1 tokens).header
+      → ModuleRead tokens (Err (Syntax 1))
+  wrong_item : (block : List Lexeme) (found : Option Header) (fault : Fault)
+      → (front 1 tokens).block ≡ Some block
+      → HeaderRead (front 1 tokens).header found
+      → PartsRead true (parts (front 1 tokens).last block) (Err fault)
+      → ModuleRead tokens (Err fault)
+  right : (block : List Lexeme) (found : Option Header) (items : List Item)
+      → (front 1 tokens).block ≡ Some block
+      → HeaderRead (front 1 tokens).header found
+      → PartsRead true (parts (front 1 tokens).last block) (Ok items)
       → ModuleRead tokens (Ok (record { header = found; items = items }))
 
 -- what the tokens of a goal are read as
 pub data GoalRead (tokens : List Lexeme) : Result Goal Fault → Type 0 where
   too_long : is_long tokens ≡ true → GoalRead tokens (Err (TooLong (first_line 1 tokens)))
-  no_tree : is_long tokens ≡ false → HasNone symbol.Goal tokens → GoalRead tokens (Err (Syntax (first_line 1 tokens)))
-  right : (tree : ParseTree Lexeme) → is_long tokens ≡ false → Has symbol.Goal tokens tree → GoalRead tokens (Ok (goal_of tree))
+  no_tree : is_long tokens ≡ false → HasNone symbol.Goal tokens
+      → GoalRead tokens (Err (Syntax (first_line 1 tokens)))
+  right : (tree : ParseTree Lexeme) → is_long tokens ≡ false → Has symbol.Goal tokens tree
+      → GoalRead tokens (Ok (goal_of tree))

@@ -44,7 +44,9 @@ patterns_meaning names ps = patterns_from (map (pattern_meaning names) ps)
 
 -- an operator and its right operand before others
 abbrev pub with_item : List (List ℕ) → ConstructorItem → syntax.PatternRest → syntax.PatternRest
-with_item names item rest = syntax.ThenConstructor (name_meaning names item.operator) (pattern_meaning names item.operand) rest
+with_item names item rest =
+    syntax.ThenConstructor (name_meaning names item.operator)
+    (pattern_meaning names item.operand) rest
 
 abbrev pub rest_meaning : List (List ℕ) → List ConstructorItem → syntax.PatternRest
 rest_meaning names [] = syntax.NoConstructor
@@ -55,16 +57,25 @@ rest_of (Parts trees) = pattern_rest trees
 rest_of _ = syntax.NoConstructor
 
 abbrev pub pat_items_meaning : List (List ℕ) → PatItems → syntax.Pattern
-pat_items_meaning names items = syntax.PatternOperators (position_of items.place) (pattern_meaning names items.first) (rest_meaning names items.rest.items)
+pat_items_meaning names items =
+    syntax.PatternOperators (position_of items.place) (pattern_meaning names items.first)
+    (rest_meaning names items.rest.items)
 
 -- what a node says of its pattern
 abbrev pub pattern_node : List (List ℕ) → PatternNode → syntax.Pattern
 pattern_node names (node.Variable name) = syntax.PatternVariable (name_meaning names name)
-pattern_node names (node.Alias name inner) = syntax.As (name_meaning names name) (pattern_meaning names inner)
+pattern_node names (node.Alias name inner) =
+    syntax.As (name_meaning names name) (pattern_meaning names inner)
 pattern_node names (node.Wildcard at) = syntax.Wildcard (position_of at)
-pattern_node names (node.Literal at found) = syntax.PatternLiteral (position_of at) (literal_meaning found)
-pattern_node names (node.Negative at n) = syntax.PatternLiteral (position_of at) (syntax.Int (neg_ℤ n))
-pattern_node names (node.Constructed at name arguments) = syntax.Constructed (position_of at) (name_meaning names name) (patterns_meaning names arguments.items)
-pattern_node names (node.Tuple at components) = syntax.PatternTuple (position_of at) (patterns_meaning names components.items)
-pattern_node names (node.List at elements) = syntax.PatternList (position_of at) (patterns_meaning names elements.items)
+pattern_node names (node.Literal at found) =
+    syntax.PatternLiteral (position_of at) (literal_meaning found)
+pattern_node names (node.Negative at n) =
+    syntax.PatternLiteral (position_of at) (syntax.Int (neg_ℤ n))
+pattern_node names (node.Constructed at name arguments) =
+    syntax.Constructed (position_of at) (name_meaning names name)
+    (patterns_meaning names arguments.items)
+pattern_node names (node.Tuple at components) =
+    syntax.PatternTuple (position_of at) (patterns_meaning names components.items)
+pattern_node names (node.List at elements) =
+    syntax.PatternList (position_of at) (patterns_meaning names elements.items)
 pattern_node names (node.Operators items) = pat_items_meaning names items

@@ -14,11 +14,17 @@ last_line before (token ∷ tokens) = last_line (after before token) tokens
 -- the number of the first brace that opens
 abbrev pub first_open : List Lexeme → Option ℕ
 first_open [] = None
-first_open (token ∷ tokens) = if opens token.what then Some 0 else option_map suc (first_open tokens)
+first_open (token ∷ tokens) = if opens token.what then Some 0
+    else option_map suc (first_open tokens)
 
 -- the front of a module whose first brace has this number
 abbrev pub front_to : ℕ → List Lexeme → Option ℕ → Front
-front_to last tokens (Some n) = record { header = take n tokens; last = last_line last (take (n + 1) tokens); block = Some (drop (n + 1) tokens) }
+front_to last tokens (Some n) =
+    record {
+      header = take n tokens;
+      last = last_line last (take (n + 1) tokens);
+      block = Some (drop (n + 1) tokens);
+    }
 front_to last tokens None = record { header = tokens; last = last_line last tokens; block = None }
 
 -- the end of a part, so many tokens further on
@@ -38,9 +44,17 @@ part_end depth (token ∷ tokens) =
 -- what is left of a block whose first part has this end
 abbrev pub split_to : ℕ → List Lexeme → PartEnd → Split
 split_to last tokens (end.Separator n) =
-    record { first = take n tokens; whole = true; others = parts (last_line last (take (n + 1) tokens)) (drop (n + 1) tokens) }
+    record {
+      first = take n tokens;
+      whole = true;
+      others = parts (last_line last (take (n + 1) tokens)) (drop (n + 1) tokens);
+    }
 split_to last tokens (end.Close n) =
-    record { first = take n tokens; whole = true; others = behind (last_line last (take (n + 1) tokens)) (drop (n + 1) tokens) }
+    record {
+      first = take n tokens;
+      whole = true;
+      others = behind (last_line last (take (n + 1) tokens)) (drop (n + 1) tokens);
+    }
 split_to last tokens end.Missing = record { first = tokens; whole = false; others = [] }
 
 -- the tokens of an end are among so many

@@ -1,6 +1,6 @@
--- How large views are, and that what a view tells is smaller than the view. A function over views takes the size of its view as its
--- measure, and over a slice the largest size of an element: `2 * size` and `2 * most size + 1`. Names don't count, so sizes are taken
--- under a table without names.
+-- How large views are, and that what a view tells is smaller than the view. A function over views
+-- takes the size of its view as its measure, and over a slice the largest size of an element: `2 *
+-- size` and `2 * most size + 1`. Names don't count, so sizes are taken under a table without names.
 use Rattle.std.specs.Prelude.{ℕ, ◌+◌, ◌<◌, [], Option, None, Some}
 use denote.Param.Weighed.{most}
 use Rattle.cu_syntax.specs.declared.declarations.Body.{Body}
@@ -90,38 +90,52 @@ body_size (body.Guarded guards) = 1 + most guard_size guards.items
 abbrev pub TypeNodeIsBelow : ℕ → TypeNode → Type 0
 TypeNodeIsBelow n (type_term.Variable name) = Unit {0}
 TypeNodeIsBelow n (type_term.Named name arguments) = most type_size arguments.items < n
-TypeNodeIsBelow n (type_term.Function first further result) = (type_size first < n) × (most type_size further.items < n) × (type_size result < n)
+TypeNodeIsBelow n (type_term.Function first further result) =
+    (type_size first < n) × (most type_size further.items < n) × (type_size result < n)
 TypeNodeIsBelow n (type_term.Tuple place components) = most type_size components.items < n
 TypeNodeIsBelow n (type_term.List place element) = type_size element < n
 
 abbrev pub PatternNodeIsBelow : ℕ → PatternNode → Type 0
 PatternNodeIsBelow n (pattern.Alias name inner) = pattern_size inner < n
-PatternNodeIsBelow n (pattern.Constructed place name arguments) = most pattern_size arguments.items < n
+PatternNodeIsBelow n (pattern.Constructed place name arguments) =
+    most pattern_size arguments.items < n
 PatternNodeIsBelow n (pattern.Tuple place components) = most pattern_size components.items < n
 PatternNodeIsBelow n (pattern.List place elements) = most pattern_size elements.items < n
 PatternNodeIsBelow n (pattern.Operators items) = pat_items_size items < n
 PatternNodeIsBelow n _ = Unit {0}
 
 abbrev pub ExpressionNodeIsBelow : ℕ → ExpressionNode → Type 0
-ExpressionNodeIsBelow n (expression.Application place function arguments) = (expression_size function < n) × (most expression_size arguments.items < n)
+ExpressionNodeIsBelow n (expression.Application place function arguments) =
+    (expression_size function < n) × (most expression_size arguments.items < n)
 ExpressionNodeIsBelow n (expression.Operators items) = items_size items < n
-ExpressionNodeIsBelow n (expression.Lambda place parameters inner) = (most pattern_size parameters.items < n) × (expression_size inner < n)
-ExpressionNodeIsBelow n (expression.Let place local inner) = (most declaration_size local.items < n) × (expression_size inner < n)
-ExpressionNodeIsBelow n (expression.If place condition chosen other) = (expression_size condition < n) × (expression_size chosen < n) × (expression_size other < n)
-ExpressionNodeIsBelow n (expression.Case place word subject alternatives) = (expression_size subject < n) × (most alternative_size alternatives.items < n)
-ExpressionNodeIsBelow n (expression.Tuple place components) = most expression_size components.items < n
-ExpressionNodeIsBelow n (expression.LeftSection place operand operator) = expression_size operand < n
-ExpressionNodeIsBelow n (expression.RightSection place operator operand) = expression_size operand < n
+ExpressionNodeIsBelow n (expression.Lambda place parameters inner) =
+    (most pattern_size parameters.items < n) × (expression_size inner < n)
+ExpressionNodeIsBelow n (expression.Let place local inner) =
+    (most declaration_size local.items < n) × (expression_size inner < n)
+ExpressionNodeIsBelow n (expression.If place condition chosen other) =
+    (expression_size condition < n) × (expression_size chosen < n) × (expression_size other < n)
+ExpressionNodeIsBelow n (expression.Case place word subject alternatives) =
+    (expression_size subject < n) × (most alternative_size alternatives.items < n)
+ExpressionNodeIsBelow n (expression.Tuple place components) =
+    most expression_size components.items < n
+ExpressionNodeIsBelow n (expression.LeftSection place operand operator) =
+    expression_size operand < n
+ExpressionNodeIsBelow n (expression.RightSection place operator operand) =
+    expression_size operand < n
 ExpressionNodeIsBelow n (expression.List place elements) = most expression_size elements.items < n
 ExpressionNodeIsBelow n (expression.Enumeration place numbers) = enumeration_size numbers < n
-ExpressionNodeIsBelow n (expression.Comprehension place element qualifiers) = (expression_size element < n) × (most qualifier_size qualifiers.items < n)
+ExpressionNodeIsBelow n (expression.Comprehension place element qualifiers) =
+    (expression_size element < n) × (most qualifier_size qualifiers.items < n)
 ExpressionNodeIsBelow n _ = Unit {0}
 
 abbrev pub DeclarationNodeIsBelow : ℕ → DeclarationNode → Type 0
 DeclarationNodeIsBelow n (declaration.FreeVariables place variables) = Unit {0}
 DeclarationNodeIsBelow n (declaration.Signature place functions term) = type_size term < n
-DeclarationNodeIsBelow n (declaration.FunctionRule place name parameters right) = (most pattern_size parameters.items < n) × (right_size right < n)
-DeclarationNodeIsBelow n (declaration.PatternBinding place p right) = (pattern_size p < n) × (right_size right < n)
+DeclarationNodeIsBelow n (declaration.FunctionRule place name parameters right) =
+    (most pattern_size parameters.items < n) × (right_size right < n)
+DeclarationNodeIsBelow n (declaration.PatternBinding place p right) =
+    (pattern_size p < n) × (right_size right < n)
 
 abbrev pub RightNodeIsBelow : ℕ → RightSideNode → Type 0
-RightNodeIsBelow n right = (body_size right.body < n) × (most declaration_size right.local.items < n)
+RightNodeIsBelow n right = (body_size right.body < n)
+    × (most declaration_size right.local.items < n)

@@ -1,4 +1,5 @@
--- What parts of the trees that the parsers give stand for, and how they lie in the trees around them.
+-- What parts of the trees that the parsers give stand for, and how they lie in the trees around
+-- them.
 use Rattle.std.specs.Prelude.{◌≡◌, ℕ, zero, suc, Bool, true, false, List, [], ◌∷◌, Option, None, Some, is_none, is_some, slice_get}
 use Rattle.std.specs.List.{list_all}
 use Rattle.cu_lex.specs.Tokens.{Lexeme}
@@ -106,7 +107,8 @@ pub record Takes (s : Symbol) (tree : Tree) (chosen : Symbol) (inner : Tree) : T
   pub is : tree ≡ Chosen number inner
   pub symbol : alternative s number ≡ chosen
 
--- Whether a symbol's trees have a token. The parts of a block, and the constructors of a type that are named, may all be missing.
+-- Whether a symbol's trees have a token. The parts of a block, and the constructors of a type that
+-- are named, may all be missing.
 abbrev pub is_required : Symbol → Bool
 is_required p = is_none (optional_part (rule_of p))
 

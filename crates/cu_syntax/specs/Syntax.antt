@@ -1,13 +1,13 @@
--- The syntax of Curry modules and goals (Curry Report, "Lexical structure" and "Context-free syntax") as trees. Names are texts. A
--- node has the place of its first token, unless it begins with the token of its name. Parentheses round one thing alone leave no
--- node.
+-- The syntax of Curry modules and goals (Curry Report, "Lexical structure" and "Context-free
+-- syntax") as trees. Names are texts. A node has the place of its first token, unless it begins
+-- with the token of its name. Parentheses round one thing alone leave no node.
 use Rattle.std.specs.Prelude.{ℕ, ℤ, Bool, List, Option}
 use Rattle.cu_lex.specs.Located.{Position}
 use Rattle.cu_syntax.specs.declared.expressions.CaseWord.{CaseWord}
 use Rattle.cu_syntax.specs.declared.items.Side.{Side}
 
--- A name or an operator where it stands: its text, the qualifier in it, if it has one, the text without that, and the place of its
--- token, inside the parentheses or backquotes round it.
+-- A name or an operator where it stands: its text, the qualifier in it, if it has one, the text
+-- without that, and the place of its token, inside the parentheses or backquotes round it.
 pub record Name : Type 0 where
   pub text : List ℕ
   pub qualifier : Option (List ℕ)
@@ -67,8 +67,8 @@ mutual
     LiteralExpression : Position → Literal → Expression
     -- an expression on one argument or more
     Application : Position → Expression → Expressions → Expression
-    -- The place of a minus before the first operand, if there is one, the operand, and operators with the other operands, not
-    -- grouped. There is a minus or an operator.
+    -- The place of a minus before the first operand, if there is one, the operand, and operators
+    -- with the other operands, not grouped. There is a minus or an operator.
     Operators : Position → Option Position → Expression → OperatorRest → Expression
     Lambda : Position → Patterns → Expression → Expression
     Let : Position → Declarations → Expression → Expression
@@ -81,7 +81,8 @@ mutual
     LeftSection : Position → Expression → Name → Expression
     RightSection : Position → Name → Expression → Expression
     ListOf : Position → Expressions → Expression
-    -- from the first number, by the step to the second, if it is there, and up to the last, if it is there
+    -- from the first number, by the step to the second, if it is there, and up to the last, if it
+    -- is there
     Enumeration : Position → Expression → MaybeExpression → MaybeExpression → Expression
     Comprehension : Position → Expression → Qualifiers → Expression
 
@@ -186,7 +187,8 @@ pub record Goal : Type 0 where
   pub expression : Expression
   pub free : List Name
 
--- The place of a thing is that of its first token. Parentheses round the whole of it aren't its own.
+-- The place of a thing is that of its first token. Parentheses round the whole of it aren't its
+-- own.
 
 abbrev pub type_position : TypeTerm → Position
 type_position (TypeVariable name) = name.at

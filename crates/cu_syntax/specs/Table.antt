@@ -1,5 +1,5 @@
--- The grammar of Curry modules and goals (Curry Report, "Context-free syntax"), as a parsing expression grammar: a rule for each
--- symbol.
+-- The grammar of Curry modules and goals (Curry Report, "Context-free syntax"), as a parsing
+-- expression grammar: a rule for each symbol.
 use Rattle.std.specs.Prelude.{ℕ, zero, suc, List, [], ◌∷◌, ◌++◌, map, slice_get, unwrap_or}
 use Rattle.cu_lex.specs.declared.token.Keyword.TheVariants as keyword
 use Rattle.cu_lex.specs.declared.token.Mark.TheVariants as mark
@@ -105,19 +105,25 @@ rule_of symbol.QuotedQCon = Sequence (symbol.Backquote ∷ symbol.QConId ∷ sym
 rule_of symbol.Op = Choice (symbol.VarOp ∷ symbol.ConOp ∷ [])
 rule_of symbol.QOp = Choice (symbol.QVarOp ∷ symbol.QConOp ∷ [])
 rule_of symbol.Var = Choice (symbol.VarId ∷ symbol.ParenthesizedVarOp ∷ [])
-rule_of symbol.ParenthesizedVarOp = Sequence (symbol.OpenParen ∷ symbol.VarOp ∷ symbol.CloseParen ∷ [])
+rule_of symbol.ParenthesizedVarOp =
+    Sequence (symbol.OpenParen ∷ symbol.VarOp ∷ symbol.CloseParen ∷ [])
 rule_of symbol.Con = Choice (symbol.ConId ∷ symbol.ParenthesizedConOp ∷ [])
-rule_of symbol.ParenthesizedConOp = Sequence (symbol.OpenParen ∷ symbol.ConOp ∷ symbol.CloseParen ∷ [])
+rule_of symbol.ParenthesizedConOp =
+    Sequence (symbol.OpenParen ∷ symbol.ConOp ∷ symbol.CloseParen ∷ [])
 rule_of symbol.QVar = Choice (symbol.QVarId ∷ symbol.ParenthesizedQVarOp ∷ [])
-rule_of symbol.ParenthesizedQVarOp = Sequence (symbol.OpenParen ∷ symbol.QVarOp ∷ symbol.CloseParen ∷ [])
+rule_of symbol.ParenthesizedQVarOp =
+    Sequence (symbol.OpenParen ∷ symbol.QVarOp ∷ symbol.CloseParen ∷ [])
 rule_of symbol.QCon = Choice (symbol.QConId ∷ symbol.ParenthesizedQConOp ∷ [])
-rule_of symbol.ParenthesizedQConOp = Sequence (symbol.OpenParen ∷ symbol.QConOp ∷ symbol.CloseParen ∷ [])
+rule_of symbol.ParenthesizedQConOp =
+    Sequence (symbol.OpenParen ∷ symbol.QConOp ∷ symbol.CloseParen ∷ [])
 rule_of symbol.Literal = Choice (symbol.Int ∷ symbol.Char ∷ symbol.String ∷ [])
 -- headers and imports
-rule_of symbol.Header = Sequence (symbol.Module ∷ symbol.ModuleName ∷ symbol.OptionalExports ∷ symbol.Where ∷ [])
+rule_of symbol.Header =
+    Sequence (symbol.Module ∷ symbol.ModuleName ∷ symbol.OptionalExports ∷ symbol.Where ∷ [])
 rule_of symbol.ModuleName = Choice (symbol.VarId ∷ symbol.QConId ∷ [])
 rule_of symbol.OptionalExports = Optional symbol.Exports
-rule_of symbol.Exports = Sequence (symbol.OpenParen ∷ symbol.OptionalExportList ∷ symbol.CloseParen ∷ [])
+rule_of symbol.Exports =
+    Sequence (symbol.OpenParen ∷ symbol.OptionalExportList ∷ symbol.CloseParen ∷ [])
 rule_of symbol.OptionalExportList = Optional symbol.ExportList
 rule_of symbol.ExportList = SeparatedBy symbol.Export symbol.Comma
 rule_of symbol.Export = Choice (symbol.ModuleExport ∷ symbol.Entity ∷ [])
@@ -125,26 +131,34 @@ rule_of symbol.ModuleExport = Sequence (symbol.Module ∷ symbol.ModuleName ∷ 
 rule_of symbol.Entity = Choice (symbol.QVar ∷ symbol.TypeEntity ∷ [])
 rule_of symbol.TypeEntity = Sequence (symbol.QCon ∷ symbol.OptionalConstructors ∷ [])
 rule_of symbol.OptionalConstructors = Optional symbol.Constructors
-rule_of symbol.Constructors = Sequence (symbol.OpenParen ∷ symbol.ConstructorNames ∷ symbol.CloseParen ∷ [])
+rule_of symbol.Constructors =
+    Sequence (symbol.OpenParen ∷ symbol.ConstructorNames ∷ symbol.CloseParen ∷ [])
 rule_of symbol.ConstructorNames = Choice (symbol.DotDot ∷ symbol.OptionalConstructorList ∷ [])
 rule_of symbol.OptionalConstructorList = Optional symbol.ConstructorList
 rule_of symbol.ConstructorList = SeparatedBy symbol.Con symbol.Comma
-rule_of symbol.ImportDecl = Sequence (symbol.Import ∷ symbol.OptionalQualified ∷ symbol.ModuleName ∷ symbol.OptionalAlias ∷ symbol.OptionalImports ∷ [])
+rule_of symbol.ImportDecl =
+    Sequence (symbol.Import ∷ symbol.OptionalQualified ∷ symbol.ModuleName ∷ symbol.OptionalAlias
+    ∷ symbol.OptionalImports ∷ [])
 rule_of symbol.OptionalQualified = Optional symbol.Qualified
 rule_of symbol.OptionalAlias = Optional symbol.Alias
 rule_of symbol.Alias = Sequence (symbol.As ∷ symbol.ModuleName ∷ [])
 rule_of symbol.OptionalImports = Optional symbol.Imports
-rule_of symbol.Imports = Sequence (symbol.OptionalHiding ∷ symbol.OpenParen ∷ symbol.OptionalEntityList ∷ symbol.CloseParen ∷ [])
+rule_of symbol.Imports =
+    Sequence (symbol.OptionalHiding ∷ symbol.OpenParen ∷ symbol.OptionalEntityList
+    ∷ symbol.CloseParen ∷ [])
 rule_of symbol.OptionalHiding = Optional symbol.Hiding
 rule_of symbol.OptionalEntityList = Optional symbol.EntityList
 rule_of symbol.EntityList = SeparatedBy symbol.Entity symbol.Comma
 -- declarations of a module
-rule_of symbol.Item = Choice (symbol.FixityDecl ∷ symbol.DataDecl ∷ symbol.SynonymDecl ∷ symbol.Signature ∷ symbol.TopRule ∷ [])
+rule_of symbol.Item =
+    Choice (symbol.FixityDecl ∷ symbol.DataDecl ∷ symbol.SynonymDecl ∷ symbol.Signature
+    ∷ symbol.TopRule ∷ [])
 rule_of symbol.FixityDecl = Sequence (symbol.FixityWord ∷ symbol.OptionalDigit ∷ symbol.OpList ∷ [])
 rule_of symbol.FixityWord = Choice (symbol.Infixl ∷ symbol.Infixr ∷ symbol.Infix ∷ [])
 rule_of symbol.OptionalDigit = Optional symbol.Digit
 rule_of symbol.OpList = SeparatedBy symbol.Op symbol.Comma
-rule_of symbol.DataDecl = Sequence (symbol.DataWord ∷ symbol.ConId ∷ symbol.TypeVars ∷ symbol.OptionalConDecls ∷ [])
+rule_of symbol.DataDecl =
+    Sequence (symbol.DataWord ∷ symbol.ConId ∷ symbol.TypeVars ∷ symbol.OptionalConDecls ∷ [])
 rule_of symbol.DataWord = Choice (symbol.Data ∷ symbol.Newtype ∷ [])
 rule_of symbol.TypeVars = Many symbol.VarId
 rule_of symbol.OptionalConDecls = Optional symbol.ConDecls
@@ -154,7 +168,8 @@ rule_of symbol.ConDecl = Choice (symbol.InfixConDecl ∷ symbol.PrefixConDecl �
 rule_of symbol.InfixConDecl = Sequence (symbol.BType ∷ symbol.ConOp ∷ symbol.BType ∷ [])
 rule_of symbol.PrefixConDecl = Sequence (symbol.Con ∷ symbol.ATypes ∷ [])
 rule_of symbol.ATypes = Many symbol.AType
-rule_of symbol.SynonymDecl = Sequence (symbol.Type ∷ symbol.ConId ∷ symbol.TypeVars ∷ symbol.Equals ∷ symbol.TypeExp ∷ [])
+rule_of symbol.SynonymDecl =
+    Sequence (symbol.Type ∷ symbol.ConId ∷ symbol.TypeVars ∷ symbol.Equals ∷ symbol.TypeExp ∷ [])
 rule_of symbol.Signature = Sequence (symbol.VarList ∷ symbol.DoubleColon ∷ symbol.TypeExp ∷ [])
 rule_of symbol.VarList = SeparatedBy symbol.Var symbol.Comma
 -- types
@@ -162,9 +177,11 @@ rule_of symbol.TypeExp = SeparatedBy symbol.BType symbol.RightArrow
 rule_of symbol.BType = Choice (symbol.TypeApplication ∷ symbol.AType ∷ [])
 rule_of symbol.TypeApplication = Sequence (symbol.QConId ∷ symbol.TypeArguments ∷ [])
 rule_of symbol.TypeArguments = AtLeastOne symbol.AType
-rule_of symbol.AType = Choice (symbol.QConId ∷ symbol.VarId ∷ symbol.Unit ∷ symbol.TupleType ∷ symbol.ListType ∷ [])
+rule_of symbol.AType =
+    Choice (symbol.QConId ∷ symbol.VarId ∷ symbol.Unit ∷ symbol.TupleType ∷ symbol.ListType ∷ [])
 rule_of symbol.Unit = Sequence (symbol.OpenParen ∷ symbol.CloseParen ∷ [])
-rule_of symbol.TupleType = Sequence (symbol.OpenParen ∷ symbol.NoSixteenTypes ∷ symbol.TypeList ∷ symbol.CloseParen ∷ [])
+rule_of symbol.TupleType =
+    Sequence (symbol.OpenParen ∷ symbol.NoSixteenTypes ∷ symbol.TypeList ∷ symbol.CloseParen ∷ [])
 rule_of symbol.TypeList = SeparatedBy symbol.TypeExp symbol.Comma
 rule_of symbol.ListType = Sequence (symbol.OpenSquare ∷ symbol.TypeExp ∷ symbol.CloseSquare ∷ [])
 rule_of symbol.NoSixteenTypes = NotAhead symbol.SixteenTypes
@@ -172,10 +189,13 @@ rule_of symbol.SixteenTypes = Sequence (with_commas 15 symbol.TypeExp)
 -- rules and blocks
 rule_of symbol.TopRule = Sequence (symbol.FunctionLhs ∷ symbol.Rhs ∷ [])
 rule_of symbol.Rule = Sequence (symbol.Lhs ∷ symbol.Rhs ∷ [])
-rule_of symbol.FunctionLhs = Choice (symbol.InfixLhs ∷ symbol.ParenthesizedLhs ∷ symbol.PrefixLhs ∷ [])
-rule_of symbol.Lhs = Choice (symbol.InfixLhs ∷ symbol.ParenthesizedLhs ∷ symbol.PrefixLhs ∷ symbol.PatternLhs ∷ [])
+rule_of symbol.FunctionLhs =
+    Choice (symbol.InfixLhs ∷ symbol.ParenthesizedLhs ∷ symbol.PrefixLhs ∷ [])
+rule_of symbol.Lhs =
+    Choice (symbol.InfixLhs ∷ symbol.ParenthesizedLhs ∷ symbol.PrefixLhs ∷ symbol.PatternLhs ∷ [])
 rule_of symbol.InfixLhs = Sequence (symbol.Pat ∷ symbol.VarOp ∷ symbol.Pat ∷ [])
-rule_of symbol.ParenthesizedLhs = Sequence (symbol.OpenParen ∷ symbol.Lhs ∷ symbol.CloseParen ∷ symbol.PatArguments ∷ [])
+rule_of symbol.ParenthesizedLhs =
+    Sequence (symbol.OpenParen ∷ symbol.Lhs ∷ symbol.CloseParen ∷ symbol.PatArguments ∷ [])
 rule_of symbol.PrefixLhs = Sequence (symbol.Var ∷ symbol.APats ∷ symbol.RhsAhead ∷ [])
 rule_of symbol.APats = Many symbol.APat
 rule_of symbol.RhsAhead = Ahead symbol.RhsStart
@@ -200,11 +220,16 @@ rule_of symbol.Exp = Sequence (symbol.OptionalMinus ∷ symbol.Operand ∷ symbo
 rule_of symbol.OptionalMinus = Optional symbol.Minus
 rule_of symbol.FurtherOperands = Many symbol.FurtherOperand
 rule_of symbol.FurtherOperand = Sequence (symbol.QOp ∷ symbol.OptionalMinus ∷ symbol.Operand ∷ [])
-rule_of symbol.Operand = Choice (symbol.Lambda ∷ symbol.LetExp ∷ symbol.IfExp ∷ symbol.CaseExp ∷ symbol.Application ∷ [])
-rule_of symbol.Lambda = Sequence (symbol.Backslash ∷ symbol.PatArguments ∷ symbol.RightArrow ∷ symbol.Exp ∷ [])
+rule_of symbol.Operand =
+    Choice (symbol.Lambda ∷ symbol.LetExp ∷ symbol.IfExp ∷ symbol.CaseExp ∷ symbol.Application ∷ [])
+rule_of symbol.Lambda =
+    Sequence (symbol.Backslash ∷ symbol.PatArguments ∷ symbol.RightArrow ∷ symbol.Exp ∷ [])
 rule_of symbol.LetExp = Sequence (symbol.Let ∷ symbol.Block ∷ symbol.In ∷ symbol.Exp ∷ [])
-rule_of symbol.IfExp = Sequence (symbol.If ∷ symbol.Exp ∷ symbol.Then ∷ symbol.Exp ∷ symbol.Else ∷ symbol.Exp ∷ [])
-rule_of symbol.CaseExp = Sequence (symbol.CaseWord ∷ symbol.Exp ∷ symbol.Of ∷ symbol.OpenBrace ∷ symbol.AltList ∷ symbol.CloseBrace ∷ [])
+rule_of symbol.IfExp =
+    Sequence (symbol.If ∷ symbol.Exp ∷ symbol.Then ∷ symbol.Exp ∷ symbol.Else ∷ symbol.Exp ∷ [])
+rule_of symbol.CaseExp =
+    Sequence (symbol.CaseWord ∷ symbol.Exp ∷ symbol.Of ∷ symbol.OpenBrace ∷ symbol.AltList
+    ∷ symbol.CloseBrace ∷ [])
 rule_of symbol.CaseWord = Choice (symbol.Case ∷ symbol.Fcase ∷ [])
 rule_of symbol.AltList = SeparatedBy symbol.OptionalAlt symbol.Semicolon
 rule_of symbol.OptionalAlt = Optional symbol.Alt
@@ -214,23 +239,36 @@ rule_of symbol.AltBody = Choice (symbol.PlainAlt ∷ symbol.GuardedAlts ∷ [])
 rule_of symbol.PlainAlt = Sequence (symbol.RightArrow ∷ symbol.Exp ∷ [])
 rule_of symbol.GuardedAlts = AtLeastOne symbol.GuardedAlt
 rule_of symbol.GuardedAlt = Sequence (symbol.Bar ∷ symbol.Exp ∷ symbol.RightArrow ∷ symbol.Exp ∷ [])
-rule_of symbol.Atom = Choice (symbol.Literal ∷ symbol.QVar ∷ symbol.QCon ∷ symbol.Unit ∷ symbol.TupleCon ∷ symbol.RightSection ∷ symbol.LeftSection ∷ symbol.Tuple ∷ symbol.EmptyList ∷ symbol.FromThen ∷ symbol.From ∷ symbol.Comprehension ∷ symbol.ListExp ∷ [])
-rule_of symbol.TupleCon = Sequence (symbol.OpenParen ∷ symbol.NoFifteenCommas ∷ symbol.Commas ∷ symbol.CloseParen ∷ [])
+rule_of symbol.Atom =
+    Choice (symbol.Literal ∷ symbol.QVar ∷ symbol.QCon ∷ symbol.Unit ∷ symbol.TupleCon
+    ∷ symbol.RightSection ∷ symbol.LeftSection ∷ symbol.Tuple ∷ symbol.EmptyList
+    ∷ symbol.FromThen ∷ symbol.From ∷ symbol.Comprehension ∷ symbol.ListExp ∷ [])
+rule_of symbol.TupleCon =
+    Sequence (symbol.OpenParen ∷ symbol.NoFifteenCommas ∷ symbol.Commas ∷ symbol.CloseParen ∷ [])
 rule_of symbol.Commas = AtLeastOne symbol.Comma
 rule_of symbol.NoFifteenCommas = NotAhead symbol.FifteenCommas
 rule_of symbol.FifteenCommas = Sequence (commas 15)
-rule_of symbol.RightSection = Sequence (symbol.OpenParen ∷ symbol.NoMinus ∷ symbol.QOp ∷ symbol.Exp ∷ symbol.CloseParen ∷ [])
+rule_of symbol.RightSection =
+    Sequence (symbol.OpenParen ∷ symbol.NoMinus ∷ symbol.QOp ∷ symbol.Exp ∷ symbol.CloseParen ∷ [])
 rule_of symbol.NoMinus = NotAhead symbol.Minus
-rule_of symbol.LeftSection = Sequence (symbol.OpenParen ∷ symbol.Exp ∷ symbol.QOp ∷ symbol.CloseParen ∷ [])
-rule_of symbol.Tuple = Sequence (symbol.OpenParen ∷ symbol.NoSixteenExps ∷ symbol.ExpList ∷ symbol.CloseParen ∷ [])
+rule_of symbol.LeftSection =
+    Sequence (symbol.OpenParen ∷ symbol.Exp ∷ symbol.QOp ∷ symbol.CloseParen ∷ [])
+rule_of symbol.Tuple =
+    Sequence (symbol.OpenParen ∷ symbol.NoSixteenExps ∷ symbol.ExpList ∷ symbol.CloseParen ∷ [])
 rule_of symbol.ExpList = SeparatedBy symbol.Exp symbol.Comma
 rule_of symbol.NoSixteenExps = NotAhead symbol.SixteenExps
 rule_of symbol.SixteenExps = Sequence (with_commas 15 symbol.Exp)
 rule_of symbol.EmptyList = Sequence (symbol.OpenSquare ∷ symbol.CloseSquare ∷ [])
-rule_of symbol.FromThen = Sequence (symbol.OpenSquare ∷ symbol.Exp ∷ symbol.Comma ∷ symbol.Exp ∷ symbol.DotDot ∷ symbol.OptionalExp ∷ symbol.CloseSquare ∷ [])
-rule_of symbol.From = Sequence (symbol.OpenSquare ∷ symbol.Exp ∷ symbol.DotDot ∷ symbol.OptionalExp ∷ symbol.CloseSquare ∷ [])
+rule_of symbol.FromThen =
+    Sequence (symbol.OpenSquare ∷ symbol.Exp ∷ symbol.Comma ∷ symbol.Exp ∷ symbol.DotDot
+    ∷ symbol.OptionalExp ∷ symbol.CloseSquare ∷ [])
+rule_of symbol.From =
+    Sequence (symbol.OpenSquare ∷ symbol.Exp ∷ symbol.DotDot ∷ symbol.OptionalExp
+    ∷ symbol.CloseSquare ∷ [])
 rule_of symbol.OptionalExp = Optional symbol.Exp
-rule_of symbol.Comprehension = Sequence (symbol.OpenSquare ∷ symbol.Exp ∷ symbol.Bar ∷ symbol.QualList ∷ symbol.CloseSquare ∷ [])
+rule_of symbol.Comprehension =
+    Sequence (symbol.OpenSquare ∷ symbol.Exp ∷ symbol.Bar ∷ symbol.QualList ∷ symbol.CloseSquare
+    ∷ [])
 rule_of symbol.QualList = SeparatedBy symbol.Qual symbol.Comma
 rule_of symbol.ListExp = Sequence (symbol.OpenSquare ∷ symbol.ExpList ∷ symbol.CloseSquare ∷ [])
 rule_of symbol.Qual = Choice (symbol.Generator ∷ symbol.LetQual ∷ symbol.Exp ∷ [])
@@ -245,80 +283,115 @@ rule_of symbol.ConPat = Choice (symbol.NegativePat ∷ symbol.ConApplication ∷
 rule_of symbol.NegativePat = Sequence (symbol.Minus ∷ symbol.Int ∷ [])
 rule_of symbol.ConApplication = Sequence (symbol.QCon ∷ symbol.PatArguments ∷ [])
 rule_of symbol.PatArguments = AtLeastOne symbol.APat
-rule_of symbol.APat = Choice (symbol.AliasPat ∷ symbol.VarId ∷ symbol.Underscore ∷ symbol.Literal ∷ symbol.QCon ∷ symbol.Unit ∷ symbol.TuplePat ∷ symbol.ListPat ∷ [])
+rule_of symbol.APat =
+    Choice (symbol.AliasPat ∷ symbol.VarId ∷ symbol.Underscore ∷ symbol.Literal ∷ symbol.QCon
+    ∷ symbol.Unit ∷ symbol.TuplePat ∷ symbol.ListPat ∷ [])
 rule_of symbol.AliasPat = Sequence (symbol.VarId ∷ symbol.At ∷ symbol.APat ∷ [])
-rule_of symbol.TuplePat = Sequence (symbol.OpenParen ∷ symbol.NoSixteenPats ∷ symbol.PatList ∷ symbol.CloseParen ∷ [])
+rule_of symbol.TuplePat =
+    Sequence (symbol.OpenParen ∷ symbol.NoSixteenPats ∷ symbol.PatList ∷ symbol.CloseParen ∷ [])
 rule_of symbol.PatList = SeparatedBy symbol.Pat symbol.Comma
 rule_of symbol.NoSixteenPats = NotAhead symbol.SixteenPats
 rule_of symbol.SixteenPats = Sequence (with_commas 15 symbol.Pat)
-rule_of symbol.ListPat = Sequence (symbol.OpenSquare ∷ symbol.OptionalPatList ∷ symbol.CloseSquare ∷ [])
+rule_of symbol.ListPat =
+    Sequence (symbol.OpenSquare ∷ symbol.OptionalPatList ∷ symbol.CloseSquare ∷ [])
 rule_of symbol.OptionalPatList = Optional symbol.PatList
 -- goals
 rule_of symbol.Goal = Sequence (symbol.Exp ∷ symbol.OptionalGoalWhere ∷ [])
 rule_of symbol.OptionalGoalWhere = Optional symbol.GoalWhere
-rule_of symbol.GoalWhere = Sequence (symbol.Where ∷ symbol.OpenBrace ∷ symbol.FreeDeclList ∷ symbol.CloseBrace ∷ [])
+rule_of symbol.GoalWhere =
+    Sequence (symbol.Where ∷ symbol.OpenBrace ∷ symbol.FreeDeclList ∷ symbol.CloseBrace ∷ [])
 rule_of symbol.FreeDeclList = SeparatedBy symbol.FreeDecl symbol.Semicolon
 
 -- The symbols in the order of their numbers.
 abbrev pub tokens : List Symbol
 tokens =
-    symbol.VarId ∷ symbol.ConId ∷ symbol.VarSym ∷ symbol.ConSym ∷ symbol.QVarId ∷ symbol.QConId ∷ symbol.QVarSym ∷
-    symbol.QConSym ∷ symbol.Qualified ∷ symbol.As ∷ symbol.Hiding ∷ symbol.Minus ∷ symbol.Case ∷ symbol.Data ∷
-    symbol.Else ∷ symbol.Fcase ∷ symbol.Free ∷ symbol.If ∷ symbol.Import ∷ symbol.In ∷ symbol.Infix ∷ symbol.Infixl ∷
-    symbol.Infixr ∷ symbol.Let ∷ symbol.Module ∷ symbol.Newtype ∷ symbol.Of ∷ symbol.Then ∷ symbol.Type ∷ symbol.Where ∷
-    symbol.DotDot ∷ symbol.DoubleColon ∷ symbol.Equals ∷ symbol.Backslash ∷ symbol.Bar ∷ symbol.LeftArrow ∷
-    symbol.RightArrow ∷ symbol.At ∷ symbol.OpenParen ∷ symbol.CloseParen ∷ symbol.OpenSquare ∷ symbol.CloseSquare ∷
-    symbol.OpenBrace ∷ symbol.CloseBrace ∷ symbol.Comma ∷ symbol.Semicolon ∷ symbol.Backquote ∷ symbol.Underscore ∷
+    symbol.VarId ∷ symbol.ConId ∷ symbol.VarSym ∷ symbol.ConSym ∷ symbol.QVarId ∷ symbol.QConId
+    ∷ symbol.QVarSym ∷
+    symbol.QConSym ∷ symbol.Qualified ∷ symbol.As ∷ symbol.Hiding ∷ symbol.Minus ∷ symbol.Case
+    ∷ symbol.Data ∷
+    symbol.Else ∷ symbol.Fcase ∷ symbol.Free ∷ symbol.If ∷ symbol.Import ∷ symbol.In ∷ symbol.Infix
+    ∷ symbol.Infixl ∷
+    symbol.Infixr ∷ symbol.Let ∷ symbol.Module ∷ symbol.Newtype ∷ symbol.Of ∷ symbol.Then
+    ∷ symbol.Type ∷ symbol.Where ∷
+    symbol.DotDot ∷ symbol.DoubleColon ∷ symbol.Equals ∷ symbol.Backslash ∷ symbol.Bar
+    ∷ symbol.LeftArrow ∷
+    symbol.RightArrow ∷ symbol.At ∷ symbol.OpenParen ∷ symbol.CloseParen ∷ symbol.OpenSquare
+    ∷ symbol.CloseSquare ∷
+    symbol.OpenBrace ∷ symbol.CloseBrace ∷ symbol.Comma ∷ symbol.Semicolon ∷ symbol.Backquote
+    ∷ symbol.Underscore ∷
     symbol.Int ∷ symbol.Digit ∷ symbol.Char ∷ symbol.String ∷ []
 
 abbrev pub names : List Symbol
 names =
-    symbol.VarOp ∷ symbol.QuotedVar ∷ symbol.ConOp ∷ symbol.QuotedCon ∷ symbol.QVarOp ∷ symbol.QuotedQVar ∷
-    symbol.QConOp ∷ symbol.QuotedQCon ∷ symbol.Op ∷ symbol.QOp ∷ symbol.Var ∷ symbol.ParenthesizedVarOp ∷ symbol.Con ∷
-    symbol.ParenthesizedConOp ∷ symbol.QVar ∷ symbol.ParenthesizedQVarOp ∷ symbol.QCon ∷ symbol.ParenthesizedQConOp ∷
+    symbol.VarOp ∷ symbol.QuotedVar ∷ symbol.ConOp ∷ symbol.QuotedCon ∷ symbol.QVarOp
+    ∷ symbol.QuotedQVar ∷
+    symbol.QConOp ∷ symbol.QuotedQCon ∷ symbol.Op ∷ symbol.QOp ∷ symbol.Var
+    ∷ symbol.ParenthesizedVarOp ∷ symbol.Con ∷
+    symbol.ParenthesizedConOp ∷ symbol.QVar ∷ symbol.ParenthesizedQVarOp ∷ symbol.QCon
+    ∷ symbol.ParenthesizedQConOp ∷
     symbol.Literal ∷ []
 
 abbrev pub headers : List Symbol
 headers =
-    symbol.Header ∷ symbol.ModuleName ∷ symbol.OptionalExports ∷ symbol.Exports ∷ symbol.OptionalExportList ∷
+    symbol.Header ∷ symbol.ModuleName ∷ symbol.OptionalExports ∷ symbol.Exports
+    ∷ symbol.OptionalExportList ∷
     symbol.ExportList ∷ symbol.Export ∷ symbol.ModuleExport ∷ symbol.Entity ∷ symbol.TypeEntity ∷
-    symbol.OptionalConstructors ∷ symbol.Constructors ∷ symbol.ConstructorNames ∷ symbol.OptionalConstructorList ∷
-    symbol.ConstructorList ∷ symbol.ImportDecl ∷ symbol.OptionalQualified ∷ symbol.OptionalAlias ∷ symbol.Alias ∷
-    symbol.OptionalImports ∷ symbol.Imports ∷ symbol.OptionalHiding ∷ symbol.OptionalEntityList ∷ symbol.EntityList ∷ []
+    symbol.OptionalConstructors ∷ symbol.Constructors ∷ symbol.ConstructorNames
+    ∷ symbol.OptionalConstructorList ∷
+    symbol.ConstructorList ∷ symbol.ImportDecl ∷ symbol.OptionalQualified ∷ symbol.OptionalAlias
+    ∷ symbol.Alias ∷
+    symbol.OptionalImports ∷ symbol.Imports ∷ symbol.OptionalHiding ∷ symbol.OptionalEntityList
+    ∷ symbol.EntityList ∷ []
 
 abbrev pub declarations : List Symbol
 declarations =
-    symbol.Item ∷ symbol.FixityDecl ∷ symbol.FixityWord ∷ symbol.OptionalDigit ∷ symbol.OpList ∷ symbol.DataDecl ∷
-    symbol.DataWord ∷ symbol.TypeVars ∷ symbol.OptionalConDecls ∷ symbol.ConDecls ∷ symbol.ConDeclList ∷ symbol.ConDecl ∷
-    symbol.InfixConDecl ∷ symbol.PrefixConDecl ∷ symbol.ATypes ∷ symbol.SynonymDecl ∷ symbol.Signature ∷ symbol.VarList ∷ []
+    symbol.Item ∷ symbol.FixityDecl ∷ symbol.FixityWord ∷ symbol.OptionalDigit ∷ symbol.OpList
+    ∷ symbol.DataDecl ∷
+    symbol.DataWord ∷ symbol.TypeVars ∷ symbol.OptionalConDecls ∷ symbol.ConDecls
+    ∷ symbol.ConDeclList ∷ symbol.ConDecl ∷
+    symbol.InfixConDecl ∷ symbol.PrefixConDecl ∷ symbol.ATypes ∷ symbol.SynonymDecl
+    ∷ symbol.Signature ∷ symbol.VarList ∷ []
 
 abbrev pub types : List Symbol
 types =
-    symbol.TypeExp ∷ symbol.BType ∷ symbol.TypeApplication ∷ symbol.TypeArguments ∷ symbol.AType ∷ symbol.Unit ∷
-    symbol.TupleType ∷ symbol.TypeList ∷ symbol.ListType ∷ symbol.NoSixteenTypes ∷ symbol.SixteenTypes ∷ []
+    symbol.TypeExp ∷ symbol.BType ∷ symbol.TypeApplication ∷ symbol.TypeArguments ∷ symbol.AType
+    ∷ symbol.Unit ∷
+    symbol.TupleType ∷ symbol.TypeList ∷ symbol.ListType ∷ symbol.NoSixteenTypes
+    ∷ symbol.SixteenTypes ∷ []
 
 abbrev pub blocks : List Symbol
 blocks =
-    symbol.TopRule ∷ symbol.Rule ∷ symbol.FunctionLhs ∷ symbol.Lhs ∷ symbol.InfixLhs ∷ symbol.ParenthesizedLhs ∷
-    symbol.PrefixLhs ∷ symbol.APats ∷ symbol.RhsAhead ∷ symbol.RhsStart ∷ symbol.PatternLhs ∷ symbol.EqualsAhead ∷
-    symbol.Rhs ∷ symbol.RhsBody ∷ symbol.PlainRhs ∷ symbol.GuardedRhs ∷ symbol.GuardedExp ∷ symbol.OptionalWhere ∷
-    symbol.WhereBlock ∷ symbol.Block ∷ symbol.DeclList ∷ symbol.OptionalDecl ∷ symbol.Decl ∷ symbol.FreeDecl ∷
+    symbol.TopRule ∷ symbol.Rule ∷ symbol.FunctionLhs ∷ symbol.Lhs ∷ symbol.InfixLhs
+    ∷ symbol.ParenthesizedLhs ∷
+    symbol.PrefixLhs ∷ symbol.APats ∷ symbol.RhsAhead ∷ symbol.RhsStart ∷ symbol.PatternLhs
+    ∷ symbol.EqualsAhead ∷
+    symbol.Rhs ∷ symbol.RhsBody ∷ symbol.PlainRhs ∷ symbol.GuardedRhs ∷ symbol.GuardedExp
+    ∷ symbol.OptionalWhere ∷
+    symbol.WhereBlock ∷ symbol.Block ∷ symbol.DeclList ∷ symbol.OptionalDecl ∷ symbol.Decl
+    ∷ symbol.FreeDecl ∷
     symbol.VarIdList ∷ []
 
 abbrev pub expressions : List Symbol
 expressions =
-    symbol.Exp ∷ symbol.OptionalMinus ∷ symbol.FurtherOperands ∷ symbol.FurtherOperand ∷ symbol.Operand ∷ symbol.Lambda ∷
-    symbol.LetExp ∷ symbol.IfExp ∷ symbol.CaseExp ∷ symbol.CaseWord ∷ symbol.AltList ∷ symbol.OptionalAlt ∷
-    symbol.Application ∷ symbol.Alt ∷ symbol.AltBody ∷ symbol.PlainAlt ∷ symbol.GuardedAlts ∷ symbol.GuardedAlt ∷
-    symbol.Atom ∷ symbol.TupleCon ∷ symbol.Commas ∷ symbol.NoFifteenCommas ∷ symbol.FifteenCommas ∷ symbol.RightSection ∷
-    symbol.NoMinus ∷ symbol.LeftSection ∷ symbol.Tuple ∷ symbol.ExpList ∷ symbol.NoSixteenExps ∷ symbol.SixteenExps ∷
-    symbol.EmptyList ∷ symbol.FromThen ∷ symbol.From ∷ symbol.OptionalExp ∷ symbol.Comprehension ∷ symbol.QualList ∷
+    symbol.Exp ∷ symbol.OptionalMinus ∷ symbol.FurtherOperands ∷ symbol.FurtherOperand
+    ∷ symbol.Operand ∷ symbol.Lambda ∷
+    symbol.LetExp ∷ symbol.IfExp ∷ symbol.CaseExp ∷ symbol.CaseWord ∷ symbol.AltList
+    ∷ symbol.OptionalAlt ∷
+    symbol.Application ∷ symbol.Alt ∷ symbol.AltBody ∷ symbol.PlainAlt ∷ symbol.GuardedAlts
+    ∷ symbol.GuardedAlt ∷
+    symbol.Atom ∷ symbol.TupleCon ∷ symbol.Commas ∷ symbol.NoFifteenCommas ∷ symbol.FifteenCommas
+    ∷ symbol.RightSection ∷
+    symbol.NoMinus ∷ symbol.LeftSection ∷ symbol.Tuple ∷ symbol.ExpList ∷ symbol.NoSixteenExps
+    ∷ symbol.SixteenExps ∷
+    symbol.EmptyList ∷ symbol.FromThen ∷ symbol.From ∷ symbol.OptionalExp ∷ symbol.Comprehension
+    ∷ symbol.QualList ∷
     symbol.ListExp ∷ symbol.Qual ∷ symbol.Generator ∷ symbol.LetQual ∷ symbol.NoIn ∷ []
 
 abbrev pub patterns : List Symbol
 patterns =
     symbol.Pat ∷ symbol.FurtherConPats ∷ symbol.FurtherConPat ∷ symbol.ConPat ∷ symbol.NegativePat ∷
-    symbol.ConApplication ∷ symbol.PatArguments ∷ symbol.APat ∷ symbol.AliasPat ∷ symbol.TuplePat ∷ symbol.PatList ∷
+    symbol.ConApplication ∷ symbol.PatArguments ∷ symbol.APat ∷ symbol.AliasPat ∷ symbol.TuplePat
+    ∷ symbol.PatList ∷
     symbol.NoSixteenPats ∷ symbol.SixteenPats ∷ symbol.ListPat ∷ symbol.OptionalPatList ∷ []
 
 abbrev pub goals : List Symbol
@@ -326,7 +399,8 @@ goals =
     symbol.Goal ∷ symbol.OptionalGoalWhere ∷ symbol.GoalWhere ∷ symbol.FreeDeclList ∷ []
 
 abbrev pub symbols : List Symbol
-symbols = tokens ++ names ++ headers ++ declarations ++ types ++ blocks ++ expressions ++ patterns ++ goals
+symbols = tokens ++ names ++ headers ++ declarations ++ types ++ blocks ++ expressions ++ patterns
+    ++ goals
 
 abbrev pub number : Symbol → ℕ
 number s = tag_of symbols_type.the_type s

@@ -45,13 +45,18 @@ types_meaning names ts = types_from (map (type_meaning names) ts)
 
 abbrev pub function_type : List (List ℕ) → List TypeTerm → syntax.TypeTerm → syntax.TypeTerm
 function_type names [] result = result
-function_type names (t ∷ ts) result = syntax.Arrow (parameter_place names t) (type_meaning names t) (function_type names ts result)
+function_type names (t ∷ ts) result =
+    syntax.Arrow (parameter_place names t) (type_meaning names t) (function_type names ts result)
 
 -- what a node says of its type
 abbrev pub type_node : List (List ℕ) → TypeNode → syntax.TypeTerm
 type_node names (node.Variable name) = syntax.TypeVariable (name_meaning names name)
-type_node names (node.Named name arguments) = syntax.TypeNamed (name_meaning names name) (types_meaning names arguments.items)
+type_node names (node.Named name arguments) =
+    syntax.TypeNamed (name_meaning names name) (types_meaning names arguments.items)
 type_node names (node.Function first further result) =
-    syntax.Arrow (parameter_place names first) (type_meaning names first) (function_type names further.items (type_meaning names result))
-type_node names (node.Tuple at components) = syntax.TypeTuple (position_of at) (types_meaning names components.items)
-type_node names (node.List at element) = syntax.TypeList (position_of at) (type_meaning names element)
+    syntax.Arrow (parameter_place names first) (type_meaning names first)
+    (function_type names further.items (type_meaning names result))
+type_node names (node.Tuple at components) =
+    syntax.TypeTuple (position_of at) (types_meaning names components.items)
+type_node names (node.List at element) =
+    syntax.TypeList (position_of at) (type_meaning names element)

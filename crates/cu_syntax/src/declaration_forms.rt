@@ -33,8 +33,11 @@ enum Left<'t> {
 
 pub(crate) fn free(alloc: Global, tree: Subtree<'_>) -> Result<DeclarationNode<'_>, AllocError>
     requires { tree.symbol ≡ symbol.FreeDecl }
-    ensures meaning { (names : List (List ℕ)) → IfOk result (λ node. declaration_node names node ≡ declaration_as symbol.FreeDecl (tree_of names tree.entry)) }
-    ensures owned { (owner : NameId) (names : List (List ℕ)) → IsOf owner names tree.entry → IfOk result (DeclarationNodeIsOf owner names) }
+    ensures meaning { (names : List (List ℕ))
+        → IfOk result (λ node. declaration_node names node
+        ≡ declaration_as symbol.FreeDecl (tree_of names tree.entry)) }
+    ensures owned { (owner : NameId) (names : List (List ℕ)) → IsOf owner names tree.entry
+        → IfOk result (DeclarationNodeIsOf owner names) }
 {
     let variables = names(alloc, tree.part(0, Symbol::VarIdList), Symbol::VarId)?;
     Ok(DeclarationNode::FreeVariables(tree.place(), variables))
@@ -42,8 +45,11 @@ pub(crate) fn free(alloc: Global, tree: Subtree<'_>) -> Result<DeclarationNode<'
 
 pub(crate) fn signature(alloc: Global, tree: Subtree<'_>) -> Result<DeclarationNode<'_>, AllocError>
     requires { tree.symbol ≡ symbol.Signature }
-    ensures meaning { (names : List (List ℕ)) → IfOk result (λ node. declaration_node names node ≡ declaration_as symbol.Signature (tree_of names tree.entry)) }
-    ensures owned { (owner : NameId) (names : List (List ℕ)) → IsOf owner names tree.entry → IfOk result (DeclarationNodeIsOf owner names) }
+    ensures meaning { (names : List (List ℕ))
+        → IfOk result (λ node. declaration_node names node
+        ≡ declaration_as symbol.Signature (tree_of names tree.entry)) }
+    ensures owned { (owner : NameId) (names : List (List ℕ)) → IsOf owner names tree.entry
+        → IfOk result (DeclarationNodeIsOf owner names) }
 {
     let functions = names(alloc, tree.part(0, Symbol::VarList), Symbol::Var)?;
     let term = TypeTerm::new(tree.part(2, Symbol::TypeExp));
@@ -60,8 +66,11 @@ pub(crate) fn rule<'t>(
     requires left { is_left_side left.symbol ≡ true }
     requires first { (names : List (List ℕ)) → tree_of names left ≡ part_of (tree_of names tree) 0 }
     requires same { left_of tree.symbol ≡ left.symbol }
-    ensures meaning { (names : List (List ℕ)) → IfOk result (λ node. declaration_node names node ≡ declaration_as tree.entry.symbol (tree_of names tree.entry)) }
-    ensures owned { (owner : NameId) (names : List (List ℕ)) → IsOf owner names tree.entry → IsOf owner names left.entry → IfOk result (DeclarationNodeIsOf owner names) }
+    ensures meaning { (names : List (List ℕ))
+        → IfOk result (λ node. declaration_node names node
+        ≡ declaration_as tree.entry.symbol (tree_of names tree.entry)) }
+    ensures owned { (owner : NameId) (names : List (List ℕ)) → IsOf owner names tree.entry
+        → IsOf owner names left.entry → IfOk result (DeclarationNodeIsOf owner names) }
 {
     let right = right(tree.part(1, Symbol::Rhs));
     match left_side(alloc, left)? {
@@ -86,8 +95,10 @@ pub(crate) fn rule<'t>(
 fn right(tree: Subtree<'_>) -> RightSide<'_>
     requires { tree.symbol ≡ symbol.Rhs }
     ensures body { result.body.symbol ≡ symbol.RhsBody }
-    ensures tree { (names : List (List ℕ)) → tree_of names tree.entry ≡ Parts (MoreTrees (tree_of names result.body) (only (tree_of names result.local))) }
-    ensures owned { (owner : NameId) (names : List (List ℕ)) → IsOf owner names tree.entry → RightSideIsOf owner names result }
+    ensures tree { (names : List (List ℕ)) → tree_of names tree.entry
+        ≡ Parts (MoreTrees (tree_of names result.body) (only (tree_of names result.local))) }
+    ensures owned { (owner : NameId) (names : List (List ℕ)) → IsOf owner names tree.entry
+        → RightSideIsOf owner names result }
 {
     RightSide::new(
         tree.part(0, Symbol::RhsBody),
@@ -99,8 +110,11 @@ fn right(tree: Subtree<'_>) -> RightSide<'_>
 /// parameters behind each.
 fn left_side(alloc: Global, tree: Subtree<'_>) -> Result<Left<'_>, AllocError>
     requires { is_left_side tree.symbol ≡ true }
-    ensures meaning { (names : List (List ℕ)) → IfOk result (λ left. left_meaning names left ≡ left_choice tree.entry.symbol (tree_of names tree.entry)) }
-    ensures owned { (owner : NameId) (names : List (List ℕ)) → IsOf owner names tree.entry → IfOk result (LeftIsOf owner names) }
+    ensures meaning { (names : List (List ℕ))
+        → IfOk result (λ left. left_meaning names left
+        ≡ left_choice tree.entry.symbol (tree_of names tree.entry)) }
+    ensures owned { (owner : NameId) (names : List (List ℕ)) → IsOf owner names tree.entry
+        → IfOk result (LeftIsOf owner names) }
 {
     let mut further = Vec::new(alloc);
     let mut inner = tree.chosen();
@@ -118,8 +132,11 @@ fn left_side(alloc: Global, tree: Subtree<'_>) -> Result<Left<'_>, AllocError>
 /// A left-hand side without parentheses round it.
 fn bare_left_side(alloc: Global, tree: Subtree<'_>) -> Result<Left<'_>, AllocError>
     requires { is_left_node tree.symbol ≡ true }
-    ensures meaning { (names : List (List ℕ)) → IfOk result (λ left. left_meaning names left ≡ left_as tree.entry.symbol (tree_of names tree.entry)) }
-    ensures owned { (owner : NameId) (names : List (List ℕ)) → IsOf owner names tree.entry → IfOk result (LeftIsOf owner names) }
+    ensures meaning { (names : List (List ℕ))
+        → IfOk result (λ left. left_meaning names left
+        ≡ left_as tree.entry.symbol (tree_of names tree.entry)) }
+    ensures owned { (owner : NameId) (names : List (List ℕ)) → IsOf owner names tree.entry
+        → IfOk result (LeftIsOf owner names) }
 {
     match tree.symbol {
         Symbol::InfixLhs => {
@@ -140,8 +157,12 @@ fn bare_left_side(alloc: Global, tree: Subtree<'_>) -> Result<Left<'_>, AllocErr
 
 /// Further parameters of a function.
 fn with_arguments<'t>(left: Left<'t>, arguments: Vec<Pattern<'t>>) -> Result<Left<'t>, AllocError>
-    ensures meaning { (names : List (List ℕ)) → IfOk result (λ found. left_meaning names found ≡ with_arguments (left_meaning names left.entry) (patterns_meaning names arguments.entry.items)) }
-    ensures owned { (owner : NameId) (names : List (List ℕ)) → LeftIsOf owner names left.entry → All (PatternIsOf owner names) arguments.entry.items → IfOk result (LeftIsOf owner names) }
+    ensures meaning { (names : List (List ℕ))
+        → IfOk result (λ found. left_meaning names found
+        ≡ with_arguments (left_meaning names left.entry)
+        (patterns_meaning names arguments.entry.items)) }
+    ensures owned { (owner : NameId) (names : List (List ℕ)) → LeftIsOf owner names left.entry
+        → All (PatternIsOf owner names) arguments.entry.items → IfOk result (LeftIsOf owner names) }
 {
     match left {
         Left::Function(name, mut parameters) => {
@@ -155,8 +176,12 @@ fn with_arguments<'t>(left: Left<'t>, arguments: Vec<Pattern<'t>>) -> Result<Lef
 /// What follows the equals sign or the arrow.
 pub(crate) fn body(alloc: Global, tree: Subtree<'_>) -> Result<Body<'_>, AllocError>
     requires { is_right_node tree.symbol ≡ true }
-    ensures meaning { (names : List (List ℕ)) (local : Declarations) → IfOk result (λ body. right_of (place (tree_of names tree.entry)) (body_meaning names body) local ≡ right_as tree.entry.symbol (tree_of names tree.entry) local) }
-    ensures owned { (owner : NameId) (names : List (List ℕ)) → IsOf owner names tree.entry → IfOk result (BodyIsOf owner names) }
+    ensures meaning { (names : List (List ℕ)) (local : Declarations)
+        → IfOk result (λ body. right_of (place (tree_of names tree.entry))
+        (body_meaning names body) local
+        ≡ right_as tree.entry.symbol (tree_of names tree.entry) local) }
+    ensures owned { (owner : NameId) (names : List (List ℕ)) → IsOf owner names tree.entry
+        → IfOk result (BodyIsOf owner names) }
 {
     match tree.symbol {
         Symbol::PlainRhs => Ok(Body::Plain(Expression::new(tree.part(1, Symbol::Exp)))),
@@ -170,8 +195,11 @@ pub(crate) fn body(alloc: Global, tree: Subtree<'_>) -> Result<Body<'_>, AllocEr
 fn guards(alloc: Global, tree: Subtree<'_>, part: Symbol) -> Result<Body<'_>, AllocError>
     requires repeated { repeated_part (rule_of tree.symbol) ≡ Some part }
     requires symbol { is_guard part ≡ true }
-    ensures meaning { (names : List (List ℕ)) → IfOk result (λ body. body_meaning names body ≡ Guards (guards_in (tree_of names tree.entry))) }
-    ensures owned { (owner : NameId) (names : List (List ℕ)) → IsOf owner names tree.entry → IfOk result (BodyIsOf owner names) }
+    ensures meaning { (names : List (List ℕ))
+        → IfOk result (λ body. body_meaning names body
+        ≡ Guards (guards_in (tree_of names tree.entry))) }
+    ensures owned { (owner : NameId) (names : List (List ℕ)) → IsOf owner names tree.entry
+        → IfOk result (BodyIsOf owner names) }
 {
     let mut guards = Vec::new(alloc);
     for tree in tree.repeated(alloc, part)? {
@@ -182,8 +210,11 @@ fn guards(alloc: Global, tree: Subtree<'_>, part: Symbol) -> Result<Body<'_>, Al
 
 fn guard(tree: Subtree<'_>) -> Guard<'_>
     requires { is_guard tree.symbol ≡ true }
-    ensures meaning { (names : List (List ℕ)) (rest : Trees) → guards_of (MoreTrees (tree_of names tree.entry) rest) ≡ with_guard names result (guards_of rest) }
-    ensures owned { (owner : NameId) (names : List (List ℕ)) → IsOf owner names tree.entry → GuardIsOf owner names result }
+    ensures meaning { (names : List (List ℕ)) (rest : Trees)
+        → guards_of (MoreTrees (tree_of names tree.entry) rest)
+        ≡ with_guard names result (guards_of rest) }
+    ensures owned { (owner : NameId) (names : List (List ℕ)) → IsOf owner names tree.entry
+        → GuardIsOf owner names result }
 {
     Guard {
         place: tree.place(),
@@ -195,8 +226,11 @@ fn guard(tree: Subtree<'_>) -> Guard<'_>
 /// The declarations behind `where`, if it is there.
 pub(crate) fn local(alloc: Global, tree: Subtree<'_>) -> Result<Vec<Declaration<'_>>, AllocError>
     requires { tree.symbol ≡ symbol.OptionalWhere }
-    ensures meaning { (names : List (List ℕ)) → IfOk result (λ found. declarations_meaning names found.items ≡ where_block (tree_of names tree.entry)) }
-    ensures owned { (owner : NameId) (names : List (List ℕ)) → IsOf owner names tree.entry → IfOk result (λ found. All (DeclarationIsOf owner names) found.items) }
+    ensures meaning { (names : List (List ℕ))
+        → IfOk result (λ found. declarations_meaning names found.items
+        ≡ where_block (tree_of names tree.entry)) }
+    ensures owned { (owner : NameId) (names : List (List ℕ)) → IsOf owner names tree.entry
+        → IfOk result (λ found. All (DeclarationIsOf owner names) found.items) }
 {
     match tree.optional(Symbol::WhereBlock) {
         Some(local) => block(alloc, local.part(1, Symbol::Block)),
@@ -207,8 +241,11 @@ pub(crate) fn local(alloc: Global, tree: Subtree<'_>) -> Result<Vec<Declaration<
 /// The declarations of a block that aren't empty.
 pub(crate) fn block(alloc: Global, tree: Subtree<'_>) -> Result<Vec<Declaration<'_>>, AllocError>
     requires { tree.symbol ≡ symbol.Block }
-    ensures meaning { (names : List (List ℕ)) → IfOk result (λ found. declarations_meaning names found.items ≡ block_of (tree_of names tree.entry)) }
-    ensures owned { (owner : NameId) (names : List (List ℕ)) → IsOf owner names tree.entry → IfOk result (λ found. All (DeclarationIsOf owner names) found.items) }
+    ensures meaning { (names : List (List ℕ))
+        → IfOk result (λ found. declarations_meaning names found.items
+        ≡ block_of (tree_of names tree.entry)) }
+    ensures owned { (owner : NameId) (names : List (List ℕ)) → IsOf owner names tree.entry
+        → IfOk result (λ found. All (DeclarationIsOf owner names) found.items) }
 {
     let mut declarations = Vec::new(alloc);
     let list = tree.part(1, Symbol::DeclList);
@@ -224,8 +261,11 @@ pub(crate) fn block(alloc: Global, tree: Subtree<'_>) -> Result<Vec<Declaration<
 pub(crate) fn names(alloc: Global, tree: Subtree<'_>, part: Symbol) -> Result<Vec<Name>, AllocError>
     requires repeated { repeated_part (rule_of tree.symbol) ≡ Some part }
     requires symbol { is_name part ≡ true }
-    ensures meaning { (names : List (List ℕ)) → IfOk result (λ found. map (name_meaning names) found.items ≡ names_in (tree_of names tree.entry)) }
-    ensures owned { (owner : NameId) (names : List (List ℕ)) → IsOf owner names tree.entry → IfOk result (λ found. All (NameIsOf owner names) found.items) }
+    ensures meaning { (names : List (List ℕ))
+        → IfOk result (λ found. map (name_meaning names) found.items
+        ≡ names_in (tree_of names tree.entry)) }
+    ensures owned { (owner : NameId) (names : List (List ℕ)) → IsOf owner names tree.entry
+        → IfOk result (λ found. All (NameIsOf owner names) found.items) }
 {
     let mut names = Vec::new(alloc);
     for name in tree.repeated(alloc, part)? {

@@ -84,8 +84,10 @@ impl<'t> Declaration<'t> {
 
     /// The place of its first token.
     pub fn place(self) -> Place
-        ensures position { (names : List (List ℕ)) → position_of result ≡ declaration_position (declaration_meaning names self.entry) }
-        ensures owned { (owner : NameId) (names : List (List ℕ)) → DeclarationIsOf owner names self.entry → PlaceIsOf owner result }
+        ensures position { (names : List (List ℕ))
+            → position_of result ≡ declaration_position (declaration_meaning names self.entry) }
+        ensures owned { (owner : NameId) (names : List (List ℕ))
+            → DeclarationIsOf owner names self.entry → PlaceIsOf owner result }
     {
         self.tree.place()
     }
@@ -96,8 +98,12 @@ impl<'t> Declaration<'t> {
     ///
     /// Want of memory.
     pub fn node(self, alloc: Global) -> Result<DeclarationNode<'t>, AllocError>
-        ensures meaning { (names : List (List ℕ)) → IfOk result (λ node. declaration_node names node ≡ declaration_meaning names self.entry) }
-        ensures owned { (owner : NameId) (names : List (List ℕ)) → DeclarationIsOf owner names self.entry → IfOk result (DeclarationNodeIsOf owner names) }
+        ensures meaning { (names : List (List ℕ))
+            → IfOk result (λ node. declaration_node names node
+            ≡ declaration_meaning names self.entry) }
+        ensures owned { (owner : NameId) (names : List (List ℕ))
+            → DeclarationIsOf owner names self.entry
+            → IfOk result (DeclarationNodeIsOf owner names) }
         ensures smaller { IfOk result (DeclarationNodeIsBelow (declaration_size self.entry)) }
     {
         let tree = self.tree;
@@ -135,8 +141,10 @@ impl<'t> RightSide<'t> {
     ///
     /// Want of memory.
     pub fn node(self, alloc: Global) -> Result<RightSideNode<'t>, AllocError>
-        ensures meaning { (names : List (List ℕ)) → IfOk result (λ node. right_node names node ≡ right_meaning names self.entry) }
-        ensures owned { (owner : NameId) (names : List (List ℕ)) → RightSideIsOf owner names self.entry → IfOk result (RightSideNodeIsOf owner names) }
+        ensures meaning { (names : List (List ℕ))
+            → IfOk result (λ node. right_node names node ≡ right_meaning names self.entry) }
+        ensures owned { (owner : NameId) (names : List (List ℕ))
+            → RightSideIsOf owner names self.entry → IfOk result (RightSideNodeIsOf owner names) }
         ensures smaller { IfOk result (RightNodeIsBelow (right_size self.entry)) }
     {
         let body = self.body.chosen();

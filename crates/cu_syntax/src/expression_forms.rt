@@ -30,9 +30,12 @@ use std::alloc::{AllocError, Global};
 pub(crate) fn inside(tree: Subtree<'_>) -> Subtree<'_>
     requires { is_expression tree.symbol ≡ true }
     ensures node { is_expression_node result.symbol ≡ true }
-    ensures same { (names : List (List ℕ)) → expression_at result.symbol (tree_of names result) ≡ expression_at tree.entry.symbol (tree_of names tree.entry) }
-    ensures bare { (names : List (List ℕ)) → is_bare_expression result.symbol (tree_of names result) ≡ true }
-    ensures owned { (owner : NameId) (names : List (List ℕ)) → IsOf owner names tree.entry → IsOf owner names result }
+    ensures same { (names : List (List ℕ)) → expression_at result.symbol (tree_of names result)
+        ≡ expression_at tree.entry.symbol (tree_of names tree.entry) }
+    ensures bare { (names : List (List ℕ)) → is_bare_expression result.symbol (tree_of names result)
+        ≡ true }
+    ensures owned { (owner : NameId) (names : List (List ℕ)) → IsOf owner names tree.entry
+        → IsOf owner names result }
 {
     let mut inner = tree;
     while let Some(next) = wrapped(inner) {
@@ -44,9 +47,13 @@ pub(crate) fn inside(tree: Subtree<'_>) -> Subtree<'_>
 /// What an expression inside its parentheses is.
 pub(crate) fn node(alloc: Global, tree: Subtree<'_>) -> Result<ExpressionNode<'_>, AllocError>
     requires node { is_expression_node tree.symbol ≡ true }
-    requires bare { (names : List (List ℕ)) → is_bare_expression tree.symbol (tree_of names tree) ≡ true }
-    ensures meaning { (names : List (List ℕ)) → IfOk result (λ node. expression_node names node ≡ expression_at tree.entry.symbol (tree_of names tree.entry)) }
-    ensures owned { (owner : NameId) (names : List (List ℕ)) → IsOf owner names tree.entry → IfOk result (ExpressionNodeIsOf owner names) }
+    requires bare { (names : List (List ℕ)) → is_bare_expression tree.symbol (tree_of names tree)
+        ≡ true }
+    ensures meaning { (names : List (List ℕ))
+        → IfOk result (λ node. expression_node names node
+        ≡ expression_at tree.entry.symbol (tree_of names tree.entry)) }
+    ensures owned { (owner : NameId) (names : List (List ℕ)) → IsOf owner names tree.entry
+        → IfOk result (ExpressionNodeIsOf owner names) }
 {
     match tree.symbol {
         Symbol::Exp => operators(alloc, tree),
@@ -77,11 +84,16 @@ pub(crate) fn node(alloc: Global, tree: Subtree<'_>) -> Result<ExpressionNode<'_
 fn wrapped(tree: Subtree<'_>) -> Option<Subtree<'_>>
     requires { is_expression tree.symbol ≡ true }
     ensures symbol { IfSome result (λ inner. is_expression inner.symbol ≡ true) }
-    ensures same { (names : List (List ℕ)) → IfSome result (λ inner. expression_at inner.symbol (tree_of names inner) ≡ expression_at tree.entry.symbol (tree_of names tree.entry)) }
-    ensures smaller { IfSome result (λ inner. length inner.nodes.now < length tree.entry.nodes.now) }
+    ensures same { (names : List (List ℕ))
+        → IfSome result (λ inner. expression_at inner.symbol (tree_of names inner)
+        ≡ expression_at tree.entry.symbol (tree_of names tree.entry)) }
+    ensures smaller { IfSome result (λ inner. length inner.nodes.now
+        < length tree.entry.nodes.now) }
     ensures node { IfNone result (is_expression_node tree.entry.symbol ≡ true) }
-    ensures bare { (names : List (List ℕ)) → IfNone result (is_bare_expression tree.entry.symbol (tree_of names tree.entry) ≡ true) }
-    ensures owned { (owner : NameId) (names : List (List ℕ)) → IsOf owner names tree.entry → IfSome result (IsOf owner names) }
+    ensures bare { (names : List (List ℕ))
+        → IfNone result (is_bare_expression tree.entry.symbol (tree_of names tree.entry) ≡ true) }
+    ensures owned { (owner : NameId) (names : List (List ℕ)) → IsOf owner names tree.entry
+        → IfSome result (IsOf owner names) }
 {
     match tree.symbol {
         Symbol::Exp => lone_operand(tree),
@@ -97,10 +109,15 @@ fn wrapped(tree: Subtree<'_>) -> Option<Subtree<'_>>
 fn lone_operand(tree: Subtree<'_>) -> Option<Subtree<'_>>
     requires { tree.symbol ≡ symbol.Exp }
     ensures symbol { IfSome result (λ inner. inner.symbol ≡ symbol.Operand) }
-    ensures same { (names : List (List ℕ)) → IfSome result (λ inner. expression_at symbol.Operand (tree_of names inner) ≡ expression_of (tree_of names tree.entry)) }
-    ensures smaller { IfSome result (λ inner. length inner.nodes.now < length tree.entry.nodes.now) }
-    ensures bare { (names : List (List ℕ)) → IfNone result (is_bare_expression symbol.Exp (tree_of names tree.entry) ≡ true) }
-    ensures owned { (owner : NameId) (names : List (List ℕ)) → IsOf owner names tree.entry → IfSome result (IsOf owner names) }
+    ensures same { (names : List (List ℕ))
+        → IfSome result (λ inner. expression_at symbol.Operand (tree_of names inner)
+        ≡ expression_of (tree_of names tree.entry)) }
+    ensures smaller { IfSome result (λ inner. length inner.nodes.now
+        < length tree.entry.nodes.now) }
+    ensures bare { (names : List (List ℕ))
+        → IfNone result (is_bare_expression symbol.Exp (tree_of names tree.entry) ≡ true) }
+    ensures owned { (owner : NameId) (names : List (List ℕ)) → IsOf owner names tree.entry
+        → IfSome result (IsOf owner names) }
 {
     let has_minus = tree
         .part(0, Symbol::OptionalMinus)
@@ -115,9 +132,13 @@ fn lone_operand(tree: Subtree<'_>) -> Option<Subtree<'_>>
 /// Operands with operators between them, or a minus before the first.
 fn operators(alloc: Global, tree: Subtree<'_>) -> Result<ExpressionNode<'_>, AllocError>
     requires symbol { tree.symbol ≡ symbol.Exp }
-    requires more { (names : List (List ℕ)) → is_bare_expression tree.symbol (tree_of names tree) ≡ true }
-    ensures meaning { (names : List (List ℕ)) → IfOk result (λ node. expression_node names node ≡ expression_of (tree_of names tree.entry)) }
-    ensures owned { (owner : NameId) (names : List (List ℕ)) → IsOf owner names tree.entry → IfOk result (ExpressionNodeIsOf owner names) }
+    requires more { (names : List (List ℕ)) → is_bare_expression tree.symbol (tree_of names tree)
+        ≡ true }
+    ensures meaning { (names : List (List ℕ))
+        → IfOk result (λ node. expression_node names node
+        ≡ expression_of (tree_of names tree.entry)) }
+    ensures owned { (owner : NameId) (names : List (List ℕ)) → IsOf owner names tree.entry
+        → IfOk result (ExpressionNodeIsOf owner names) }
 {
     Ok(ExpressionNode::Operators(Items {
         place: tree.place(),
@@ -130,8 +151,10 @@ fn operators(alloc: Global, tree: Subtree<'_>) -> Result<ExpressionNode<'_>, All
 /// The place of a minus, if it is there.
 fn minus(tree: Subtree<'_>) -> Option<Place>
     requires { tree.symbol ≡ symbol.OptionalMinus }
-    ensures position { (names : List (List ℕ)) → maybe_position result ≡ minus_of (tree_of names tree.entry) }
-    ensures owned { (owner : NameId) (names : List (List ℕ)) → IsOf owner names tree.entry → IfSome result (PlaceIsOf owner) }
+    ensures position { (names : List (List ℕ)) → maybe_position result
+        ≡ minus_of (tree_of names tree.entry) }
+    ensures owned { (owner : NameId) (names : List (List ℕ)) → IsOf owner names tree.entry
+        → IfSome result (PlaceIsOf owner) }
 {
     let minus = tree.optional(Symbol::Minus)?;
     Some(minus.place())
@@ -140,8 +163,11 @@ fn minus(tree: Subtree<'_>) -> Option<Place>
 /// The operators behind the first operand, with the operands behind them.
 fn further(alloc: Global, tree: Subtree<'_>) -> Result<Vec<OperatorItem<'_>>, AllocError>
     requires { tree.symbol ≡ symbol.FurtherOperands }
-    ensures meaning { (names : List (List ℕ)) → IfOk result (λ items. rest_of (tree_of names tree.entry) ≡ rest_meaning names items.items) }
-    ensures owned { (owner : NameId) (names : List (List ℕ)) → IsOf owner names tree.entry → IfOk result (λ found. All (OperatorItemIsOf owner names) found.items) }
+    ensures meaning { (names : List (List ℕ))
+        → IfOk result (λ items. rest_of (tree_of names tree.entry)
+        ≡ rest_meaning names items.items) }
+    ensures owned { (owner : NameId) (names : List (List ℕ)) → IsOf owner names tree.entry
+        → IfOk result (λ found. All (OperatorItemIsOf owner names) found.items) }
 {
     let mut items = Vec::new(alloc);
     for item in tree.repeated(alloc, Symbol::FurtherOperand)? {
@@ -152,8 +178,11 @@ fn further(alloc: Global, tree: Subtree<'_>) -> Result<Vec<OperatorItem<'_>>, Al
 
 fn operator_item(tree: Subtree<'_>) -> OperatorItem<'_>
     requires { tree.symbol ≡ symbol.FurtherOperand }
-    ensures meaning { (names : List (List ℕ)) (rest : Trees) → operator_rest (MoreTrees (tree_of names tree.entry) rest) ≡ with_item names result (operator_rest rest) }
-    ensures owned { (owner : NameId) (names : List (List ℕ)) → IsOf owner names tree.entry → OperatorItemIsOf owner names result }
+    ensures meaning { (names : List (List ℕ)) (rest : Trees)
+        → operator_rest (MoreTrees (tree_of names tree.entry) rest)
+        ≡ with_item names result (operator_rest rest) }
+    ensures owned { (owner : NameId) (names : List (List ℕ)) → IsOf owner names tree.entry
+        → OperatorItemIsOf owner names result }
 {
     OperatorItem {
         operator: tree.part(0, Symbol::QOp).name(),
@@ -164,8 +193,11 @@ fn operator_item(tree: Subtree<'_>) -> OperatorItem<'_>
 
 fn lambda(alloc: Global, tree: Subtree<'_>) -> Result<ExpressionNode<'_>, AllocError>
     requires { tree.symbol ≡ symbol.Lambda }
-    ensures meaning { (names : List (List ℕ)) → IfOk result (λ node. expression_node names node ≡ expression_as symbol.Lambda (tree_of names tree.entry)) }
-    ensures owned { (owner : NameId) (names : List (List ℕ)) → IsOf owner names tree.entry → IfOk result (ExpressionNodeIsOf owner names) }
+    ensures meaning { (names : List (List ℕ))
+        → IfOk result (λ node. expression_node names node
+        ≡ expression_as symbol.Lambda (tree_of names tree.entry)) }
+    ensures owned { (owner : NameId) (names : List (List ℕ)) → IsOf owner names tree.entry
+        → IfOk result (ExpressionNodeIsOf owner names) }
 {
     let parameters = pattern_forms::all(alloc, tree.part(1, Symbol::PatArguments), Symbol::APat)?;
     let body = Expression::new(tree.part(3, Symbol::Exp));
@@ -174,8 +206,11 @@ fn lambda(alloc: Global, tree: Subtree<'_>) -> Result<ExpressionNode<'_>, AllocE
 
 fn let_in(alloc: Global, tree: Subtree<'_>) -> Result<ExpressionNode<'_>, AllocError>
     requires { tree.symbol ≡ symbol.LetExp }
-    ensures meaning { (names : List (List ℕ)) → IfOk result (λ node. expression_node names node ≡ expression_as symbol.LetExp (tree_of names tree.entry)) }
-    ensures owned { (owner : NameId) (names : List (List ℕ)) → IsOf owner names tree.entry → IfOk result (ExpressionNodeIsOf owner names) }
+    ensures meaning { (names : List (List ℕ))
+        → IfOk result (λ node. expression_node names node
+        ≡ expression_as symbol.LetExp (tree_of names tree.entry)) }
+    ensures owned { (owner : NameId) (names : List (List ℕ)) → IsOf owner names tree.entry
+        → IfOk result (ExpressionNodeIsOf owner names) }
 {
     let declarations = block(alloc, tree.part(1, Symbol::Block))?;
     let body = Expression::new(tree.part(3, Symbol::Exp));
@@ -184,8 +219,10 @@ fn let_in(alloc: Global, tree: Subtree<'_>) -> Result<ExpressionNode<'_>, AllocE
 
 fn condition(tree: Subtree<'_>) -> ExpressionNode<'_>
     requires { tree.symbol ≡ symbol.IfExp }
-    ensures meaning { (names : List (List ℕ)) → expression_node names result ≡ expression_as symbol.IfExp (tree_of names tree.entry) }
-    ensures owned { (owner : NameId) (names : List (List ℕ)) → IsOf owner names tree.entry → ExpressionNodeIsOf owner names result }
+    ensures meaning { (names : List (List ℕ)) → expression_node names result
+        ≡ expression_as symbol.IfExp (tree_of names tree.entry) }
+    ensures owned { (owner : NameId) (names : List (List ℕ)) → IsOf owner names tree.entry
+        → ExpressionNodeIsOf owner names result }
 {
     let condition = Expression::new(tree.part(1, Symbol::Exp));
     let chosen = Expression::new(tree.part(3, Symbol::Exp));
@@ -195,8 +232,11 @@ fn condition(tree: Subtree<'_>) -> ExpressionNode<'_>
 
 fn case(alloc: Global, tree: Subtree<'_>) -> Result<ExpressionNode<'_>, AllocError>
     requires { tree.symbol ≡ symbol.CaseExp }
-    ensures meaning { (names : List (List ℕ)) → IfOk result (λ node. expression_node names node ≡ expression_as symbol.CaseExp (tree_of names tree.entry)) }
-    ensures owned { (owner : NameId) (names : List (List ℕ)) → IsOf owner names tree.entry → IfOk result (ExpressionNodeIsOf owner names) }
+    ensures meaning { (names : List (List ℕ))
+        → IfOk result (λ node. expression_node names node
+        ≡ expression_as symbol.CaseExp (tree_of names tree.entry)) }
+    ensures owned { (owner : NameId) (names : List (List ℕ)) → IsOf owner names tree.entry
+        → IfOk result (ExpressionNodeIsOf owner names) }
 {
     let word = word(tree.part(0, Symbol::CaseWord));
     let subject = Expression::new(tree.part(1, Symbol::Exp));
@@ -217,8 +257,11 @@ fn word(tree: Subtree<'_>) -> CaseWord
 /// The alternatives that aren't empty.
 fn alternatives(alloc: Global, tree: Subtree<'_>) -> Result<Vec<Alternative<'_>>, AllocError>
     requires { tree.symbol ≡ symbol.AltList }
-    ensures meaning { (names : List (List ℕ)) → IfOk result (λ found. alternatives_in (tree_of names tree.entry) ≡ alternatives_meaning names found.items) }
-    ensures owned { (owner : NameId) (names : List (List ℕ)) → IsOf owner names tree.entry → IfOk result (λ found. All (AlternativeIsOf owner names) found.items) }
+    ensures meaning { (names : List (List ℕ))
+        → IfOk result (λ found. alternatives_in (tree_of names tree.entry)
+        ≡ alternatives_meaning names found.items) }
+    ensures owned { (owner : NameId) (names : List (List ℕ)) → IsOf owner names tree.entry
+        → IfOk result (λ found. All (AlternativeIsOf owner names) found.items) }
 {
     let mut alternatives = Vec::new(alloc);
     for place in tree.repeated(alloc, Symbol::OptionalAlt)? {
@@ -232,8 +275,11 @@ fn alternatives(alloc: Global, tree: Subtree<'_>) -> Result<Vec<Alternative<'_>>
 
 fn alternative_of(tree: Subtree<'_>) -> Alternative<'_>
     requires { tree.symbol ≡ symbol.Alt }
-    ensures meaning { (names : List (List ℕ)) (rest : Trees) → alternatives_of (MoreTrees (Parts (only (tree_of names tree.entry))) rest) ≡ with_alternative names result (alternatives_of rest) }
-    ensures owned { (owner : NameId) (names : List (List ℕ)) → IsOf owner names tree.entry → AlternativeIsOf owner names result }
+    ensures meaning { (names : List (List ℕ)) (rest : Trees)
+        → alternatives_of (MoreTrees (Parts (only (tree_of names tree.entry))) rest)
+        ≡ with_alternative names result (alternatives_of rest) }
+    ensures owned { (owner : NameId) (names : List (List ℕ)) → IsOf owner names tree.entry
+        → AlternativeIsOf owner names result }
 {
     let pattern = Pattern::new(tree.part(0, Symbol::Pat));
     let right = RightSide::new(
@@ -250,9 +296,13 @@ fn alternative_of(tree: Subtree<'_>) -> Alternative<'_>
 /// An expression on arguments.
 fn application(alloc: Global, tree: Subtree<'_>) -> Result<ExpressionNode<'_>, AllocError>
     requires symbol { tree.symbol ≡ symbol.Application }
-    requires more { (names : List (List ℕ)) → is_bare_expression tree.symbol (tree_of names tree) ≡ true }
-    ensures meaning { (names : List (List ℕ)) → IfOk result (λ node. expression_node names node ≡ expression_as symbol.Application (tree_of names tree.entry)) }
-    ensures owned { (owner : NameId) (names : List (List ℕ)) → IsOf owner names tree.entry → IfOk result (ExpressionNodeIsOf owner names) }
+    requires more { (names : List (List ℕ)) → is_bare_expression tree.symbol (tree_of names tree)
+        ≡ true }
+    ensures meaning { (names : List (List ℕ))
+        → IfOk result (λ node. expression_node names node
+        ≡ expression_as symbol.Application (tree_of names tree.entry)) }
+    ensures owned { (owner : NameId) (names : List (List ℕ)) → IsOf owner names tree.entry
+        → IfOk result (ExpressionNodeIsOf owner names) }
 {
     let mut arguments = all(alloc, tree, Symbol::Atom)?;
     let function = arguments.remove(0);
@@ -261,8 +311,10 @@ fn application(alloc: Global, tree: Subtree<'_>) -> Result<ExpressionNode<'_>, A
 
 fn tuple_constructor(tree: Subtree<'_>) -> ExpressionNode<'_>
     requires { tree.symbol ≡ symbol.TupleCon }
-    ensures meaning { (names : List (List ℕ)) → expression_node names result ≡ expression_as symbol.TupleCon (tree_of names tree.entry) }
-    ensures owned { (owner : NameId) (names : List (List ℕ)) → IsOf owner names tree.entry → ExpressionNodeIsOf owner names result }
+    ensures meaning { (names : List (List ℕ)) → expression_node names result
+        ≡ expression_as symbol.TupleCon (tree_of names tree.entry) }
+    ensures owned { (owner : NameId) (names : List (List ℕ)) → IsOf owner names tree.entry
+        → ExpressionNodeIsOf owner names result }
 {
     let commas = tree.part(2, Symbol::Commas).count();
     ExpressionNode::TupleConstructor(tree.place(), commas + 1)
@@ -270,8 +322,10 @@ fn tuple_constructor(tree: Subtree<'_>) -> ExpressionNode<'_>
 
 fn right_section(tree: Subtree<'_>) -> ExpressionNode<'_>
     requires { tree.symbol ≡ symbol.RightSection }
-    ensures meaning { (names : List (List ℕ)) → expression_node names result ≡ expression_as symbol.RightSection (tree_of names tree.entry) }
-    ensures owned { (owner : NameId) (names : List (List ℕ)) → IsOf owner names tree.entry → ExpressionNodeIsOf owner names result }
+    ensures meaning { (names : List (List ℕ)) → expression_node names result
+        ≡ expression_as symbol.RightSection (tree_of names tree.entry) }
+    ensures owned { (owner : NameId) (names : List (List ℕ)) → IsOf owner names tree.entry
+        → ExpressionNodeIsOf owner names result }
 {
     let operator = tree.part(2, Symbol::QOp).name();
     let operand = Expression::new(tree.part(3, Symbol::Exp));
@@ -280,8 +334,10 @@ fn right_section(tree: Subtree<'_>) -> ExpressionNode<'_>
 
 fn left_section(tree: Subtree<'_>) -> ExpressionNode<'_>
     requires { tree.symbol ≡ symbol.LeftSection }
-    ensures meaning { (names : List (List ℕ)) → expression_node names result ≡ expression_as symbol.LeftSection (tree_of names tree.entry) }
-    ensures owned { (owner : NameId) (names : List (List ℕ)) → IsOf owner names tree.entry → ExpressionNodeIsOf owner names result }
+    ensures meaning { (names : List (List ℕ)) → expression_node names result
+        ≡ expression_as symbol.LeftSection (tree_of names tree.entry) }
+    ensures owned { (owner : NameId) (names : List (List ℕ)) → IsOf owner names tree.entry
+        → ExpressionNodeIsOf owner names result }
 {
     let operand = Expression::new(tree.part(1, Symbol::Exp));
     let operator = tree.part(2, Symbol::QOp).name();
@@ -291,9 +347,13 @@ fn left_section(tree: Subtree<'_>) -> ExpressionNode<'_>
 /// The components of a tuple, of which there are two or more.
 fn tuple(alloc: Global, tree: Subtree<'_>) -> Result<ExpressionNode<'_>, AllocError>
     requires symbol { tree.symbol ≡ symbol.Tuple }
-    requires more { (names : List (List ℕ)) → is_bare_expression tree.symbol (tree_of names tree) ≡ true }
-    ensures meaning { (names : List (List ℕ)) → IfOk result (λ node. expression_node names node ≡ expression_as symbol.Tuple (tree_of names tree.entry)) }
-    ensures owned { (owner : NameId) (names : List (List ℕ)) → IsOf owner names tree.entry → IfOk result (ExpressionNodeIsOf owner names) }
+    requires more { (names : List (List ℕ)) → is_bare_expression tree.symbol (tree_of names tree)
+        ≡ true }
+    ensures meaning { (names : List (List ℕ))
+        → IfOk result (λ node. expression_node names node
+        ≡ expression_as symbol.Tuple (tree_of names tree.entry)) }
+    ensures owned { (owner : NameId) (names : List (List ℕ)) → IsOf owner names tree.entry
+        → IfOk result (ExpressionNodeIsOf owner names) }
 {
     let components = all(alloc, tree.part(2, Symbol::ExpList), Symbol::Exp)?;
     Ok(ExpressionNode::Tuple(tree.place(), components))
@@ -301,8 +361,10 @@ fn tuple(alloc: Global, tree: Subtree<'_>) -> Result<ExpressionNode<'_>, AllocEr
 
 fn from_then(tree: Subtree<'_>) -> ExpressionNode<'_>
     requires { tree.symbol ≡ symbol.FromThen }
-    ensures meaning { (names : List (List ℕ)) → expression_node names result ≡ expression_as symbol.FromThen (tree_of names tree.entry) }
-    ensures owned { (owner : NameId) (names : List (List ℕ)) → IsOf owner names tree.entry → ExpressionNodeIsOf owner names result }
+    ensures meaning { (names : List (List ℕ)) → expression_node names result
+        ≡ expression_as symbol.FromThen (tree_of names tree.entry) }
+    ensures owned { (owner : NameId) (names : List (List ℕ)) → IsOf owner names tree.entry
+        → ExpressionNodeIsOf owner names result }
 {
     let first = Expression::new(tree.part(1, Symbol::Exp));
     let second = Some(Expression::new(tree.part(3, Symbol::Exp)));
@@ -319,8 +381,10 @@ fn from_then(tree: Subtree<'_>) -> ExpressionNode<'_>
 
 fn from(tree: Subtree<'_>) -> ExpressionNode<'_>
     requires { tree.symbol ≡ symbol.From }
-    ensures meaning { (names : List (List ℕ)) → expression_node names result ≡ expression_as symbol.From (tree_of names tree.entry) }
-    ensures owned { (owner : NameId) (names : List (List ℕ)) → IsOf owner names tree.entry → ExpressionNodeIsOf owner names result }
+    ensures meaning { (names : List (List ℕ)) → expression_node names result
+        ≡ expression_as symbol.From (tree_of names tree.entry) }
+    ensures owned { (owner : NameId) (names : List (List ℕ)) → IsOf owner names tree.entry
+        → ExpressionNodeIsOf owner names result }
 {
     let first = Expression::new(tree.part(1, Symbol::Exp));
     let last = maybe(tree.part(3, Symbol::OptionalExp));
@@ -336,8 +400,10 @@ fn from(tree: Subtree<'_>) -> ExpressionNode<'_>
 
 fn maybe(tree: Subtree<'_>) -> Option<Expression<'_>>
     requires { tree.symbol ≡ symbol.OptionalExp }
-    ensures meaning { (names : List (List ℕ)) → maybe_meaning names result ≡ maybe_expression (tree_of names tree.entry) }
-    ensures owned { (owner : NameId) (names : List (List ℕ)) → IsOf owner names tree.entry → IfSome result (ExpressionIsOf owner names) }
+    ensures meaning { (names : List (List ℕ)) → maybe_meaning names result
+        ≡ maybe_expression (tree_of names tree.entry) }
+    ensures owned { (owner : NameId) (names : List (List ℕ)) → IsOf owner names tree.entry
+        → IfSome result (ExpressionIsOf owner names) }
 {
     let expression = tree.optional(Symbol::Exp)?;
     Some(Expression::new(expression))
@@ -345,8 +411,11 @@ fn maybe(tree: Subtree<'_>) -> Option<Expression<'_>>
 
 fn comprehension(alloc: Global, tree: Subtree<'_>) -> Result<ExpressionNode<'_>, AllocError>
     requires { tree.symbol ≡ symbol.Comprehension }
-    ensures meaning { (names : List (List ℕ)) → IfOk result (λ node. expression_node names node ≡ expression_as symbol.Comprehension (tree_of names tree.entry)) }
-    ensures owned { (owner : NameId) (names : List (List ℕ)) → IsOf owner names tree.entry → IfOk result (ExpressionNodeIsOf owner names) }
+    ensures meaning { (names : List (List ℕ))
+        → IfOk result (λ node. expression_node names node
+        ≡ expression_as symbol.Comprehension (tree_of names tree.entry)) }
+    ensures owned { (owner : NameId) (names : List (List ℕ)) → IsOf owner names tree.entry
+        → IfOk result (ExpressionNodeIsOf owner names) }
 {
     let element = Expression::new(tree.part(1, Symbol::Exp));
     let qualifiers = qualifiers(alloc, tree.part(3, Symbol::QualList))?;
@@ -355,8 +424,11 @@ fn comprehension(alloc: Global, tree: Subtree<'_>) -> Result<ExpressionNode<'_>,
 
 fn qualifiers(alloc: Global, tree: Subtree<'_>) -> Result<Vec<Qualifier<'_>>, AllocError>
     requires { tree.symbol ≡ symbol.QualList }
-    ensures meaning { (names : List (List ℕ)) → IfOk result (λ found. qualifiers_in (tree_of names tree.entry) ≡ qualifiers_meaning names found.items) }
-    ensures owned { (owner : NameId) (names : List (List ℕ)) → IsOf owner names tree.entry → IfOk result (λ found. All (QualifierIsOf owner names) found.items) }
+    ensures meaning { (names : List (List ℕ))
+        → IfOk result (λ found. qualifiers_in (tree_of names tree.entry)
+        ≡ qualifiers_meaning names found.items) }
+    ensures owned { (owner : NameId) (names : List (List ℕ)) → IsOf owner names tree.entry
+        → IfOk result (λ found. All (QualifierIsOf owner names) found.items) }
 {
     let mut qualifiers = Vec::new(alloc);
     for qualifier in tree.repeated(alloc, Symbol::Qual)? {
@@ -368,8 +440,11 @@ fn qualifiers(alloc: Global, tree: Subtree<'_>) -> Result<Vec<Qualifier<'_>>, Al
 /// A generator, declarations or a condition.
 fn qualifier_of(alloc: Global, tree: Subtree<'_>) -> Result<Qualifier<'_>, AllocError>
     requires { is_qualifier tree.symbol ≡ true }
-    ensures meaning { (names : List (List ℕ)) → IfOk result (λ found. qualifier_meaning names found ≡ qualifier_as tree.entry.symbol (tree_of names tree.entry)) }
-    ensures owned { (owner : NameId) (names : List (List ℕ)) → IsOf owner names tree.entry → IfOk result (QualifierIsOf owner names) }
+    ensures meaning { (names : List (List ℕ))
+        → IfOk result (λ found. qualifier_meaning names found
+        ≡ qualifier_as tree.entry.symbol (tree_of names tree.entry)) }
+    ensures owned { (owner : NameId) (names : List (List ℕ)) → IsOf owner names tree.entry
+        → IfOk result (QualifierIsOf owner names) }
 {
     match tree.symbol {
         Symbol::Generator => {
@@ -388,8 +463,11 @@ fn qualifier_of(alloc: Global, tree: Subtree<'_>) -> Result<Qualifier<'_>, Alloc
 
 fn list(alloc: Global, tree: Subtree<'_>) -> Result<ExpressionNode<'_>, AllocError>
     requires { tree.symbol ≡ symbol.ListExp }
-    ensures meaning { (names : List (List ℕ)) → IfOk result (λ node. expression_node names node ≡ expression_as symbol.ListExp (tree_of names tree.entry)) }
-    ensures owned { (owner : NameId) (names : List (List ℕ)) → IsOf owner names tree.entry → IfOk result (ExpressionNodeIsOf owner names) }
+    ensures meaning { (names : List (List ℕ))
+        → IfOk result (λ node. expression_node names node
+        ≡ expression_as symbol.ListExp (tree_of names tree.entry)) }
+    ensures owned { (owner : NameId) (names : List (List ℕ)) → IsOf owner names tree.entry
+        → IfOk result (ExpressionNodeIsOf owner names) }
 {
     let elements = all(alloc, tree.part(1, Symbol::ExpList), Symbol::Exp)?;
     Ok(ExpressionNode::List(tree.place(), elements))
@@ -399,9 +477,13 @@ fn list(alloc: Global, tree: Subtree<'_>) -> Result<ExpressionNode<'_>, AllocErr
 fn all(alloc: Global, tree: Subtree<'_>, part: Symbol) -> Result<Vec<Expression<'_>>, AllocError>
     requires repeated { repeated_part (rule_of tree.symbol) ≡ Some part }
     requires symbol { is_expression part ≡ true }
-    ensures symbols { IfOk result (λ expressions. All (λ e. e.tree.symbol ≡ part) expressions.items) }
-    ensures trees { (names : List (List ℕ)) → IfOk result (λ expressions. tree_of names tree.entry ≡ Parts (trees_from (map (expression_tree names) expressions.items))) }
-    ensures owned { (owner : NameId) (names : List (List ℕ)) → IsOf owner names tree.entry → IfOk result (λ found. All (ExpressionIsOf owner names) found.items) }
+    ensures symbols { IfOk result
+        (λ expressions. All (λ e. e.tree.symbol ≡ part) expressions.items) }
+    ensures trees { (names : List (List ℕ))
+        → IfOk result (λ expressions. tree_of names tree.entry
+        ≡ Parts (trees_from (map (expression_tree names) expressions.items))) }
+    ensures owned { (owner : NameId) (names : List (List ℕ)) → IsOf owner names tree.entry
+        → IfOk result (λ found. All (ExpressionIsOf owner names) found.items) }
 {
     let mut expressions = Vec::new(alloc);
     for tree in tree.repeated(alloc, part)? {

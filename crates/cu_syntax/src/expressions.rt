@@ -117,8 +117,10 @@ impl<'t> Expression<'t> {
 
     /// The place of its first token, inside the parentheses round it.
     pub fn place(self) -> Place
-        ensures position { (names : List (List ℕ)) → position_of result ≡ expression_position (expression_meaning names self.entry) }
-        ensures owned { (owner : NameId) (names : List (List ℕ)) → ExpressionIsOf owner names self.entry → PlaceIsOf owner result }
+        ensures position { (names : List (List ℕ))
+            → position_of result ≡ expression_position (expression_meaning names self.entry) }
+        ensures owned { (owner : NameId) (names : List (List ℕ))
+            → ExpressionIsOf owner names self.entry → PlaceIsOf owner result }
     {
         inside(self.tree).place()
     }
@@ -129,8 +131,11 @@ impl<'t> Expression<'t> {
     ///
     /// Want of memory.
     pub fn node(self, alloc: Global) -> Result<ExpressionNode<'t>, AllocError>
-        ensures meaning { (names : List (List ℕ)) → IfOk result (λ node. expression_node names node ≡ expression_meaning names self.entry) }
-        ensures owned { (owner : NameId) (names : List (List ℕ)) → ExpressionIsOf owner names self.entry → IfOk result (ExpressionNodeIsOf owner names) }
+        ensures meaning { (names : List (List ℕ))
+            → IfOk result (λ node. expression_node names node
+            ≡ expression_meaning names self.entry) }
+        ensures owned { (owner : NameId) (names : List (List ℕ))
+            → ExpressionIsOf owner names self.entry → IfOk result (ExpressionNodeIsOf owner names) }
         ensures smaller { IfOk result (ExpressionNodeIsBelow (expression_size self.entry)) }
         ensures formed { IfOk result ExpressionNodeIsFormed }
     {

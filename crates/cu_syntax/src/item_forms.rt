@@ -26,8 +26,11 @@ use std::alloc::{AllocError, Global};
 /// An item that isn't an import.
 pub(crate) fn item(alloc: Global, tree: Subtree<'_>) -> Result<ItemNode<'_>, AllocError>
     requires { is_item_node tree.symbol ≡ true }
-    ensures meaning { (names : List (List ℕ)) → IfOk result (λ node. item_node names node ≡ item_as tree.entry.symbol (tree_of names tree.entry)) }
-    ensures owned { (owner : NameId) (names : List (List ℕ)) → IsOf owner names tree.entry → IfOk result (ItemNodeIsOf owner names) }
+    ensures meaning { (names : List (List ℕ))
+        → IfOk result (λ node. item_node names node
+        ≡ item_as tree.entry.symbol (tree_of names tree.entry)) }
+    ensures owned { (owner : NameId) (names : List (List ℕ)) → IsOf owner names tree.entry
+        → IfOk result (ItemNodeIsOf owner names) }
 {
     match tree.symbol {
         Symbol::FixityDecl => fixity(alloc, tree),
@@ -41,8 +44,11 @@ pub(crate) fn item(alloc: Global, tree: Subtree<'_>) -> Result<ItemNode<'_>, All
 
 fn fixity(alloc: Global, tree: Subtree<'_>) -> Result<ItemNode<'_>, AllocError>
     requires { tree.symbol ≡ symbol.FixityDecl }
-    ensures meaning { (names : List (List ℕ)) → IfOk result (λ node. item_node names node ≡ item_as symbol.FixityDecl (tree_of names tree.entry)) }
-    ensures owned { (owner : NameId) (names : List (List ℕ)) → IsOf owner names tree.entry → IfOk result (ItemNodeIsOf owner names) }
+    ensures meaning { (names : List (List ℕ))
+        → IfOk result (λ node. item_node names node
+        ≡ item_as symbol.FixityDecl (tree_of names tree.entry)) }
+    ensures owned { (owner : NameId) (names : List (List ℕ)) → IsOf owner names tree.entry
+        → IfOk result (ItemNodeIsOf owner names) }
 {
     let side = side(tree.part(0, Symbol::FixityWord));
     let level = level(tree.part(1, Symbol::OptionalDigit));
@@ -64,7 +70,8 @@ fn side(tree: Subtree<'_>) -> Side
 /// The level of a fixity declaration: 9 where none is written.
 fn level(tree: Subtree<'_>) -> u32
     requires { tree.symbol ≡ symbol.OptionalDigit }
-    ensures { (names : List (List ℕ)) → result ≡ unwrap_or (optional digit_of (tree_of names tree.entry)) 9 }
+    ensures { (names : List (List ℕ)) → result
+        ≡ unwrap_or (optional digit_of (tree_of names tree.entry)) 9 }
 {
     match tree.optional(Symbol::Digit) {
         Some(digit) => digit.digit(),
@@ -74,8 +81,11 @@ fn level(tree: Subtree<'_>) -> u32
 
 fn data(alloc: Global, tree: Subtree<'_>) -> Result<ItemNode<'_>, AllocError>
     requires { tree.symbol ≡ symbol.DataDecl }
-    ensures meaning { (names : List (List ℕ)) → IfOk result (λ node. item_node names node ≡ item_as symbol.DataDecl (tree_of names tree.entry)) }
-    ensures owned { (owner : NameId) (names : List (List ℕ)) → IsOf owner names tree.entry → IfOk result (ItemNodeIsOf owner names) }
+    ensures meaning { (names : List (List ℕ))
+        → IfOk result (λ node. item_node names node
+        ≡ item_as symbol.DataDecl (tree_of names tree.entry)) }
+    ensures owned { (owner : NameId) (names : List (List ℕ)) → IsOf owner names tree.entry
+        → IfOk result (ItemNodeIsOf owner names) }
 {
     let name = tree.part(1, Symbol::ConId).name();
     let parameters = names(alloc, tree.part(2, Symbol::TypeVars), Symbol::VarId)?;
@@ -89,8 +99,11 @@ fn constructors(
     tree: Subtree<'_>,
 ) -> Result<Vec<ConstructorDeclaration<'_>>, AllocError>
     requires { tree.symbol ≡ symbol.OptionalConDecls }
-    ensures meaning { (names : List (List ℕ)) → IfOk result (λ found. map (constructor_meaning names) found.items ≡ unwrap_or (optional constructors_of (tree_of names tree.entry)) []) }
-    ensures owned { (owner : NameId) (names : List (List ℕ)) → IsOf owner names tree.entry → IfOk result (λ found. All (ConstructorDeclarationIsOf owner names) found.items) }
+    ensures meaning { (names : List (List ℕ))
+        → IfOk result (λ found. map (constructor_meaning names) found.items
+        ≡ unwrap_or (optional constructors_of (tree_of names tree.entry)) []) }
+    ensures owned { (owner : NameId) (names : List (List ℕ)) → IsOf owner names tree.entry
+        → IfOk result (λ found. All (ConstructorDeclarationIsOf owner names) found.items) }
 {
     let mut constructors = Vec::new(alloc);
     let Some(declarations) = tree.optional(Symbol::ConDecls) else {
@@ -106,8 +119,11 @@ fn constructors(
 /// The declaration of a constructor between two types, or before types.
 fn constructor(alloc: Global, tree: Subtree<'_>) -> Result<ConstructorDeclaration<'_>, AllocError>
     requires { is_constructor_node tree.symbol ≡ true }
-    ensures meaning { (names : List (List ℕ)) → IfOk result (λ found. constructor_meaning names found ≡ constructor_as tree.entry.symbol (tree_of names tree.entry)) }
-    ensures owned { (owner : NameId) (names : List (List ℕ)) → IsOf owner names tree.entry → IfOk result (ConstructorDeclarationIsOf owner names) }
+    ensures meaning { (names : List (List ℕ))
+        → IfOk result (λ found. constructor_meaning names found
+        ≡ constructor_as tree.entry.symbol (tree_of names tree.entry)) }
+    ensures owned { (owner : NameId) (names : List (List ℕ)) → IsOf owner names tree.entry
+        → IfOk result (ConstructorDeclarationIsOf owner names) }
 {
     match tree.symbol {
         Symbol::InfixConDecl => {
@@ -130,8 +146,11 @@ fn constructor(alloc: Global, tree: Subtree<'_>) -> Result<ConstructorDeclaratio
 
 fn synonym(alloc: Global, tree: Subtree<'_>) -> Result<ItemNode<'_>, AllocError>
     requires { tree.symbol ≡ symbol.SynonymDecl }
-    ensures meaning { (names : List (List ℕ)) → IfOk result (λ node. item_node names node ≡ item_as symbol.SynonymDecl (tree_of names tree.entry)) }
-    ensures owned { (owner : NameId) (names : List (List ℕ)) → IsOf owner names tree.entry → IfOk result (ItemNodeIsOf owner names) }
+    ensures meaning { (names : List (List ℕ))
+        → IfOk result (λ node. item_node names node
+        ≡ item_as symbol.SynonymDecl (tree_of names tree.entry)) }
+    ensures owned { (owner : NameId) (names : List (List ℕ)) → IsOf owner names tree.entry
+        → IfOk result (ItemNodeIsOf owner names) }
 {
     let name = tree.part(1, Symbol::ConId).name();
     let parameters = names(alloc, tree.part(2, Symbol::TypeVars), Symbol::VarId)?;
@@ -141,8 +160,11 @@ fn synonym(alloc: Global, tree: Subtree<'_>) -> Result<ItemNode<'_>, AllocError>
 
 pub(crate) fn import(alloc: Global, tree: Subtree<'_>) -> Result<Import, AllocError>
     requires { tree.symbol ≡ symbol.ImportDecl }
-    ensures meaning { (names : List (List ℕ)) → IfOk result (λ import. import_meaning names import ≡ import_of (tree_of names tree.entry)) }
-    ensures owned { (owner : NameId) (names : List (List ℕ)) → IsOf owner names tree.entry → IfOk result (ImportIsOf owner names) }
+    ensures meaning { (names : List (List ℕ))
+        → IfOk result (λ import. import_meaning names import
+        ≡ import_of (tree_of names tree.entry)) }
+    ensures owned { (owner : NameId) (names : List (List ℕ)) → IsOf owner names tree.entry
+        → IfOk result (ImportIsOf owner names) }
 {
     let qualified = tree
         .part(1, Symbol::OptionalQualified)
@@ -159,8 +181,10 @@ pub(crate) fn import(alloc: Global, tree: Subtree<'_>) -> Result<Import, AllocEr
 
 fn alias(tree: Subtree<'_>) -> Option<ModuleName>
     requires { tree.symbol ≡ symbol.OptionalAlias }
-    ensures meaning { (names : List (List ℕ)) → option_map (module_name_meaning names) result ≡ optional alias_of (tree_of names tree.entry) }
-    ensures owned { (owner : NameId) (names : List (List ℕ)) → IsOf owner names tree.entry → IfSome result (ModuleNameIsOf owner names) }
+    ensures meaning { (names : List (List ℕ)) → option_map (module_name_meaning names) result
+        ≡ optional alias_of (tree_of names tree.entry) }
+    ensures owned { (owner : NameId) (names : List (List ℕ)) → IsOf owner names tree.entry
+        → IfSome result (ModuleNameIsOf owner names) }
 {
     let alias = tree.optional(Symbol::Alias)?;
     Some(alias.part(1, Symbol::ModuleName).module_name())
@@ -168,8 +192,11 @@ fn alias(tree: Subtree<'_>) -> Option<ModuleName>
 
 fn imports(alloc: Global, tree: Subtree<'_>) -> Result<Option<ImportList>, AllocError>
     requires { tree.symbol ≡ symbol.OptionalImports }
-    ensures meaning { (names : List (List ℕ)) → IfOk result (λ list. option_map (import_list_meaning names) list ≡ optional import_list (tree_of names tree.entry)) }
-    ensures owned { (owner : NameId) (names : List (List ℕ)) → IsOf owner names tree.entry → IfOk result (λ found. IfSome found (ImportListIsOf owner names)) }
+    ensures meaning { (names : List (List ℕ))
+        → IfOk result (λ list. option_map (import_list_meaning names) list
+        ≡ optional import_list (tree_of names tree.entry)) }
+    ensures owned { (owner : NameId) (names : List (List ℕ)) → IsOf owner names tree.entry
+        → IfOk result (λ found. IfSome found (ImportListIsOf owner names)) }
 {
     let Some(imports) = tree.optional(Symbol::Imports) else {
         return Ok(None);
@@ -184,8 +211,11 @@ fn imports(alloc: Global, tree: Subtree<'_>) -> Result<Option<ImportList>, Alloc
 
 fn entities(alloc: Global, tree: Subtree<'_>) -> Result<Vec<Entity>, AllocError>
     requires { tree.symbol ≡ symbol.OptionalEntityList }
-    ensures meaning { (names : List (List ℕ)) → IfOk result (λ found. map (entity_meaning names) found.items ≡ unwrap_or (optional (each_in entity_of) (tree_of names tree.entry)) []) }
-    ensures owned { (owner : NameId) (names : List (List ℕ)) → IsOf owner names tree.entry → IfOk result (λ found. All (EntityIsOf owner names) found.items) }
+    ensures meaning { (names : List (List ℕ))
+        → IfOk result (λ found. map (entity_meaning names) found.items
+        ≡ unwrap_or (optional (each_in entity_of) (tree_of names tree.entry)) []) }
+    ensures owned { (owner : NameId) (names : List (List ℕ)) → IsOf owner names tree.entry
+        → IfOk result (λ found. All (EntityIsOf owner names) found.items) }
 {
     let mut entities = Vec::new(alloc);
     let Some(list) = tree.optional(Symbol::EntityList) else {
@@ -199,8 +229,11 @@ fn entities(alloc: Global, tree: Subtree<'_>) -> Result<Vec<Entity>, AllocError>
 
 fn entity(alloc: Global, tree: Subtree<'_>) -> Result<Entity, AllocError>
     requires { tree.symbol ≡ symbol.Entity }
-    ensures meaning { (names : List (List ℕ)) → IfOk result (λ entity. entity_meaning names entity ≡ entity_of (tree_of names tree.entry)) }
-    ensures owned { (owner : NameId) (names : List (List ℕ)) → IsOf owner names tree.entry → IfOk result (EntityIsOf owner names) }
+    ensures meaning { (names : List (List ℕ))
+        → IfOk result (λ entity. entity_meaning names entity
+        ≡ entity_of (tree_of names tree.entry)) }
+    ensures owned { (owner : NameId) (names : List (List ℕ)) → IsOf owner names tree.entry
+        → IfOk result (EntityIsOf owner names) }
 {
     let chosen = tree.chosen();
     match chosen.symbol {
@@ -217,8 +250,11 @@ fn entity(alloc: Global, tree: Subtree<'_>) -> Result<Entity, AllocError>
 /// Which constructors come with a type.
 fn named_constructors(alloc: Global, tree: Subtree<'_>) -> Result<Constructors, AllocError>
     requires { tree.symbol ≡ symbol.OptionalConstructors }
-    ensures meaning { (names : List (List ℕ)) → IfOk result (λ found. constructors_meaning names found ≡ constructors_named (tree_of names tree.entry)) }
-    ensures owned { (owner : NameId) (names : List (List ℕ)) → IsOf owner names tree.entry → IfOk result (ConstructorsAreOf owner names) }
+    ensures meaning { (names : List (List ℕ))
+        → IfOk result (λ found. constructors_meaning names found
+        ≡ constructors_named (tree_of names tree.entry)) }
+    ensures owned { (owner : NameId) (names : List (List ℕ)) → IsOf owner names tree.entry
+        → IfOk result (ConstructorsAreOf owner names) }
 {
     let Some(constructors) = tree.optional(Symbol::Constructors) else {
         return Ok(Constructors::None);
@@ -236,8 +272,13 @@ fn named_constructors(alloc: Global, tree: Subtree<'_>) -> Result<Constructors, 
 /// The exports of a header, if it lists them.
 pub(crate) fn exports(alloc: Global, tree: Subtree<'_>) -> Result<Option<Vec<Export>>, AllocError>
     requires { tree.symbol ≡ symbol.OptionalExports }
-    ensures meaning { (names : List (List ℕ)) → IfOk result (λ found. option_map (λ exports. map (export_meaning names) exports.items) found ≡ optional exports_of (tree_of names tree.entry)) }
-    ensures owned { (owner : NameId) (names : List (List ℕ)) → IsOf owner names tree.entry → IfOk result (λ found. IfSome found (λ exports. All (ExportIsOf owner names) exports.items)) }
+    ensures meaning { (names : List (List ℕ))
+        → IfOk result
+        (λ found. option_map (λ exports. map (export_meaning names) exports.items) found
+        ≡ optional exports_of (tree_of names tree.entry)) }
+    ensures owned { (owner : NameId) (names : List (List ℕ)) → IsOf owner names tree.entry
+        → IfOk result (λ found. IfSome found
+        (λ exports. All (ExportIsOf owner names) exports.items)) }
 {
     match tree.optional(Symbol::Exports) {
         Some(exports) => {
@@ -251,8 +292,11 @@ pub(crate) fn exports(alloc: Global, tree: Subtree<'_>) -> Result<Option<Vec<Exp
 /// The exports between the parentheses.
 fn export_list(alloc: Global, tree: Subtree<'_>) -> Result<Vec<Export>, AllocError>
     requires { tree.symbol ≡ symbol.OptionalExportList }
-    ensures meaning { (names : List (List ℕ)) → IfOk result (λ found. map (export_meaning names) found.items ≡ unwrap_or (optional (each_in export_of) (tree_of names tree.entry)) []) }
-    ensures owned { (owner : NameId) (names : List (List ℕ)) → IsOf owner names tree.entry → IfOk result (λ found. All (ExportIsOf owner names) found.items) }
+    ensures meaning { (names : List (List ℕ))
+        → IfOk result (λ found. map (export_meaning names) found.items
+        ≡ unwrap_or (optional (each_in export_of) (tree_of names tree.entry)) []) }
+    ensures owned { (owner : NameId) (names : List (List ℕ)) → IsOf owner names tree.entry
+        → IfOk result (λ found. All (ExportIsOf owner names) found.items) }
 {
     let mut exports = Vec::new(alloc);
     let Some(list) = tree.optional(Symbol::ExportList) else {
@@ -266,8 +310,11 @@ fn export_list(alloc: Global, tree: Subtree<'_>) -> Result<Vec<Export>, AllocErr
 
 fn export(alloc: Global, tree: Subtree<'_>) -> Result<Export, AllocError>
     requires { tree.symbol ≡ symbol.Export }
-    ensures meaning { (names : List (List ℕ)) → IfOk result (λ export. export_meaning names export ≡ export_of (tree_of names tree.entry)) }
-    ensures owned { (owner : NameId) (names : List (List ℕ)) → IsOf owner names tree.entry → IfOk result (ExportIsOf owner names) }
+    ensures meaning { (names : List (List ℕ))
+        → IfOk result (λ export. export_meaning names export
+        ≡ export_of (tree_of names tree.entry)) }
+    ensures owned { (owner : NameId) (names : List (List ℕ)) → IsOf owner names tree.entry
+        → IfOk result (ExportIsOf owner names) }
 {
     let chosen = tree.chosen();
     match chosen.symbol {
@@ -282,8 +329,11 @@ fn export(alloc: Global, tree: Subtree<'_>) -> Result<Export, AllocError>
 /// The variables that a goal declares free.
 pub(crate) fn goal_variables(alloc: Global, tree: Subtree<'_>) -> Result<Vec<Name>, AllocError>
     requires { tree.symbol ≡ symbol.OptionalGoalWhere }
-    ensures meaning { (names : List (List ℕ)) → IfOk result (λ found. map (name_meaning names) found.items ≡ goal_variables (tree_of names tree.entry)) }
-    ensures owned { (owner : NameId) (names : List (List ℕ)) → IsOf owner names tree.entry → IfOk result (λ found. All (NameIsOf owner names) found.items) }
+    ensures meaning { (names : List (List ℕ))
+        → IfOk result (λ found. map (name_meaning names) found.items
+        ≡ goal_variables (tree_of names tree.entry)) }
+    ensures owned { (owner : NameId) (names : List (List ℕ)) → IsOf owner names tree.entry
+        → IfOk result (λ found. All (NameIsOf owner names) found.items) }
 {
     let mut variables = Vec::new(alloc);
     let Some(declarations) = tree.optional(Symbol::GoalWhere) else {

@@ -53,8 +53,10 @@ impl<'t> Subtree<'t> {
     /// The place of the first token.
     pub(crate) fn place(self) -> Place
         requires { has_token self.symbol ≡ true }
-        ensures position { (names : List (List ℕ)) → position_of result ≡ place (tree_of names self.entry) }
-        ensures owned { (owner : NameId) (names : List (List ℕ)) → IsOf owner names self.entry → PlaceIsOf owner result }
+        ensures position { (names : List (List ℕ))
+            → position_of result ≡ place (tree_of names self.entry) }
+        ensures owned { (owner : NameId) (names : List (List ℕ)) → IsOf owner names self.entry
+            → PlaceIsOf owner result }
     {
         self.first_token().place
     }
@@ -62,8 +64,10 @@ impl<'t> Subtree<'t> {
     /// The name that a tree is.
     pub(crate) fn name(self) -> Name
         requires { is_name self.symbol ≡ true }
-        ensures meaning { (names : List (List ℕ)) → name_meaning names result ≡ name_of (tree_of names self.entry) }
-        ensures owned { (owner : NameId) (names : List (List ℕ)) → IsOf owner names self.entry → NameIsOf owner names result }
+        ensures meaning { (names : List (List ℕ))
+            → name_meaning names result ≡ name_of (tree_of names self.entry) }
+        ensures owned { (owner : NameId) (names : List (List ℕ)) → IsOf owner names self.entry
+            → NameIsOf owner names result }
     {
         let token = self.name_token();
         let name = spelling(&token.kind);
@@ -77,8 +81,10 @@ impl<'t> Subtree<'t> {
 
     pub(crate) fn module_name(self) -> ModuleName
         requires { self.symbol ≡ symbol.ModuleName }
-        ensures meaning { (names : List (List ℕ)) → module_name_meaning names result ≡ module_name (tree_of names self.entry) }
-        ensures owned { (owner : NameId) (names : List (List ℕ)) → IsOf owner names self.entry → ModuleNameIsOf owner names result }
+        ensures meaning { (names : List (List ℕ))
+            → module_name_meaning names result ≡ module_name (tree_of names self.entry) }
+        ensures owned { (owner : NameId) (names : List (List ℕ)) → IsOf owner names self.entry
+            → ModuleNameIsOf owner names result }
     {
         let token = self.name_token();
         ModuleName {
@@ -89,8 +95,10 @@ impl<'t> Subtree<'t> {
 
     pub(crate) fn literal(self) -> Literal<'t>
         requires { self.symbol ≡ symbol.Literal }
-        ensures meaning { (names : List (List ℕ)) → literal_meaning result ≡ literal_of (tree_of names self.entry) }
-        ensures natural { (owner : NameId) (names : List (List ℕ)) → IsOf owner names self.entry → LiteralIsNatural result }
+        ensures meaning { (names : List (List ℕ))
+            → literal_meaning result ≡ literal_of (tree_of names self.entry) }
+        ensures natural { (owner : NameId) (names : List (List ℕ)) → IsOf owner names self.entry
+            → LiteralIsNatural result }
     {
         match &self.first_token().kind {
             TokenKind::Int(number) => Literal::Int(*number),
@@ -102,8 +110,10 @@ impl<'t> Subtree<'t> {
 
     pub(crate) fn number(self) -> Int
         requires { self.symbol ≡ symbol.Int }
-        ensures meaning { (names : List (List ℕ)) → literal_of (tree_of names self.entry) ≡ syntax.Int result }
-        ensures natural { (owner : NameId) (names : List (List ℕ)) → IsOf owner names self.entry → IsNonNegative result }
+        ensures meaning { (names : List (List ℕ))
+            → literal_of (tree_of names self.entry) ≡ syntax.Int result }
+        ensures natural { (owner : NameId) (names : List (List ℕ)) → IsOf owner names self.entry
+            → IsNonNegative result }
     {
         match &self.token().kind {
             TokenKind::Int(number) => *number,
@@ -125,9 +135,11 @@ impl<'t> Subtree<'t> {
     /// The token of a name, inside the parentheses or backquotes round it.
     fn name_token(self) -> &'t Token
         requires { has_name self.symbol ≡ true }
-        ensures token { (names : List (List ℕ)) → name_token (tree_of names self.entry) ≡ lexeme_of names result.now }
+        ensures token { (names : List (List ℕ)) → name_token (tree_of names self.entry)
+            ≡ lexeme_of names result.now }
         ensures kind { is_spelled result.now.kind ≡ true }
-        ensures owned { (owner : NameId) (names : List (List ℕ)) → IsOf owner names self.entry → IsTokenOf owner names result.now }
+        ensures owned { (owner : NameId) (names : List (List ℕ)) → IsOf owner names self.entry
+            → IsTokenOf owner names result.now }
     {
         let mut name = self;
         while !is_token(name.symbol) {
@@ -142,9 +154,11 @@ impl<'t> Subtree<'t> {
         requires name { has_name self.symbol ≡ true }
         requires leaf { is_leaf (rule_of self.symbol) ≡ false }
         ensures name { has_name result.symbol ≡ true }
-        ensures token { (names : List (List ℕ)) → name_token (tree_of names self.entry) ≡ name_token (tree_of names result) }
+        ensures token { (names : List (List ℕ)) → name_token (tree_of names self.entry)
+            ≡ name_token (tree_of names result) }
         ensures smaller { length result.nodes.now < length self.entry.nodes.now }
-        ensures owned { (owner : NameId) (names : List (List ℕ)) → IsOf owner names self.entry → IsOf owner names result }
+        ensures owned { (owner : NameId) (names : List (List ℕ)) → IsOf owner names self.entry
+            → IsOf owner names result }
     {
         match rule(self.symbol) {
             Rule::Choice(_) => self.chosen(),
@@ -164,7 +178,8 @@ fn is_token(symbol: Symbol) -> bool
 /// The name that a token is.
 fn spelling(kind: &TokenKind) -> Spelling
     requires { is_spelled kind.now ≡ true }
-    ensures meaning { (names : List (List ℕ)) → spelling_of names result ≡ spelling (kind_of names kind.now) }
+    ensures meaning { (names : List (List ℕ)) → spelling_of names result
+        ≡ spelling (kind_of names kind.now) }
     ensures owned { (names : List (List ℕ)) → HasKind names kind.now → HasName names result }
 {
     match kind {

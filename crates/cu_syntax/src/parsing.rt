@@ -28,9 +28,13 @@ use std::alloc::{AllocError, Global};
 ///
 /// `TooLong` or else `Syntax`, at the goal's line, and `NoMemory`.
 pub fn parse_goal(alloc: Global, tokens: &[Token]) -> Result<GoalText, ParseFault>
-    ensures goal { (names : List (List ℕ)) → IfOk result (λ goal. GoalRead (map (lexeme_of names) tokens.now) (Ok (goal_meaning names goal))) }
-    ensures fault { (names : List (List ℕ)) → IfErr result (Tells (λ fault. GoalRead (map (lexeme_of names) tokens.now) (Err fault))) }
-    ensures owned { (owner : NameId) (names : List (List ℕ)) → All (IsTokenOf owner names) tokens.now → IfOk result (GoalIsOf owner names) }
+    ensures goal { (names : List (List ℕ))
+        → IfOk result (λ goal. GoalRead (map (lexeme_of names) tokens.now)
+        (Ok (goal_meaning names goal))) }
+    ensures fault { (names : List (List ℕ))
+        → IfErr result (Tells (λ fault. GoalRead (map (lexeme_of names) tokens.now) (Err fault))) }
+    ensures owned { (owner : NameId) (names : List (List ℕ))
+        → All (IsTokenOf owner names) tokens.now → IfOk result (GoalIsOf owner names) }
 {
     if is_long(tokens) {
         return Err(ParseFault::TooLong(first_line(1, tokens)));
@@ -51,9 +55,14 @@ pub fn parse_goal(alloc: Global, tokens: &[Token]) -> Result<GoalText, ParseFaul
 /// more than 4,096 tokens, or that doesn't match, and `NoMemory`. An item's
 /// length is looked at before it is matched.
 pub fn parse_module(alloc: Global, tokens: &[Token]) -> Result<Module, ParseFault>
-    ensures syntax { (names : List (List ℕ)) → IfOk result (λ found. ModuleRead (map (lexeme_of names) tokens.now) (Ok (module_meaning names found))) }
-    ensures fault { (names : List (List ℕ)) → IfErr result (Tells (λ fault. ModuleRead (map (lexeme_of names) tokens.now) (Err fault))) }
-    ensures owned { (owner : NameId) (names : List (List ℕ)) → AreOf owner names tokens.now → IfOk result (ModuleIsOf owner names) }
+    ensures syntax { (names : List (List ℕ))
+        → IfOk result (λ found. ModuleRead (map (lexeme_of names) tokens.now)
+        (Ok (module_meaning names found))) }
+    ensures fault { (names : List (List ℕ))
+        → IfErr result
+        (Tells (λ fault. ModuleRead (map (lexeme_of names) tokens.now) (Err fault))) }
+    ensures owned { (owner : NameId) (names : List (List ℕ)) → AreOf owner names tokens.now
+        → IfOk result (ModuleIsOf owner names) }
 {
     let opening = match first_open(tokens) {
         Some(opening) => opening,
@@ -73,9 +82,13 @@ fn read_header(
     tokens: &[Token],
 ) -> Result<Option<Header>, ParseFault>
     requires { grammar.now ≡ rows }
-    ensures header { (names : List (List ℕ)) → IfOk result (FoundHeader names (map (lexeme_of names) tokens.now)) }
-    ensures fault { (names : List (List ℕ)) → IfErr result (Tells (NoHeader (map (lexeme_of names) tokens.now))) }
-    ensures owned { (owner : NameId) (names : List (List ℕ)) → All (IsTokenOf owner names) tokens.now → IfOk result (λ found. IfSome found (HeaderIsOf owner names)) }
+    ensures header { (names : List (List ℕ))
+        → IfOk result (FoundHeader names (map (lexeme_of names) tokens.now)) }
+    ensures fault { (names : List (List ℕ))
+        → IfErr result (Tells (NoHeader (map (lexeme_of names) tokens.now))) }
+    ensures owned { (owner : NameId) (names : List (List ℕ))
+        → All (IsTokenOf owner names) tokens.now
+        → IfOk result (λ found. IfSome found (HeaderIsOf owner names)) }
 {
     if tokens.is_empty() {
         return Ok(None);
@@ -95,9 +108,15 @@ fn read_parts(
     block: &[Token],
 ) -> Result<Vec<Item>, ParseFault>
     requires { grammar.now ≡ rows }
-    ensures items { (names : List (List ℕ)) → IfOk result (λ items. PartsRead true (parts last (map (lexeme_of names) block.now)) (Ok (items_meaning names items.items))) }
-    ensures fault { (names : List (List ℕ)) → IfErr result (Tells (λ fault. PartsRead true (parts last (map (lexeme_of names) block.now)) (Err fault))) }
-    ensures owned { (owner : NameId) (names : List (List ℕ)) → All (IsTokenOf owner names) block.now → IfOk result (λ found. All (ItemIsOf owner names) found.items) }
+    ensures items { (names : List (List ℕ))
+        → IfOk result (λ items. PartsRead true (parts last (map (lexeme_of names) block.now))
+        (Ok (items_meaning names items.items))) }
+    ensures fault { (names : List (List ℕ))
+        → IfErr result
+        (Tells (λ fault. PartsRead true (parts last (map (lexeme_of names) block.now))
+        (Err fault))) }
+    ensures owned { (owner : NameId) (names : List (List ℕ)) → All (IsTokenOf owner names) block.now
+        → IfOk result (λ found. All (ItemIsOf owner names) found.items) }
 {
     let mut items = Vec::new(alloc);
     let mut imports = true;
@@ -126,8 +145,11 @@ fn read_parts(
 /// Adds an item, if there is one. It gives whether an import may stand behind
 /// it.
 fn add_item(items: &mut Vec<Item>, imports: bool, found: Option<Item>) -> Result<bool, AllocError>
-    ensures items { (names : List (List ℕ)) → IfOk result (Adds names imports items.old.items items.new.items found) }
-    ensures owned { (owner : NameId) (names : List (List ℕ)) → All (ItemIsOf owner names) items.old.items → IfSome found (ItemIsOf owner names) → OnOk result (All (ItemIsOf owner names) items.new.items) }
+    ensures items { (names : List (List ℕ))
+        → IfOk result (Adds names imports items.old.items items.new.items found) }
+    ensures owned { (owner : NameId) (names : List (List ℕ))
+        → All (ItemIsOf owner names) items.old.items → IfSome found (ItemIsOf owner names)
+        → OnOk result (All (ItemIsOf owner names) items.new.items) }
 {
     match found {
         None => Ok(imports),
@@ -142,7 +164,10 @@ fn add_item(items: &mut Vec<Item>, imports: bool, found: Option<Item>) -> Result
 /// Behind the block there is no token.
 fn nothing_behind(last: u32, tokens: &[Token]) -> Result<(), ParseFault>
     ensures nothing { OnOk result (tokens.now ≡ []) }
-    ensures fault { (names : List (List ℕ)) (imports : Bool) → IfErr result (Tells (λ fault. PartsRead imports (behind last (map (lexeme_of names) tokens.now)) (Err fault))) }
+    ensures fault { (names : List (List ℕ)) (imports : Bool)
+        → IfErr result
+        (Tells (λ fault. PartsRead imports (behind last (map (lexeme_of names) tokens.now))
+        (Err fault))) }
 {
     if tokens.is_empty() {
         return Ok(());
@@ -152,7 +177,9 @@ fn nothing_behind(last: u32, tokens: &[Token]) -> Result<(), ParseFault>
 
 /// The fault of tokens where no item may stand.
 fn misplaced(last: u32, tokens: &[Token]) -> ParseFault
-    ensures { (names : List (List ℕ)) (imports : Bool) → Tells (λ fault. PartRead imports (part_with false last (map (lexeme_of names) tokens.now)) (Err fault)) result }
+    ensures { (names : List (List ℕ)) (imports : Bool)
+        → Tells (λ fault. PartRead imports (part_with false last (map (lexeme_of names) tokens.now))
+        (Err fault)) result }
 {
     let line = first_line(last, tokens);
     if is_long(tokens) {
@@ -170,9 +197,16 @@ fn read_part(
     tokens: &[Token],
 ) -> Result<Option<Item>, ParseFault>
     requires { grammar.now ≡ rows }
-    ensures item { (names : List (List ℕ)) → IfOk result (FoundPart names imports (part_with true last (map (lexeme_of names) tokens.now))) }
-    ensures fault { (names : List (List ℕ)) → IfErr result (Tells (λ fault. PartRead imports (part_with true last (map (lexeme_of names) tokens.now)) (Err fault))) }
-    ensures owned { (owner : NameId) (names : List (List ℕ)) → All (IsTokenOf owner names) tokens.now → IfOk result (λ found. IfSome found (ItemIsOf owner names)) }
+    ensures item { (names : List (List ℕ))
+        → IfOk result (FoundPart names imports
+        (part_with true last (map (lexeme_of names) tokens.now))) }
+    ensures fault { (names : List (List ℕ))
+        → IfErr result
+        (Tells (λ fault. PartRead imports (part_with true last (map (lexeme_of names) tokens.now))
+        (Err fault))) }
+    ensures owned { (owner : NameId) (names : List (List ℕ))
+        → All (IsTokenOf owner names) tokens.now
+        → IfOk result (λ found. IfSome found (ItemIsOf owner names)) }
 {
     if tokens.is_empty() {
         return Ok(None);
@@ -194,9 +228,16 @@ fn read_item(
     tokens: &[Token],
 ) -> Result<Option<Item>, AllocError>
     requires { grammar.now ≡ rows }
-    ensures item { (names : List (List ℕ)) → IfOk result (λ found. IfSome found (λ item. ItemRead imports (map (lexeme_of names) tokens.now) (item_meaning names item))) }
-    ensures none { (names : List (List ℕ)) → IfOk result (λ found. IfNone found (IsNoItem imports (map (lexeme_of names) tokens.now))) }
-    ensures owned { (owner : NameId) (names : List (List ℕ)) → All (IsTokenOf owner names) tokens.now → IfOk result (λ found. IfSome found (ItemIsOf owner names)) }
+    ensures item { (names : List (List ℕ))
+        → IfOk result (λ found. IfSome found
+        (λ item. ItemRead imports (map (lexeme_of names) tokens.now)
+        (item_meaning names item))) }
+    ensures none { (names : List (List ℕ))
+        → IfOk result (λ found. IfNone found
+        (IsNoItem imports (map (lexeme_of names) tokens.now))) }
+    ensures owned { (owner : NameId) (names : List (List ℕ))
+        → All (IsTokenOf owner names) tokens.now
+        → IfOk result (λ found. IfSome found (ItemIsOf owner names)) }
 {
     if let Some(parsed) = read_import(alloc, grammar, imports, tokens)? {
         return Ok(Some(Item { parsed }));
@@ -215,10 +256,17 @@ fn read_import(
     tokens: &[Token],
 ) -> Result<Option<Parsed>, AllocError>
     requires { grammar.now ≡ rows }
-    ensures import { (names : List (List ℕ)) → IfOk result (λ found. IfSome found (λ import. (imports ≡ true) × Has symbol.ImportDecl (map (lexeme_of names) tokens.now) (tree_of names import))) }
-    ensures symbol { IfOk result (λ found. IfSome found (λ import. import.symbol ≡ symbol.ImportDecl)) }
-    ensures none { (names : List (List ℕ)) → IfOk result (λ found. IfNone found (imports ≡ true → HasNone symbol.ImportDecl (map (lexeme_of names) tokens.now))) }
-    ensures owned { (owner : NameId) (names : List (List ℕ)) → All (IsTokenOf owner names) tokens.now → IfOk result (λ found. IfSome found (ParsedIsOf owner names)) }
+    ensures import { (names : List (List ℕ))
+        → IfOk result (λ found. IfSome found (λ import. (imports ≡ true)
+        × Has symbol.ImportDecl (map (lexeme_of names) tokens.now) (tree_of names import))) }
+    ensures symbol { IfOk result
+        (λ found. IfSome found (λ import. import.symbol ≡ symbol.ImportDecl)) }
+    ensures none { (names : List (List ℕ))
+        → IfOk result (λ found. IfNone found (imports ≡ true
+        → HasNone symbol.ImportDecl (map (lexeme_of names) tokens.now))) }
+    ensures owned { (owner : NameId) (names : List (List ℕ))
+        → All (IsTokenOf owner names) tokens.now
+        → IfOk result (λ found. IfSome found (ParsedIsOf owner names)) }
 {
     if !imports {
         return Ok(None);
@@ -236,10 +284,15 @@ fn parse(
 ) -> Result<Option<Parsed>, AllocError>
     requires rows { grammar.now ≡ rows }
     requires row { number symbol < length rows }
-    ensures tree { (names : List (List ℕ)) → IfOk result (λ found. IfSome found (λ parsed. Has symbol (map (lexeme_of names) tokens.now) (tree_of names parsed))) }
+    ensures tree { (names : List (List ℕ))
+        → IfOk result (λ found. IfSome found
+        (λ parsed. Has symbol (map (lexeme_of names) tokens.now) (tree_of names parsed))) }
     ensures symbol { IfOk result (λ found. IfSome found (λ parsed. parsed.symbol ≡ symbol)) }
-    ensures none { (names : List (List ℕ)) → IfOk result (λ found. IfNone found (HasNone symbol (map (lexeme_of names) tokens.now))) }
-    ensures owned { (owner : NameId) (names : List (List ℕ)) → All (IsTokenOf owner names) tokens.now → IfOk result (λ found. IfSome found (ParsedIsOf owner names)) }
+    ensures none { (names : List (List ℕ))
+        → IfOk result (λ found. IfNone found (HasNone symbol (map (lexeme_of names) tokens.now))) }
+    ensures owned { (owner : NameId) (names : List (List ℕ))
+        → All (IsTokenOf owner names) tokens.now
+        → IfOk result (λ found. IfSome found (ParsedIsOf owner names)) }
 {
     let tree = match matches(alloc, grammar, number(symbol), tokens)? {
         Some(tree) => tree,

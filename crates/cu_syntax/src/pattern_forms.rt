@@ -21,9 +21,12 @@ use std::alloc::{AllocError, Global};
 pub(crate) fn inside(tree: Subtree<'_>) -> Subtree<'_>
     requires { is_pattern tree.symbol ≡ true }
     ensures node { is_pattern_node result.symbol ≡ true }
-    ensures same { (names : List (List ℕ)) → pattern_at result.symbol (tree_of names result) ≡ pattern_at tree.entry.symbol (tree_of names tree.entry) }
-    ensures bare { (names : List (List ℕ)) → is_bare_pattern result.symbol (tree_of names result) ≡ true }
-    ensures owned { (owner : NameId) (names : List (List ℕ)) → IsOf owner names tree.entry → IsOf owner names result }
+    ensures same { (names : List (List ℕ)) → pattern_at result.symbol (tree_of names result)
+        ≡ pattern_at tree.entry.symbol (tree_of names tree.entry) }
+    ensures bare { (names : List (List ℕ)) → is_bare_pattern result.symbol (tree_of names result)
+        ≡ true }
+    ensures owned { (owner : NameId) (names : List (List ℕ)) → IsOf owner names tree.entry
+        → IsOf owner names result }
 {
     let mut inner = tree;
     while let Some(next) = wrapped(inner) {
@@ -37,11 +40,16 @@ pub(crate) fn inside(tree: Subtree<'_>) -> Subtree<'_>
 fn wrapped(tree: Subtree<'_>) -> Option<Subtree<'_>>
     requires { is_pattern tree.symbol ≡ true }
     ensures symbol { IfSome result (λ inner. is_pattern inner.symbol ≡ true) }
-    ensures same { (names : List (List ℕ)) → IfSome result (λ inner. pattern_at inner.symbol (tree_of names inner) ≡ pattern_at tree.entry.symbol (tree_of names tree.entry)) }
-    ensures smaller { IfSome result (λ inner. length inner.nodes.now < length tree.entry.nodes.now) }
+    ensures same { (names : List (List ℕ))
+        → IfSome result (λ inner. pattern_at inner.symbol (tree_of names inner)
+        ≡ pattern_at tree.entry.symbol (tree_of names tree.entry)) }
+    ensures smaller { IfSome result (λ inner. length inner.nodes.now
+        < length tree.entry.nodes.now) }
     ensures node { IfNone result (is_pattern_node tree.entry.symbol ≡ true) }
-    ensures bare { (names : List (List ℕ)) → IfNone result (is_bare_pattern tree.entry.symbol (tree_of names tree.entry) ≡ true) }
-    ensures owned { (owner : NameId) (names : List (List ℕ)) → IsOf owner names tree.entry → IfSome result (IsOf owner names) }
+    ensures bare { (names : List (List ℕ))
+        → IfNone result (is_bare_pattern tree.entry.symbol (tree_of names tree.entry) ≡ true) }
+    ensures owned { (owner : NameId) (names : List (List ℕ)) → IsOf owner names tree.entry
+        → IfSome result (IsOf owner names) }
 {
     match tree.symbol {
         Symbol::Pat => {
@@ -61,9 +69,13 @@ fn wrapped(tree: Subtree<'_>) -> Option<Subtree<'_>>
 /// What a pattern inside its parentheses is.
 pub(crate) fn node(alloc: Global, tree: Subtree<'_>) -> Result<PatternNode<'_>, AllocError>
     requires node { is_pattern_node tree.symbol ≡ true }
-    requires bare { (names : List (List ℕ)) → is_bare_pattern tree.symbol (tree_of names tree) ≡ true }
-    ensures meaning { (names : List (List ℕ)) → IfOk result (λ node. pattern_node names node ≡ pattern_at tree.entry.symbol (tree_of names tree.entry)) }
-    ensures owned { (owner : NameId) (names : List (List ℕ)) → IsOf owner names tree.entry → IfOk result (PatternNodeIsOf owner names) }
+    requires bare { (names : List (List ℕ)) → is_bare_pattern tree.symbol (tree_of names tree)
+        ≡ true }
+    ensures meaning { (names : List (List ℕ))
+        → IfOk result (λ node. pattern_node names node
+        ≡ pattern_at tree.entry.symbol (tree_of names tree.entry)) }
+    ensures owned { (owner : NameId) (names : List (List ℕ)) → IsOf owner names tree.entry
+        → IfOk result (PatternNodeIsOf owner names) }
 {
     match tree.symbol {
         Symbol::Pat => operators(alloc, tree),
@@ -84,9 +96,12 @@ pub(crate) fn node(alloc: Global, tree: Subtree<'_>) -> Result<PatternNode<'_>, 
 /// Patterns with constructor operators between them.
 fn operators(alloc: Global, tree: Subtree<'_>) -> Result<PatternNode<'_>, AllocError>
     requires symbol { tree.symbol ≡ symbol.Pat }
-    requires more { (names : List (List ℕ)) → is_bare_pattern tree.symbol (tree_of names tree) ≡ true }
-    ensures meaning { (names : List (List ℕ)) → IfOk result (λ node. pattern_node names node ≡ pattern_of (tree_of names tree.entry)) }
-    ensures owned { (owner : NameId) (names : List (List ℕ)) → IsOf owner names tree.entry → IfOk result (PatternNodeIsOf owner names) }
+    requires more { (names : List (List ℕ)) → is_bare_pattern tree.symbol (tree_of names tree)
+        ≡ true }
+    ensures meaning { (names : List (List ℕ))
+        → IfOk result (λ node. pattern_node names node ≡ pattern_of (tree_of names tree.entry)) }
+    ensures owned { (owner : NameId) (names : List (List ℕ)) → IsOf owner names tree.entry
+        → IfOk result (PatternNodeIsOf owner names) }
 {
     let first = tree.part(0, Symbol::ConPat);
     let rest = further(alloc, tree.part(1, Symbol::FurtherConPats))?;
@@ -100,8 +115,11 @@ fn operators(alloc: Global, tree: Subtree<'_>) -> Result<PatternNode<'_>, AllocE
 /// The operators behind the first pattern, with the patterns behind them.
 fn further(alloc: Global, tree: Subtree<'_>) -> Result<Vec<ConstructorItem<'_>>, AllocError>
     requires { tree.symbol ≡ symbol.FurtherConPats }
-    ensures meaning { (names : List (List ℕ)) → IfOk result (λ items. rest_of (tree_of names tree.entry) ≡ rest_meaning names items.items) }
-    ensures owned { (owner : NameId) (names : List (List ℕ)) → IsOf owner names tree.entry → IfOk result (λ found. All (ConstructorItemIsOf owner names) found.items) }
+    ensures meaning { (names : List (List ℕ))
+        → IfOk result (λ items. rest_of (tree_of names tree.entry)
+        ≡ rest_meaning names items.items) }
+    ensures owned { (owner : NameId) (names : List (List ℕ)) → IsOf owner names tree.entry
+        → IfOk result (λ found. All (ConstructorItemIsOf owner names) found.items) }
 {
     let mut items = Vec::new(alloc);
     for item in tree.repeated(alloc, Symbol::FurtherConPat)? {
@@ -112,8 +130,11 @@ fn further(alloc: Global, tree: Subtree<'_>) -> Result<Vec<ConstructorItem<'_>>,
 
 fn constructor_item(tree: Subtree<'_>) -> ConstructorItem<'_>
     requires { tree.symbol ≡ symbol.FurtherConPat }
-    ensures meaning { (names : List (List ℕ)) → (rest : Trees) → pattern_rest (MoreTrees (tree_of names tree.entry) rest) ≡ with_item names result (pattern_rest rest) }
-    ensures owned { (owner : NameId) (names : List (List ℕ)) → IsOf owner names tree.entry → ConstructorItemIsOf owner names result }
+    ensures meaning { (names : List (List ℕ)) → (rest : Trees)
+        → pattern_rest (MoreTrees (tree_of names tree.entry) rest)
+        ≡ with_item names result (pattern_rest rest) }
+    ensures owned { (owner : NameId) (names : List (List ℕ)) → IsOf owner names tree.entry
+        → ConstructorItemIsOf owner names result }
 {
     ConstructorItem {
         operator: tree.part(0, Symbol::ConOp).name(),
@@ -124,8 +145,10 @@ fn constructor_item(tree: Subtree<'_>) -> ConstructorItem<'_>
 /// A number behind a minus.
 fn negative(tree: Subtree<'_>) -> PatternNode<'_>
     requires { tree.symbol ≡ symbol.NegativePat }
-    ensures meaning { (names : List (List ℕ)) → pattern_node names result ≡ pattern_as symbol.NegativePat (tree_of names tree.entry) }
-    ensures owned { (owner : NameId) (names : List (List ℕ)) → IsOf owner names tree.entry → PatternNodeIsOf owner names result }
+    ensures meaning { (names : List (List ℕ)) → pattern_node names result
+        ≡ pattern_as symbol.NegativePat (tree_of names tree.entry) }
+    ensures owned { (owner : NameId) (names : List (List ℕ)) → IsOf owner names tree.entry
+        → PatternNodeIsOf owner names result }
 {
     PatternNode::Negative(tree.place(), tree.part(1, Symbol::Int).number())
 }
@@ -133,8 +156,11 @@ fn negative(tree: Subtree<'_>) -> PatternNode<'_>
 /// A constructor on its arguments.
 fn application(alloc: Global, tree: Subtree<'_>) -> Result<PatternNode<'_>, AllocError>
     requires { tree.symbol ≡ symbol.ConApplication }
-    ensures meaning { (names : List (List ℕ)) → IfOk result (λ node. pattern_node names node ≡ pattern_as symbol.ConApplication (tree_of names tree.entry)) }
-    ensures owned { (owner : NameId) (names : List (List ℕ)) → IsOf owner names tree.entry → IfOk result (PatternNodeIsOf owner names) }
+    ensures meaning { (names : List (List ℕ))
+        → IfOk result (λ node. pattern_node names node
+        ≡ pattern_as symbol.ConApplication (tree_of names tree.entry)) }
+    ensures owned { (owner : NameId) (names : List (List ℕ)) → IsOf owner names tree.entry
+        → IfOk result (PatternNodeIsOf owner names) }
 {
     let name = tree.part(0, Symbol::QCon).name();
     let arguments = all(alloc, tree.part(1, Symbol::PatArguments), Symbol::APat)?;
@@ -144,8 +170,10 @@ fn application(alloc: Global, tree: Subtree<'_>) -> Result<PatternNode<'_>, Allo
 /// A variable, and the pattern that it stands for.
 fn alias(tree: Subtree<'_>) -> PatternNode<'_>
     requires { tree.symbol ≡ symbol.AliasPat }
-    ensures meaning { (names : List (List ℕ)) → pattern_node names result ≡ pattern_as symbol.AliasPat (tree_of names tree.entry) }
-    ensures owned { (owner : NameId) (names : List (List ℕ)) → IsOf owner names tree.entry → PatternNodeIsOf owner names result }
+    ensures meaning { (names : List (List ℕ)) → pattern_node names result
+        ≡ pattern_as symbol.AliasPat (tree_of names tree.entry) }
+    ensures owned { (owner : NameId) (names : List (List ℕ)) → IsOf owner names tree.entry
+        → PatternNodeIsOf owner names result }
 {
     let name = tree.part(0, Symbol::VarId).name();
     PatternNode::Alias(name, Pattern::new(tree.part(2, Symbol::APat)))
@@ -153,8 +181,10 @@ fn alias(tree: Subtree<'_>) -> PatternNode<'_>
 
 fn literal(tree: Subtree<'_>) -> PatternNode<'_>
     requires { tree.symbol ≡ symbol.Literal }
-    ensures meaning { (names : List (List ℕ)) → pattern_node names result ≡ pattern_as symbol.Literal (tree_of names tree.entry) }
-    ensures owned { (owner : NameId) (names : List (List ℕ)) → IsOf owner names tree.entry → PatternNodeIsOf owner names result }
+    ensures meaning { (names : List (List ℕ)) → pattern_node names result
+        ≡ pattern_as symbol.Literal (tree_of names tree.entry) }
+    ensures owned { (owner : NameId) (names : List (List ℕ)) → IsOf owner names tree.entry
+        → PatternNodeIsOf owner names result }
 {
     PatternNode::Literal(tree.place(), tree.literal())
 }
@@ -162,9 +192,13 @@ fn literal(tree: Subtree<'_>) -> PatternNode<'_>
 /// The components of a tuple, of which there are two or more.
 fn tuple(alloc: Global, tree: Subtree<'_>) -> Result<PatternNode<'_>, AllocError>
     requires symbol { tree.symbol ≡ symbol.TuplePat }
-    requires more { (names : List (List ℕ)) → is_bare_pattern tree.symbol (tree_of names tree) ≡ true }
-    ensures meaning { (names : List (List ℕ)) → IfOk result (λ node. pattern_node names node ≡ pattern_as symbol.TuplePat (tree_of names tree.entry)) }
-    ensures owned { (owner : NameId) (names : List (List ℕ)) → IsOf owner names tree.entry → IfOk result (PatternNodeIsOf owner names) }
+    requires more { (names : List (List ℕ)) → is_bare_pattern tree.symbol (tree_of names tree)
+        ≡ true }
+    ensures meaning { (names : List (List ℕ))
+        → IfOk result (λ node. pattern_node names node
+        ≡ pattern_as symbol.TuplePat (tree_of names tree.entry)) }
+    ensures owned { (owner : NameId) (names : List (List ℕ)) → IsOf owner names tree.entry
+        → IfOk result (PatternNodeIsOf owner names) }
 {
     let components = all(alloc, tree.part(2, Symbol::PatList), Symbol::Pat)?;
     Ok(PatternNode::Tuple(tree.place(), components))
@@ -172,8 +206,11 @@ fn tuple(alloc: Global, tree: Subtree<'_>) -> Result<PatternNode<'_>, AllocError
 
 fn list(alloc: Global, tree: Subtree<'_>) -> Result<PatternNode<'_>, AllocError>
     requires { tree.symbol ≡ symbol.ListPat }
-    ensures meaning { (names : List (List ℕ)) → IfOk result (λ node. pattern_node names node ≡ pattern_as symbol.ListPat (tree_of names tree.entry)) }
-    ensures owned { (owner : NameId) (names : List (List ℕ)) → IsOf owner names tree.entry → IfOk result (PatternNodeIsOf owner names) }
+    ensures meaning { (names : List (List ℕ))
+        → IfOk result (λ node. pattern_node names node
+        ≡ pattern_as symbol.ListPat (tree_of names tree.entry)) }
+    ensures owned { (owner : NameId) (names : List (List ℕ)) → IsOf owner names tree.entry
+        → IfOk result (PatternNodeIsOf owner names) }
 {
     let elements = match tree
         .part(1, Symbol::OptionalPatList)
@@ -194,8 +231,11 @@ pub(crate) fn all(
     requires repeated { repeated_part (rule_of tree.symbol) ≡ Some part }
     requires symbol { is_pattern part ≡ true }
     ensures symbols { IfOk result (λ patterns. All (λ p. p.tree.symbol ≡ part) patterns.items) }
-    ensures trees { (names : List (List ℕ)) → IfOk result (λ patterns. tree_of names tree.entry ≡ Parts (trees_from (map (pattern_tree names) patterns.items))) }
-    ensures owned { (owner : NameId) (names : List (List ℕ)) → IsOf owner names tree.entry → IfOk result (λ found. All (PatternIsOf owner names) found.items) }
+    ensures trees { (names : List (List ℕ))
+        → IfOk result (λ patterns. tree_of names tree.entry
+        ≡ Parts (trees_from (map (pattern_tree names) patterns.items))) }
+    ensures owned { (owner : NameId) (names : List (List ℕ)) → IsOf owner names tree.entry
+        → IfOk result (λ found. All (PatternIsOf owner names) found.items) }
 {
     let mut patterns = Vec::new(alloc);
     for tree in tree.repeated(alloc, part)? {

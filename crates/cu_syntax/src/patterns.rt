@@ -71,8 +71,10 @@ impl<'t> Pattern<'t> {
 
     /// The place of its first token, inside the parentheses round it.
     pub fn place(self) -> Place
-        ensures position { (names : List (List ℕ)) → position_of result ≡ pattern_position (pattern_meaning names self.entry) }
-        ensures owned { (owner : NameId) (names : List (List ℕ)) → PatternIsOf owner names self.entry → PlaceIsOf owner result }
+        ensures position { (names : List (List ℕ))
+            → position_of result ≡ pattern_position (pattern_meaning names self.entry) }
+        ensures owned { (owner : NameId) (names : List (List ℕ))
+            → PatternIsOf owner names self.entry → PlaceIsOf owner result }
     {
         inside(self.tree).place()
     }
@@ -83,8 +85,10 @@ impl<'t> Pattern<'t> {
     ///
     /// Want of memory.
     pub fn node(self, alloc: Global) -> Result<PatternNode<'t>, AllocError>
-        ensures meaning { (names : List (List ℕ)) → IfOk result (λ node. pattern_node names node ≡ pattern_meaning names self.entry) }
-        ensures owned { (owner : NameId) (names : List (List ℕ)) → PatternIsOf owner names self.entry → IfOk result (PatternNodeIsOf owner names) }
+        ensures meaning { (names : List (List ℕ))
+            → IfOk result (λ node. pattern_node names node ≡ pattern_meaning names self.entry) }
+        ensures owned { (owner : NameId) (names : List (List ℕ))
+            → PatternIsOf owner names self.entry → IfOk result (PatternNodeIsOf owner names) }
         ensures smaller { IfOk result (PatternNodeIsBelow (pattern_size self.entry)) }
         ensures formed { IfOk result PatternNodeIsFormed }
     {

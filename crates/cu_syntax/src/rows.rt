@@ -41,7 +41,8 @@ fn all_rows(alloc: Global) -> Result<Vec<Row>, AllocError>
 }
 
 fn add_rows(alloc: Global, rows: &mut Vec<Row>, rules: &[Rule]) -> Result<(), AllocError>
-    ensures { OnOk result (rows.new.items ≡ rows.old.items ++ map row_of (map rule_meaning rules.now)) }
+    ensures { OnOk result (rows.new.items
+        ≡ rows.old.items ++ map row_of (map rule_meaning rules.now)) }
 {
     for rule in rules {
         rows.push(row(alloc, *rule)?)?;

@@ -59,7 +59,8 @@ fn is_written(kind: &TokenKind) -> bool
 
 /// The line of the first token of the text among these, or the line before.
 pub(crate) fn first_line(before: u32, tokens: &[Token]) -> u32
-    ensures { (names : List (List ℕ)) → result ≡ first_line before (map (lexeme_of names) tokens.now) }
+    ensures { (names : List (List ℕ)) → result
+        ≡ first_line before (map (lexeme_of names) tokens.now) }
 {
     for token in tokens {
         if is_written(&token.kind) {
@@ -81,14 +82,16 @@ pub(crate) fn tokens_behind(tokens: &[Token], number: usize) -> &[Token]
 /// line before.
 pub(crate) fn line_behind(before: u32, tokens: &[Token], number: usize) -> u32
     requires { number < length tokens.now }
-    ensures { (names : List (List ℕ)) → result ≡ last_line before (map (lexeme_of names) (take (number + 1) tokens.now)) }
+    ensures { (names : List (List ℕ)) → result
+        ≡ last_line before (map (lexeme_of names) (take (number + 1) tokens.now)) }
 {
     last_line(before, &tokens[..number + 1])
 }
 
 /// The line of the last token of the text among these, or the line before.
 fn last_line(before: u32, tokens: &[Token]) -> u32
-    ensures { (names : List (List ℕ)) → result ≡ last_line before (map (lexeme_of names) tokens.now) }
+    ensures { (names : List (List ℕ)) → result
+        ≡ last_line before (map (lexeme_of names) tokens.now) }
 {
     let mut last = before;
     for token in tokens {
@@ -116,7 +119,8 @@ pub(crate) fn is_long(tokens: &[Token]) -> bool
 
 /// Whether the length of these tokens is above a limit.
 fn is_longer(tokens: &[Token], limit: usize) -> bool
-    ensures { (names : List (List ℕ)) → result ≡ nat_lt limit (item_length (map (lexeme_of names) tokens.now)) }
+    ensures { (names : List (List ℕ)) → result
+        ≡ nat_lt limit (item_length (map (lexeme_of names) tokens.now)) }
 {
     let mut room = limit;
     for token in tokens {
@@ -130,7 +134,8 @@ fn is_longer(tokens: &[Token], limit: usize) -> bool
 
 /// What is left of some room behind a token, if there is room for it.
 fn room_behind(room: usize, kind: &TokenKind) -> Option<usize>
-    ensures { (names : List (List ℕ)) → result ≡ room_behind room (token_length (kind_of names kind.now)) }
+    ensures { (names : List (List ℕ)) → result
+        ≡ room_behind room (token_length (kind_of names kind.now)) }
 {
     let characters = match kind {
         TokenKind::String(characters) => characters.len(),
@@ -141,7 +146,8 @@ fn room_behind(room: usize, kind: &TokenKind) -> Option<usize>
 
 /// The number of the first brace that opens.
 pub(crate) fn first_open(tokens: &[Token]) -> Option<usize>
-    ensures number { (names : List (List ℕ)) → result ≡ first_open (map (lexeme_of names) tokens.now) }
+    ensures number { (names : List (List ℕ)) → result
+        ≡ first_open (map (lexeme_of names) tokens.now) }
     ensures within { IfSome result (λ n. n < length tokens.now) }
 {
     for (number, token) in tokens.iter().enumerate() {
@@ -173,7 +179,8 @@ pub(crate) fn part_end(tokens: &[Token]) -> PartEnd
 
 /// Whether a token closes the block, inside so many braces.
 fn closes_block(depth: usize, kind: &TokenKind) -> bool
-    ensures { (names : List (List ℕ)) → result ≡ (nat_eq depth 0 && closes (kind_of names kind.now)) }
+    ensures { (names : List (List ℕ)) → result
+        ≡ (nat_eq depth 0 && closes (kind_of names kind.now)) }
 {
     depth == 0 && closes(kind)
 }
@@ -181,7 +188,8 @@ fn closes_block(depth: usize, kind: &TokenKind) -> bool
 /// Whether a token ends a part of the block and begins the next, inside so
 /// many braces.
 fn ends_part(depth: usize, kind: &TokenKind) -> bool
-    ensures { (names : List (List ℕ)) → result ≡ (nat_eq depth 0 && separates (kind_of names kind.now)) }
+    ensures { (names : List (List ℕ)) → result
+        ≡ (nat_eq depth 0 && separates (kind_of names kind.now)) }
 {
     depth == 0 && separates(kind)
 }

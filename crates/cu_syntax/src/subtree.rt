@@ -23,7 +23,8 @@ pub(crate) struct Subtree<'t> {
     /// Its nodes, in prefix order.
     pub(crate) nodes: &'t [Node],
     ghost spelled: { spelled (read nodes.now) ≡ nodes.now },
-    ghost fits: { (names : List (List ℕ)) → fits symbol (over (map (lexeme_of names) tokens.now) (read nodes.now)) ≡ true },
+    ghost fits: { (names : List (List ℕ))
+        → fits symbol (over (map (lexeme_of names) tokens.now) (read nodes.now)) ≡ true },
 }
 
 impl<'t> Subtree<'t> {
@@ -42,8 +43,10 @@ impl<'t> Subtree<'t> {
     /// The token of a leaf.
     pub(crate) fn token(self) -> &'t Token
         requires { is_leaf (rule_of self.symbol) ≡ true }
-        ensures token { (names : List (List ℕ)) → tree_of names self.entry ≡ Leaf (lexeme_of names result.now) }
-        ensures owned { (owner : NameId) (names : List (List ℕ)) → IsOf owner names self.entry → IsTokenOf owner names result.now }
+        ensures token { (names : List (List ℕ)) → tree_of names self.entry
+            ≡ Leaf (lexeme_of names result.now) }
+        ensures owned { (owner : NameId) (names : List (List ℕ)) → IsOf owner names self.entry
+            → IsTokenOf owner names result.now }
     {
         match token_of(self.nodes[0], self.tokens) {
             Some(token) => token,
@@ -54,9 +57,12 @@ impl<'t> Subtree<'t> {
     /// The tree of the alternative that a choice took.
     pub(crate) fn chosen(self) -> Subtree<'t>
         requires { is_choice (rule_of self.symbol) ≡ true }
-        ensures tree { (names : List (List ℕ)) → Takes self.entry.symbol (tree_of names self.entry) result.symbol (tree_of names result) }
+        ensures tree { (names : List (List ℕ))
+            → Takes self.entry.symbol (tree_of names self.entry) result.symbol
+            (tree_of names result) }
         ensures smaller { length result.nodes.now < length self.entry.nodes.now }
-        ensures owned { (owner : NameId) (names : List (List ℕ)) → IsOf owner names self.entry → IsOf owner names result }
+        ensures owned { (owner : NameId) (names : List (List ℕ)) → IsOf owner names self.entry
+            → IsOf owner names result }
     {
         Subtree {
             symbol: alternatives(self.symbol)[self.alternative()],
@@ -89,9 +95,11 @@ impl<'t> Subtree<'t> {
     pub(crate) fn part(self, number: usize, symbol: Symbol) -> Subtree<'t>
         requires { slice_get (sequence (rule_of self.symbol)) number ≡ Some symbol }
         ensures symbol { result.symbol ≡ symbol }
-        ensures tree { (names : List (List ℕ)) → tree_of names result ≡ part_of (tree_of names self.entry) number }
+        ensures tree { (names : List (List ℕ)) → tree_of names result
+            ≡ part_of (tree_of names self.entry) number }
         ensures smaller { length result.nodes.now < length self.entry.nodes.now }
-        ensures owned { (owner : NameId) (names : List (List ℕ)) → IsOf owner names self.entry → IsOf owner names result }
+        ensures owned { (owner : NameId) (names : List (List ℕ)) → IsOf owner names self.entry
+            → IsOf owner names result }
     {
         let mut left = self.parts();
         for _ in 0..number {
@@ -108,10 +116,14 @@ impl<'t> Subtree<'t> {
     pub(crate) fn optional(self, symbol: Symbol) -> Option<Subtree<'t>>
         requires { optional_part (rule_of self.symbol) ≡ Some symbol }
         ensures symbol { IfSome result (λ part. part.symbol ≡ symbol) }
-        ensures tree { (names : List (List ℕ)) → IfSome result (λ part. tree_of names self.entry ≡ Parts (only (tree_of names part))) }
-        ensures none { (names : List (List ℕ)) → IfNone result (tree_of names self.entry ≡ Parts NoTree) }
-        ensures smaller { IfSome result (λ part. length part.nodes.now < length self.entry.nodes.now) }
-        ensures owned { (owner : NameId) (names : List (List ℕ)) → IsOf owner names self.entry → IfSome result (IsOf owner names) }
+        ensures tree { (names : List (List ℕ))
+            → IfSome result (λ part. tree_of names self.entry ≡ Parts (only (tree_of names part))) }
+        ensures none { (names : List (List ℕ))
+            → IfNone result (tree_of names self.entry ≡ Parts NoTree) }
+        ensures smaller { IfSome result (λ part. length part.nodes.now
+            < length self.entry.nodes.now) }
+        ensures owned { (owner : NameId) (names : List (List ℕ)) → IsOf owner names self.entry
+            → IfSome result (IsOf owner names) }
     {
         let nodes = self.parts();
         if nodes.is_empty() {
@@ -128,10 +140,14 @@ impl<'t> Subtree<'t> {
     pub(crate) fn single(self, symbol: Symbol) -> Option<Subtree<'t>>
         requires { repeated_part (rule_of self.symbol) ≡ Some symbol }
         ensures symbol { IfSome result (λ part. part.symbol ≡ symbol) }
-        ensures tree { (names : List (List ℕ)) → IfSome result (λ part. tree_of names self.entry ≡ Parts (only (tree_of names part))) }
-        ensures none { (names : List (List ℕ)) → IfNone result (is_single (tree_of names self.entry) ≡ false) }
-        ensures smaller { IfSome result (λ part. length part.nodes.now < length self.entry.nodes.now) }
-        ensures owned { (owner : NameId) (names : List (List ℕ)) → IsOf owner names self.entry → IfSome result (IsOf owner names) }
+        ensures tree { (names : List (List ℕ))
+            → IfSome result (λ part. tree_of names self.entry ≡ Parts (only (tree_of names part))) }
+        ensures none { (names : List (List ℕ))
+            → IfNone result (is_single (tree_of names self.entry) ≡ false) }
+        ensures smaller { IfSome result (λ part. length part.nodes.now
+            < length self.entry.nodes.now) }
+        ensures owned { (owner : NameId) (names : List (List ℕ)) → IsOf owner names self.entry
+            → IfSome result (IsOf owner names) }
     {
         let nodes = self.parts();
         if nodes.is_empty() {
@@ -179,8 +195,11 @@ impl<'t> Subtree<'t> {
     ) -> Result<Vec<Subtree<'t>>, AllocError>
         requires { repeated_part (rule_of self.symbol) ≡ Some symbol }
         ensures symbol { IfOk result (λ parts. All (λ part. part.symbol ≡ symbol) parts.items) }
-        ensures trees { (names : List (List ℕ)) → IfOk result (λ parts. tree_of names self.entry ≡ Parts (trees_from (map (tree_of names) parts.items))) }
-        ensures owned { (owner : NameId) (names : List (List ℕ)) → IsOf owner names self.entry → IfOk result (λ found. All (IsOf owner names) found.items) }
+        ensures trees { (names : List (List ℕ))
+            → IfOk result (λ parts. tree_of names self.entry
+            ≡ Parts (trees_from (map (tree_of names) parts.items))) }
+        ensures owned { (owner : NameId) (names : List (List ℕ)) → IsOf owner names self.entry
+            → IfOk result (λ found. All (IsOf owner names) found.items) }
     {
         let mut parts = Vec::new(alloc);
         let mut left = self.parts();
@@ -199,8 +218,10 @@ impl<'t> Subtree<'t> {
     /// The first token, where the symbol's trees have one.
     pub(crate) fn first_token(self) -> &'t Token
         requires { has_token self.symbol ≡ true }
-        ensures token { (names : List (List ℕ)) → first_token (tree_of names self.entry) ≡ Some (lexeme_of names result.now) }
-        ensures owned { (owner : NameId) (names : List (List ℕ)) → IsOf owner names self.entry → IsTokenOf owner names result.now }
+        ensures token { (names : List (List ℕ)) → first_token (tree_of names self.entry)
+            ≡ Some (lexeme_of names result.now) }
+        ensures owned { (owner : NameId) (names : List (List ℕ)) → IsOf owner names self.entry
+            → IsTokenOf owner names result.now }
     {
         for node in self.nodes {
             if let Some(token) = token_of(*node, self.tokens) {

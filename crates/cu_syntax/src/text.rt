@@ -17,7 +17,8 @@ pub(crate) struct Parsed {
     pub(crate) symbol: Symbol,
     pub(crate) tokens: Vec<Token>,
     pub(crate) tree: Tree,
-    ghost fits: { (names : List (List ℕ)) → fits symbol (over (map (lexeme_of names) tokens.items) tree) ≡ true },
+    ghost fits: { (names : List (List ℕ))
+        → fits symbol (over (map (lexeme_of names) tokens.items) tree) ≡ true },
 }
 
 impl Parsed {
@@ -30,8 +31,10 @@ impl Parsed {
     /// The whole tree.
     pub(crate) fn root(&self) -> Subtree<'_>
         ensures symbol { result.symbol ≡ self.now.symbol }
-        ensures tree { (names : List (List ℕ)) → part.tree_of names result ≡ tree_of names self.now }
-        ensures owned { (owner : NameId) (names : List (List ℕ)) → ParsedIsOf owner names self.now → IsOf owner names result }
+        ensures tree { (names : List (List ℕ)) → part.tree_of names result
+            ≡ tree_of names self.now }
+        ensures owned { (owner : NameId) (names : List (List ℕ)) → ParsedIsOf owner names self.now
+            → IsOf owner names result }
     {
         Subtree {
             symbol: self.symbol,

@@ -21,9 +21,12 @@ use std::alloc::{AllocError, Global};
 pub(crate) fn inside(tree: Subtree<'_>) -> Subtree<'_>
     requires { is_type tree.symbol ≡ true }
     ensures node { is_type_node result.symbol ≡ true }
-    ensures same { (names : List (List ℕ)) → type_at result.symbol (tree_of names result) ≡ type_at tree.entry.symbol (tree_of names tree.entry) }
-    ensures bare { (names : List (List ℕ)) → is_bare_type result.symbol (tree_of names result) ≡ true }
-    ensures owned { (owner : NameId) (names : List (List ℕ)) → IsOf owner names tree.entry → IsOf owner names result }
+    ensures same { (names : List (List ℕ)) → type_at result.symbol (tree_of names result)
+        ≡ type_at tree.entry.symbol (tree_of names tree.entry) }
+    ensures bare { (names : List (List ℕ)) → is_bare_type result.symbol (tree_of names result)
+        ≡ true }
+    ensures owned { (owner : NameId) (names : List (List ℕ)) → IsOf owner names tree.entry
+        → IsOf owner names result }
 {
     let mut inner = tree;
     while let Some(next) = wrapped(inner) {
@@ -37,11 +40,16 @@ pub(crate) fn inside(tree: Subtree<'_>) -> Subtree<'_>
 pub(crate) fn wrapped(tree: Subtree<'_>) -> Option<Subtree<'_>>
     requires { is_type tree.symbol ≡ true }
     ensures symbol { IfSome result (λ inner. is_type inner.symbol ≡ true) }
-    ensures same { (names : List (List ℕ)) → IfSome result (λ inner. type_at inner.symbol (tree_of names inner) ≡ type_at tree.entry.symbol (tree_of names tree.entry)) }
-    ensures smaller { IfSome result (λ inner. length inner.nodes.now < length tree.entry.nodes.now) }
+    ensures same { (names : List (List ℕ))
+        → IfSome result (λ inner. type_at inner.symbol (tree_of names inner)
+        ≡ type_at tree.entry.symbol (tree_of names tree.entry)) }
+    ensures smaller { IfSome result (λ inner. length inner.nodes.now
+        < length tree.entry.nodes.now) }
     ensures node { IfNone result (is_type_node tree.entry.symbol ≡ true) }
-    ensures bare { (names : List (List ℕ)) → IfNone result (is_bare_type tree.entry.symbol (tree_of names tree.entry) ≡ true) }
-    ensures owned { (owner : NameId) (names : List (List ℕ)) → IsOf owner names tree.entry → IfSome result (IsOf owner names) }
+    ensures bare { (names : List (List ℕ))
+        → IfNone result (is_bare_type tree.entry.symbol (tree_of names tree.entry) ≡ true) }
+    ensures owned { (owner : NameId) (names : List (List ℕ)) → IsOf owner names tree.entry
+        → IfSome result (IsOf owner names) }
 {
     match tree.symbol {
         Symbol::TypeExp => tree.single(Symbol::BType),
@@ -56,8 +64,11 @@ pub(crate) fn wrapped(tree: Subtree<'_>) -> Option<Subtree<'_>>
 pub(crate) fn node(alloc: Global, tree: Subtree<'_>) -> Result<TypeNode<'_>, AllocError>
     requires node { is_type_node tree.symbol ≡ true }
     requires bare { (names : List (List ℕ)) → is_bare_type tree.symbol (tree_of names tree) ≡ true }
-    ensures meaning { (names : List (List ℕ)) → IfOk result (λ node. type_node names node ≡ type_at tree.entry.symbol (tree_of names tree.entry)) }
-    ensures owned { (owner : NameId) (names : List (List ℕ)) → IsOf owner names tree.entry → IfOk result (TypeNodeIsOf owner names) }
+    ensures meaning { (names : List (List ℕ))
+        → IfOk result (λ node. type_node names node
+        ≡ type_at tree.entry.symbol (tree_of names tree.entry)) }
+    ensures owned { (owner : NameId) (names : List (List ℕ)) → IsOf owner names tree.entry
+        → IfOk result (TypeNodeIsOf owner names) }
 {
     match tree.symbol {
         Symbol::TypeExp => function(alloc, tree),
@@ -75,8 +86,10 @@ pub(crate) fn node(alloc: Global, tree: Subtree<'_>) -> Result<TypeNode<'_>, All
 fn function(alloc: Global, tree: Subtree<'_>) -> Result<TypeNode<'_>, AllocError>
     requires symbol { tree.symbol ≡ symbol.TypeExp }
     requires more { (names : List (List ℕ)) → is_bare_type tree.symbol (tree_of names tree) ≡ true }
-    ensures meaning { (names : List (List ℕ)) → IfOk result (λ node. type_node names node ≡ type_of (tree_of names tree.entry)) }
-    ensures owned { (owner : NameId) (names : List (List ℕ)) → IsOf owner names tree.entry → IfOk result (TypeNodeIsOf owner names) }
+    ensures meaning { (names : List (List ℕ))
+        → IfOk result (λ node. type_node names node ≡ type_of (tree_of names tree.entry)) }
+    ensures owned { (owner : NameId) (names : List (List ℕ)) → IsOf owner names tree.entry
+        → IfOk result (TypeNodeIsOf owner names) }
 {
     let mut types = all(alloc, tree, Symbol::BType)?;
     match types.pop() {
@@ -91,8 +104,11 @@ fn function(alloc: Global, tree: Subtree<'_>) -> Result<TypeNode<'_>, AllocError
 /// A type constructor on its arguments.
 fn application(alloc: Global, tree: Subtree<'_>) -> Result<TypeNode<'_>, AllocError>
     requires { tree.symbol ≡ symbol.TypeApplication }
-    ensures meaning { (names : List (List ℕ)) → IfOk result (λ node. type_node names node ≡ type_as symbol.TypeApplication (tree_of names tree.entry)) }
-    ensures owned { (owner : NameId) (names : List (List ℕ)) → IsOf owner names tree.entry → IfOk result (TypeNodeIsOf owner names) }
+    ensures meaning { (names : List (List ℕ))
+        → IfOk result (λ node. type_node names node
+        ≡ type_as symbol.TypeApplication (tree_of names tree.entry)) }
+    ensures owned { (owner : NameId) (names : List (List ℕ)) → IsOf owner names tree.entry
+        → IfOk result (TypeNodeIsOf owner names) }
 {
     let name = tree.part(0, Symbol::QConId).name();
     let arguments = all(alloc, tree.part(1, Symbol::TypeArguments), Symbol::AType)?;
@@ -103,8 +119,11 @@ fn application(alloc: Global, tree: Subtree<'_>) -> Result<TypeNode<'_>, AllocEr
 fn tuple(alloc: Global, tree: Subtree<'_>) -> Result<TypeNode<'_>, AllocError>
     requires symbol { tree.symbol ≡ symbol.TupleType }
     requires more { (names : List (List ℕ)) → is_bare_type tree.symbol (tree_of names tree) ≡ true }
-    ensures meaning { (names : List (List ℕ)) → IfOk result (λ node. type_node names node ≡ type_as symbol.TupleType (tree_of names tree.entry)) }
-    ensures owned { (owner : NameId) (names : List (List ℕ)) → IsOf owner names tree.entry → IfOk result (TypeNodeIsOf owner names) }
+    ensures meaning { (names : List (List ℕ))
+        → IfOk result (λ node. type_node names node
+        ≡ type_as symbol.TupleType (tree_of names tree.entry)) }
+    ensures owned { (owner : NameId) (names : List (List ℕ)) → IsOf owner names tree.entry
+        → IfOk result (TypeNodeIsOf owner names) }
 {
     let components = all(alloc, tree.part(2, Symbol::TypeList), Symbol::TypeExp)?;
     Ok(TypeNode::Tuple(tree.place(), components))
@@ -112,8 +131,10 @@ fn tuple(alloc: Global, tree: Subtree<'_>) -> Result<TypeNode<'_>, AllocError>
 
 fn list(tree: Subtree<'_>) -> TypeNode<'_>
     requires { tree.symbol ≡ symbol.ListType }
-    ensures meaning { (names : List (List ℕ)) → type_node names result ≡ type_as symbol.ListType (tree_of names tree.entry) }
-    ensures owned { (owner : NameId) (names : List (List ℕ)) → IsOf owner names tree.entry → TypeNodeIsOf owner names result }
+    ensures meaning { (names : List (List ℕ)) → type_node names result
+        ≡ type_as symbol.ListType (tree_of names tree.entry) }
+    ensures owned { (owner : NameId) (names : List (List ℕ)) → IsOf owner names tree.entry
+        → TypeNodeIsOf owner names result }
 {
     let element = TypeTerm::new(tree.part(1, Symbol::TypeExp));
     TypeNode::List(tree.place(), element)
@@ -128,8 +149,11 @@ pub(crate) fn all(
     requires repeated { repeated_part (rule_of tree.symbol) ≡ Some part }
     requires symbol { is_type part ≡ true }
     ensures symbols { IfOk result (λ types. All (λ t. t.tree.symbol ≡ part) types.items) }
-    ensures trees { (names : List (List ℕ)) → IfOk result (λ types. tree_of names tree.entry ≡ Parts (trees_from (map (type_tree names) types.items))) }
-    ensures owned { (owner : NameId) (names : List (List ℕ)) → IsOf owner names tree.entry → IfOk result (λ found. All (TypeIsOf owner names) found.items) }
+    ensures trees { (names : List (List ℕ))
+        → IfOk result (λ types. tree_of names tree.entry
+        ≡ Parts (trees_from (map (type_tree names) types.items))) }
+    ensures owned { (owner : NameId) (names : List (List ℕ)) → IsOf owner names tree.entry
+        → IfOk result (λ found. All (TypeIsOf owner names) found.items) }
 {
     let mut types = Vec::new(alloc);
     for part in tree.repeated(alloc, part)? {

@@ -50,8 +50,10 @@ impl<'t> TypeTerm<'t> {
 
     /// The place of its first token, inside the parentheses round it.
     pub fn place(self) -> Place
-        ensures position { (names : List (List ℕ)) → position_of result ≡ type_position (type_meaning names self.entry) }
-        ensures owned { (owner : NameId) (names : List (List ℕ)) → TypeIsOf owner names self.entry → PlaceIsOf owner result }
+        ensures position { (names : List (List ℕ))
+            → position_of result ≡ type_position (type_meaning names self.entry) }
+        ensures owned { (owner : NameId) (names : List (List ℕ)) → TypeIsOf owner names self.entry
+            → PlaceIsOf owner result }
     {
         inside(self.tree).place()
     }
@@ -62,8 +64,10 @@ impl<'t> TypeTerm<'t> {
     ///
     /// Want of memory.
     pub fn node(self, alloc: Global) -> Result<TypeNode<'t>, AllocError>
-        ensures meaning { (names : List (List ℕ)) → IfOk result (λ node. type_node names node ≡ type_meaning names self.entry) }
-        ensures owned { (owner : NameId) (names : List (List ℕ)) → TypeIsOf owner names self.entry → IfOk result (TypeNodeIsOf owner names) }
+        ensures meaning { (names : List (List ℕ))
+            → IfOk result (λ node. type_node names node ≡ type_meaning names self.entry) }
+        ensures owned { (owner : NameId) (names : List (List ℕ)) → TypeIsOf owner names self.entry
+            → IfOk result (TypeNodeIsOf owner names) }
         ensures smaller { IfOk result (TypeNodeIsBelow (type_size self.entry)) }
         ensures formed { IfOk result TypeNodeIsFormed }
     {

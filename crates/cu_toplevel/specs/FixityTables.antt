@@ -46,5 +46,6 @@ pub record GivesModules
         ≡ fixity_declared (text_of names id) (find (is_named (text_of names owner)) modules)
 
 -- These are the modules.
-pub record AreFixities (names : List (List ℕ)) (modules : List Named) (t : FixityTable) : Type 0 where
+pub record AreFixities (names : List (List ℕ)) (modules : List Named)
+    (t : FixityTable) : Type 0 where
   pub gives : GivesModules names modules (get eq-value.it t.modules)

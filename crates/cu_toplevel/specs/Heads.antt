@@ -33,7 +33,8 @@ pub record HeadIsOf (owner : NameId) (names : List (List ℕ)) (h : FunctionHead
 
 -- These are the functions of a module that have these rules.
 pub record AreHeads
-    (owner : NameId) (names : List (List ℕ)) (groups : List Group) (heads : List FunctionHead) : Type 0
+    (owner : NameId) (names : List (List ℕ)) (groups : List Group)
+    (heads : List FunctionHead) : Type 0
   where
     pub are : map (head_meaning names) heads ≡ map head_of_group groups
     pub owned : All (HeadIsOf owner names) heads

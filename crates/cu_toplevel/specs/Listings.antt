@@ -24,7 +24,8 @@ pub record DeclaredIsKnown (names : List (List ℕ)) (d : code.Declared) : Type 
 
 -- Look-ups give the first of each name.
 pub record GivesFirst
-    (names : List (List ℕ)) (listed : List Declared) (found : Key → Option code_numbers.Numbered) : Type 0
+    (names : List (List ℕ)) (listed : List Declared) (found : Key
+    → Option code_numbers.Numbered) : Type 0
   where
     pub each : (k : Key) → IsKnown names k.owner → IsKnown names k.name
         → option_map numbered_meaning (found k)

@@ -72,7 +72,8 @@ pub(crate) fn add_externals(
     ensures { (before : List numbers.Declared)
         → AllDiffer names.now → IsListing names.now before listing.old
         → OnOk result (IsListing names.now
-        (before ++ map (given.operation_meaning (text_of names.now owner)) externals.now) listing.new) }
+        (before ++ map (given.operation_meaning (text_of names.now owner)) externals.now)
+        listing.new) }
 {
     'externals: for (text, operation) in externals {
         let name = found(names, text);

@@ -64,7 +64,7 @@ pub record Assumptions : Type 0 where
   -- the type of all values of a type
   pub values : TypeExpr → TypeExpr
 
--- ---- equations that were asked for, in order, and the number from which on type variables stand in none of them
+-- ---- equations asked for, in order, and the number from which on type variables are in none of them
 
 pub record Asked : Type 0 where
   pub next : ℕ
@@ -76,13 +76,15 @@ taking count asked = record { next = asked.next + count; equations = asked.equat
 
 -- two types shall be the same
 abbrev pub asking : TypeExpr → TypeExpr → Asked → Asked
-asking s t asked = record { next = asked.next; equations = asked.equations ++ record { left = s; right = t } ∷ [] }
+asking s t asked =
+    record { next = asked.next; equations = asked.equations ++ record { left = s; right = t } ∷ [] }
 
 -- ---- heads
 
 -- The instance of a scheme is of this type.
 abbrev pub scheme_asks : Scheme → TypeExpr → Asked → Asked
-scheme_asks scheme t asked = taking (scheme_breadth scheme) (asking (instance asked.next scheme) t asked)
+scheme_asks scheme t asked =
+    taking (scheme_breadth scheme) (asking (instance asked.next scheme) t asked)
 
 -- A set function takes the arguments of its function, and gives all values of what that gives.
 abbrev pub set_asks : Assumptions → FunId → TypeExpr → Asked → Asked
@@ -90,12 +92,14 @@ set_asks assumptions f t asked =
     let arguments = variables_from asked.next (assumptions.arity f) in
     let result = type.Variable (asked.next + assumptions.arity f) in
     scheme_asks (assumptions.function f) (arrows arguments result)
-    (asking (arrows arguments (assumptions.values result)) t (taking (assumptions.arity f + 1) asked))
+    (asking (arrows arguments (assumptions.values result)) t
+    (taking (assumptions.arity f + 1) asked))
 
 -- a head has a type
 abbrev pub head_asks : Assumptions → Head → TypeExpr → Asked → Asked
 head_asks assumptions (head.Fun f) t asked = scheme_asks (assumptions.function f) t asked
-head_asks assumptions (head.Con c) t asked = scheme_asks (Polymorphic [] (assumptions.constructor c)) t asked
+head_asks assumptions (head.Con c) t asked =
+    scheme_asks (Polymorphic [] (assumptions.constructor c)) t asked
 head_asks assumptions (head.Set f) t asked = set_asks assumptions f t asked
 
 -- ---- patterns and terms: each variable, each pattern and each term has a type variable
@@ -118,16 +122,20 @@ asking_same x y asked = asking (type.Variable x) (type.Variable y) asked
 
 -- a head with arguments that have so many type variables from a number on, and what it gives then
 abbrev pub call_asks : Assumptions → Head → ℕ → ℕ → ℕ → Asked → Asked
-call_asks assumptions h first count t asked = head_asks assumptions h (arrows (variables_from first count) (type.Variable t)) asked
+call_asks assumptions h first count t asked =
+    head_asks assumptions h (arrows (variables_from first count) (type.Variable t)) asked
 
 abbrev mutual
   pub pattern_asks : Assumptions → Environment → ℕ → Pattern → Asked → Asked
   pattern_asks assumptions env t (term.Any x) asked = asking_same (env x) t asked
-  pattern_asks assumptions env t (term.Exactly l) asked = asking (literal_type l) (type.Variable t) asked
+  pattern_asks assumptions env t (term.Exactly l) asked =
+      asking (literal_type l) (type.Variable t) asked
   pattern_asks assumptions env t (term.Built c ps) asked =
       patterns_ask assumptions env asked.next ps
-      (call_asks assumptions (head.Con c) asked.next (pattern_count ps) t (taking (pattern_count ps) asked))
-  pattern_asks assumptions env t (term.Named x p) asked = pattern_asks assumptions env t p (asking_same (env x) t asked)
+      (call_asks assumptions (head.Con c) asked.next (pattern_count ps) t
+      (taking (pattern_count ps) asked))
+  pattern_asks assumptions env t (term.Named x p) asked =
+      pattern_asks assumptions env t p (asking_same (env x) t asked)
 
   -- type variables one after another
   pub patterns_ask : Assumptions → Environment → ℕ → Patterns → Asked → Asked
@@ -139,7 +147,8 @@ abbrev mutual
 abbrev mutual
   pub term_asks : Assumptions → Environment → ℕ → Term → Asked → Asked
   term_asks assumptions env t (term.Variable x) asked = asking_same (env x) t asked
-  term_asks assumptions env t (term.Literal l) asked = asking (literal_type l) (type.Variable t) asked
+  term_asks assumptions env t (term.Literal l) asked =
+      asking (literal_type l) (type.Variable t) asked
   term_asks assumptions env t (term.Whole h ts) asked =
       terms_ask assumptions env asked.next ts
       (call_asks assumptions h asked.next (term_count ts) t (taking (term_count ts) asked))
@@ -151,13 +160,18 @@ abbrev mutual
       let function = asked.next + 1 in
       term_asks assumptions env argument a
       (term_asks assumptions env function f
-      (asking (type.Arrow (type.Variable argument) (type.Variable t)) (type.Variable function) (taking 2 asked)))
+      (asking (type.Arrow (type.Variable argument) (type.Variable t)) (type.Variable function)
+      (taking 2 asked)))
   term_asks assumptions env t (term.Let x a b) asked =
-      term_asks assumptions (bind env x asked.next) t b (term_asks assumptions env asked.next a (taking 1 asked))
-  term_asks assumptions env t (term.Free x a) asked = term_asks assumptions (bind env x asked.next) t a (taking 1 asked)
-  term_asks assumptions env t (term.Or a b) asked = term_asks assumptions env t b (term_asks assumptions env t a asked)
+      term_asks assumptions (bind env x asked.next) t b
+      (term_asks assumptions env asked.next a (taking 1 asked))
+  term_asks assumptions env t (term.Free x a) asked =
+      term_asks assumptions (bind env x asked.next) t a (taking 1 asked)
+  term_asks assumptions env t (term.Or a b) asked =
+      term_asks assumptions env t b (term_asks assumptions env t a asked)
   term_asks assumptions env t (term.Case mode a alternatives) asked =
-      alternatives_ask assumptions env asked.next t alternatives (term_asks assumptions env asked.next a (taking 1 asked))
+      alternatives_ask assumptions env asked.next t alternatives
+      (term_asks assumptions env asked.next a (taking 1 asked))
 
   -- type variables one after another
   pub terms_ask : Assumptions → Environment → ℕ → Terms → Asked → Asked
@@ -171,12 +185,13 @@ abbrev mutual
   alternatives_ask assumptions env s t (term.MoreAlternatives p a alternatives) asked =
       let inner = bind_from env asked.next (variables_of p) in
       alternatives_ask assumptions env s t alternatives
-      (term_asks assumptions inner t a (pattern_asks assumptions inner s p (taking (length (variables_of p)) asked)))
+      (term_asks assumptions inner t a
+      (pattern_asks assumptions inner s p (taking (length (variables_of p)) asked)))
 
 -- ---- functions of a group
 
--- A function of a group. Its parameters have the type variables from `first` on, its result has the next one, and what its
--- declared type takes are those behind.
+-- A function of a group. Its parameters have the type variables from `first` on, its result has the
+-- next one, and what its declared type takes are those behind.
 pub record Member : Type 0 where
   pub function : FunId
   pub arity : ℕ
@@ -200,25 +215,29 @@ first_declared m = m.first + m.arity + 1
 abbrev pub member_type : Member → TypeExpr
 member_type m = arrows (parameters m) (type.Variable (result m))
 
--- Where its type is declared, each use in its own group has an instance too; captured variables have one type there.
+-- Where its type is declared, each use in its own group has an instance too; captured variables
+-- have one type there.
 abbrev pub scheme_by : Member → Option TypeExpr → Scheme
 scheme_by m None = Monomorphic (member_type m)
 scheme_by m (Some t) = Polymorphic (take m.captured (parameters m)) t
 
 abbrev pub scheme_in : List Member → Scheme → FunId → Scheme
 scheme_in [] other f = other
-scheme_in (m ∷ ms) other f = if nat_eq m.function.0 f.0 then scheme_by m m.declared else scheme_in ms other f
+scheme_in (m ∷ ms) other f = if nat_eq m.function.0 f.0 then scheme_by m m.declared
+    else scheme_in ms other f
 
 -- a rule of the function
 abbrev pub rule_asks : Assumptions → Member → Rule → Asked → Asked
 rule_asks assumptions m rule asked =
     let env = bind_from (λ x. 0) asked.next (all_variables rule.params) in
     term_asks assumptions env (result m) rule.body
-    (patterns_ask assumptions env m.first rule.params (taking (length (all_variables rule.params)) asked))
+    (patterns_ask assumptions env m.first rule.params
+    (taking (length (all_variables rule.params)) asked))
 
 abbrev pub rules_ask : Assumptions → Member → List Rule → Asked → Asked
 rules_ask assumptions m [] asked = asked
-rules_ask assumptions m (rule ∷ rules) asked = rules_ask assumptions m rules (rule_asks assumptions m rule asked)
+rules_ask assumptions m (rule ∷ rules) asked =
+    rules_ask assumptions m rules (rule_asks assumptions m rule asked)
 
 abbrev pub body_asks : Kernel → Assumptions → Member → Body → Asked → Asked
 body_asks kernel assumptions m (calculus.Rules rules) asked = rules_ask assumptions m rules asked
@@ -229,12 +248,14 @@ body_asks kernel assumptions m (calculus.External operation) asked =
 abbrev pub signature_asks : Member → Option TypeExpr → Asked → Asked
 signature_asks m None asked = asked
 signature_asks m (Some t) asked =
-    asking (arrows (drop m.captured (parameters m)) (type.Variable (result m))) (renamed (first_declared m) t) asked
+    asking (arrows (drop m.captured (parameters m)) (type.Variable (result m)))
+    (renamed (first_declared m) t) asked
 
 abbrev pub members_ask : Kernel → Assumptions → List Member → Asked → Asked
 members_ask kernel assumptions [] asked = asked
 members_ask kernel assumptions (m ∷ ms) asked =
-    members_ask kernel assumptions ms (body_asks kernel assumptions m m.body (signature_asks m m.declared asked))
+    members_ask kernel assumptions ms
+    (body_asks kernel assumptions m m.body (signature_asks m m.declared asked))
 
 -- ---- the group
 
@@ -275,7 +296,8 @@ end_of m = first_declared m + declared_breadth m.declared
 -- functions, whose type variables follow one another
 abbrev pub members_from : Kernel → ℕ → List FunId → List Member
 members_from kernel first [] = []
-members_from kernel first (f ∷ fs) = member kernel first f ∷ members_from kernel (end_of (member kernel first f)) fs
+members_from kernel first (f ∷ fs) =
+    member kernel first f ∷ members_from kernel (end_of (member kernel first f)) fs
 
 unfoldable pub members : Kernel → List FunId → List Member
 members kernel group = members_from kernel 0 group
@@ -297,5 +319,6 @@ assumptions_of kernel interface ms = record {
 unfoldable pub equations : Kernel → List TypeExpr → List FunId → List Equation
 equations kernel interface group =
     let ms = members kernel group in
-    let asked = members_ask kernel (assumptions_of kernel interface ms) ms (record { next = end_of_all 0 ms; equations = [] }) in
+    let asked = members_ask kernel (assumptions_of kernel interface ms) ms
+    (record { next = end_of_all 0 ms; equations = [] }) in
     asked.equations

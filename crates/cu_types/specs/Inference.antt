@@ -30,12 +30,13 @@ pub record IsOfGroup (ms : List Member) (x : ℕ) : Type 0 where
   pub is_member : slice_get ms place ≡ Some member
   pub declared : IsDeclared member x
 
--- The variables of declared types are rigid: those of a group stay distinct variables, and none of a
--- function's stands in the type of what the function captured.
+-- The variables of declared types are rigid: those of a group stay distinct variables, and none of
+-- a function's stands in the type of what the function captured.
 pub record KeepsDeclared (σ : Substitution) (ms : List Member) : Type 0 where
   pub variable : (x : ℕ) → IsOfGroup ms x → (y : ℕ) × (σ x ≡ type.Variable y)
   pub distinct : (x y : ℕ) → IsOfGroup ms x → IsOfGroup ms y → σ x ≡ σ y → x ≡ y
-  pub absent : (k x y i : ℕ) (m : Member) → slice_get ms k ≡ Some m → IsDeclared m x → σ x ≡ type.Variable y → i < m.captured
+  pub absent : (k x y i : ℕ) (m : Member) → slice_get ms k ≡ Some m → IsDeclared m x
+      → σ x ≡ type.Variable y → i < m.captured
       → IsTrue (holds y (variables_in (σ (m.first + i)))) → ⊥
 
 -- ---- interfaces
@@ -57,8 +58,10 @@ pub record IsTyped (kernel : Kernel) (interface : List TypeExpr) (group : List F
   pub keeps : KeepsDeclared solution (members kernel group)
   pub types : HasTypes interface solution (members kernel group)
 
--- They are most general: what solves the equations is an instance of the solution that they come from.
-pub record HasPrincipalTypes (kernel : Kernel) (interface : List TypeExpr) (group : List FunId) : Type 0 where
+-- They are most general: what solves the equations is an instance of the solution that they come
+-- from.
+pub record HasPrincipalTypes (kernel : Kernel) (interface : List TypeExpr)
+    (group : List FunId) : Type 0 where
   pub solution : Substitution
   pub general : IsMostGeneral solution (equations kernel interface group)
   pub keeps : KeepsDeclared solution (members kernel group)
@@ -67,12 +70,14 @@ pub record HasPrincipalTypes (kernel : Kernel) (interface : List TypeExpr) (grou
 -- each function of the program has its type
 pub record Typed (kernel : Kernel) (interface : List TypeExpr) : Type 0 where
   pub each : length interface ≡ length kernel.functions
-  pub groups : (group : List FunId) → IsGroup (program_of kernel) group → IsTyped kernel interface group
+  pub groups : (group : List FunId) → IsGroup (program_of kernel) group
+      → IsTyped kernel interface group
 
 -- and the most general one that its group's equations have
 pub record PrincipallyTyped (kernel : Kernel) (interface : List TypeExpr) : Type 0 where
   pub typed : Typed kernel interface
-  pub general : (group : List FunId) → IsGroup (program_of kernel) group → HasPrincipalTypes kernel interface group
+  pub general : (group : List FunId) → IsGroup (program_of kernel) group
+      → HasPrincipalTypes kernel interface group
 
 -- ---- declared types
 
@@ -131,10 +136,13 @@ pub record ComesTo (kernel : Kernel) (interface : List TypeExpr) (group : List F
   pub are_groups : AreGroups (program_of kernel) groups
   pub place : ℕ
   pub is_next : slice_get groups place ≡ Some group
-  pub before : (k : ℕ) (other : List FunId) → k < place → slice_get groups k ≡ Some other → HasPrincipalTypes kernel interface other
+  pub before : (k : ℕ) (other : List FunId) → k < place → slice_get groups k ≡ Some other
+      → HasPrincipalTypes kernel interface other
 
 -- its equations have solutions, and none keeps to the declared types
-pub record BreaksSignature (kernel : Kernel) (interface : List TypeExpr) (group : List FunId) : Type 0 where
+pub record BreaksSignature (kernel : Kernel) (interface : List TypeExpr)
+    (group : List FunId) : Type 0 where
   pub solution : Substitution
   pub solves : Solves solution (equations kernel interface group)
-  pub none : (σ : Substitution) → Solves σ (equations kernel interface group) → KeepsDeclared σ (members kernel group) → ⊥
+  pub none : (σ : Substitution) → Solves σ (equations kernel interface group)
+      → KeepsDeclared σ (members kernel group) → ⊥

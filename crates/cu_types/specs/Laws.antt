@@ -15,16 +15,19 @@ use Rattle.cu_types.specs.declared.unification.Clash.{Clash}
 
 -- each solution makes the same what the equations make equal
 abbrev pub SolutionsAgree : Type 0
-SolutionsAgree = (equations : List Equation) (σ : Substitution) (s t : TypeExpr) → Solves σ equations → MadeEqual equations s t
+SolutionsAgree = (equations : List Equation) (σ : Substitution) (s t : TypeExpr)
+    → Solves σ equations → MadeEqual equations s t
     → Unifies σ s t
 
 -- equations that have a clash have no solution
 abbrev pub ClashesRefute : Type 0
-ClashesRefute = (equations : List Equation) (s t : TypeExpr) (σ : Substitution) → IsClash equations s t → Solves σ equations → ⊥
+ClashesRefute = (equations : List Equation) (s t : TypeExpr) (σ : Substitution)
+    → IsClash equations s t → Solves σ equations → ⊥
 
 -- most general solutions are instances of one another
 abbrev pub MostGeneralAgree : Type 0
-MostGeneralAgree = (equations : List Equation) (σ τ : Substitution) → IsMostGeneral σ equations → IsMostGeneral τ equations
+MostGeneralAgree = (equations : List Equation) (σ τ : Substitution) → IsMostGeneral σ equations
+    → IsMostGeneral τ equations
     → IsInstance σ τ × IsInstance τ σ
 
 -- where the equations of a group have a clash, nothing solves them

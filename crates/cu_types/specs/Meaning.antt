@@ -43,7 +43,8 @@ pub record Clashes (equations : List Equation) (c : Clash) : Type 0 where
   pub table : IsTable (map shape_of c.types.items)
   pub left_within : c.left < length c.types.items
   pub right_within : c.right < length c.types.items
-  pub clash : IsClash equations (at (trees (map shape_of c.types.items)) c.left) (at (trees (map shape_of c.types.items)) c.right)
+  pub clash : IsClash equations (at (trees (map shape_of c.types.items)) c.left)
+      (at (trees (map shape_of c.types.items)) c.right)
 
 -- why equations have no solution; that there is no memory left is free
 abbrev pub IsUnifyFault : List Equation → UnifyFault → Type 0

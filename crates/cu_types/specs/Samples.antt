@@ -52,7 +52,8 @@ abbrev with_fields : List TypeExpr → Constructor
 with_fields ts = record { name = a_name; public = true; fields = ts }
 
 abbrev with_constructors : ℕ → List Constructor → DataType
-with_constructors arity cs = record { name = a_name; «module» = 0; arity = arity; public = true; constructors = cs }
+with_constructors arity cs =
+    record { name = a_name; «module» = 0; arity = arity; public = true; constructors = cs }
 
 abbrev tuple : ℕ → DataType
 tuple n = with_constructors n (with_fields (variables_from 0 n) ∷ [])
@@ -76,7 +77,14 @@ abbrev pub fun : ℕ → FunId
 fun f = record { 0 = f }
 
 abbrev special : Special
-special = record { falsity = con 17; truth = con 18; nil = con 0; cons = con 1; both = fun 0; values = Some (con 19) }
+special = record {
+  falsity = con 17;
+  truth = con 18;
+  nil = con 0;
+  cons = con 1;
+  both = fun 0;
+  values = Some (con 19);
+}
 
 -- type String = [Char], type Strings = [String]
 abbrev synonyms : List Synonym
@@ -130,8 +138,14 @@ equal = record { name = a_name; arity = 2; body = calculus.External prim.Equal }
 -- not, 1
 abbrev negation : Function
 negation = function 1
-    (record { params = one (term.Built (con 18) term.NoPattern); body = term.Whole (head.Con (con 17)) term.NoTerm }
-    ∷ record { params = one (term.Built (con 17) term.NoPattern); body = term.Whole (head.Con (con 18)) term.NoTerm }
+    (record {
+      params = one (term.Built (con 18) term.NoPattern);
+      body = term.Whole (head.Con (con 17)) term.NoTerm;
+    }
+    ∷ record {
+      params = one (term.Built (con 17) term.NoPattern);
+      body = term.Whole (head.Con (con 18)) term.NoTerm;
+    }
     ∷ [])
 
 -- not 'a', 2
@@ -144,14 +158,19 @@ identity = function 1 (record { params = one (term.Any 0); body = term.Variable 
 
 -- (f 1, f 'a'), 4
 abbrev pair_goal : Function
-pair_goal = function 0 (record { params = term.NoPattern; body = pair (call 3 (argument a_one)) (call 3 (argument an_a)) } ∷ [])
+pair_goal =
+    function 0 (record {
+      params = term.NoPattern;
+      body = pair (call 3 (argument a_one)) (call 3 (argument an_a));
+    } ∷ [])
 
 -- g x y = case x of { True -> y }, 6, which has captured x, with the type b -> b of y alone
 abbrev choice : Function
 choice = function 2 (record {
   params = term.MorePatterns (term.Any 0) (one (term.Any 1));
   body = term.Case Rigid (term.Variable 0)
-      (term.MoreAlternatives (term.Built (con 18) term.NoPattern) (term.Variable 1) term.NoAlternative);
+      (term.MoreAlternatives (term.Built (con 18) term.NoPattern)
+      (term.Variable 1) term.NoAlternative);
 } ∷ [])
 
 -- h x y = x, 7, which has captured x, with the type b -> b of y alone
@@ -163,7 +182,11 @@ captive = function 2 (record {
 
 -- the set function of f on 1, 8
 abbrev set_goal : Function
-set_goal = function 0 (record { params = term.NoPattern; body = term.Whole (head.Set (fun 3)) (argument a_one) } ∷ [])
+set_goal =
+    function 0 (record {
+      params = term.NoPattern;
+      body = term.Whole (head.Set (fun 3)) (argument a_one);
+    } ∷ [])
 
 -- p x = p [x], 9, with the type a -> Strings
 abbrev nested : Function
@@ -206,13 +229,17 @@ to_itself = function 1 (record {
 abbrev pub sample : Kernel
 sample = record {
   types = types;
-  functions = equal ∷ negation ∷ wrong_goal ∷ identity ∷ pair_goal ∷ identity ∷ choice ∷ captive ∷ set_goal ∷ nested
+  functions = equal ∷ negation ∷ wrong_goal ∷ identity ∷ pair_goal ∷ identity ∷ choice ∷ captive
+      ∷ set_goal ∷ nested
       ∷ twice ∷ even ∷ odd ∷ to_itself ∷ [];
   synonyms = synonyms;
   modules = [];
-  marks = mark None 0 ∷ mark None 0 ∷ mark None 0 ∷ mark None 0 ∷ mark None 0 ∷ mark (Some (type.Arrow (var 0) int)) 0
-      ∷ mark (Some (type.Arrow (var 0) (var 0))) 1 ∷ mark (Some (type.Arrow (var 0) (var 0))) 1 ∷ mark None 0
-      ∷ mark (Some (type.Arrow (var 0) (type.Named (name.Synonym (record { 0 = 1 })) type.NoType))) 0 ∷ mark None 0
+  marks = mark None 0 ∷ mark None 0 ∷ mark None 0 ∷ mark None 0 ∷ mark None 0
+      ∷ mark (Some (type.Arrow (var 0) int)) 0
+      ∷ mark (Some (type.Arrow (var 0) (var 0))) 1 ∷ mark (Some (type.Arrow (var 0) (var 0))) 1
+      ∷ mark None 0
+      ∷ mark (Some (type.Arrow (var 0) (type.Named (name.Synonym (record { 0 = 1 })) type.NoType)))
+      0 ∷ mark None 0
       ∷ mark None 0 ∷ mark None 0 ∷ mark None 0 ∷ [];
   goal = None;
   special = special;
@@ -248,7 +275,8 @@ whole_types = type.Arrow (var 0) (var 0) ∷ type.Arrow (var 0) (var 0) ∷ []
 
 -- the types that are known of `==`, not and f
 abbrev pub known : List TypeExpr
-known = type.Arrow (var 0) (type.Arrow (var 0) bool) ∷ type.Arrow bool bool ∷ bool ∷ type.Arrow (var 0) (var 0) ∷ []
+known = type.Arrow (var 0) (type.Arrow (var 0) bool) ∷ type.Arrow bool bool ∷ bool
+    ∷ type.Arrow (var 0) (var 0) ∷ []
 
 abbrev pub both : TypeExpr → TypeExpr → Equation
 both s t = record { left = s; right = t }
@@ -259,7 +287,8 @@ asked_of f = equations sample known (fun f ∷ [])
 -- what each function asks for
 pub record SamplesAsk : Type 0 where
   pub equal : asked_of 0
-      ≡ both (type.Arrow (var 3) (type.Arrow (var 3) bool)) (type.Arrow (var 0) (type.Arrow (var 1) (var 2))) ∷ []
+      ≡ both (type.Arrow (var 3) (type.Arrow (var 3) bool))
+      (type.Arrow (var 0) (type.Arrow (var 1) (var 2))) ∷ []
   pub negation : asked_of 1
       ≡ both bool (var 0) ∷ both bool (var 1) ∷ both bool (var 0) ∷ both bool (var 1) ∷ []
   pub wrong_goal : asked_of 2
@@ -267,14 +296,16 @@ pub record SamplesAsk : Type 0 where
   pub identity : asked_of 3
       ≡ both (var 2) (var 0) ∷ both (var 2) (var 1) ∷ []
   pub pair_goal : asked_of 4
-      ≡ both (type.Arrow (var 3) (type.Arrow (var 4) (pair_of (var 3) (var 4)))) (type.Arrow (var 1) (type.Arrow (var 2) (var 0)))
+      ≡ both (type.Arrow (var 3) (type.Arrow (var 4) (pair_of (var 3) (var 4))))
+      (type.Arrow (var 1) (type.Arrow (var 2) (var 0)))
       ∷ both (type.Arrow (var 6) (var 6)) (type.Arrow (var 5) (var 1))
       ∷ both int (var 5)
       ∷ both (type.Arrow (var 8) (var 8)) (type.Arrow (var 7) (var 2))
       ∷ both char (var 7)
       ∷ []
   pub too_general : asked_of 5
-      ≡ both (type.Arrow (var 0) (var 1)) (type.Arrow (var 2) int) ∷ both (var 3) (var 0) ∷ both (var 3) (var 1) ∷ []
+      ≡ both (type.Arrow (var 0) (var 1)) (type.Arrow (var 2) int) ∷ both (var 3) (var 0)
+      ∷ both (var 3) (var 1) ∷ []
   pub choice : asked_of 6
       ≡ both (type.Arrow (var 1) (var 2)) (type.Arrow (var 3) (var 3))
       ∷ both (var 4) (var 0) ∷ both (var 5) (var 1)
@@ -293,7 +324,8 @@ pub record SamplesAsk : Type 0 where
       ≡ both (type.Arrow (var 0) (var 1)) (type.Arrow (var 2) (list_of (list_of char)))
       ∷ both (var 3) (var 0)
       ∷ both (type.Arrow (var 5) (list_of (list_of char))) (type.Arrow (var 4) (var 1))
-      ∷ both (type.Arrow (var 8) (type.Arrow (list_of (var 8)) (list_of (var 8)))) (type.Arrow (var 6) (type.Arrow (var 7) (var 4)))
+      ∷ both (type.Arrow (var 8) (type.Arrow (list_of (var 8)) (list_of (var 8))))
+      (type.Arrow (var 6) (type.Arrow (var 7) (var 4)))
       ∷ both (var 3) (var 6)
       ∷ both (list_of (var 9)) (var 7)
       ∷ []
@@ -319,7 +351,8 @@ pub record SamplesAsk : Type 0 where
 -- where f, the choice and the pair have their types too
 abbrev pub known_too : List TypeExpr
 known_too =
-    type.Arrow (var 0) (type.Arrow (var 0) bool) ∷ type.Arrow bool bool ∷ bool ∷ type.Arrow (var 0) (var 0) ∷ pair_of int char ∷ bool
+    type.Arrow (var 0) (type.Arrow (var 0) bool) ∷ type.Arrow bool bool ∷ bool
+    ∷ type.Arrow (var 0) (var 0) ∷ pair_of int char ∷ bool
     ∷ type.Arrow bool (type.Arrow (var 0) (var 0)) ∷ []
 
 -- where the functions behind them have theirs, but for h, which has none
@@ -332,7 +365,8 @@ known_even =
 -- where f has a type that isn't its most general one
 abbrev pub known_narrow : List TypeExpr
 known_narrow =
-    type.Arrow (var 0) (type.Arrow (var 0) bool) ∷ type.Arrow bool bool ∷ bool ∷ type.Arrow int int ∷ []
+    type.Arrow (var 0) (type.Arrow (var 0) bool) ∷ type.Arrow bool bool ∷ bool ∷ type.Arrow int int
+    ∷ []
 
 pub record SamplesAnswered : Type 0 where
   pub wrong_goal : IsClash (asked_of 2) bool char

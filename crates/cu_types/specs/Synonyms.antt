@@ -26,7 +26,8 @@ abbrev mutual
 
   pub all_expanded_by : (ℕ → TypeExpr) → TypeExprs → TypeExprs
   all_expanded_by body type.NoType = type.NoType
-  all_expanded_by body (type.MoreTypes t ts) = type.MoreTypes (expanded_by body t) (all_expanded_by body ts)
+  all_expanded_by body (type.MoreTypes t ts) =
+      type.MoreTypes (expanded_by body t) (all_expanded_by body ts)
 
 -- the type behind a synonym as it is declared
 abbrev declared_body : Option Synonym → TypeExpr
@@ -41,7 +42,8 @@ abbrev pub bodies : Kernel → ℕ → ℕ → TypeExpr
 bodies kernel zero s = type.Variable 0
 bodies kernel (suc depth) s = expanded_by (bodies kernel depth) (body_of kernel s)
 
--- a type of the program without synonyms: where none leads to itself they are nested at most as deep as there are synonyms
+-- a type of the program without synonyms: where none leads to itself they are nested at most as
+-- deep as there are synonyms
 unfoldable pub expanded : Kernel → TypeExpr → TypeExpr
 expanded kernel t = expanded_by (bodies kernel (length kernel.synonyms)) t
 
@@ -65,7 +67,8 @@ abbrev mutual
 -- what a synonym stands for names another one, or one that leads to it
 pub data LeadsTo (kernel : Kernel) : ℕ → ℕ → Type 0 where
   at_once : (r s : ℕ) → IsTrue (names_synonym s (body_of kernel r)) → LeadsTo kernel r s
-  further : (r q s : ℕ) → IsTrue (names_synonym q (body_of kernel r)) → LeadsTo kernel q s → LeadsTo kernel r s
+  further : (r q s : ℕ) → IsTrue (names_synonym q (body_of kernel r)) → LeadsTo kernel q s
+      → LeadsTo kernel r s
 
 -- how many arguments a type's name takes, where the program has it
 abbrev data_arity : Option DataType → ℕ → Bool
@@ -85,7 +88,8 @@ abbrev mutual
   pub is_applied : Kernel → TypeExpr → Bool
   is_applied kernel (type.Variable x) = true
   is_applied kernel (type.Arrow a b) = is_applied kernel a && is_applied kernel b
-  is_applied kernel (type.Named n ts) = takes_arguments kernel n (length (listed ts)) && are_applied kernel ts
+  is_applied kernel (type.Named n ts) =
+      takes_arguments kernel n (length (listed ts)) && are_applied kernel ts
 
   pub are_applied : Kernel → TypeExprs → Bool
   are_applied kernel type.NoType = true
@@ -105,5 +109,6 @@ has_applied_signature kernel (Some t) = is_applied kernel t
 pub record DeclaresTypes (kernel : Kernel) : Type 0 where
   pub fields : IsTrue (list_all (has_applied_constructors kernel) kernel.types)
   pub synonyms : IsTrue (list_all (λ s. is_applied kernel s.body) kernel.synonyms)
-  pub signatures : IsTrue (list_all (λ mark. has_applied_signature kernel mark.declared) kernel.marks)
+  pub signatures : IsTrue
+      (list_all (λ mark. has_applied_signature kernel mark.declared) kernel.marks)
   pub acyclic : (s : ℕ) → LeadsTo kernel s s → ⊥

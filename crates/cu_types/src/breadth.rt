@@ -22,7 +22,8 @@ fn widest(breadths: &[usize], arguments: &[usize]) -> usize
 /// The breadth of a type of a table, where those of the types before it are
 /// known.
 fn node_breadth(node: &Node, breadths: &[usize]) -> usize
-    requires { (k a : ℕ) → slice_get (places (shape_of node.now)) k ≡ Some a → a < length breadths.now }
+    requires { (k a : ℕ) → slice_get (places (shape_of node.now)) k ≡ Some a
+        → a < length breadths.now }
     ensures { result ≡ shape_breadth (slice_index breadths.now) (shape_of node.now) }
 {
     match node {

@@ -20,7 +20,8 @@ impl Classes {
     /// Each number below a bound in a class of its own.
     pub(crate) fn new(alloc: Global, count: usize) -> Result<Classes, AllocError>
         ensures sized { IfOk result (λ classes. length classes.parents.items ≡ count) }
-        ensures forest { IfOk result (λ classes. IsForest classes.parents.items classes.ranks.items) }
+        ensures forest { IfOk result
+            (λ classes. IsForest classes.parents.items classes.ranks.items) }
         ensures alone { IfOk result (λ classes. Represents classes.parents.items (λ k. k)) }
     {
         let mut parents = Vec::with_capacity(alloc, count)?;
@@ -40,7 +41,8 @@ impl Classes {
         ensures sized { length self.new.parents.items ≡ length self.old.parents.items }
         ensures within { result < length self.old.parents.items }
         ensures forest { IsForest self.new.parents.items self.new.ranks.items }
-        ensures roots { (k : ℕ) → is_root self.new.parents.items k ≡ is_root self.old.parents.items k }
+        ensures roots { (k : ℕ) → is_root self.new.parents.items k
+            ≡ is_root self.old.parents.items k }
         ensures is_root { is_root self.new.parents.items result ≡ true }
         ensures class { (class : ℕ → ℕ) → Represents self.old.parents.items class
             → Represents self.new.parents.items class × (result ≡ class node) }
@@ -63,7 +65,8 @@ impl Classes {
         requires child_root { is_root self.old.parents.items child ≡ true }
         requires root_root { is_root self.old.parents.items root ≡ true }
         requires forest { IsForest self.old.parents.items self.old.ranks.items }
-        ensures sized { OnOk result (length self.new.parents.items ≡ length self.old.parents.items) }
+        ensures sized { OnOk result (length self.new.parents.items
+            ≡ length self.old.parents.items) }
         ensures forest { OnOk result (IsForest self.new.parents.items self.new.ranks.items) }
         ensures roots { OnOk result ((k : ℕ) → is_root self.new.parents.items k
             ≡ cond (nat_eq k child) false (is_root self.old.parents.items k)) }
@@ -82,7 +85,8 @@ impl Classes {
     pub(crate) fn representatives(&mut self, alloc: Global) -> Result<Vec<usize>, AllocError>
         requires forest { IsForest self.old.parents.items self.old.ranks.items }
         ensures sized { IfOk result (λ found. length found.items ≡ length self.old.parents.items) }
-        ensures class { IfOk result (λ found. (class : ℕ → ℕ) → Represents self.old.parents.items class
+        ensures class { IfOk result (λ found. (class : ℕ → ℕ)
+            → Represents self.old.parents.items class
             → (k : ℕ) → k < length self.old.parents.items → slice_index found.items k ≡ class k) }
     {
         let count = self.parents.len();

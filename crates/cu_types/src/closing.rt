@@ -67,7 +67,8 @@ impl Classes {
         ensures sized { length self.new.parents.items ≡ length self.old.parents.items }
         ensures within { IsWithin (length self.old.parents.items) result }
         ensures forest { IsForest self.new.parents.items self.new.ranks.items }
-        ensures roots { (k : ℕ) → is_root self.new.parents.items k ≡ is_root self.old.parents.items k }
+        ensures roots { (k : ℕ) → is_root self.new.parents.items k
+            ≡ is_root self.old.parents.items k }
         ensures left { is_root self.new.parents.items result.left ≡ true }
         ensures right { is_root self.new.parents.items result.right ≡ true }
         ensures class { (class : ℕ → ℕ) → Represents self.old.parents.items class
@@ -93,7 +94,8 @@ impl Classes {
         requires child_root { is_root self.old.parents.items pair.left ≡ true }
         requires root_root { is_root self.old.parents.items pair.right ≡ true }
         requires forest { IsForest self.old.parents.items self.old.ranks.items }
-        ensures sized { OnOk result (length self.new.parents.items ≡ length self.old.parents.items) }
+        ensures sized { OnOk result (length self.new.parents.items
+            ≡ length self.old.parents.items) }
         ensures forest { OnOk result (IsForest self.new.parents.items self.new.ranks.items) }
         ensures united { OnOk result (Unites (shape_of child.now) (shape_of root.now) pair
             pending.old.items self.old.parents.items pending.new.items self.new.parents.items) }

@@ -65,7 +65,8 @@ fn wrap(
     inner: Member,
 ) -> Result<usize, AllocError>
     requires user { user < length nodes.old.items }
-    requires arguments { (s : Shape) (k a : ℕ) → slice_get (map shape_of nodes.old.items) user ≡ Some s
+    requires arguments { (s : Shape) (k a : ℕ) → slice_get (map shape_of nodes.old.items) user
+        ≡ Some s
         → slice_get (places s) k ≡ Some a → a < length classes.now }
     ensures place { IfOk result (λ place. place ≡ length nodes.old.items) }
     ensures pushed { OnOk result ((s : Shape)
@@ -89,7 +90,8 @@ pub(crate) fn unfold(
 ) -> Result<usize, AllocError>
     requires table { IsTable (map shape_of nodes.old.items) }
     requires classes { AreWithin (map shape_of nodes.old.items) classes.now }
-    requires cyclic { IsCyclic (map shape_of nodes.old.items) classes.now (reverse tasks.old.items) first }
+    requires cyclic { IsCyclic (map shape_of nodes.old.items) classes.now
+        (reverse tasks.old.items) first }
     ensures { IfOk result (Unfolds (map shape_of nodes.old.items) classes.now first
         (map shape_of nodes.new.items)) }
 {

@@ -34,7 +34,8 @@ fn some_hold(arguments: &[usize], holds: &[bool]) -> bool
 /// Whether a function type stands in a type of a table, where it is known of
 /// the types before it.
 fn node_holds(node: &Node, holds: &[bool]) -> bool
-    requires { (k a : ℕ) → slice_get (places (shape_of node.now)) k ≡ Some a → a < length holds.now }
+    requires { (k a : ℕ) → slice_get (places (shape_of node.now)) k ≡ Some a
+        → a < length holds.now }
     ensures { result ≡ shape_holds (λ a. slice_index_or holds.now a false) (shape_of node.now) }
 {
     match node {

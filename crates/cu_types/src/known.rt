@@ -161,7 +161,8 @@ impl<'p> Signing<'p> {
     /// The type of a constructor.
     pub(crate) fn constructor(&self, c: ConId) -> Scheme<'p>
         ensures { scheme_of result
-            ≡ asked.Polymorphic [] (slice_index_or self.now.constructors.now c.0 (type.Variable 0)) }
+            ≡ asked.Polymorphic []
+            (slice_index_or self.now.constructors.now c.0 (type.Variable 0)) }
     {
         match self.constructors.get(c.0) {
             Some(shared) => Scheme::Polymorphic(0, 0, shared),

@@ -66,7 +66,8 @@ impl Walk {
         classes: &[usize],
         arguments: &[usize],
     ) -> Result<Vec<usize>, AllocError>
-        requires arguments { (k a : ℕ) → slice_get arguments.now k ≡ Some a → a < length classes.now }
+        requires arguments { (k a : ℕ) → slice_get arguments.now k ≡ Some a
+            → a < length classes.now }
         requires classes { (a : ℕ) → a < length classes.now
             → class_of classes.now a < length self.now.states.items }
         ensures { IfOk result (λ found. found.items ≡ map (λ a. place_of
@@ -115,7 +116,8 @@ impl Walk {
     pub(crate) fn start(alloc: Global, classes: &[usize]) -> Result<Walk, AllocError>
         ensures states { IfOk result (λ walk. walk.states.items
             ≡ replicate (length classes.now) state.Unseen) }
-        ensures tasks { IfOk result (λ walk. walk.tasks.items ≡ map (λ a. task.Enter a) classes.now) }
+        ensures tasks { IfOk result (λ walk. walk.tasks.items
+            ≡ map (λ a. task.Enter a) classes.now) }
         ensures solved { IfOk result (λ walk. walk.solved.items ≡ []) }
     {
         let mut walk = Walk {
@@ -180,7 +182,8 @@ impl Walk {
         requires walk { IsWalk (map shape_of nodes.now) classes.now self.old.states.items
             (map shape_of self.old.solved.items) (task.Enter place ∷ reverse self.old.tasks.items) }
         ensures { IfOk result (Steps (map shape_of nodes.now) classes.now self.old.states.items
-            self.old.tasks.items self.new.states.items (map shape_of self.new.solved.items) self.new.tasks.items) }
+            self.old.tasks.items self.new.states.items
+            (map shape_of self.new.solved.items) self.new.tasks.items) }
     {
         let class = classes[place];
         match self.states[class] {
@@ -206,7 +209,8 @@ impl Walk {
         requires walk { IsWalk (map shape_of nodes.now) classes.now self.old.states.items
             (map shape_of self.old.solved.items) (task.Leave class ∷ reverse self.old.tasks.items) }
         ensures { OnOk result (Steps (map shape_of nodes.now) classes.now self.old.states.items
-            self.old.tasks.items self.new.states.items (map shape_of self.new.solved.items) self.new.tasks.items None) }
+            self.old.tasks.items self.new.states.items
+            (map shape_of self.new.solved.items) self.new.tasks.items None) }
     {
         self.place(alloc, classes, class, &nodes[class])?;
         Ok(())
@@ -226,7 +230,8 @@ impl Walk {
         requires walk { IsWalk (map shape_of nodes.now) classes.now self.old.states.items
             (map shape_of self.old.solved.items) (task ∷ reverse self.old.tasks.items) }
         ensures { IfOk result (Steps (map shape_of nodes.now) classes.now self.old.states.items
-            self.old.tasks.items self.new.states.items (map shape_of self.new.solved.items) self.new.tasks.items) }
+            self.old.tasks.items self.new.states.items
+            (map shape_of self.new.solved.items) self.new.tasks.items) }
     {
         match task {
             Task::Enter(place) => self.enter(nodes, classes, place),

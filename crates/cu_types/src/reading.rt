@@ -57,7 +57,8 @@ impl Reader {
     ) -> Result<(), AllocError>
         requires { IsReader self.old }
         ensures { OnOk result ((before : List Shape) (t : TypeExpr)
-            → ReaderReads before t self.old (step.Read (type_of term.now) ∷ steps_of tasks.old.items)
+            → ReaderReads before t self.old
+            (step.Read (type_of term.now) ∷ steps_of tasks.old.items)
             places.old.items
             → ReaderProceeds before t (step.Read (type_of term.now) ∷ steps_of tasks.old.items)
             self.new tasks.new.items places.new.items) }

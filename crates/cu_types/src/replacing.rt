@@ -28,7 +28,8 @@ pub(crate) fn places_at(
     arguments: &[usize],
 ) -> Result<Vec<usize>, AllocError>
     requires { (k a : ℕ) → slice_get arguments.now k ≡ Some a → a < length places.now }
-    ensures { IfOk result (λ found. found.items ≡ map (λ a. slice_index places.now a) arguments.now) }
+    ensures { IfOk result (λ found. found.items
+        ≡ map (λ a. slice_index places.now a) arguments.now) }
 {
     let mut found = Vec::with_capacity(alloc, arguments.len())?;
     for argument in arguments {
@@ -55,7 +56,8 @@ impl Reader {
     /// Adds the type that a list of places has for a variable, or itself.
     pub(crate) fn parameter(&mut self, x: u32, places: &[usize]) -> Result<usize, AllocError>
         requires reader { IsReader self.old }
-        requires stands { (k p : ℕ) → slice_get places.now k ≡ Some p → p < length (shapes self.old) }
+        requires stands { (k p : ℕ) → slice_get places.now k ≡ Some p
+            → p < length (shapes self.old) }
         ensures reader { OnOk result (IsReader self.new) }
         ensures read { IfOk result (Reads (shapes self.old) (shapes self.new)
             (for_parameters (map (at (trees (shapes self.old))) places.now) x)) }
@@ -93,13 +95,16 @@ impl Reader {
         requires reader { IsReader self.old }
         requires stands { Stands (shapes self.old) by }
         requires may { MayStand (length places.now) (shape_of node.now) }
-        requires within { (k p : ℕ) → slice_get places.now k ≡ Some p → p < length (shapes self.old) }
+        requires within { (k p : ℕ) → slice_get places.now k ≡ Some p
+            → p < length (shapes self.old) }
         ensures reader { OnOk result (IsReader self.new) }
         ensures read { IfOk result (λ place. (tree : ℕ → TypeExpr)
-            → ((a : ℕ) → a < length places.now → at (trees (shapes self.old)) (slice_index places.now a)
+            → ((a : ℕ) → a < length places.now
+            → at (trees (shapes self.old)) (slice_index places.now a)
             ≡ apply (replaced_by (shapes self.old) by.entry) (tree a))
             → Reads (shapes self.old) (shapes self.new)
-            (apply (replaced_by (shapes self.old) by.entry) (tree_over tree (shape_of node.now))) place) }
+            (apply (replaced_by (shapes self.old) by.entry) (tree_over tree (shape_of node.now)))
+            place) }
     {
         match node {
             Node::Variable(x) => {

@@ -42,7 +42,8 @@ abbrev mutual
   pattern_constructors (Constructed at c ps) = c ∷ constructors ps
   pattern_constructors (PatternTuple at ps) = constructors ps
   pattern_constructors (PatternList at ps) = constructors ps
-  pattern_constructors (PatternOperators at p rest) = pattern_constructors p ++ constructors_behind rest
+  pattern_constructors (PatternOperators at p rest) =
+      pattern_constructors p ++ constructors_behind rest
 
   pub constructors : Patterns → List Name
   constructors NoPattern = []
@@ -50,7 +51,8 @@ abbrev mutual
 
   pub constructors_behind : PatternRest → List Name
   constructors_behind NoConstructor = []
-  constructors_behind (ThenConstructor c p rest) = c ∷ pattern_constructors p ++ constructors_behind rest
+  constructors_behind (ThenConstructor c p rest) =
+      c ∷ pattern_constructors p ++ constructors_behind rest
 
 -- ---- types
 
@@ -83,8 +85,8 @@ abbrev mutual
 
 -- what a declaration declares in its scope
 pub data Declared : Type 0 where
-  -- A rule for a name. Where the flag is set, it is a function's, whose other rules may follow it at once; or else it
-  -- defines a variable, and nothing else may declare its name.
+  -- A rule for a name. Where the flag is set, it is a function's, whose other rules may follow it
+  -- at once; or else it defines a variable, and nothing else may declare its name.
   Rule : Bool → Name → Declared
   -- each of these names
   Names : List Name → Declared
@@ -97,7 +99,8 @@ has_parameters (MorePatterns p ps) = true
 -- names without those whose text stands before
 abbrev pub once : List (List ℕ) → List Name → List Name
 once seen [] = []
-once seen (x ∷ names) = if is_among seen x.text then once seen names else x ∷ once (x.text ∷ seen) names
+once seen (x ∷ names) = if is_among seen x.text then once seen names
+    else x ∷ once (x.text ∷ seen) names
 
 -- A variable that stands twice in a pattern is declared once there.
 abbrev pub names_by : Declaration → Declared
@@ -110,7 +113,8 @@ abbrev pub declared_in : Declarations → List Declared
 declared_in NoDeclaration = []
 declared_in (MoreDeclarations d ds) = names_by d ∷ declared_in ds
 
--- What an item declares among functions and constructors, and among types. At top level a name without parameters is a function's too.
+-- What an item declares among functions and constructors, and among types. At top level a name
+-- without parameters is a function's too.
 abbrev pub values_by : Item → Declared
 values_by (Data at name parameters cs) = Names (map (λ (c : ConstructorDeclaration). c.name) cs)
 values_by (DeclarationItem (FunctionRule at name parameters right)) = Rule true name
@@ -133,7 +137,8 @@ declared_names declared = flat_map names_of declared
 -- names whose text stands before
 abbrev pub repeated : List (List ℕ) → List Name → List Name
 repeated seen [] = []
-repeated seen (x ∷ names) = if is_among seen x.text then x ∷ repeated seen names else repeated (x.text ∷ seen) names
+repeated seen (x ∷ names) = if is_among seen x.text then x ∷ repeated seen names
+    else repeated (x.text ∷ seen) names
 
 -- whether a declaration is one more rule of a function
 abbrev pub continues : Option (List ℕ) → Declared → Bool
@@ -145,11 +150,13 @@ abbrev pub function_of : Declared → Option (List ℕ)
 function_of (Rule true name) = Some name.text
 function_of _ = None
 
--- The names of declarations, where those of a function's rules stand once for all that follow one another.
+-- The names of declarations, where those of a function's rules stand once for all that follow one
+-- another.
 abbrev pub declared_once : Option (List ℕ) → List Declared → List Name
 declared_once function [] = []
 declared_once function (d ∷ declared) =
-    if continues function d then declared_once function declared else names_of d ++ declared_once (function_of d) declared
+    if continues function d then declared_once function declared
+    else names_of d ++ declared_once (function_of d) declared
 
 -- the names that are declared a second time
 abbrev pub second : List Declared → List Name

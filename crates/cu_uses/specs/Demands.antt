@@ -1,4 +1,5 @@
--- What the text of a module asks of its scopes. A local variable hides what stands outside its scope.
+-- What the text of a module asks of its scopes. A local variable hides what stands outside its
+-- scope.
 use Rattle.std.specs.Prelude.{ℕ, ◌&&◌, List, [], ◌∷◌, ◌++◌, is_none, map, if◌then◌else◌}
 use Rattle.std.specs.List.{flat_map}
 use Rattle.cu_syntax.specs.Syntax as syntax
@@ -19,7 +20,8 @@ used space names = map (Uses space) names
 
 -- A name with these local variables in scope. One with a qualifier is no local variable.
 abbrev pub use_of : List (List ℕ) → Name → List Demand
-use_of local name = if is_none name.qualifier && is_among local name.text then [] else Uses Values name ∷ []
+use_of local name = if is_none name.qualifier && is_among local name.text then []
+    else Uses Values name ∷ []
 
 -- the local variables in scope inside others
 abbrev pub with : List Name → List (List ℕ) → List (List ℕ)
@@ -44,26 +46,35 @@ qualifier_names (syntax.Condition at condition) = []
 -- the local variables in scope behind qualifiers
 abbrev pub behind : List (List ℕ) → Qualifiers → List (List ℕ)
 behind local syntax.NoQualifier = local
-behind local (syntax.MoreQualifiers q qualifiers) = behind (with (qualifier_names q) local) qualifiers
+behind local (syntax.MoreQualifiers q qualifiers) =
+    behind (with (qualifier_names q) local) qualifiers
 
 abbrev mutual
   pub expression_demands : List (List ℕ) → Expression → List Demand
   expression_demands local (syntax.Variable at name) = use_of local name
   expression_demands local (syntax.Constructor at name) = Uses Values name ∷ []
   expression_demands local (syntax.LiteralExpression at found) = []
-  expression_demands local (syntax.Application at function arguments) = expression_demands local function ++ all_demands local arguments
-  expression_demands local (syntax.Operators at minus first rest) = expression_demands local first ++ rest_demands local rest
+  expression_demands local (syntax.Application at function arguments) =
+      expression_demands local function ++ all_demands local arguments
+  expression_demands local (syntax.Operators at minus first rest) =
+      expression_demands local first ++ rest_demands local rest
   expression_demands local (syntax.Lambda at parameters body) =
-      used Values (constructors parameters) ++ expression_demands (with (variables parameters) local) body
+      used Values (constructors parameters)
+      ++ expression_demands (with (variables parameters) local) body
   expression_demands local (syntax.Let at ds body) =
-      let inner = with (block_names ds) local in (block_demands ds ++ (declarations_demands inner ds ++ expression_demands inner body))
+      let inner = with (block_names ds) local in
+      (block_demands ds ++ (declarations_demands inner ds ++ expression_demands inner body))
   expression_demands local (syntax.If at condition chosen other) =
-      expression_demands local condition ++ (expression_demands local chosen ++ expression_demands local other)
-  expression_demands local (syntax.Case at word subject alternatives) = expression_demands local subject ++ alternatives_demands local alternatives
+      expression_demands local condition
+      ++ (expression_demands local chosen ++ expression_demands local other)
+  expression_demands local (syntax.Case at word subject alternatives) =
+      expression_demands local subject ++ alternatives_demands local alternatives
   expression_demands local (syntax.Tuple at components) = all_demands local components
   expression_demands local (syntax.TupleConstructor at count) = []
-  expression_demands local (syntax.LeftSection at operand operator) = expression_demands local operand ++ use_of local operator
-  expression_demands local (syntax.RightSection at operator operand) = use_of local operator ++ expression_demands local operand
+  expression_demands local (syntax.LeftSection at operand operator) =
+      expression_demands local operand ++ use_of local operator
+  expression_demands local (syntax.RightSection at operator operand) =
+      use_of local operator ++ expression_demands local operand
   expression_demands local (syntax.ListOf at elements) = all_demands local elements
   expression_demands local (syntax.Enumeration at first second last) =
       expression_demands local first ++ (maybe_demands local second ++ maybe_demands local last)
@@ -72,7 +83,8 @@ abbrev mutual
 
   pub all_demands : List (List ℕ) → Expressions → List Demand
   all_demands local syntax.NoExpression = []
-  all_demands local (syntax.MoreExpressions e es) = expression_demands local e ++ all_demands local es
+  all_demands local (syntax.MoreExpressions e es) =
+      expression_demands local e ++ all_demands local es
 
   pub maybe_demands : List (List ℕ) → MaybeExpression → List Demand
   maybe_demands local syntax.Absent = []
@@ -86,31 +98,39 @@ abbrev mutual
   pub alternatives_demands : List (List ℕ) → Alternatives → List Demand
   alternatives_demands local syntax.NoAlternative = []
   alternatives_demands local (syntax.MoreAlternatives at p right alternatives) =
-      used Values (pattern_constructors p) ++ (right_demands (with (pattern_variables p) local) right ++ alternatives_demands local alternatives)
+      used Values (pattern_constructors p)
+      ++ (right_demands (with (pattern_variables p) local) right
+      ++ alternatives_demands local alternatives)
 
   -- The declarations behind `where` hold for the guards too.
   pub right_demands : List (List ℕ) → RightSide → List Demand
   right_demands local (syntax.Plain at e ds) =
-      let inner = with (block_names ds) local in (expression_demands inner e ++ (block_demands ds ++ declarations_demands inner ds))
+      let inner = with (block_names ds) local in
+      (expression_demands inner e ++ (block_demands ds ++ declarations_demands inner ds))
   right_demands local (syntax.Guarded at guards ds) =
-      let inner = with (block_names ds) local in (guards_demands inner guards ++ (block_demands ds ++ declarations_demands inner ds))
+      let inner = with (block_names ds) local in
+      (guards_demands inner guards ++ (block_demands ds ++ declarations_demands inner ds))
 
   pub guards_demands : List (List ℕ) → Guards → List Demand
   guards_demands local syntax.NoGuard = []
   guards_demands local (syntax.MoreGuards at condition e guards) =
-      expression_demands local condition ++ (expression_demands local e ++ guards_demands local guards)
+      expression_demands local condition
+      ++ (expression_demands local e ++ guards_demands local guards)
 
   pub declarations_demands : List (List ℕ) → Declarations → List Demand
   declarations_demands local syntax.NoDeclaration = []
-  declarations_demands local (syntax.MoreDeclarations d ds) = declaration_demands local d ++ declarations_demands local ds
+  declarations_demands local (syntax.MoreDeclarations d ds) =
+      declaration_demands local d ++ declarations_demands local ds
 
   -- what a declaration asks by itself; the variables of a signature's type belong to it alone
   pub declaration_demands : List (List ℕ) → Declaration → List Demand
   declaration_demands local (syntax.FreeVariables at names) = []
   declaration_demands local (syntax.Signature at names t) = used Types (type_constructors t)
   declaration_demands local (syntax.FunctionRule at name parameters right) =
-      used Values (constructors parameters) ++ right_demands (with (variables parameters) local) right
-  declaration_demands local (syntax.PatternBinding at p right) = used Values (pattern_constructors p) ++ right_demands local right
+      used Values (constructors parameters)
+      ++ right_demands (with (variables parameters) local) right
+  declaration_demands local (syntax.PatternBinding at p right) =
+      used Values (pattern_constructors p) ++ right_demands local right
 
   -- each qualifier is in scope of those behind it
   pub qualifiers_demands : List (List ℕ) → Qualifiers → List Demand
@@ -119,30 +139,38 @@ abbrev mutual
       qualifier_demands local q ++ qualifiers_demands (with (qualifier_names q) local) qualifiers
 
   pub qualifier_demands : List (List ℕ) → Qualifier → List Demand
-  qualifier_demands local (syntax.Generator at p list) = expression_demands local list ++ used Values (pattern_constructors p)
-  qualifier_demands local (syntax.LocalDeclarations at ds) = block_demands ds ++ declarations_demands (with (block_names ds) local) ds
+  qualifier_demands local (syntax.Generator at p list) =
+      expression_demands local list ++ used Values (pattern_constructors p)
+  qualifier_demands local (syntax.LocalDeclarations at ds) =
+      block_demands ds ++ declarations_demands (with (block_names ds) local) ds
   qualifier_demands local (syntax.Condition at condition) = expression_demands local condition
 
 -- the types on the right of a declaration of a type with these parameters
 abbrev pub type_demands : List Name → TypeTerms → List Demand
-type_demands parameters ts = used Types (all_type_constructors ts) ++ map Lacks (missing (texts parameters) (all_type_variables ts))
+type_demands parameters ts = used Types (all_type_constructors ts)
+    ++ map Lacks (missing (texts parameters) (all_type_variables ts))
 
 abbrev pub item_demands : Item → List Demand
 item_demands (syntax.ImportItem found) = []
 item_demands (syntax.Fixity at to level operators) = []
 item_demands (syntax.Data at name parameters cs) =
-    map Repeats (repeated [] parameters) ++ flat_map (λ (c : ConstructorDeclaration). type_demands parameters c.fields) cs
-item_demands (syntax.Synonym at name parameters meant) = map Repeats (repeated [] parameters) ++ type_demands parameters (syntax.MoreTypes meant syntax.NoType)
+    map Repeats (repeated [] parameters)
+    ++ flat_map (λ (c : ConstructorDeclaration). type_demands parameters c.fields) cs
+item_demands (syntax.Synonym at name parameters meant) =
+    map Repeats (repeated [] parameters)
+    ++ type_demands parameters (syntax.MoreTypes meant syntax.NoType)
 item_demands (syntax.DeclarationItem d) = declaration_demands [] d
 
--- What a module's items ask, where its functions and constructors have these texts. Functions and constructors, types, signatures and
--- fixities are each declared once.
+-- What a module's items ask, where its functions and constructors have these texts. Functions and
+-- constructors, types, signatures and fixities are each declared once.
 abbrev pub items_demands : List (List ℕ) → List Item → List Demand
 items_demands known items =
     map Repeats (second (map values_by items) ++ (repeated [] (flat_map types_by items) ++
     (repeated [] (flat_map signed_in items) ++ repeated [] (flat_map fixed_in items)))) ++
-    (map Lacks (missing known (flat_map signed_in items) ++ missing known (flat_map fixed_in items)) ++ flat_map item_demands items)
+    (map Lacks (missing known (flat_map signed_in items) ++ missing known (flat_map fixed_in items))
+    ++ flat_map item_demands items)
 
 -- what a goal asks
 abbrev pub goal_demands : Goal → List Demand
-goal_demands goal = map Repeats (repeated [] goal.free) ++ expression_demands (texts goal.free) goal.expression
+goal_demands goal = map Repeats (repeated [] goal.free)
+    ++ expression_demands (texts goal.free) goal.expression

@@ -25,7 +25,8 @@ unless_one lacking name (e ∷ []) = []
 unless_one lacking name (e ∷ f ∷ entities) = wrong_name Ambiguous name ∷ []
 
 abbrev pub demand_fault : List Binding → Demand → List Fault
-demand_fault bindings (Uses space name) = unless_one UnknownName name (meant_by bindings space name.qualifier name.base)
+demand_fault bindings (Uses space name) =
+    unless_one UnknownName name (meant_by bindings space name.qualifier name.base)
 demand_fault bindings (Lacks name) = wrong_name UnknownName name ∷ []
 demand_fault bindings (Repeats name) = wrong_name Duplicate name ∷ []
 
@@ -40,11 +41,13 @@ rank UnknownName = 1
 rank Ambiguous = 2
 rank Duplicate = 3
 
--- whether a fault stands before another: at an earlier place of the text, or at the same place and of an earlier kind
+-- whether a fault stands before another: at an earlier place of the text, or at the same place and
+-- of an earlier kind
 abbrev pub is_before : Fault → Fault → Bool
 is_before f g =
     nat_lt f.at.line g.at.line || (nat_eq f.at.line g.at.line &&
-    (nat_lt f.at.column g.at.column || (nat_eq f.at.column g.at.column && nat_lt (rank f.wrong) (rank g.wrong))))
+    (nat_lt f.at.column g.at.column
+    || (nat_eq f.at.column g.at.column && nat_lt (rank f.wrong) (rank g.wrong))))
 
 -- One of the faults, with none before it.
 pub record IsFirst (found : List Fault) (fault : Fault) : Type 0 where

@@ -13,7 +13,8 @@ use Rattle.cu_uses.specs.Binders.{is_among}
 use Rattle.cu_uses.specs.Faults.{Fault, IsFirst}
 
 abbrev pub fault_meaning : List (List ℕ) → code.Fault → Fault
-fault_meaning names f = record { wrong = f.wrong; at = position_of f.place; name = text_of names f.name }
+fault_meaning names f =
+    record { wrong = f.wrong; at = position_of f.place; name = text_of names f.name }
 
 -- The fault is in a module, and a table has its name.
 pub record FaultIsOf (owner : NameId) (names : List (List ℕ)) (f : code.Fault) : Type 0 where
@@ -23,12 +24,15 @@ pub record FaultIsOf (owner : NameId) (names : List (List ℕ)) (f : code.Fault)
 -- No fault, where there is none, or the first of them, in its module.
 abbrev pub IsFirstIf : NameId → List (List ℕ) → List Fault → Option code.Fault → Type 0
 IsFirstIf owner names faults None = faults ≡ []
-IsFirstIf owner names faults (Some f) = FaultIsOf owner names f × IsFirst faults (fault_meaning names f)
+IsFirstIf owner names faults (Some f) = FaultIsOf owner names f
+    × IsFirst faults (fault_meaning names f)
 
 -- These faults of a module were told.
-pub record AreTold (owner : NameId) (names : List (List ℕ)) (faults : List Fault) (s : FirstFault) : Type 0 where
+pub record AreTold (owner : NameId) (names : List (List ℕ)) (faults : List Fault)
+    (s : FirstFault) : Type 0 where
   pub first : IsFirstIf owner names faults s.first
 
 -- These texts were added.
 pub record HasTexts (names : List (List ℕ)) (texts : List (List ℕ)) (s : TextSet) : Type 0 where
-  pub has : (id : NameId) → IsKnown names id → contains eq-value.it s.texts id ≡ is_among texts (text_of names id)
+  pub has : (id : NameId) → IsKnown names id → contains eq-value.it s.texts id
+      ≡ is_among texts (text_of names id)

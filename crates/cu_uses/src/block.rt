@@ -47,8 +47,10 @@ impl Block {
 
     /// A rule for a name.
     pub(crate) fn rule(&mut self, goes_on: bool, name: Name) -> Result<(), AllocError>
-        ensures { (owner : NameId) (names : List (List ℕ)) → AllDiffer names → NameIsOf owner names name
-            → OnOk result (Gathers owner names self.old (Rule goes_on (name_meaning names name) ∷ []) [] self.new) }
+        ensures { (owner : NameId) (names : List (List ℕ)) → AllDiffer names
+            → NameIsOf owner names name
+            → OnOk result (Gathers owner names self.old
+            (Rule goes_on (name_meaning names name) ∷ []) [] self.new) }
     {
         self.names.push(name)?;
         if is_function(self.function, name.text) {
@@ -62,7 +64,8 @@ impl Block {
     /// Names that are declared together.
     pub(crate) fn names(&mut self, declared: &[Name]) -> Result<(), AllocError>
         ensures { (owner : NameId) (names : List (List ℕ)) → All (NameIsOf owner names) declared.now
-            → OnOk result (Gathers owner names self.old (Names (names_meaning names declared.now) ∷ []) [] self.new) }
+            → OnOk result (Gathers owner names self.old
+            (Names (names_meaning names declared.now) ∷ []) [] self.new) }
     {
         self.names.extend_from_slice(declared)?;
         self.once.extend_from_slice(declared)?;
@@ -72,7 +75,8 @@ impl Block {
 
     /// What declares nothing and stands between rules.
     pub(crate) fn other(&mut self)
-        ensures { (owner : NameId) (names : List (List ℕ)) → Gathers owner names self.old (Names [] ∷ []) [] self.new }
+        ensures { (owner : NameId) (names : List (List ℕ))
+            → Gathers owner names self.old (Names [] ∷ []) [] self.new }
     {
         self.function = None;
     }
@@ -80,7 +84,8 @@ impl Block {
     /// The names of a signature.
     pub(crate) fn sign(&mut self, signed: &[Name]) -> Result<(), AllocError>
         ensures { (owner : NameId) (names : List (List ℕ)) → All (NameIsOf owner names) signed.now
-            → OnOk result (Gathers owner names self.old [] (names_meaning names signed.now) self.new) }
+            → OnOk result (Gathers owner names self.old []
+            (names_meaning names signed.now) self.new) }
     {
         self.signed.extend_from_slice(signed)?;
         Ok(())
@@ -88,8 +93,10 @@ impl Block {
 
     /// The variables of a pattern, each once.
     fn bind(&mut self, alloc: Global, p: Pattern<'_>) -> Result<(), AllocError>
-        ensures { (owner : NameId) (names : List (List ℕ)) → AllDiffer names → PatternIsOf owner names p.entry
-            → OnOk result (Gathers owner names self.old (Names (once [] (pattern_binds names p.entry)) ∷ []) [] self.new) }
+        ensures { (owner : NameId) (names : List (List ℕ)) → AllDiffer names
+            → PatternIsOf owner names p.entry
+            → OnOk result (Gathers owner names self.old
+            (Names (once [] (pattern_binds names p.entry)) ∷ []) [] self.new) }
     {
         let mut found = Found::new(alloc);
         pattern(alloc, p, &mut found)?;
@@ -103,8 +110,10 @@ impl Block {
         alloc: Global,
         d: Declaration<'_>,
     ) -> Result<(), AllocError>
-        ensures { (owner : NameId) (names : List (List ℕ)) → AllDiffer names → DeclarationIsOf owner names d.entry
-            → OnOk result (Gathers owner names self.old (declares names d.entry ∷ []) (signs names d.entry) self.new) }
+        ensures { (owner : NameId) (names : List (List ℕ)) → AllDiffer names
+            → DeclarationIsOf owner names d.entry
+            → OnOk result (Gathers owner names self.old (declares names d.entry ∷ [])
+            (signs names d.entry) self.new) }
     {
         match d.node(alloc)? {
             DeclarationNode::FreeVariables(_, variables) => self.names(variables.as_slice()),
@@ -126,8 +135,10 @@ impl Block {
         alloc: Global,
         d: Declaration<'_>,
     ) -> Result<(), AllocError>
-        ensures { (owner : NameId) (names : List (List ℕ)) → AllDiffer names → DeclarationIsOf owner names d.entry
-            → OnOk result (Gathers owner names self.old (top_declares names d.entry ∷ []) (signs names d.entry) self.new) }
+        ensures { (owner : NameId) (names : List (List ℕ)) → AllDiffer names
+            → DeclarationIsOf owner names d.entry
+            → OnOk result (Gathers owner names self.old (top_declares names d.entry ∷ [])
+            (signs names d.entry) self.new) }
     {
         match d.node(alloc)? {
             DeclarationNode::FunctionRule(_, name, _parameters, _) => self.rule(true, name),
@@ -148,8 +159,10 @@ impl Block {
 
     /// What these declarations declare.
     pub(crate) fn of(alloc: Global, ds: &[Declaration<'_>]) -> Result<Block, AllocError>
-        ensures { (owner : NameId) (names : List (List ℕ)) → AllDiffer names → All (DeclarationIsOf owner names) ds.now
-            → IfOk result (IsBlockOf owner names (block_declares names ds.now) (block_signs names ds.now)) }
+        ensures { (owner : NameId) (names : List (List ℕ)) → AllDiffer names
+            → All (DeclarationIsOf owner names) ds.now
+            → IfOk result (IsBlockOf owner names (block_declares names ds.now)
+            (block_signs names ds.now)) }
     {
         let mut block = Block::new(alloc);
         for d in ds {
@@ -162,7 +175,8 @@ impl Block {
     /// declaration.
     pub(crate) fn tell(&self, alloc: Global, first: &mut FirstFault) -> Result<(), AllocError>
         ensures { (w : World) (ds : List Declaration) → AllDiffer w.names
-            → IsBlockOf w.owner w.names (block_declares w.names ds) (block_signs w.names ds) self.now
+            → IsBlockOf w.owner w.names (block_declares w.names ds)
+            (block_signs w.names ds) self.now
             → OnOk result (Told w first.old (block_asks w.names ds) first.new) }
     {
         tell_repeated(alloc, self.once.as_slice(), first)?;

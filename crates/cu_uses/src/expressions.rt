@@ -27,7 +27,8 @@ pub(crate) fn expression(
     e: Expression<'_>,
     first: &mut FirstFault,
 ) -> Result<(), AllocError>
-    ensures { (w : World) (local : List (List ℕ)) → Sees w local scope.now → ExpressionIsOf w.owner w.names e.entry
+    ensures { (w : World) (local : List (List ℕ)) → Sees w local scope.now
+        → ExpressionIsOf w.owner w.names e.entry
         → OnOk result (Told w first.old (expression_asks w.names local e.entry) first.new) }
 {
     match e.node(alloc)? {
@@ -90,7 +91,8 @@ fn expressions(
     es: &[Expression<'_>],
     first: &mut FirstFault,
 ) -> Result<(), AllocError>
-    ensures { (w : World) (local : List (List ℕ)) → Sees w local scope.now → All (ExpressionIsOf w.owner w.names) es.now
+    ensures { (w : World) (local : List (List ℕ)) → Sees w local scope.now
+        → All (ExpressionIsOf w.owner w.names) es.now
         → OnOk result (Told w first.old (expressions_ask w.names local es.now) first.new) }
 {
     for e in es {
@@ -107,7 +109,8 @@ fn operands(
     items: &[OperatorItem<'_>],
     first: &mut FirstFault,
 ) -> Result<(), AllocError>
-    ensures { (w : World) (local : List (List ℕ)) → Sees w local scope.now → All (OperatorItemIsOf w.owner w.names) items.now
+    ensures { (w : World) (local : List (List ℕ)) → Sees w local scope.now
+        → All (OperatorItemIsOf w.owner w.names) items.now
         → OnOk result (Told w first.old (operands_ask w.names local items.now) first.new) }
 {
     for item in items {
@@ -127,8 +130,10 @@ fn lambda(
     first: &mut FirstFault,
 ) -> Result<(), AllocError>
     ensures { (w : World) (local : List (List ℕ)) → Sees w local scope.now
-        → All (PatternIsOf w.owner w.names) parameters.now → ExpressionIsOf w.owner w.names body.entry
-        → OnOk result (Told w first.old (lambda_asks w.names local parameters.now body.entry) first.new) }
+        → All (PatternIsOf w.owner w.names) parameters.now
+        → ExpressionIsOf w.owner w.names body.entry
+        → OnOk result
+        (Told w first.old (lambda_asks w.names local parameters.now body.entry) first.new) }
 {
     let variables = open_patterns(alloc, scope, parameters, first)?;
     let inner = Scope::inside(variables.as_slice(), &*scope);
@@ -163,7 +168,8 @@ fn alternatives(
     cases: &[Alternative<'_>],
     first: &mut FirstFault,
 ) -> Result<(), AllocError>
-    ensures { (w : World) (local : List (List ℕ)) → Sees w local scope.now → All (AlternativeIsOf w.owner w.names) cases.now
+    ensures { (w : World) (local : List (List ℕ)) → Sees w local scope.now
+        → All (AlternativeIsOf w.owner w.names) cases.now
         → OnOk result (Told w first.old (alternatives_ask w.names local cases.now) first.new) }
 {
     for a in cases {
@@ -180,7 +186,8 @@ fn alternative(
     a: Alternative<'_>,
     first: &mut FirstFault,
 ) -> Result<(), AllocError>
-    ensures { (w : World) (local : List (List ℕ)) → Sees w local scope.now → AlternativeIsOf w.owner w.names a.entry
+    ensures { (w : World) (local : List (List ℕ)) → Sees w local scope.now
+        → AlternativeIsOf w.owner w.names a.entry
         → OnOk result (Told w first.old (alternative_asks w.names local a.entry) first.new) }
 {
     let variables = open_pattern(alloc, scope, a.pattern, first)?;
@@ -196,7 +203,8 @@ fn enumeration(
     numbers: Enumeration<'_>,
     first: &mut FirstFault,
 ) -> Result<(), AllocError>
-    ensures { (w : World) (local : List (List ℕ)) → Sees w local scope.now → EnumerationIsOf w.owner w.names numbers.entry
+    ensures { (w : World) (local : List (List ℕ)) → Sees w local scope.now
+        → EnumerationIsOf w.owner w.names numbers.entry
         → OnOk result (Told w first.old (enumeration_asks w.names local numbers.entry) first.new) }
 {
     expression(alloc, scope, numbers.first, first)?;
@@ -212,7 +220,8 @@ fn maybe(
     e: Option<Expression<'_>>,
     first: &mut FirstFault,
 ) -> Result<(), AllocError>
-    ensures { (w : World) (local : List (List ℕ)) → Sees w local scope.now → IfSome e.entry (ExpressionIsOf w.owner w.names)
+    ensures { (w : World) (local : List (List ℕ)) → Sees w local scope.now
+        → IfSome e.entry (ExpressionIsOf w.owner w.names)
         → OnOk result (Told w first.old (maybe_asks w.names local e.entry) first.new) }
 {
     match e {
@@ -232,8 +241,11 @@ fn comprehension(
     first: &mut FirstFault,
 ) -> Result<(), AllocError>
     ensures { (w : World) (local : List (List ℕ)) → Sees w local scope.now
-        → ExpressionIsOf w.owner w.names element.entry → All (QualifierIsOf w.owner w.names) qualifiers.now
-        → OnOk result (Told w first.old (qualifiers_ask w.names local element.entry qualifiers.now) first.new) }
+        → ExpressionIsOf w.owner w.names element.entry
+        → All (QualifierIsOf w.owner w.names) qualifiers.now
+        → OnOk result
+        (Told w first.old (qualifiers_ask w.names local element.entry qualifiers.now)
+        first.new) }
 {
     let mut names = Vec::new(alloc);
     for q in qualifiers {
@@ -253,7 +265,8 @@ fn qualifier(
     q: &Qualifier<'_>,
     first: &mut FirstFault,
 ) -> Result<Vec<Name>, AllocError>
-    ensures { (w : World) (local : List (List ℕ)) → Sees w local scope.now → QualifierIsOf w.owner w.names q.now
+    ensures { (w : World) (local : List (List ℕ)) → Sees w local scope.now
+        → QualifierIsOf w.owner w.names q.now
         → IfOk result (λ variables. Brings w first.old (qualifier_binds w.names q.now)
         (qualifier_asks w.names local q.now) variables.items first.new) }
 {
@@ -284,7 +297,8 @@ fn right_side(
     right: RightSide<'_>,
     first: &mut FirstFault,
 ) -> Result<(), AllocError>
-    ensures { (w : World) (local : List (List ℕ)) → Sees w local scope.now → RightSideIsOf w.owner w.names right.entry
+    ensures { (w : World) (local : List (List ℕ)) → Sees w local scope.now
+        → RightSideIsOf w.owner w.names right.entry
         → OnOk result (Told w first.old (right_asks w.names local right.entry) first.new) }
 {
     let node = right.node(alloc)?;
@@ -303,7 +317,8 @@ fn body(
     b: &Body<'_>,
     first: &mut FirstFault,
 ) -> Result<(), AllocError>
-    ensures { (w : World) (local : List (List ℕ)) → Sees w local scope.now → BodyIsOf w.owner w.names b.now
+    ensures { (w : World) (local : List (List ℕ)) → Sees w local scope.now
+        → BodyIsOf w.owner w.names b.now
         → OnOk result (Told w first.old (body_asks w.names local b.now) first.new) }
 {
     match b {
@@ -320,7 +335,8 @@ fn guards(
     cases: &[Guard<'_>],
     first: &mut FirstFault,
 ) -> Result<(), AllocError>
-    ensures { (w : World) (local : List (List ℕ)) → Sees w local scope.now → All (GuardIsOf w.owner w.names) cases.now
+    ensures { (w : World) (local : List (List ℕ)) → Sees w local scope.now
+        → All (GuardIsOf w.owner w.names) cases.now
         → OnOk result (Told w first.old (guards_ask w.names local cases.now) first.new) }
 {
     for g in cases {
@@ -338,7 +354,8 @@ fn declarations(
     ds: &[Declaration<'_>],
     first: &mut FirstFault,
 ) -> Result<(), AllocError>
-    ensures { (w : World) (local : List (List ℕ)) → Sees w local scope.now → All (DeclarationIsOf w.owner w.names) ds.now
+    ensures { (w : World) (local : List (List ℕ)) → Sees w local scope.now
+        → All (DeclarationIsOf w.owner w.names) ds.now
         → OnOk result (Told w first.old (declarations_ask w.names local ds.now) first.new) }
 {
     for d in ds {
@@ -355,7 +372,8 @@ pub(crate) fn declaration(
     d: Declaration<'_>,
     first: &mut FirstFault,
 ) -> Result<(), AllocError>
-    ensures { (w : World) (local : List (List ℕ)) → Sees w local scope.now → DeclarationIsOf w.owner w.names d.entry
+    ensures { (w : World) (local : List (List ℕ)) → Sees w local scope.now
+        → DeclarationIsOf w.owner w.names d.entry
         → OnOk result (Told w first.old (declaration_asks w.names local d.entry) first.new) }
 {
     match d.node(alloc)? {
@@ -380,8 +398,10 @@ fn function_rule(
     first: &mut FirstFault,
 ) -> Result<(), AllocError>
     ensures { (w : World) (local : List (List ℕ)) → Sees w local scope.now
-        → All (PatternIsOf w.owner w.names) parameters.now → RightSideIsOf w.owner w.names right.entry
-        → OnOk result (Told w first.old (rule_asks w.names local parameters.now right.entry) first.new) }
+        → All (PatternIsOf w.owner w.names) parameters.now
+        → RightSideIsOf w.owner w.names right.entry
+        → OnOk result
+        (Told w first.old (rule_asks w.names local parameters.now right.entry) first.new) }
 {
     let variables = open_patterns(alloc, scope, parameters, first)?;
     let inner = Scope::inside(variables.as_slice(), &*scope);
@@ -399,7 +419,8 @@ fn pattern_binding(
 ) -> Result<(), AllocError>
     ensures { (w : World) (local : List (List ℕ)) → Sees w local scope.now
         → PatternIsOf w.owner w.names p.entry → RightSideIsOf w.owner w.names right.entry
-        → OnOk result (Told w first.old (binding_asks w.names local p.entry right.entry) first.new) }
+        → OnOk result
+        (Told w first.old (binding_asks w.names local p.entry right.entry) first.new) }
 {
     open_pattern(alloc, scope, p, first)?;
     right_side(alloc, scope, right, first)

@@ -97,7 +97,8 @@ fn operands(
     items: &[ConstructorItem<'_>],
     found: &mut Found,
 ) -> Result<(), AllocError>
-    ensures { (owner : NameId) (names : List (List ℕ)) → All (ConstructorItemIsOf owner names) items.now
+    ensures { (owner : NameId) (names : List (List ℕ))
+        → All (ConstructorItemIsOf owner names) items.now
         → OnOk result (Finds owner names found.old
         (operands_bind names items.now) (operands_build names items.now) found.new) }
 {

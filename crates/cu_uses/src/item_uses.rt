@@ -77,9 +77,11 @@ fn data_uses(
     constructors: &[ConstructorDeclaration<'_>],
     first: &mut FirstFault,
 ) -> Result<(), AllocError>
-    ensures { (w : World) (local : List (List ℕ)) → Sees w local scope.now → All (NameIsOf w.owner w.names) parameters.now
+    ensures { (w : World) (local : List (List ℕ)) → Sees w local scope.now
+        → All (NameIsOf w.owner w.names) parameters.now
         → All (ConstructorDeclarationIsOf w.owner w.names) constructors.now
-        → OnOk result (Told w first.old (map Repeats (repeated [] (names_meaning w.names parameters.now))
+        → OnOk result
+        (Told w first.old (map Repeats (repeated [] (names_meaning w.names parameters.now))
         ++ fields_ask w.names (names_meaning w.names parameters.now) constructors.now) first.new) }
 {
     let known = open_parameters(alloc, parameters, first)?;
@@ -94,9 +96,11 @@ fn synonym_uses(
     meant: TypeTerm<'_>,
     first: &mut FirstFault,
 ) -> Result<(), AllocError>
-    ensures { (w : World) (local : List (List ℕ)) → Sees w local scope.now → All (NameIsOf w.owner w.names) parameters.now
+    ensures { (w : World) (local : List (List ℕ)) → Sees w local scope.now
+        → All (NameIsOf w.owner w.names) parameters.now
         → TypeIsOf w.owner w.names meant.entry
-        → OnOk result (Told w first.old (map Repeats (repeated [] (names_meaning w.names parameters.now))
+        → OnOk result
+        (Told w first.old (map Repeats (repeated [] (names_meaning w.names parameters.now))
         ++ types_ask w.names (names_meaning w.names parameters.now) (meant.entry ∷ [])) first.new) }
 {
     let known = open_parameters(alloc, parameters, first)?;
@@ -109,10 +113,13 @@ fn open_parameters(
     parameters: &[Name],
     first: &mut FirstFault,
 ) -> Result<TextSet, AllocError>
-    ensures has { (owner : NameId) (names : List (List ℕ)) → AllDiffer names → All (NameIsOf owner names) parameters.now
+    ensures has { (owner : NameId) (names : List (List ℕ)) → AllDiffer names
+        → All (NameIsOf owner names) parameters.now
         → IfOk result (HasTexts names (texts (names_meaning names parameters.now))) }
     ensures told { (w : World) → AllDiffer w.names → All (NameIsOf w.owner w.names) parameters.now
-        → OnOk result (Told w first.old (map Repeats (repeated [] (names_meaning w.names parameters.now))) first.new) }
+        → OnOk result
+        (Told w first.old (map Repeats (repeated [] (names_meaning w.names parameters.now)))
+        first.new) }
 {
     let known = text_set(alloc, parameters)?;
     tell_repeated(alloc, parameters, first)?;
@@ -127,7 +134,8 @@ fn fields_uses(
     constructors: &[ConstructorDeclaration<'_>],
     first: &mut FirstFault,
 ) -> Result<(), AllocError>
-    ensures { (w : World) (local : List (List ℕ)) (names : List syntax.Name) → Sees w local scope.now
+    ensures { (w : World) (local : List (List ℕ)) (names : List syntax.Name)
+        → Sees w local scope.now
         → HasTexts w.names (texts names) parameters.now
         → All (ConstructorDeclarationIsOf w.owner w.names) constructors.now
         → OnOk result (Told w first.old (fields_ask w.names names constructors.now) first.new) }
@@ -152,7 +160,8 @@ fn types_uses(
     ts: &[TypeTerm<'_>],
     first: &mut FirstFault,
 ) -> Result<(), AllocError>
-    ensures { (w : World) (local : List (List ℕ)) (names : List syntax.Name) → Sees w local scope.now
+    ensures { (w : World) (local : List (List ℕ)) (names : List syntax.Name)
+        → Sees w local scope.now
         → HasTexts w.names (texts names) parameters.now → All (TypeIsOf w.owner w.names) ts.now
         → OnOk result (Told w first.old (types_ask w.names names ts.now) first.new) }
 {

@@ -42,7 +42,8 @@ pub(crate) fn tell_repeated(
 pub(crate) fn first_places(alloc: Global, names: &[Name]) -> Result<Vec<Name>, AllocError>
     ensures { (owner : NameId) (table : List (List ℕ)) → AllDiffer table
         → All (NameIsOf owner table) names.now
-        → IfOk result (λ found. Adds owner table [] (once [] (names_meaning table names.now)) found.items) }
+        → IfOk result (λ found. Adds owner table []
+        (once [] (names_meaning table names.now)) found.items) }
 {
     let mut seen = TextSet::new(alloc);
     let mut found = Vec::new(alloc);

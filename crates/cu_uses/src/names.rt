@@ -74,7 +74,8 @@ pub(crate) fn use_value(scope: &Scope<'_>, name: Name, first: &mut FirstFault)
 pub(crate) fn use_entities(scope: &Scope<'_>, space: Space, names: &[Name], first: &mut FirstFault)
     ensures { (w : World) (local : List (List ℕ)) → Sees w local scope.now
         → All (NameIsOf w.owner w.names) names.now
-        → Told w first.old (used (space_meaning space) (names_meaning w.names names.now)) first.new }
+        → Told w first.old (used (space_meaning space) (names_meaning w.names names.now))
+        first.new }
 {
     for name in names {
         use_entity(scope, space, *name, first);

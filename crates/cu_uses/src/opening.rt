@@ -24,7 +24,8 @@ pub(crate) fn open_pattern(
     p: Pattern<'_>,
     first: &mut FirstFault,
 ) -> Result<Vec<Name>, AllocError>
-    ensures { (w : World) (local : List (List ℕ)) → Sees w local scope.now → PatternIsOf w.owner w.names p.entry
+    ensures { (w : World) (local : List (List ℕ)) → Sees w local scope.now
+        → PatternIsOf w.owner w.names p.entry
         → IfOk result (λ variables. Opens w first.old (pattern_binds w.names p.entry)
         (pattern_builds w.names p.entry) variables.items first.new) }
 {
@@ -42,7 +43,8 @@ pub(crate) fn open_patterns(
     ps: &[Pattern<'_>],
     first: &mut FirstFault,
 ) -> Result<Vec<Name>, AllocError>
-    ensures { (w : World) (local : List (List ℕ)) → Sees w local scope.now → All (PatternIsOf w.owner w.names) ps.now
+    ensures { (w : World) (local : List (List ℕ)) → Sees w local scope.now
+        → All (PatternIsOf w.owner w.names) ps.now
         → IfOk result (λ variables. Opens w first.old (patterns_bind w.names ps.now)
         (patterns_build w.names ps.now) variables.items first.new) }
 {
@@ -59,7 +61,8 @@ pub(crate) fn use_type(
     t: TypeTerm<'_>,
     first: &mut FirstFault,
 ) -> Result<(), AllocError>
-    ensures { (w : World) (local : List (List ℕ)) → Sees w local scope.now → TypeIsOf w.owner w.names t.entry
+    ensures { (w : World) (local : List (List ℕ)) → Sees w local scope.now
+        → TypeIsOf w.owner w.names t.entry
         → OnOk result (Told w first.old (used Types (type_builds w.names t.entry)) first.new) }
 {
     let mut found = Found::new(alloc);

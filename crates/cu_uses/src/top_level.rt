@@ -47,7 +47,8 @@ impl TopLevel {
 
     /// A fixity of operators.
     fn fixity(&mut self, operators: &[Name]) -> Result<(), AllocError>
-        ensures { (owner : NameId) (names : List (List ℕ)) → All (NameIsOf owner names) operators.now
+        ensures { (owner : NameId) (names : List (List ℕ))
+            → All (NameIsOf owner names) operators.now
             → OnOk result (Reads owner names self.old
             (top (Names []) [] [] (names_meaning names operators.now)) self.new) }
     {
@@ -88,7 +89,8 @@ impl TopLevel {
 
     /// An item.
     fn item(&mut self, alloc: Global, item: &Item) -> Result<(), AllocError>
-        ensures { (owner : NameId) (names : List (List ℕ)) → AllDiffer names → ItemIsOf owner names item.now
+        ensures { (owner : NameId) (names : List (List ℕ)) → AllDiffer names
+            → ItemIsOf owner names item.now
             → OnOk result (Reads owner names self.old (item_top names item.now) self.new) }
     {
         match item.node(alloc)? {
@@ -126,7 +128,8 @@ impl TopLevel {
     ) -> Result<(), AllocError>
         ensures { (w : World) (t : Top) → AllDiffer w.names → IsTop w.owner w.names t self.now
             → OnOk result (Told w first.old
-            (map Repeats (second t.declared ++ (repeated [] t.types ++ (repeated [] t.signs ++ repeated [] t.fixes))))
+            (map Repeats (second t.declared
+            ++ (repeated [] t.types ++ (repeated [] t.signs ++ repeated [] t.fixes))))
             first.new) }
     {
         tell_repeated(alloc, self.values.once.as_slice(), first)?;
@@ -139,7 +142,8 @@ impl TopLevel {
     pub(crate) fn tell_lacking(&self, known: &TextSet, first: &mut FirstFault)
         ensures { (w : World) (t : Top) (texts : List (List ℕ)) → IsTop w.owner w.names t self.now
             → HasTexts w.names texts known.now
-            → Told w first.old (map Lacks (missing texts t.signs ++ missing texts t.fixes)) first.new }
+            → Told w first.old (map Lacks (missing texts t.signs ++ missing texts t.fixes))
+            first.new }
     {
         tell_missing(known, self.values.signed.as_slice(), first);
         tell_missing(known, self.fixed.as_slice(), first);

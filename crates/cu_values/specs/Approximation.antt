@@ -18,7 +18,8 @@ abbrev mutual
   is_below value.Bottom v = true
   is_below (value.Variable x) (value.Variable y) = nat_eq x y
   is_below (value.Literal l) (value.Literal m) = same_literal l m
-  is_below (value.Constructed c us) (value.Constructed d vs) = same_constructor c d && are_below us vs
+  is_below (value.Constructed c us) (value.Constructed d vs) =
+      same_constructor c d && are_below us vs
   is_below (value.Partial h us) (value.Partial k vs) = same_head h k && are_below us vs
   is_below _ _ = false
 

@@ -1,4 +1,5 @@
--- Values written as lists of cells: a head with the number of its arguments, and then the arguments.
+-- Values written as lists of cells: a head with the number of its arguments, and then the
+-- arguments.
 use Rattle.std.specs.Prelude.{◌≡◌, ℕ, zero, suc, List, [], ◌∷◌, ◌++◌}
 use Rattle.cu_calculus.specs.Value as value
 use Rattle.cu_calculus.specs.Value.{Value, Values, count}

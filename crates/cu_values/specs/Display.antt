@@ -1,5 +1,5 @@
--- How values are displayed: in the notation of the language, as the program that gives them would write them. Texts are lists of
--- bytes, in UTF-8.
+-- How values are displayed: in the notation of the language, as the program that gives them would
+-- write them. Texts are lists of bytes, in UTF-8.
 use Rattle.std.specs.Prelude.{ℕ, Bool, true, false, not, ◌&&◌, ◌||◌, List, [], ◌∷◌, ◌++◌, if◌then◌else◌, codes, decimal, nat_eq, nat_le, nat_lt}
 use Rattle.std.specs.List.{list_any}
 use Rattle.std.specs.Fmt.{signed_decimal}
@@ -27,8 +27,8 @@ pub record Labels : Type 0 where
   pub nil : ConId
   pub cons : ConId
 
--- Literals. Backslash, line feed, tab, carriage return and the literal's own quote have escapes of two characters; other control
--- characters are escaped by their numbers.
+-- Literals. Backslash, line feed, tab, carriage return and the literal's own quote have escapes of
+-- two characters; other control characters are escaped by their numbers.
 
 abbrev pub is_control : ℕ → Bool
 is_control c = nat_lt c 32 || nat_eq c 127
@@ -90,33 +90,39 @@ in_parentheses b text = if b then codes "(" ++ (text ++ codes ")") else text
 -- `[]`, or a `:` whose rest is such a list
 abbrev pub is_list : Labels → Value → Bool
 is_list labels (value.Constructed c value.NoValue) = same_constructor c labels.nil
-is_list labels (value.Constructed c (value.MoreValues x (value.MoreValues rest value.NoValue))) = same_constructor c labels.cons && is_list labels rest
+is_list labels (value.Constructed c (value.MoreValues x (value.MoreValues rest value.NoValue))) =
+    same_constructor c labels.cons && is_list labels rest
 is_list labels _ = false
 
 -- the same with characters alone
 abbrev pub is_text : Labels → Value → Bool
 is_text labels (value.Constructed c value.NoValue) = same_constructor c labels.nil
-is_text labels (value.Constructed c (value.MoreValues (value.Literal (lit.Char x)) (value.MoreValues rest value.NoValue))) =
+is_text labels
+    (value.Constructed c (value.MoreValues (value.Literal (lit.Char x))
+    (value.MoreValues rest value.NoValue))) =
     same_constructor c labels.cons && is_text labels rest
 is_text labels _ = false
 
 -- a variable, or a `:` whose rest is such a list
 abbrev pub is_open : Labels → Value → Bool
 is_open labels (value.Variable n) = true
-is_open labels (value.Constructed c (value.MoreValues x (value.MoreValues rest value.NoValue))) = same_constructor c labels.cons && is_open labels rest
+is_open labels (value.Constructed c (value.MoreValues x (value.MoreValues rest value.NoValue))) =
+    same_constructor c labels.cons && is_open labels rest
 is_open labels _ = false
 
 -- the characters of a text
 abbrev pub characters : Value → List ℕ
-characters (value.Constructed c (value.MoreValues (value.Literal (lit.Char x)) (value.MoreValues rest value.NoValue))) = x ∷ characters rest
+characters
+    (value.Constructed c (value.MoreValues (value.Literal (lit.Char x))
+    (value.MoreValues rest value.NoValue))) = x ∷ characters rest
 characters _ = []
 
 abbrev pub has_arguments : Values → Bool
 has_arguments value.NoValue = false
 has_arguments (value.MoreValues v vs) = true
 
--- What stands in parentheses as an argument, or before `:`: a negative integer, an application with arguments, and a list that
--- ends in a variable.
+-- What stands in parentheses as an argument, or before `:`: a negative integer, an application with
+-- arguments, and a list that ends in a variable.
 abbrev pub takes_parentheses : Labels → Value → Bool
 takes_parentheses labels (value.Literal (lit.Int n)) = is_negative n
 takes_parentheses labels (value.Constructed c (value.MoreValues v vs)) =
@@ -133,26 +139,31 @@ abbrev mutual
   display labels (value.Partial h vs) = codes "<" ++ (head_text labels h ++ codes ">")
   display labels (value.Constructed c vs) =
       let whole = value.Constructed c vs in
-      if has_arguments vs && is_text labels whole then 34 ∷ (string_text (characters whole) ++ 34 ∷ [])
+      if has_arguments vs && is_text labels whole
+      then 34 ∷ (string_text (characters whole) ++ 34 ∷ [])
       else if is_list labels whole then codes "[" ++ (elements labels vs ++ codes "]")
       else if is_open labels whole then open_elements labels vs
       else if labels.tuple c then codes "(" ++ (components labels vs ++ codes ")")
-      else in_parentheses (is_operator (labels.constructor c)) (labels.constructor c) ++ arguments labels vs
+      else in_parentheses (is_operator (labels.constructor c)) (labels.constructor c)
+      ++ arguments labels vs
 
   -- the elements of a finite list, of which the parts are given: `a,b,c`
   pub elements : Labels → Values → List ℕ
-  elements labels (value.MoreValues x (value.MoreValues rest value.NoValue)) = display labels x ++ further_elements labels rest
+  elements labels (value.MoreValues x (value.MoreValues rest value.NoValue)) =
+      display labels x ++ further_elements labels rest
   elements labels _ = []
 
   -- those behind others: `,b,c`
   pub further_elements : Labels → Value → List ℕ
-  further_elements labels (value.Constructed c vs) = if has_arguments vs then codes "," ++ elements labels vs else []
+  further_elements labels (value.Constructed c vs) =
+      if has_arguments vs then codes "," ++ elements labels vs else []
   further_elements labels _ = []
 
   -- the elements of a list that ends in a variable: `a:b:_1`
   pub open_elements : Labels → Values → List ℕ
   open_elements labels (value.MoreValues x (value.MoreValues rest value.NoValue)) =
-      in_parentheses (takes_parentheses labels x) (display labels x) ++ (codes ":" ++ open_rest labels rest)
+      in_parentheses (takes_parentheses labels x) (display labels x)
+      ++ (codes ":" ++ open_rest labels rest)
   open_elements labels _ = []
 
   pub open_rest : Labels → Value → List ℕ
@@ -167,10 +178,12 @@ abbrev mutual
 
   pub further_components : Labels → Values → List ℕ
   further_components labels value.NoValue = []
-  further_components labels (value.MoreValues v vs) = codes "," ++ (display labels v ++ further_components labels vs)
+  further_components labels (value.MoreValues v vs) =
+      codes "," ++ (display labels v ++ further_components labels vs)
 
   -- the arguments of an application, each behind a space: ` a b`
   pub arguments : Labels → Values → List ℕ
   arguments labels value.NoValue = []
   arguments labels (value.MoreValues v vs) =
-      codes " " ++ (in_parentheses (takes_parentheses labels v) (display labels v) ++ arguments labels vs)
+      codes " " ++ (in_parentheses (takes_parentheses labels v) (display labels v)
+      ++ arguments labels vs)

@@ -10,11 +10,14 @@ use Rattle.cu_values.specs.Tasks.{Ready, Step}
 abbrev pub IsShaped : Layout → Type 0
 IsShaped layout = layout.shapes.now ≡ shapes_at (labels_meaning layout.names.now) layout.cells.now
 
--- the values that begin at a place are those that the tasks take: first the one that was taken from them, and then those that are left
+-- the values that begin at a place are those that the tasks take: first the one that was taken from
+-- them, and then those that are left
 abbrev pub Awaits : Layout → ℕ → List Task → Task → Type 0
-Awaits layout at tasks task = Ready (labels_meaning layout.names.now) layout.cells.now at (tasks ++ task ∷ [])
+Awaits layout at tasks task =
+    Ready (labels_meaning layout.names.now) layout.cells.now at (tasks ++ task ∷ [])
 
 -- a part of the task was written, and the tasks have what is left of it
 abbrev pub Begun : Layout → ℕ → ℕ → List Task → Task → List ℕ → ℕ → List Task → List ℕ → Type 0
 Begun layout weight at tasks task text next others longer =
-    Step (labels_meaning layout.names.now) layout.cells.now weight at (tasks ++ task ∷ []) text next others longer
+    Step (labels_meaning layout.names.now) layout.cells.now weight at
+    (tasks ++ task ∷ []) text next others longer

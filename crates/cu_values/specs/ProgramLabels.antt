@@ -11,17 +11,21 @@ abbrev pub label : List (List ℕ) → Option NameId → List ℕ
 label names None = []
 label names (Some id) = text_of names id
 
--- Unit and the types of tuples of 2 to 15 components stand at these places among the types of every program.
+-- Unit and the types of tuples of 2 to 15 components stand at these places among the types of every
+-- program.
 abbrev pub is_tuple_type : Option ℕ → Bool
 is_tuple_type None = false
 is_tuple_type (Some place) = nat_le 1 place && nat_le place 15
 
 abbrev pub labels_of : List (List ℕ) → Kernel → Labels
 labels_of names program = record {
-  constructor = λ c. label names (option_map (λ p. p.constructor.name) (constructor_at program.types c));
+  constructor =
+      λ c. label names (option_map (λ p. p.constructor.name) (constructor_at program.types c));
   tuple = λ c. is_tuple_type (option_map (λ p. p.of_type) (constructor_at program.types c));
-  function = λ f. label names (option_map (λ function. function.name) (slice_get program.functions f.0));
-  arity = λ f. unwrap_or (option_map (λ function. function.arity) (slice_get program.functions f.0)) 0;
+  function =
+      λ f. label names (option_map (λ function. function.name) (slice_get program.functions f.0));
+  arity =
+      λ f. unwrap_or (option_map (λ function. function.arity) (slice_get program.functions f.0)) 0;
   nil = program.special.nil;
   cons = program.special.cons;
 }

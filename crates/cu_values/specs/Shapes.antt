@@ -32,9 +32,12 @@ shape_of labels (value.Variable n) = shape.Variable
 shape_of labels (value.Literal (lit.Int n)) = if is_negative n then shape.Compound else shape.Simple
 shape_of labels (value.Literal (lit.Char c)) = shape.Character
 shape_of labels (value.Partial h vs) = shape.Simple
-shape_of labels (value.Constructed c value.NoValue) = if same_constructor c labels.nil then shape.Empty else shape.Simple
+shape_of labels (value.Constructed c value.NoValue) =
+    if same_constructor c labels.nil then shape.Empty else shape.Simple
 shape_of labels (value.Constructed c (value.MoreValues x (value.MoreValues rest value.NoValue))) =
-    if same_constructor c labels.cons then list_shape (shape_of labels x) (shape_of labels rest) (other_shape labels c) else other_shape labels c
+    if same_constructor c labels.cons
+    then list_shape (shape_of labels x) (shape_of labels rest) (other_shape labels c)
+    else other_shape labels c
 shape_of labels (value.Constructed c vs) = other_shape labels c
 
 -- the shapes of values, the nearest last

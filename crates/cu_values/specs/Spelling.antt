@@ -22,19 +22,33 @@ back-join value.NoValue ws = refl
 back-join (value.MoreValues v vs) ws = rw (add-one, back-join vs ws) refl
 
 mutual
-  pub read_all-spell : (v : Value) (cells : List Cell) → read_all (spell v ++ cells) ≡ value.MoreValues v (read_all cells)
+  pub read_all-spell : (v : Value) (cells : List Cell)
+      → read_all (spell v ++ cells) ≡ value.MoreValues v (read_all cells)
   read_all-spell value.Bottom cells = refl
   read_all-spell (value.Variable x) cells = refl
   read_all-spell (value.Literal l) cells = refl
   read_all-spell (value.Constructed c vs) cells =
-      rw (read_all-spell_all vs cells, front-join vs (read_all cells), back-join vs (read_all cells)) refl
+      rw (
+        read_all-spell_all vs cells,
+        front-join vs (read_all cells),
+        back-join vs (read_all cells),
+      ) refl
   read_all-spell (value.Partial h vs) cells =
-      rw (read_all-spell_all vs cells, front-join vs (read_all cells), back-join vs (read_all cells)) refl
+      rw (
+        read_all-spell_all vs cells,
+        front-join vs (read_all cells),
+        back-join vs (read_all cells),
+      ) refl
 
-  pub read_all-spell_all : (vs : Values) (cells : List Cell) → read_all (spell_all vs ++ cells) ≡ join vs (read_all cells)
+  pub read_all-spell_all : (vs : Values) (cells : List Cell)
+      → read_all (spell_all vs ++ cells) ≡ join vs (read_all cells)
   read_all-spell_all value.NoValue cells = refl
   read_all-spell_all (value.MoreValues v vs) cells =
-      rw (append_assoc (spell v) (spell_all vs) cells, read_all-spell v (spell_all vs ++ cells), read_all-spell_all vs cells) refl
+      rw (
+        append_assoc (spell v) (spell_all vs) cells,
+        read_all-spell v (spell_all vs ++ cells),
+        read_all-spell_all vs cells,
+      ) refl
 
 pub read-spell : (v : Value) → read (spell v) ≡ v
 read-spell v = rw (← append-nil (spell v), read_all-spell v []) refl

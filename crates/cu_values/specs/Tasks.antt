@@ -17,7 +17,9 @@ character_of _ = 0
 -- a list of characters alone, whatever its constructors
 abbrev pub are_characters : Value → Bool
 are_characters (value.Constructed c value.NoValue) = true
-are_characters (value.Constructed c (value.MoreValues (value.Literal (lit.Char x)) (value.MoreValues rest value.NoValue))) = are_characters rest
+are_characters
+    (value.Constructed c (value.MoreValues (value.Literal (lit.Char x))
+    (value.MoreValues rest value.NoValue))) = are_characters rest
 are_characters _ = false
 
 -- how many values a task takes
@@ -34,7 +36,8 @@ takes task.ClosingBracket = 0
 -- what a task comes to, on the values that are left
 abbrev pub part : Labels → Task → Values → List ℕ
 part labels task.Alone vs = display labels (first vs)
-part labels task.Argument vs = in_parentheses (takes_parentheses labels (first vs)) (display labels (first vs))
+part labels task.Argument vs =
+    in_parentheses (takes_parentheses labels (first vs)) (display labels (first vs))
 part labels (task.Arguments n) vs = arguments labels (front n vs)
 part labels (task.Components n) vs = further_components labels (front n vs)
 part labels task.Elements vs = further_elements labels (first vs)
@@ -68,8 +71,12 @@ pub record Ready (labels : Labels) (cells : List Cell) (at : ℕ) (tasks : List 
   pub due : due (reverse tasks) ≡ count (read_all (drop at cells))
   pub fit : all_fit labels (reverse tasks) (read_all (drop at cells)) ≡ true
 
--- A part was written: what is written and what is left come to the same, and less is left by a weight.
-pub record Step (labels : Labels) (cells : List Cell) (weight at : ℕ) (tasks : List Task) (text : List ℕ) (next : ℕ) (others : List Task) (longer : List ℕ) : Type 0 where
+-- A part was written: what is written and what is left come to the same, and less is left by a
+-- weight.
+pub record Step (labels : Labels) (cells : List Cell) (weight at : ℕ) (tasks : List Task)
+    (text : List ℕ) (next : ℕ) (others : List Task) (longer : List ℕ) : Type 0 where
   pub ready : Ready labels cells next others
-  pub same : longer ++ written labels (reverse others) (read_all (drop next cells)) ≡ text ++ written labels (reverse tasks) (read_all (drop at cells))
-  pub less : 8 * (length cells - next) + length others + weight ≤ 8 * (length cells - at) + length tasks
+  pub same : longer ++ written labels (reverse others) (read_all (drop next cells))
+      ≡ text ++ written labels (reverse tasks) (read_all (drop at cells))
+  pub less : 8 * (length cells - next) + length others + weight
+      ≤ 8 * (length cells - at) + length tasks

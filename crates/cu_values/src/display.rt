@@ -48,7 +48,8 @@ pub fn show(
     names: &Names,
     out: &mut Vec<u8>,
 ) -> Result<(), AllocError>
-    ensures ok { OnOk result (out.new.items ≡ out.old.items ++ display (labels_of names.now program.now) value.now) }
+    ensures ok { OnOk result (out.new.items
+        ≡ out.old.items ++ display (labels_of names.now program.now) value.now) }
     ensures err { OnErr result (out.new.items ≡ out.old.items) }
 {
     Workspace::new(alloc).show(value, program, names, out)
@@ -58,7 +59,8 @@ pub fn show(
 fn write(layout: &Layout, tasks: &mut Vec<Task>, text: &mut String) -> Result<(), AllocError>
     requires one { IsOneSpelled layout.now.cells.now }
     requires shapes { IsShaped layout.now }
-    ensures { OnOk result (string_bytes text.new ≡ display (labels_meaning layout.now.names.now) (read layout.now.cells.now)) }
+    ensures { OnOk result (string_bytes text.new
+        ≡ display (labels_meaning layout.now.names.now) (read layout.now.cells.now)) }
 {
     text.clear();
     tasks.clear();
@@ -111,7 +113,8 @@ impl Workspace {
         names: &Names,
         out: &mut Vec<u8>,
     ) -> Result<(), AllocError>
-        ensures ok { OnOk result (out.new.items ≡ out.old.items ++ display (labels_of names.now program.now) value.now) }
+        ensures ok { OnOk result (out.new.items
+            ≡ out.old.items ++ display (labels_of names.now program.now) value.now) }
         ensures err { OnErr result (out.new.items ≡ out.old.items) }
     {
         let names = ProgramNames { names, program };
@@ -121,7 +124,8 @@ impl Workspace {
 
     /// Makes the text the display of a value.
     fn display(&mut self, value: &Value, names: &ProgramNames) -> Result<(), AllocError>
-        ensures { OnOk result (string_bytes self.new.text ≡ display (labels_meaning names.now) value.now) }
+        ensures { OnOk result (string_bytes self.new.text
+            ≡ display (labels_meaning names.now) value.now) }
     {
         let cells = value.cells();
         find_shapes(names, cells, &mut self.shapes, &mut self.behind)?;

@@ -35,7 +35,9 @@ impl Layout<'_> {
     ) -> Result<usize, AllocError>
         requires shapes { IsShaped self.now }
         requires ready { Awaits self.now at tasks.old.items task }
-        ensures { IfOk result (λ next. Begun self.now 1 at tasks.old.items task (string_bytes text.old) next tasks.new.items (string_bytes text.new)) }
+        ensures { IfOk result
+            (λ next. Begun self.now 1 at tasks.old.items task
+            (string_bytes text.old) next tasks.new.items (string_bytes text.new)) }
     {
         match task {
             Task::Alone => self.value(at, tasks, text),
@@ -64,7 +66,8 @@ impl Layout<'_> {
     ) -> Result<usize, AllocError>
         requires shapes { IsShaped self.now }
         requires ready { Awaits self.now at tasks.old.items Task.Alone }
-        ensures { IfOk result (λ next. Begun self.now 6 at tasks.old.items Task.Alone (string_bytes text.old) next tasks.new.items (string_bytes text.new)) }
+        ensures { IfOk result (λ next. Begun self.now 6 at tasks.old.items Task.Alone
+            (string_bytes text.old) next tasks.new.items (string_bytes text.new)) }
     {
         match self.cells[at] {
             Cell::Bottom => Ok(at + 1),
@@ -95,8 +98,10 @@ impl Layout<'_> {
     ) -> Result<usize, AllocError>
         requires shapes { IsShaped self.now }
         requires ready { Awaits self.now at tasks.old.items Task.Alone }
-        requires cell { slice_index_or self.now.cells.now at Cell.Bottom ≡ Cell.Con constructor arity }
-        ensures { IfOk result (λ next. Begun self.now 6 at tasks.old.items Task.Alone (string_bytes text.old) next tasks.new.items (string_bytes text.new)) }
+        requires cell { slice_index_or self.now.cells.now at Cell.Bottom
+            ≡ Cell.Con constructor arity }
+        ensures { IfOk result (λ next. Begun self.now 6 at tasks.old.items Task.Alone
+            (string_bytes text.old) next tasks.new.items (string_bytes text.new)) }
     {
         match self.shapes[at] {
             Shape::Text => self.string(at, tasks, text),
@@ -130,7 +135,8 @@ impl Layout<'_> {
         requires shapes { IsShaped self.now }
         requires ready { Awaits self.now at tasks.old.items Task.Alone }
         requires shape { slice_index_or self.now.shapes.now at Shape.Character ≡ Shape.Text }
-        ensures { IfOk result (λ next. Begun self.now 6 at tasks.old.items Task.Alone (string_bytes text.old) next tasks.new.items (string_bytes text.new)) }
+        ensures { IfOk result (λ next. Begun self.now 6 at tasks.old.items Task.Alone
+            (string_bytes text.old) next tasks.new.items (string_bytes text.new)) }
     {
         text.push_str("\"")?;
         let next = push_string(text, self.cells, at)?;
@@ -149,9 +155,11 @@ impl Layout<'_> {
     ) -> Result<usize, AllocError>
         requires shapes { IsShaped self.now }
         requires ready { Awaits self.now at tasks.old.items Task.Alone }
-        requires cell { slice_index_or self.now.cells.now at Cell.Bottom ≡ Cell.Con constructor arity }
+        requires cell { slice_index_or self.now.cells.now at Cell.Bottom
+            ≡ Cell.Con constructor arity }
         requires shape { is_no_list (slice_index_or self.now.shapes.now at Shape.Character) ≡ true }
-        ensures { IfOk result (λ next. Begun self.now 6 at tasks.old.items Task.Alone (string_bytes text.old) next tasks.new.items (string_bytes text.new)) }
+        ensures { IfOk result (λ next. Begun self.now 6 at tasks.old.items Task.Alone
+            (string_bytes text.old) next tasks.new.items (string_bytes text.new)) }
     {
         if self.names.is_tuple(constructor) {
             text.push_str("(")?;
@@ -177,7 +185,8 @@ impl Layout<'_> {
     ) -> Result<usize, AllocError>
         requires shapes { IsShaped self.now }
         requires ready { Awaits self.now at tasks.old.items Task.Argument }
-        ensures { IfOk result (λ next. Begun self.now 5 at tasks.old.items Task.Argument (string_bytes text.old) next tasks.new.items (string_bytes text.new)) }
+        ensures { IfOk result (λ next. Begun self.now 5 at tasks.old.items Task.Argument
+            (string_bytes text.old) next tasks.new.items (string_bytes text.new)) }
     {
         if !self.shapes[at].takes_parentheses() {
             return self.value(at, tasks, text);
@@ -197,7 +206,8 @@ impl Layout<'_> {
     ) -> Result<usize, AllocError>
         requires shapes { IsShaped self.now }
         requires ready { Awaits self.now at tasks.old.items (Task.Arguments count) }
-        ensures { IfOk result (λ next. Begun self.now 1 at tasks.old.items (Task.Arguments count) (string_bytes text.old) next tasks.new.items (string_bytes text.new)) }
+        ensures { IfOk result (λ next. Begun self.now 1 at tasks.old.items (Task.Arguments count)
+            (string_bytes text.old) next tasks.new.items (string_bytes text.new)) }
     {
         if count == 0 {
             return Ok(at);
@@ -217,7 +227,8 @@ impl Layout<'_> {
     ) -> Result<usize, AllocError>
         requires shapes { IsShaped self.now }
         requires ready { Awaits self.now at tasks.old.items (Task.Components count) }
-        ensures { IfOk result (λ next. Begun self.now 1 at tasks.old.items (Task.Components count) (string_bytes text.old) next tasks.new.items (string_bytes text.new)) }
+        ensures { IfOk result (λ next. Begun self.now 1 at tasks.old.items (Task.Components count)
+            (string_bytes text.old) next tasks.new.items (string_bytes text.new)) }
     {
         if count == 0 {
             return Ok(at);
@@ -236,7 +247,8 @@ impl Layout<'_> {
     ) -> Result<usize, AllocError>
         requires shapes { IsShaped self.now }
         requires ready { Awaits self.now at tasks.old.items Task.Elements }
-        ensures { IfOk result (λ next. Begun self.now 1 at tasks.old.items Task.Elements (string_bytes text.old) next tasks.new.items (string_bytes text.new)) }
+        ensures { IfOk result (λ next. Begun self.now 1 at tasks.old.items Task.Elements
+            (string_bytes text.old) next tasks.new.items (string_bytes text.new)) }
     {
         if self.cells[at].arity() == 0 {
             return Ok(at + 1);
@@ -256,7 +268,8 @@ impl Layout<'_> {
     ) -> Result<usize, AllocError>
         requires shapes { IsShaped self.now }
         requires ready { Awaits self.now at tasks.old.items Task.OpenRest }
-        ensures { IfOk result (λ next. Begun self.now 1 at tasks.old.items Task.OpenRest (string_bytes text.old) next tasks.new.items (string_bytes text.new)) }
+        ensures { IfOk result (λ next. Begun self.now 1 at tasks.old.items Task.OpenRest
+            (string_bytes text.old) next tasks.new.items (string_bytes text.new)) }
     {
         text.push_str(":")?;
         if let Cell::LVar(number) = self.cells[at] {

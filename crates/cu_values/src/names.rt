@@ -24,7 +24,8 @@ fn is_operator(name: &[u8]) -> bool
 
 /// Writes a constructor's name; that of an operator in parentheses.
 pub(crate) fn push_constructor(text: &mut String, name: &str) -> Result<(), AllocError>
-    ensures { OnOk result (string_bytes text.new ≡ string_bytes text.old ++ in_parentheses (is_operator name.now) name.now) }
+    ensures { OnOk result (string_bytes text.new
+        ≡ string_bytes text.old ++ in_parentheses (is_operator name.now) name.now) }
 {
     if is_operator(name.as_bytes()) {
         text.push_str("(")?;
@@ -37,7 +38,8 @@ pub(crate) fn push_constructor(text: &mut String, name: &str) -> Result<(), Allo
 
 /// Writes the head of a partial application.
 fn push_head(text: &mut String, names: &ProgramNames, head: Head) -> Result<(), AllocError>
-    ensures { OnOk result (string_bytes text.new ≡ string_bytes text.old ++ head_text (labels_meaning names.now) head) }
+    ensures { OnOk result (string_bytes text.new
+        ≡ string_bytes text.old ++ head_text (labels_meaning names.now) head) }
 {
     match head {
         Head::Fun(f) => text.push_str(names.function(f)),
@@ -57,7 +59,8 @@ pub(crate) fn push_partial(
     head: Head,
 ) -> Result<(), AllocError>
     ensures { OnOk result (string_bytes text.new
-        ≡ string_bytes text.old ++ (codes "<" ++ (head_text (labels_meaning names.now) head ++ codes ">"))) }
+        ≡ string_bytes text.old
+        ++ (codes "<" ++ (head_text (labels_meaning names.now) head ++ codes ">"))) }
 {
     text.push_str("<")?;
     push_head(text, names, head)?;

@@ -76,7 +76,9 @@ fn constructed_shape(
     behind: &[Shape],
 ) -> Shape
     requires { arity ≤ length behind.now }
-    ensures { (vs : Values) → behind.now ≡ stacked (labels_meaning names.now) vs → result ≡ shape_of (labels_meaning names.now) (value.Constructed constructor (front arity vs)) }
+    ensures { (vs : Values) → behind.now ≡ stacked (labels_meaning names.now) vs
+        → result ≡ shape_of (labels_meaning names.now)
+        (value.Constructed constructor (front arity vs)) }
 {
     if arity == 0 {
         return if constructor == names.nil() {
@@ -98,7 +100,8 @@ fn constructed_shape(
 /// these shapes, the nearest last.
 fn shape_of(names: &ProgramNames, cell: Cell, behind: &[Shape]) -> Shape
     requires { arity_of cell ≤ length behind.now }
-    ensures { (vs : Values) → behind.now ≡ stacked (labels_meaning names.now) vs → result ≡ shape_of (labels_meaning names.now) (first (put cell vs)) }
+    ensures { (vs : Values) → behind.now ≡ stacked (labels_meaning names.now) vs
+        → result ≡ shape_of (labels_meaning names.now) (first (put cell vs)) }
 {
     match cell {
         Cell::Bottom => Shape::Simple,

@@ -22,7 +22,8 @@ fn character(cell: Cell) -> char
 
 /// Parts a digit from an escape by number before it.
 fn push_parting(text: &mut String, after_number: bool, c: char) -> Result<(), AllocError>
-    ensures { OnOk result (string_bytes text.new ≡ string_bytes text.old ++ (if after_number && is_digit c then 92 ∷ codes "&" else [])) }
+    ensures { OnOk result (string_bytes text.new
+        ≡ string_bytes text.old ++ (if after_number && is_digit c then 92 ∷ codes "&" else [])) }
 {
     if !after_number || !c.is_ascii_digit() {
         return Ok(());
@@ -40,11 +41,14 @@ pub(crate) fn push_string(
     requires spelled { IsSpelled (drop start cells.now) }
     requires within { start < length cells.now }
     requires characters { are_characters (first (read_all (drop start cells.now))) ≡ true }
-    ensures text { IfOk result (λ _. string_bytes text.new ≡ string_bytes text.old ++ string_text (characters (first (read_all (drop start cells.now))))) }
+    ensures text { IfOk result (λ _. string_bytes text.new
+        ≡ string_bytes text.old ++ string_text
+        (characters (first (read_all (drop start cells.now))))) }
     ensures after { IfOk result (λ next. start < next) }
     ensures within { IfOk result (λ next. next ≤ length cells.now) }
     ensures spelled { IfOk result (λ next. IsSpelled (drop next cells.now)) }
-    ensures others { IfOk result (λ next. read_all (drop next cells.now) ≡ back 1 (read_all (drop start cells.now))) }
+    ensures others { IfOk result (λ next. read_all (drop next cells.now)
+        ≡ back 1 (read_all (drop start cells.now))) }
 {
     let mut at = start;
     let mut after_number = false;

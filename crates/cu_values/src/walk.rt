@@ -54,8 +54,10 @@ impl Pairs {
     pub(crate) fn after(self, mine: u32, others: u32) -> Pairs
         requires some { 0 < self.left }
         requires fits { self.left + mine < 2 ^ 64 }
-        ensures same { mine ≡ others → (result.left + 1 ≡ self.left + mine) × (result.last ≡ self.last) }
-        ensures differ { mine ≢ others → (result.left ≡ min mine others) × (result.last ≡ nat_cmp mine others) }
+        ensures same { mine ≡ others → (result.left + 1 ≡ self.left + mine)
+            × (result.last ≡ self.last) }
+        ensures differ { mine ≢ others → (result.left ≡ min mine others)
+            × (result.last ≡ nat_cmp mine others) }
     {
         if mine == others {
             Pairs {

@@ -40,7 +40,8 @@ pub fn read_words<'a>(alloc: Global, words: &'a [String]) -> Result<Option<Asked
 
 // What the command that was met asks for.
 fn read_command<'a>(matches: &ArgMatches<'a>) -> Option<Asked<'a>>
-    ensures read { IfSome result (λ command. Asks (subcommand_rows_of matches.now) (asked command)) }
+    ensures read { IfSome result
+        (λ command. Asks (subcommand_rows_of matches.now) (asked command)) }
     ensures refused { IfNone result ((command : spec.Command) →
         Asks (subcommand_rows_of matches.now) command → ⊥) }
 {

@@ -1,11 +1,13 @@
--- The programs of the tests: truth values, lists, and these functions over these expressions. The first function is `&&`.
+-- The programs of the tests: truth values, lists, and these functions over these expressions. The
+-- first function is `&&`.
 use Rattle.std.specs.Prelude.{List, [], ◌∷◌, None, Some}
 use Rattle.cu_calculus.specs.Code.{Code, Expr, Function}
 
 abbrev pub sample : List Function → List Expr → Code
 sample functions expressions = record {
   functions = functions;
-  constructors = record { of_type = 0; arity = 0 } ∷ record { of_type = 0; arity = 0 } ∷ record { of_type = 1; arity = 0 }
+  constructors = record { of_type = 0; arity = 0 } ∷ record { of_type = 0; arity = 0 }
+      ∷ record { of_type = 1; arity = 0 }
       ∷ record { of_type = 1; arity = 2 } ∷ [];
   special = record {
     falsity = record { 0 = 0 };
@@ -22,7 +24,8 @@ sample functions expressions = record {
 abbrev pub sample_with_sets : List Function → List Expr → Code
 sample_with_sets functions expressions = record {
   functions = functions;
-  constructors = record { of_type = 0; arity = 0 } ∷ record { of_type = 0; arity = 0 } ∷ record { of_type = 1; arity = 0 }
+  constructors = record { of_type = 0; arity = 0 } ∷ record { of_type = 0; arity = 0 }
+      ∷ record { of_type = 1; arity = 0 }
       ∷ record { of_type = 1; arity = 2 } ∷ record { of_type = 2; arity = 1 } ∷ [];
   special = record {
     falsity = record { 0 = 0 };

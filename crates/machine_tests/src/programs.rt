@@ -64,7 +64,10 @@ impl Model for Parts {
 
     ghost Value = { List code.Function × List code.Expr };
 
-    ghost view = { λ p. (map function_meaning p.functions.items, map entry_meaning p.entries.items) };
+    ghost view = { λ p. (
+      map function_meaning p.functions.items,
+      map entry_meaning p.entries.items,
+    ) };
 }
 
 /// A branch for a constructor.
@@ -201,7 +204,10 @@ impl Parts {
 
     pub(crate) fn function<R: Abort>(&mut self, rt: &R, arity: u32, params: &[u32], body: ExprId)
         ensures { self.new
-            ≡ (self.old.0 ++ record { arity = arity; body = code.Rule params.now body } ∷ [], self.old.1) }
+            ≡ (
+              self.old.0 ++ record { arity = arity; body = code.Rule params.now body } ∷ [],
+              self.old.1,
+            ) }
     {
         let params = Vec::from_slice(self.alloc, params).expect(rt, "memory");
         let body = FlatBody::Rule(params, body);
@@ -215,7 +221,8 @@ impl Parts {
     pub(crate) fn twice<R: Abort>(&mut self, rt: &R, f: FunId, place: usize)
         requires { place < 1000 }
         ensures { self.new ≡ (
-          self.old.0 ++ record { arity = 1; body = code.Rule (0 ∷ []) (record { 0 = place + 1 }) } ∷ [],
+          self.old.0 ++ record { arity = 1; body = code.Rule (0 ∷ []) (record { 0 = place + 1 }) }
+              ∷ [],
           self.old.1 ++ code.Whole (head.Fun f) (record { 0 = 0 } ∷ [])
               ∷ code.Whole (head.Fun f) (record { 0 = place } ∷ []) ∷ [],
         ) }
@@ -227,7 +234,10 @@ impl Parts {
 
     pub(crate) fn external<R: Abort>(&mut self, rt: &R, arity: u32, operation: Prim)
         ensures { self.new
-            ≡ (self.old.0 ++ record { arity = arity; body = code.External operation } ∷ [], self.old.1) }
+            ≡ (
+              self.old.0 ++ record { arity = arity; body = code.External operation } ∷ [],
+              self.old.1,
+            ) }
     {
         let body = FlatBody::External(operation);
         self.functions
@@ -280,7 +290,8 @@ pub(crate) fn both<R: Abort>(rt: &R, alloc: Global) -> Parts
       code.Variable 0 ∷ code.Variable 1 ∷ code.Whole (head.Con (record { 0 = 0 })) []
           ∷ code.Case mode.Flex (1 ∷ []) (record { 0 = 0 }) (
           record { pattern = code.Built (record { 0 = 0 }) []; body = record { 0 = 2 } }
-          ∷ record { pattern = code.Built (record { 0 = 1 }) []; body = record { 0 = 1 } } ∷ []) ∷ [],
+          ∷ record { pattern = code.Built (record { 0 = 1 }) []; body = record { 0 = 1 } } ∷ [])
+          ∷ [],
     ) }
 {
     let mut parts = Parts::new(alloc);

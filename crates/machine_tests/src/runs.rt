@@ -45,7 +45,8 @@ fn outcome_after(
     limits: &SearchLimits,
 ) -> Result<Outcome<PlainStore>, AllocError>
     requires { IsValid program.now (state_of (λ store. store) branch) }
-    ensures { IfOk result (λ outcome. All (λ branch. IsValid program.now (state_of (λ store. store) branch))
+    ensures { IfOk result
+        (λ outcome. All (λ branch. IsValid program.now (state_of (λ store. store) branch))
         (branches_of outcome)) }
 {
     if limits.stride == 1 {

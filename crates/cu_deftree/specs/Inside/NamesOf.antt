@@ -20,16 +20,22 @@ names_of = fold-Names rows.Names one_scope
 
 pub names_of-Nothing : names_of names.Nothing ≡ []
 unfolding names_of
-names_of-Nothing = ap names_of (sym names.rolls-Nothing) ∙ fold-roll-Names rows.Names one_scope layer.Nothing
+names_of-Nothing =
+    ap names_of (sym names.rolls-Nothing) ∙ fold-roll-Names rows.Names one_scope layer.Nothing
 
-pub names_of-With : (x name : ℕ) (around : Bor Names) → names_of (names.With x name around) ≡ (x, name) ∷ names_of around.now
+pub names_of-With : (x name : ℕ) (around : Bor Names)
+    → names_of (names.With x name around) ≡ (x, name) ∷ names_of around.now
 unfolding names_of
-names_of-With x name around = ap names_of (sym (names.rolls-With x name around)) ∙ fold-roll-Names rows.Names one_scope (layer.With x name around)
+names_of-With x name around =
+    ap names_of (sym (names.rolls-With x name around)) ∙ fold-roll-Names rows.Names one_scope
+    (layer.With x name around)
 
-pub names_of-WithAll : (more : Bor (List (ℕ × ℕ))) (around : Bor Names) → names_of (names.WithAll more around) ≡ more.now ++ names_of around.now
+pub names_of-WithAll : (more : Bor (List (ℕ × ℕ))) (around : Bor Names)
+    → names_of (names.WithAll more around) ≡ more.now ++ names_of around.now
 unfolding names_of
 names_of-WithAll more around =
-    ap names_of (sym (names.rolls-WithAll more around)) ∙ fold-roll-Names rows.Names one_scope (layer.WithAll more around)
+    ap names_of (sym (names.rolls-WithAll more around)) ∙ fold-roll-Names rows.Names one_scope
+    (layer.WithAll more around)
 
 pub ruleset names_of_variants = (names_of-Nothing, names_of-With, names_of-WithAll)
 

@@ -10,7 +10,8 @@ use Rattle.cu_kernel.specs.KernelOf.{function_meaning}
 use Rattle.cu_kernel.specs.declared.term.Function.{Function}
 
 -- all functions are lowered, or the first whose body would be too big is found
-abbrev pub AreLoweredOrTooBig : calculus.Program → List kernel.Function → Result (Vec Function Global) FunId → Type 0
+abbrev pub AreLoweredOrTooBig : calculus.Program → List kernel.Function
+    → Result (Vec Function Global) FunId → Type 0
 AreLoweredOrTooBig program functions (Ok lowered) =
     AreLowered program functions (length functions) (map function_meaning lowered.items)
 AreLoweredOrTooBig program functions (Err f) = IsFirstTooBig program functions f

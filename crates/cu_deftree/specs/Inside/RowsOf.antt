@@ -55,7 +55,8 @@ arguments_at n k ps = elim (slice_get ps k) [ Some p ↦ arguments_of n p | None
 
 -- the row of an alternative, where the variables around it are called so
 abbrev pub alternative_row : definition.Names → ℕ → clean.Pattern → clean.Term → definition.Row
-alternative_row names position p t = record { patterns = p ∷ []; names = definition.names_at position p ++ names; body = t }
+alternative_row names position p t =
+    record { patterns = p ∷ []; names = definition.names_at position p ++ names; body = t }
 
 -- constructors and then literals
 abbrev pub choices : List ConId → List Lit → List Choice

@@ -36,9 +36,10 @@ Spends count old new (Ok done) = new + count ≡ old
 Spends count old new (Err stop.TooBig) = old < count
 Spends count old new (Err stop.NoMemory) = ⊥
 
--- What was made is in a relation, and of as many expressions as are fewer left; or whatever is in that relation is of more
--- expressions than were left.
-abbrev pub Within : {A B : Type 0} → (A → B) → (B → ℕ) → (B → Type 0) → ℕ → ℕ → Result A Stop → Type 0
+-- What was made is in a relation, and of as many expressions as are fewer left; or whatever is in
+-- that relation is of more expressions than were left.
+abbrev pub Within : {A B : Type 0} → (A → B) → (B → ℕ) → (B → Type 0) → ℕ → ℕ → Result A Stop
+    → Type 0
 Within meaning measure R old new (Ok x) = R (meaning x) × (new + measure (meaning x) ≡ old)
 Within {A} {B} meaning measure R old new (Err stop.TooBig) = (y : B) → R y → old < measure y
 Within meaning measure R old new (Err stop.NoMemory) = Unit {0}
@@ -48,7 +49,8 @@ Within meaning measure R old new (Err stop.NoMemory) = Unit {0}
 -- the elements of two lists are in a relation, pairwise
 abbrev pub Each : {X Y : Type 0} → (X → Y → Type 0) → List X → List Y → Type 0
 Each R [] ys = ys ≡ []
-Each {X} {Y} R (x ∷ xs) ys = (y : Y) × (rest : List Y) × (R x y) × (Each R xs rest) × (ys ≡ y ∷ rest)
+Each {X} {Y} R (x ∷ xs) ys = (y : Y) × (rest : List Y) × (R x y) × (Each R xs rest)
+    × (ys ≡ y ∷ rest)
 
 abbrev pub total : {Y : Type 0} → (Y → ℕ) → List Y → ℕ
 total measure [] = 0
@@ -65,10 +67,12 @@ TermLowers program scope t u = Lowers program (names_of scope.names.now) scope.n
 
 abbrev pub RowsLower : Program → Manner → List ℕ → ℕ → List Row → clean.Term → Type 0
 RowsLower program manner.Rules positions next rows t = Tree program positions next rows t
-RowsLower program (manner.Alternatives mode) positions next rows t = Distinguishes program mode positions next rows t
+RowsLower program (manner.Alternatives mode) positions next rows t =
+    Distinguishes program mode positions next rows t
 
 abbrev pub MatrixLowers : Program → Manner → Matrix → clean.Term → Type 0
-MatrixLowers program m matrix t = RowsLower program m matrix.positions.now matrix.next (all_rows matrix.rows.now) t
+MatrixLowers program m matrix t =
+    RowsLower program m matrix.positions.now matrix.next (all_rows matrix.rows.now) t
 
 abbrev pub TaskLowers : Program → Task → clean.Term → Type 0
 TaskLowers program (task.Term scope t) u = TermLowers program scope (term_of t.now) u
@@ -107,15 +111,18 @@ abbrev pub terms_in : Vec Term Global → List clean.Term
 terms_in ts = map term_of ts.items
 
 -- the rows of a branch, over the positions of the arguments of what stands at one of them
-abbrev pub OpenedLower : Program → Manner → Bool → Matrix → ℕ → Choice → List ℕ → ℕ → clean.Term → Type 0
+abbrev pub OpenedLower : Program → Manner → Bool → Matrix → ℕ → Choice → List ℕ → ℕ → clean.Term
+    → Type 0
 OpenedLower program m has_variables matrix k c new n t =
     RowsLower program m (spliced k new matrix.positions.now) (matrix.next + n)
     (specialize k new (goes_on has_variables (wants c)) (all_rows matrix.rows.now)) t
 
-abbrev pub BranchLowers : Program → Manner → Bool → Matrix → ℕ → Choice → clean.Pattern × clean.Term → Type 0
+abbrev pub BranchLowers : Program → Manner → Bool → Matrix → ℕ → Choice → clean.Pattern × clean.Term
+    → Type 0
 BranchLowers program m has_variables matrix k c branch =
     (branch.0 ≡ branch_pattern c (numbers matrix.next (opened_count program c)))
-    × OpenedLower program m has_variables matrix k c (numbers matrix.next (opened_count program c)) (opened_count program c) branch.1
+    × OpenedLower program m has_variables matrix k c (numbers matrix.next (opened_count program c))
+    (opened_count program c) branch.1
 
 abbrev pub alternatives_in : List (clean.Pattern × clean.Term) → clean.Alternatives
 alternatives_in [] = clean.NoAlternative
@@ -126,7 +133,8 @@ terms_listed [] = clean.NoTerm
 terms_listed (t ∷ ts) = clean.MoreTerms t (terms_listed ts)
 
 -- a case distinction on a position, with these branches
-pub record CaseLowers (program : Program) (m : Manner) (has_variables : Bool) (matrix : Matrix) (k : ℕ) (cs : List Choice) (t : clean.Term) : Type 0 where
+pub record CaseLowers (program : Program) (m : Manner) (has_variables : Bool) (matrix : Matrix)
+    (k : ℕ) (cs : List Choice) (t : clean.Term) : Type 0 where
   pub position : ℕ
   pub branches : List (clean.Pattern × clean.Term)
   pub there : slice_get matrix.positions.now k ≡ Some position
@@ -151,7 +159,8 @@ IsSplit k (row ∷ rows) = (leftmost row.patterns ≡ Some k) × (demanded_by_al
 -- the first of rows demands a position leftmost, where some row demands nothing
 abbrev pub IsMixed : ℕ → List Row → Type 0
 IsMixed k [] = ⊥
-IsMixed k (row ∷ rows) = (leftmost row.patterns ≡ Some k) × (list_any (λ other. not (demands k other)) (row ∷ rows) ≡ true)
+IsMixed k (row ∷ rows) = (leftmost row.patterns ≡ Some k)
+    × (list_any (λ other. not (demands k other)) (row ∷ rows) ≡ true)
 
 abbrev pub FirstDemands : ℕ → Demand → List Row → Type 0
 FirstDemands k d [] = ⊥

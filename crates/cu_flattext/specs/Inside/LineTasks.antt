@@ -25,7 +25,8 @@ use Rattle.cu_flattext.specs.declared.writer.Writer.{Writer}
 -- the text of the expression of a rule with these parameters
 abbrev pub rule_expression : Lowered → Code → List ℕ → ExprId → List ℕ
 rule_expression program code parameters e =
-    expression_text program (1 + length parameters) (all_numbered parameters 1 no_numbers) (term_of code e)
+    expression_text program (1 + length parameters) (all_numbered parameters 1 no_numbers)
+    (term_of code e)
 
 abbrev pub body_found : Option calculus.Function → calculus.Body
 body_found None = calculus.Rules []
@@ -54,22 +55,26 @@ rule_over program code parameters e =
 -- the lines of the functions from a place on
 abbrev pub function_lines : Lowered → ℕ → ℕ → List (List ℕ)
 function_lines program m k =
-    map on_a_line (function_texts program m k (drop k program.flat.functions) (drop k program.kernel.marks))
+    map on_a_line (function_texts program m k (drop k program.flat.functions)
+    (drop k program.kernel.marks))
 
 -- the text of a part of the module at a place
 abbrev pub line_part : Lowered → ℕ → Line → List ℕ
 line_part program m (line.Text text) = text.now
-line_part program m (line.Imports imports behind) = elements behind (map (import_text program) imports.now)
+line_part program m (line.Imports imports behind) =
+    elements behind (map (import_text program) imports.now)
 line_part program m (line.DataTypes ts behind) =
     elements behind
-    (map on_a_line (data_type_texts program m (map type_meaning ts.now) ++ synonym_texts program m program.kernel.synonyms))
+    (map on_a_line (data_type_texts program m (map type_meaning ts.now)
+    ++ synonym_texts program m program.kernel.synonyms))
 line_part program m (line.Synonyms ss behind) =
     elements behind (map on_a_line (synonym_texts program m (map synonym_meaning ss.now)))
 line_part program m (line.Constructors cs arity behind) =
     elements behind (map (constructor_text program m arity) (map constructor_meaning cs.now))
 line_part program m (line.Functions k behind) = elements behind (function_lines program m k)
 line_part program m (line.Body f) = body_text program f
-line_part program m (line.Operators os behind) = elements behind (map on_a_line (map (operator_text program m) os.now))
+line_part program m (line.Operators os behind) =
+    elements behind (map on_a_line (map (operator_text program m) os.now))
 
 -- what parts come to, the first first
 abbrev pub line_parts : Lowered → ℕ → List Line → List ℕ
@@ -83,7 +88,8 @@ module_lines program m =
     elements false (map (import_text program) (imports_of found))
     ++ (codes "] [" ++ (elements false (map on_a_line (type_texts program m))
     ++ (codes "] [" ++ (elements false (function_lines program m 0)
-    ++ (codes "] [" ++ (elements false (map on_a_line (map (operator_text program m) (operators_of found)))
+    ++ (codes "] ["
+    ++ (elements false (map on_a_line (map (operator_text program m) (operators_of found)))
     ++ (codes "]\n" ++ [])))))))
 
 -- what is left of the lines
@@ -112,4 +118,5 @@ left_behind w s = work_left w ++ lines_left s
 -- what is left of all
 abbrev pub all_left : Writer → List ℕ
 all_left w =
-    left_of w.expressions ++ (types_left w.types ++ (inferred_left w.inferred ++ lines_left w.lines))
+    left_of w.expressions ++ (types_left w.types
+    ++ (inferred_left w.inferred ++ lines_left w.lines))

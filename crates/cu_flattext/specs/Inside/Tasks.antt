@@ -17,15 +17,18 @@ use Rattle.cu_flattext.specs.declared.task.Task.TheVariants as task
 
 -- the text of a task
 abbrev pub part_of : Lowered → Code → Task → ℕ → Numbers → List ℕ
-part_of program code (task.Expression e depth) n numbers = expression_text program n numbers (term_within depth code e)
+part_of program code (task.Expression e depth) n numbers =
+    expression_text program n numbers (term_within depth code e)
 part_of program code (task.Expressions es depth) n numbers =
     expressions_text program n numbers (terms_of (term_within depth code) es.now)
 part_of program code (task.Further es depth) n numbers =
     further_expressions program n numbers (terms_of (term_within depth code) es.now)
 part_of program code (task.Branches bs depth) n numbers =
-    branches_text program n numbers (alternatives_of (term_within depth code) (map branch_meaning bs.now))
+    branches_text program n numbers
+    (alternatives_of (term_within depth code) (map branch_meaning bs.now))
 part_of program code (task.FurtherBranches bs depth) n numbers =
-    further_branches program n numbers (alternatives_of (term_within depth code) (map branch_meaning bs.now))
+    further_branches program n numbers
+    (alternatives_of (term_within depth code) (map branch_meaning bs.now))
 part_of program code (task.Text text) n numbers = text.now
 part_of program code (task.Number x k) n numbers = []
 
@@ -34,7 +37,8 @@ abbrev pub bound_in : Code → Task → ℕ
 bound_in code (task.Expression e depth) = bindings (term_within depth code e)
 bound_in code (task.Expressions es depth) = all_bindings (terms_of (term_within depth code) es.now)
 bound_in code (task.Further es depth) = all_bindings (terms_of (term_within depth code) es.now)
-bound_in code (task.Branches bs depth) = branch_bindings (alternatives_of (term_within depth code) (map branch_meaning bs.now))
+bound_in code (task.Branches bs depth) =
+    branch_bindings (alternatives_of (term_within depth code) (map branch_meaning bs.now))
 bound_in code (task.FurtherBranches bs depth) =
     branch_bindings (alternatives_of (term_within depth code) (map branch_meaning bs.now))
 bound_in code (task.Text text) = 0
@@ -49,31 +53,37 @@ numbers_behind _ numbers = numbers
 abbrev pub all_parts : Lowered → Code → List Task → ℕ → Numbers → List ℕ
 all_parts program code [] n numbers = []
 all_parts program code (t ∷ ts) n numbers =
-    part_of program code t n numbers ++ all_parts program code ts (n + bound_in code t) (numbers_behind t numbers)
+    part_of program code t n numbers ++ all_parts program code ts (n + bound_in code t)
+    (numbers_behind t numbers)
 
 -- what is left to be written
 abbrev pub left_of : Expressions → List ℕ
-left_of s = all_parts (lowered_of s.wording) s.wording.flat.now (reverse s.tasks.items) s.next (numbers_of s.numbers)
+left_of s = all_parts (lowered_of s.wording) s.wording.flat.now (reverse s.tasks.items) s.next
+    (numbers_of s.numbers)
 
 -- the same with a task before the others
 abbrev pub left_with : Task → Expressions → List ℕ
-left_with t s = all_parts (lowered_of s.wording) s.wording.flat.now (t ∷ reverse s.tasks.items) s.next (numbers_of s.numbers)
+left_with t s = all_parts (lowered_of s.wording) s.wording.flat.now
+    (t ∷ reverse s.tasks.items) s.next (numbers_of s.numbers)
 
 -- the same with a term before the tasks
 abbrev pub left_with_term : Term → Expressions → List ℕ
 left_with_term t s =
     let program = lowered_of s.wording in
     expression_text program s.next (numbers_of s.numbers) t
-    ++ all_parts program s.wording.flat.now (reverse s.tasks.items) (s.next + bindings t) (numbers_of s.numbers)
+    ++ all_parts program s.wording.flat.now (reverse s.tasks.items) (s.next + bindings t)
+    (numbers_of s.numbers)
 
 -- the same with a head and its arguments before the tasks
 abbrev pub left_with_arguments : Head → Terms → Expressions → List ℕ
 left_with_arguments h ts s =
     let program = lowered_of s.wording in
     let numbers = numbers_of s.numbers in
-    let arguments = arguments_text program h (expressions_text program s.next numbers ts) (further_expressions program s.next numbers ts) in
+    let arguments = arguments_text program h (expressions_text program s.next numbers ts)
+    (further_expressions program s.next numbers ts) in
     (head_text program h ++ (codes " [" ++ (arguments ++ codes "]")))
-    ++ all_parts program s.wording.flat.now (reverse s.tasks.items) (s.next + all_bindings ts) numbers
+    ++ all_parts program s.wording.flat.now (reverse s.tasks.items)
+    (s.next + all_bindings ts) numbers
 
 -- the same with a branch before the tasks
 abbrev pub left_with_branch : Pattern → Term → Expressions → List ℕ
@@ -81,13 +91,16 @@ left_with_branch p t s =
     let program = lowered_of s.wording in
     let numbers = numbers_of s.numbers in
     let bound = variables_of p in
-    branch_text program s.next p (expression_text program (s.next + length bound) (all_numbered bound s.next numbers) t)
-    ++ all_parts program s.wording.flat.now (reverse s.tasks.items) (s.next + length bound + bindings t) numbers
+    branch_text program s.next p
+    (expression_text program (s.next + length bound) (all_numbered bound s.next numbers) t)
+    ++ all_parts program s.wording.flat.now (reverse s.tasks.items)
+    (s.next + length bound + bindings t) numbers
 
 -- the term of the form that was found of an expression, whose parts nest so deep
 abbrev pub looked_term : Code → Option Looked → Term
 looked_term code None = no_term
-looked_term code (Some looked) = term_over (term_within looked.depth code) (Some (expr_meaning [] looked.expr.now))
+looked_term code (Some looked) =
+    term_over (term_within looked.depth code) (Some (expr_meaning [] looked.expr.now))
 
 -- The tasks that there were come to the same behind those that were put before them.
 abbrev pub Restores : Expressions → Expressions → Type 0
@@ -95,19 +108,24 @@ Restores old new = (program : Lowered) (code : Code) (n : ℕ)
     → all_parts program code (reverse new.tasks.items) n (numbers_of new.numbers)
     ≡ all_parts program code (reverse old.tasks.items) n (numbers_of old.numbers)
 
--- An expression and a closing parenthesis were put before the tasks, behind which a variable has its number again.
+-- An expression and a closing parenthesis were put before the tasks, behind which a variable has
+-- its number again.
 abbrev pub Leaves : ℕ → ℕ → ExprId → ℕ → Expressions → Expressions → Type 0
 Leaves x before body depth old new = (program : Lowered) (code : Code) (n : ℕ) (numbers : Numbers)
     → all_parts program code (reverse new.tasks.items) n numbers
     ≡ expression_text program n numbers (term_within depth code body)
-    ++ (codes ")" ++ all_parts program code (reverse old.tasks.items) (n + bindings (term_within depth code body)) (numbered x before numbers))
+    ++ (codes ")" ++ all_parts program code (reverse old.tasks.items)
+    (n + bindings (term_within depth code body)) (numbered x before numbers))
 
--- A variable was bound, and the expression in its scope and a closing parenthesis were put before the tasks.
+-- A variable was bound, and the expression in its scope and a closing parenthesis were put before
+-- the tasks.
 abbrev pub Scopes : ℕ → ExprId → ℕ → Expressions → Expressions → Type 0
 Scopes x body depth old new = (program : Lowered) (code : Code) (n : ℕ)
     → all_parts program code (reverse new.tasks.items) n (numbers_of new.numbers)
-    ≡ expression_text program n (numbered x old.next (numbers_of old.numbers)) (term_within depth code body)
-    ++ (codes ")" ++ all_parts program code (reverse old.tasks.items) (n + bindings (term_within depth code body)) (numbers_of old.numbers))
+    ≡ expression_text program n (numbered x old.next (numbers_of old.numbers))
+    (term_within depth code body)
+    ++ (codes ")" ++ all_parts program code (reverse old.tasks.items)
+    (n + bindings (term_within depth code body)) (numbers_of old.numbers))
 
 -- the same as left_with_term of a head with so many of its arguments
 abbrev pub left_with_part : Head → ℕ → Terms → Expressions → List ℕ
@@ -115,8 +133,10 @@ left_with_part h count ts s =
     let program = lowered_of s.wording in
     let numbers = numbers_of s.numbers in
     call_text (kind_text h (missing program h count)) (head_text program h)
-    (arguments_text program h (expressions_text program s.next numbers ts) (further_expressions program s.next numbers ts))
-    ++ all_parts program s.wording.flat.now (reverse s.tasks.items) (s.next + all_bindings ts) numbers
+    (arguments_text program h (expressions_text program s.next numbers ts)
+    (further_expressions program s.next numbers ts))
+    ++ all_parts program s.wording.flat.now (reverse s.tasks.items)
+    (s.next + all_bindings ts) numbers
 
 -- Some was written of what was left: the text and what is left come to the same as before.
 abbrev pub Writes : List ℕ → List ℕ → List ℕ → List ℕ → Type 0

@@ -18,7 +18,8 @@ use Rattle.cu_flattext.specs.declared.type_task.Variables.TheVariants as variabl
 use Rattle.cu_flattext.specs.declared.types.Expansion.{Expansion}
 use Rattle.cu_flattext.specs.declared.types.Types.{Types}
 
--- what a scope comes to: the texts of its variables, and how many synonyms may be expanded inside one another
+-- what a scope comes to: the texts of its variables, and how many synonyms may be expanded inside
+-- one another
 pub record Setting : Type 0 where
   pub depth : ℕ
   pub variables : List (List ℕ)
@@ -32,11 +33,13 @@ setting_at settings i = slice_index_or settings i nowhere
 
 -- the text of a type in a scope
 abbrev pub text_in : Lowered → Setting → TypeExpr → List ℕ
-text_in program setting t = type_text program (expanded_within setting.depth program) setting.variables t
+text_in program setting t =
+    type_text program (expanded_within setting.depth program) setting.variables t
 
 abbrev pub texts_in : Lowered → Setting → List TypeTerm → List (List ℕ)
 texts_in program setting [] = []
-texts_in program setting (t ∷ ts) = text_in program setting (type_of t) ∷ texts_in program setting ts
+texts_in program setting (t ∷ ts) =
+    text_in program setting (type_of t) ∷ texts_in program setting ts
 
 abbrev pub arguments_in : Lowered → List TypeTerm → Option Setting → List (List ℕ)
 arguments_in program ts None = []
@@ -44,7 +47,8 @@ arguments_in program ts (Some setting) = texts_in program setting ts
 
 abbrev pub variables_in : Lowered → List Setting → Variables → List (List ℕ)
 variables_in program settings (variables.Parameters count) = type_variables count
-variables_in program settings (variables.Arguments ts outer) = arguments_in program ts.now (slice_get settings outer)
+variables_in program settings (variables.Arguments ts outer) =
+    arguments_in program ts.now (slice_get settings outer)
 
 -- a scope behind others
 abbrev pub setting_of : Lowered → List Setting → Scope → Setting
@@ -54,16 +58,20 @@ setting_of program settings scope =
 -- scopes behind others, the first first
 abbrev pub settings_from : Lowered → List Setting → List Scope → List Setting
 settings_from program settings [] = settings
-settings_from program settings (s ∷ ss) = settings_from program (settings ++ setting_of program settings s ∷ []) ss
+settings_from program settings (s ∷ ss) =
+    settings_from program (settings ++ setting_of program settings s ∷ []) ss
 
 abbrev pub settings_of : Lowered → List Scope → List Setting
 settings_of program scopes = settings_from program [] scopes
 
 -- the text of a task
 abbrev pub type_part : Lowered → List Scope → TypeTask → List ℕ
-type_part program scopes (task.Type t i) = text_in program (setting_at (settings_of program scopes) i) (type_of t.now)
-type_part program scopes (task.Types ts i) = separated (texts_in program (setting_at (settings_of program scopes) i) ts.now)
-type_part program scopes (task.Further ts i) = further (texts_in program (setting_at (settings_of program scopes) i) ts.now)
+type_part program scopes (task.Type t i) =
+    text_in program (setting_at (settings_of program scopes) i) (type_of t.now)
+type_part program scopes (task.Types ts i) =
+    separated (texts_in program (setting_at (settings_of program scopes) i) ts.now)
+type_part program scopes (task.Further ts i) =
+    further (texts_in program (setting_at (settings_of program scopes) i) ts.now)
 type_part program scopes (task.Text text) = text.now
 type_part program scopes task.Leave = []
 
@@ -75,7 +83,8 @@ scopes_behind _ scopes = scopes
 -- what tasks come to, the first first
 abbrev pub type_parts : Lowered → List Scope → List TypeTask → List ℕ
 type_parts program scopes [] = []
-type_parts program scopes (t ∷ ts) = type_part program scopes t ++ type_parts program (scopes_behind t scopes) ts
+type_parts program scopes (t ∷ ts) =
+    type_part program scopes t ++ type_parts program (scopes_behind t scopes) ts
 
 -- what is left to be written
 abbrev pub types_left : Types → List ℕ
@@ -105,18 +114,23 @@ texts_at s i ts = texts_in (lowered_of s.wording) (setting_in s i) ts
 abbrev pub variable_text : Types → Scope → ℕ → ℕ → List ℕ
 variable_text s scope place x =
     let program = lowered_of s.wording in
-    slice_index_or (variables_in program (take place (settings_of program s.scopes.items)) scope.variables) x []
+    slice_index_or
+    (variables_in program (take place (settings_of program s.scopes.items)) scope.variables) x
+    []
 
 -- the text of a variable that stands for one of some types in another scope
 abbrev pub argument_text : Types → List TypeTerm → ℕ → ℕ → ℕ → List ℕ
 argument_text s ts outer place x =
     let program = lowered_of s.wording in
-    slice_index_or (arguments_in program ts (slice_get (take place (settings_of program s.scopes.items)) outer)) x []
+    slice_index_or (arguments_in program ts
+    (slice_get (take place (settings_of program s.scopes.items)) outer)) x []
 
 -- the text of a name on arguments of these texts, in a scope
 abbrev pub named_text : Lowered → Setting → TypeName → List (List ℕ) → List ℕ
-named_text program setting (named.Data t) arguments = constructed_text (type_entity program (named.Data t)) arguments
-named_text program setting (named.Synonym s) arguments = expanded_within setting.depth program s arguments
+named_text program setting (named.Data t) arguments =
+    constructed_text (type_entity program (named.Data t)) arguments
+named_text program setting (named.Synonym s) arguments =
+    expanded_within setting.depth program s arguments
 
 -- the same in the scope at a place
 abbrev pub named_at : Types → ℕ → TypeName → List (List ℕ) → List ℕ
@@ -124,12 +138,14 @@ named_at s i name arguments = named_text (lowered_of s.wording) (setting_in s i)
 
 -- the text of a synonym in the scope at a place
 abbrev pub synonym_at : Types → ℕ → SynonymId → List (List ℕ) → List ℕ
-synonym_at s i synonym arguments = expanded_within (setting_in s i).depth (lowered_of s.wording) synonym arguments
+synonym_at s i synonym arguments =
+    expanded_within (setting_in s i).depth (lowered_of s.wording) synonym arguments
 
 -- the text of what a synonym stands for, on arguments of these texts
 abbrev pub body_at : Types → Expansion → List (List ℕ) → List ℕ
 body_at s e arguments =
-    type_text (lowered_of s.wording) (expanded_within e.depth (lowered_of s.wording)) arguments (type_of e.body.now)
+    type_text (lowered_of s.wording) (expanded_within e.depth (lowered_of s.wording)) arguments
+    (type_of e.body.now)
 
 -- what a synonym on so many arguments stands for, where it is expanded
 abbrev pub body_where : Bool → Synonym → Option TypeExpr
@@ -138,7 +154,8 @@ body_where false s = None
 
 abbrev pub expanded_body_of : List Synonym → SynonymId → ℕ → Option Synonym → Option TypeExpr
 expanded_body_of synonyms s count None = None
-expanded_body_of synonyms s count (Some found) = body_where (is_expanded synonyms s count (Some found)) found
+expanded_body_of synonyms s count (Some found) =
+    body_where (is_expanded synonyms s count (Some found)) found
 
 abbrev pub expanded_body : List Synonym → SynonymId → ℕ → Option TypeExpr
 expanded_body synonyms s count = expanded_body_of synonyms s count (slice_get synonyms s.0)
@@ -149,7 +166,10 @@ expansion_text program s arguments None = as_written program s arguments
 expansion_text program s arguments (Some e) =
     type_text program (expanded_within e.depth program) arguments (type_of e.body.now)
 
--- A scope was entered, which is left before the tasks that there were. A type in it comes to its text, and then these.
+-- A scope was entered, which is left before the tasks that there were. A type in it comes to its
+-- text, and then these.
 pub record Enters (program : Lowered) (scope : Scope) (old new : Types) (place : ℕ) : Type 0 where
-  pub tasks : type_parts program new.scopes.items (reverse new.tasks.items) ≡ type_parts program old.scopes.items (reverse old.tasks.items)
-  pub setting : setting_at (settings_of program new.scopes.items) place ≡ setting_of program (settings_of program old.scopes.items) scope
+  pub tasks : type_parts program new.scopes.items (reverse new.tasks.items)
+      ≡ type_parts program old.scopes.items (reverse old.tasks.items)
+  pub setting : setting_at (settings_of program new.scopes.items) place
+      ≡ setting_of program (settings_of program old.scopes.items) scope

@@ -45,7 +45,8 @@ generated_term around at elements =
 -- ---- blocks
 
 -- A block was read: what it brings into scope, its free variables, and its definitions.
-pub record Opens (w : Setting) (local : Scope) (ds : List Declaration) (found : LocalBlock) : Type 0 where
+pub record Opens (w : Setting) (local : Scope) (ds : List Declaration)
+    (found : LocalBlock) : Type 0 where
   pub entries : entries_meaning w.names found.entries.items ≡ block_brings w.names ds
   pub known : All (EntryIsKnown w.names) found.entries.items
   pub free : names_meaning w.names found.free.items ≡ free_form w.names ds
@@ -71,7 +72,8 @@ unfoldable pub lets_behind : Setting → Scope → Option Begun → List Declara
 lets_behind w local begun ds = table.lets w.around local begun (declarations_meaning w.names ds)
 
 -- What a declaration defines was added, and this is the function whose rules may go on.
-pub record Defines (w : Setting) (local : Scope) (begun : Option code.Begun) (d : Declaration) (before after : List Bound) (next : Option code.Begun) : Type 0 where
+pub record Defines (w : Setting) (local : Scope) (begun : Option code.Begun) (d : Declaration)
+    (before after : List Bound) (next : Option code.Begun) : Type 0 where
   pub added : bounds_meaning after
       ≡ bounds_meaning before ++ let_form_of w local (begun_of w begun) d
   pub next_is : begun_of w next ≡ begun_in (begun_of w begun) (declaration_meaning w.names d)

@@ -1,4 +1,5 @@
--- Lists, tuples, literals and distinctions, as they are called where only their parts are looked at.
+-- Lists, tuples, literals and distinctions, as they are called where only their parts are looked
+-- at.
 use Rattle.std.specs.Prelude.{ℕ, ℤ, List, [], ◌∷◌, codes}
 use Rattle.cu_calculus.specs.Term as calculus
 use Rattle.cu_calculus.specs.declared.Lit.TheVariants as lit

@@ -43,7 +43,8 @@ abbrev mutual
 
   pub alternative_parts : LocalAlternatives → List Part
   alternative_parts local.NoAlternative = []
-  alternative_parts (local.MoreAlternatives p t alternatives) = bound (variables_of p) ++ (parts t ++ alternative_parts alternatives)
+  alternative_parts (local.MoreAlternatives p t alternatives) =
+      bound (variables_of p) ++ (parts t ++ alternative_parts alternatives)
 
 abbrev pub rule_parts : LocalRule → List Part
 rule_parts rule = bound (all_variables rule.params) ++ parts rule.body
@@ -64,24 +65,30 @@ Owns l x = IsIn l.uses.keys x × (IsIn l.binds.keys x → ⊥)
 
 -- the rules of local functions
 abbrev pub AreLocals : List LocalFunction → List Local → Type 0
-AreLocals functions locals = (k : ℕ) (f : LocalFunction) (l : Local) → slice_get functions k ≡ Some f → slice_get locals k ≡ Some l
+AreLocals functions locals = (k : ℕ) (f : LocalFunction) (l : Local)
+    → slice_get functions k ≡ Some f → slice_get locals k ≡ Some l
     → IsLocal (rules_parts (map local_rule_meaning f.rules.items)) l
 
 -- what some local functions own is among the variables
 abbrev pub AllOwned : List Local → List ℕ → Type 0
-AllOwned locals variables = (k x : ℕ) (l : Local) → slice_get locals k ≡ Some l → Owns l x → IsIn variables x
+AllOwned locals variables = (k x : ℕ) (l : Local) → slice_get locals k ≡ Some l → Owns l x
+    → IsIn variables x
 
--- A local function is met by a variable: it owns it, or it calls one that is met, and doesn't bind it.
+-- A local function is met by a variable: it owns it, or it calls one that is met, and doesn't bind
+-- it.
 pub data Meets (locals : List Local) (x : ℕ) : ℕ → Type 0 where
   own : (k : ℕ) (l : Local) → slice_get locals k ≡ Some l → Owns l x → Meets locals x k
-  through : (k h : ℕ) (l : Local) → slice_get locals k ≡ Some l → IsIn l.calls.items h → (IsIn l.binds.keys x → ⊥) → Meets locals x h
+  through : (k h : ℕ) (l : Local) → slice_get locals k ≡ Some l → IsIn l.calls.items h
+      → (IsIn l.binds.keys x → ⊥) → Meets locals x h
       → Meets locals x k
 
 -- for each local function those that call it
 pub record AreUsers (locals : List Local) (n : ℕ) (users : List Row) : Type 0 where
   pub sized : length users ≡ length locals
-  pub calls : (h k : ℕ) → IsAt users h k → (l : Local) × (slice_get locals k ≡ Some l) × IsIn l.calls.items h
-  pub all : (h k : ℕ) (l : Local) → k < n → h < length locals → slice_get locals k ≡ Some l → IsIn l.calls.items h → IsAt users h k
+  pub calls : (h k : ℕ) → IsAt users h k → (l : Local) × (slice_get locals k ≡ Some l)
+      × IsIn l.calls.items h
+  pub all : (h k : ℕ) (l : Local) → k < n → h < length locals → slice_get locals k ≡ Some l
+      → IsIn l.calls.items h → IsAt users h k
 
 -- the first of some calls of a local function
 pub record Adds (calls : List ℕ) (k : ℕ) (old new : List Row) : Type 0 where
@@ -94,14 +101,16 @@ pub record Adds (calls : List ℕ) (k : ℕ) (old new : List Row) : Type 0 where
 
 -- all callers of a function are met, but those that bind the variable
 abbrev pub IsSettled : List Local → ℕ → List Bool → ℕ → Type 0
-IsSettled locals x met h = (k : ℕ) (l : Local) → slice_get locals k ≡ Some l → IsIn l.calls.items h → (IsIn l.binds.keys x → ⊥)
+IsSettled locals x met h = (k : ℕ) (l : Local) → slice_get locals k ≡ Some l → IsIn l.calls.items h
+    → (IsIn l.binds.keys x → ⊥)
     → slice_get met k ≡ Some true
 
 pub record Spreads (locals : List Local) (x : ℕ) (hand : List ℕ) (s : Spreading) : Type 0 where
   pub sized : length s.met.items ≡ length locals
   pub sound : (k : ℕ) → slice_get s.met.items k ≡ Some true → Meets locals x k
   pub pending : (k : ℕ) → IsIn s.pending.items k → slice_get s.met.items k ≡ Some true
-  pub settled : (h : ℕ) → slice_get s.met.items h ≡ Some true → IsIn s.pending.items h ⊎ (IsIn hand h ⊎ IsSettled locals x s.met.items h)
+  pub settled : (h : ℕ) → slice_get s.met.items h ≡ Some true
+      → IsIn s.pending.items h ⊎ (IsIn hand h ⊎ IsSettled locals x s.met.items h)
 
 -- how much is left to do at most
 abbrev pub left : Spreading → ℕ
@@ -109,16 +118,19 @@ left s = 2 * unmet s.met.items + length s.pending.items
 
 -- a function is met: for the first time, or again
 pub data Met (k : ℕ) (old new : Spreading) : Type 0 where
-  again : slice_get old.met.items k ≡ Some true → new.met.items ≡ old.met.items → new.pending.items ≡ old.pending.items → Met k old new
+  again : slice_get old.met.items k ≡ Some true → new.met.items ≡ old.met.items
+      → new.pending.items ≡ old.pending.items → Met k old new
   first : slice_get old.met.items k ≡ Some false → new.met.items ≡ set old.met.items k true
       → new.pending.items ≡ old.pending.items ++ k ∷ [] → Met k old new
 
 abbrev pub Stays : Spreading → Spreading → Type 0
-Stays old new = (k : ℕ) → slice_get old.met.items k ≡ Some true → slice_get new.met.items k ≡ Some true
+Stays old new = (k : ℕ) → slice_get old.met.items k ≡ Some true
+    → slice_get new.met.items k ≡ Some true
 
 -- the first local functions that own a variable are met
 abbrev pub AreSeeded : List Local → ℕ → ℕ → Spreading → Type 0
-AreSeeded locals x n s = (k : ℕ) (l : Local) → k < n → slice_get locals k ≡ Some l → Owns l x → slice_get s.met.items k ≡ Some true
+AreSeeded locals x n s = (k : ℕ) (l : Local) → k < n → slice_get locals k ≡ Some l → Owns l x
+    → slice_get s.met.items k ≡ Some true
 
 pub record AreMet (locals : List Local) (x : ℕ) (met : List Bool) : Type 0 where
   pub sized : length met ≡ length locals
@@ -129,9 +141,11 @@ pub record AreMet (locals : List Local) (x : ℕ) (met : List Bool) : Type 0 whe
 -- a number is pushed to the first rows that are marked
 pub record Pushes (met : List Bool) (x n : ℕ) (old new : List Row) : Type 0 where
   pub sized : length new ≡ length old
-  pub marked : (k : ℕ) (row : Row) → k < n → slice_get met k ≡ Some true → slice_get new k ≡ Some row
+  pub marked : (k : ℕ) (row : Row) → k < n → slice_get met k ≡ Some true
+      → slice_get new k ≡ Some row
       → (before : Row) × (slice_get old k ≡ Some before) × (row.items ≡ before.items ++ x ∷ [])
-  pub unmarked : (k : ℕ) (row : Row) → k < n → slice_get met k ≡ Some false → slice_get new k ≡ Some row
+  pub unmarked : (k : ℕ) (row : Row) → k < n → slice_get met k ≡ Some false
+      → slice_get new k ≡ Some row
       → (before : Row) × (slice_get old k ≡ Some before) × (row.items ≡ before.items)
   pub others : (k : ℕ) → n ≤ k → slice_get new k ≡ slice_get old k
 

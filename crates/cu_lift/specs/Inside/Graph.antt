@@ -30,7 +30,8 @@ pub record AreRanks (g : Graph) (ranks : List ℕ) (count : ℕ) : Type 0 where
   pub sized : length ranks ≡ length g
   pub below : (u r : ℕ) → slice_get ranks u ≡ Some r → r < count
   pub few : count ≤ length g
-  pub falling : (u v r s : ℕ) → Edge g u v → slice_get ranks u ≡ Some r → slice_get ranks v ≡ Some s → s ≤ r
+  pub falling : (u v r s : ℕ) → Edge g u v → slice_get ranks u ≡ Some r → slice_get ranks v ≡ Some s
+      → s ≤ r
   pub alike : (u v r : ℕ) → slice_get ranks u ≡ Some r → slice_get ranks v ≡ Some r → Reach g u v
 
 abbrev pub IsRow : Graph → ℕ → List Mention → Type 0

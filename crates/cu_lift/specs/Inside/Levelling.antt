@@ -18,12 +18,15 @@ pub record Mentioned (g : Graph) (u : ℕ) (m : Mention) : Type 0 where
 -- the functions of a rank, where these are the ranks of those from a place on
 abbrev pub of_rank : ℕ → ℕ → List ℕ → List FunId
 of_rank r f [] = []
-of_rank r f (x ∷ ranks) = cond (nat_eq x r) (record { 0 = f } ∷ of_rank r (f + 1) ranks) (of_rank r (f + 1) ranks)
+of_rank r f (x ∷ ranks) =
+    cond (nat_eq x r) (record { 0 = f } ∷ of_rank r (f + 1) ranks) (of_rank r (f + 1) ranks)
 
 -- for each rank, its functions in program order
-pub record AreMembers (ranks : List ℕ) (count : ℕ) (members : List (Vec FunId Global)) : Type 0 where
+pub record AreMembers (ranks : List ℕ) (count : ℕ)
+    (members : List (Vec FunId Global)) : Type 0 where
   pub sized : length members ≡ count
-  pub each : (r : ℕ) (row : Vec FunId Global) → slice_get members r ≡ Some row → row.items ≡ of_rank r 0 ranks
+  pub each : (r : ℕ) (row : Vec FunId Global) → slice_get members r ≡ Some row
+      → row.items ≡ of_rank r 0 ranks
 
 -- the least level that a mention allows
 abbrev pub demand : List ℕ → Mention → ℕ
@@ -35,7 +38,8 @@ pub record AreLevelsOn (g : Graph) (levels : List ℕ) : Type 0 where
 
 -- no set call stays in its component
 pub record IsCalm (g : Graph) (ranks : List ℕ) : Type 0 where
-  pub calm : (u r : ℕ) (m : Mention) → Mentioned g u m → m.collected ≡ true → slice_get ranks u ≡ Some r
+  pub calm : (u r : ℕ) (m : Mention) → Mentioned g u m → m.collected ≡ true
+      → slice_get ranks u ≡ Some r
       → slice_get ranks m.function.0 ≡ Some r → ⊥
 
 -- the levels of the components before one
@@ -43,25 +47,32 @@ pub record LevelsTo (g : Graph) (ranks : List ℕ) (r : ℕ) (levels : List ℕ)
   pub sized : length levels ≡ length g
   pub low : (v x : ℕ) → slice_get ranks v ≡ Some x → slice_index levels v ≤ x
   pub none : (v x : ℕ) → slice_get ranks v ≡ Some x → r ≤ x → slice_index levels v ≡ 0
-  pub allowed : (u x : ℕ) (m : Mention) → Mentioned g u m → slice_get ranks u ≡ Some x → x < r → demand levels m ≤ slice_index levels u
-  pub least : (others : List ℕ) (v : ℕ) → AreLevelsOn g others → slice_index levels v ≤ slice_index others v
+  pub allowed : (u x : ℕ) (m : Mention) → Mentioned g u m → slice_get ranks u ≡ Some x → x < r
+      → demand levels m ≤ slice_index levels u
+  pub least : (others : List ℕ) (v : ℕ) → AreLevelsOn g others
+      → slice_index levels v ≤ slice_index others v
 
 -- the greatest of what some mentions demand, and of a least number
 pub record IsDemand (levels : List ℕ) (row : List Mention) (least level : ℕ) : Type 0 where
   pub at_least : least ≤ level
   pub bound : (k : ℕ) (m : Mention) → slice_get row k ≡ Some m → demand levels m ≤ level
-  pub attained : (level ≡ least) ⊎ ((k : ℕ) × (m : Mention) × (slice_get row k ≡ Some m) × (demand levels m ≡ level))
+  pub attained : (level ≡ least)
+      ⊎ ((k : ℕ) × (m : Mention) × (slice_get row k ≡ Some m) × (demand levels m ≡ level))
 
 -- the greatest of what the mentions of some functions demand
-pub record AreDemands (g : Graph) (levels : List ℕ) (members : List FunId) (level : ℕ) : Type 0 where
-  pub bound : (k : ℕ) (f : FunId) (m : Mention) → slice_get members k ≡ Some f → Mentioned g f.0 m → demand levels m ≤ level
-  pub attained : (level ≡ 0) ⊎ ((k : ℕ) × (f : FunId) × (m : Mention) × (slice_get members k ≡ Some f) × Mentioned g f.0 m × (demand levels m ≡ level))
+pub record AreDemands (g : Graph) (levels : List ℕ) (members : List FunId)
+    (level : ℕ) : Type 0 where
+  pub bound : (k : ℕ) (f : FunId) (m : Mention) → slice_get members k ≡ Some f → Mentioned g f.0 m
+      → demand levels m ≤ level
+  pub attained : (level ≡ 0) ⊎ ((k : ℕ) × (f : FunId) × (m : Mention)
+      × (slice_get members k ≡ Some f) × Mentioned g f.0 m × (demand levels m ≡ level))
 
 -- some functions have a level, and the others what they had
 pub record AreRaised (members : List FunId) (level : ℕ) (old new : List ℕ) : Type 0 where
   pub sized : length new ≡ length old
   pub raised : (k : ℕ) (f : FunId) → slice_get members k ≡ Some f → slice_index new f.0 ≡ level
-  pub others : (v : ℕ) → ((k : ℕ) (f : FunId) → slice_get members k ≡ Some f → f.0 ≡ v → ⊥) → slice_index new v ≡ slice_index old v
+  pub others : (v : ℕ) → ((k : ℕ) (f : FunId) → slice_get members k ≡ Some f → f.0 ≡ v → ⊥)
+      → slice_index new v ≡ slice_index old v
 
 -- a row collects a function of a rank
 pub record Collects (ranks : List ℕ) (row : List Mention) (rank f : ℕ) : Type 0 where
@@ -82,14 +93,17 @@ pub record IsCall (g : Graph) (ranks : List ℕ) (r : ℕ) (call : Call) : Type 
   pub collected_rank : slice_get ranks call.collected ≡ Some r
 
 -- for each rank such a call of one of the first functions, where there is one
-pub record AreCalls (g : Graph) (ranks : List ℕ) (count n : ℕ) (calls : List (Option Call)) : Type 0 where
+pub record AreCalls (g : Graph) (ranks : List ℕ) (count n : ℕ)
+    (calls : List (Option Call)) : Type 0 where
   pub sized : length calls ≡ count
   pub some : (r : ℕ) (call : Call) → slice_get calls r ≡ Some (Some call) → IsCall g ranks r call
-  pub none : (u r : ℕ) (m : Mention) → u < n → Mentioned g u m → m.collected ≡ true → slice_get ranks u ≡ Some r
+  pub none : (u r : ℕ) (m : Mention) → u < n → Mentioned g u m → m.collected ≡ true
+      → slice_get ranks u ≡ Some r
       → slice_get ranks m.function.0 ≡ Some r → slice_get calls r ≡ Some None → ⊥
 
 -- the first function whose rank has a call
-pub record IsFirstCall (ranks : List ℕ) (calls : List (Option Call)) (first : ℕ) (call : Call) : Type 0 where
+pub record IsFirstCall (ranks : List ℕ) (calls : List (Option Call)) (first : ℕ)
+    (call : Call) : Type 0 where
   pub rank : ℕ
   pub is_rank : slice_get ranks first ≡ Some rank
   pub is_call : slice_get calls rank ≡ Some (Some call)

@@ -1,4 +1,5 @@
--- What the code keeps of the local functions of one top-level function, and how terms are lifted by it.
+-- What the code keeps of the local functions of one top-level function, and how terms are lifted by
+-- it.
 use Rattle.std.specs.Prelude.{◌≡◌, ℕ, zero, suc, ◌+◌, ◌-◌, ◌<◌, List, [], ◌∷◌, ◌++◌, Some, codes, decimal, if◌then◌else◌, length, map, nat_eq, slice_get, slice_index_or}
 use Rattle.std.specs.declared.alloc.Global.{Global}
 use Rattle.std.specs.declared.vec.Vec.{Vec}
@@ -42,7 +43,8 @@ pub record AreRows (locals : List LocalFunction) (rows : List (List ℕ)) : Type
   pub each : (k : ℕ) (row : List ℕ) → slice_get rows k ≡ Some row → AreCaptured locals k row
 
 -- the names of functions that have these numbers, behind the one with the text and its number
-pub record AreNames (texts : List (List ℕ)) (text : List ℕ) (number : ℕ) (numbers : List ℕ) (ids : List NameId) : Type 0 where
+pub record AreNames (texts : List (List ℕ)) (text : List ℕ) (number : ℕ) (numbers : List ℕ)
+    (ids : List NameId) : Type 0 where
   pub as_many : length ids ≡ length numbers
   pub known : (k : ℕ) (id : NameId) → slice_get ids k ≡ Some id → IsKnown texts id
   pub named : (k n : ℕ) (id : NameId) → slice_get ids k ≡ Some id → slice_get numbers k ≡ Some n
@@ -56,17 +58,21 @@ captured_in p k = slice_index_or (row_items p.captured.items) k []
 abbrev pub name_in : Placement → ℕ → NameId
 name_in p k = slice_index_or p.names.items k (record { 0 = 0 })
 
-pub record IsPlacement (texts : List (List ℕ)) (number : ℕ) (f : TopFunction) (p : Placement) : Type 0 where
+pub record IsPlacement (texts : List (List ℕ)) (number : ℕ) (f : TopFunction)
+    (p : Placement) : Type 0 where
   pub ordered : p.ordered.items ≡ map (λ e. e.number) (in_order f.locals)
   pub numbers : (k : ℕ) → slice_index_or p.numbers.items k p.end ≡ local_number number f.locals k
   pub captured : AreRows f.locals (row_items p.captured.items)
   pub names_many : length p.names.items ≡ length f.locals
   pub known : (k : ℕ) (id : NameId) → slice_get p.names.items k ≡ Some id → IsKnown texts id
-  pub named : (k : ℕ) (id : NameId) → slice_get p.names.items k ≡ Some id → text_of texts id ≡ local_name (text_of texts f.name) (rank f.locals k)
+  pub named : (k : ℕ) (id : NameId) → slice_get p.names.items k ≡ Some id
+      → text_of texts id ≡ local_name (text_of texts f.name) (rank f.locals k)
 
 -- the first top-level functions have theirs
-pub record ArePlaced (texts : List (List ℕ)) (fs : List TopFunction) (ps : List Placement) : Type 0 where
-  pub each : (i : ℕ) (f : TopFunction) (p : Placement) → slice_get fs i ≡ Some f → slice_get ps i ≡ Some p
+pub record ArePlaced (texts : List (List ℕ)) (fs : List TopFunction)
+    (ps : List Placement) : Type 0 where
+  pub each : (i : ℕ) (f : TopFunction) (p : Placement) → slice_get fs i ≡ Some f
+      → slice_get ps i ≡ Some p
       → IsPlacement texts (top_number fs i) f p
 
 -- ---- lifting by these
@@ -103,7 +109,8 @@ ordered_numbers locals = map (λ e. e.number) (in_order locals)
 
 -- the functions and the marks that come of top-level functions by these
 abbrev pub functions_by : List ℕ → List Placement → List TopFunction → List Function
-functions_by tops (p ∷ ps) (f ∷ fs) = lifted_group (lifting_by tops p) (name_in p) f ++ functions_by tops ps fs
+functions_by tops (p ∷ ps) (f ∷ fs) =
+    lifted_group (lifting_by tops p) (name_in p) f ++ functions_by tops ps fs
 functions_by tops _ _ = []
 
 abbrev pub marks_by : List Placement → List Mark → List TopFunction → List Mark

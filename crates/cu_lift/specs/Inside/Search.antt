@@ -22,7 +22,8 @@ pub record Awaits (parts : List Part) (t i : ℕ) (p : Part) : Type 0 where
   pub until : (j : ℕ) (q : Part) → i < j → slice_get parts j ≡ Some q → t < q.pending
 
 -- some open function of a part mentions w
-pub record Source (g : Graph) (path : List ℕ) (parts : List Part) (i : ℕ) (p : Part) (w : ℕ) : Type 0 where
+pub record Source (g : Graph) (path : List ℕ) (parts : List Part) (i : ℕ) (p : Part)
+    (w : ℕ) : Type 0 where
   pub place : ℕ
   pub function : ℕ
   pub owned : Own parts place i p
@@ -33,7 +34,8 @@ pub record Source (g : Graph) (path : List ℕ) (parts : List Part) (i : ℕ) (p
 pub data Followed (places : List Place) (path pending : List ℕ) (p : Part) (w : ℕ) : Type 0 where
   closed : (c : ℕ) → slice_get places w ≡ Some (Closed c) → Followed places path pending p w
   opened : (s : ℕ) → slice_get path s ≡ Some w → p.start ≤ s → Followed places path pending p w
-  awaited : (j : ℕ) → slice_get pending j ≡ Some w → p.pending ≤ j → Followed places path pending p w
+  awaited : (j : ℕ) → slice_get pending j ≡ Some w → p.pending ≤ j
+      → Followed places path pending p w
 
 -- the weights of the functions that weren't met yet
 abbrev pub weigh : (Vec Mention Global → ℕ) → Graph → List Place → ℕ
@@ -49,7 +51,8 @@ one row = 1
 abbrev pub two_more : Vec Mention Global → ℕ
 two_more row = length row.items + 2
 
-pub record Good (g : Graph) (places : List Place) (path pending : List ℕ) (parts : List Part) (count : ℕ) : Type 0 where
+pub record Good (g : Graph) (places : List Place) (path pending : List ℕ) (parts : List Part)
+    (count : ℕ) : Type 0 where
   pub sized : length places ≡ length g
   -- places and the stack agree
   pub open_at : (s v : ℕ) → slice_get path s ≡ Some v → slice_get places v ≡ Some (Open s)
@@ -57,19 +60,28 @@ pub record Good (g : Graph) (places : List Place) (path pending : List ℕ) (par
   -- parts rise, from the bottom of the stack on
   pub none : parts ≡ [] → path ≡ []
   pub bottom : (p : Part) → slice_get parts 0 ≡ Some p → p.start ≡ 0
-  pub start : (i : ℕ) (p : Part) → slice_get parts i ≡ Some p → (p.start < length path) × (p.pending ≤ length pending)
-  pub rising : (i j : ℕ) (p q : Part) → slice_get parts i ≡ Some p → slice_get parts j ≡ Some q → i < j
+  pub start : (i : ℕ) (p : Part) → slice_get parts i ≡ Some p
+      → (p.start < length path) × (p.pending ≤ length pending)
+  pub rising : (i j : ℕ) (p q : Part) → slice_get parts i ≡ Some p → slice_get parts j ≡ Some q
+      → i < j
       → (p.start < q.start) × (p.pending ≤ q.pending)
   -- open functions reach later ones, and the first of their part
-  pub later : (s t u v : ℕ) → s ≤ t → slice_get path s ≡ Some u → slice_get path t ≡ Some v → Reach g u v
-  pub back : (i : ℕ) (p : Part) (t u v : ℕ) → Own parts t i p → slice_get path t ≡ Some u → slice_get path p.start ≡ Some v → Reach g u v
+  pub later : (s t u v : ℕ) → s ≤ t → slice_get path s ≡ Some u → slice_get path t ≡ Some v
+      → Reach g u v
+  pub back : (i : ℕ) (p : Part) (t u v : ℕ) → Own parts t i p → slice_get path t ≡ Some u
+      → slice_get path p.start ≡ Some v → Reach g u v
   -- what they mention was followed, or is pending; and what is pending they mention
-  pub follows : (i : ℕ) (p : Part) (t u w : ℕ) → Own parts t i p → slice_get path t ≡ Some u → Edge g u w → Followed places path pending p w
-  pub source : (i : ℕ) (p : Part) (t w : ℕ) → Awaits parts t i p → slice_get pending t ≡ Some w → Source g path parts i p w
-  -- closed functions mention closed ones of no later components; those of one component reach each other
+  pub follows : (i : ℕ) (p : Part) (t u w : ℕ) → Own parts t i p → slice_get path t ≡ Some u
+      → Edge g u w → Followed places path pending p w
+  pub source : (i : ℕ) (p : Part) (t w : ℕ) → Awaits parts t i p → slice_get pending t ≡ Some w
+      → Source g path parts i p w
+  -- closed functions mention closed ones of no later components; those of one component reach each
+  -- other
   pub closed_below : (v c : ℕ) → slice_get places v ≡ Some (Closed c) → c < count
-  pub closed_edges : (v c w : ℕ) → slice_get places v ≡ Some (Closed c) → Edge g v w → (d : ℕ) × (slice_get places w ≡ Some (Closed d)) × (d ≤ c)
-  pub alike : (u v c : ℕ) → slice_get places u ≡ Some (Closed c) → slice_get places v ≡ Some (Closed c) → Reach g u v
+  pub closed_edges : (v c w : ℕ) → slice_get places v ≡ Some (Closed c) → Edge g v w
+      → (d : ℕ) × (slice_get places w ≡ Some (Closed d)) × (d ≤ c)
+  pub alike : (u v c : ℕ) → slice_get places u ≡ Some (Closed c)
+      → slice_get places v ≡ Some (Closed c) → Reach g u v
   -- no more components than functions
   pub room : count + length path + weigh one g places ≤ length g
 
@@ -88,7 +100,8 @@ work g s = weigh two_more g s.places.items + length s.pending.items + length s.p
 
 -- what wasn't met yet wasn't met before
 abbrev pub Meets : Search → Search → Type 0
-Meets old new = (v : ℕ) → slice_get new.places.items v ≡ Some New → slice_get old.places.items v ≡ Some New
+Meets old new = (v : ℕ) → slice_get new.places.items v ≡ Some New
+    → slice_get old.places.items v ≡ Some New
 
 abbrev pub IsLast : {A : Type 0} → List A → A → Type 0
 IsLast xs x = slice_get xs (length xs - 1) ≡ Some x
@@ -98,7 +111,8 @@ pub record MayJoin (g : Graph) (s : Search) (at : ℕ) : Type 0 where
   pub good : IsGood g s
   pub function : ℕ
   pub is_open : slice_get s.path.items at ≡ Some function
-  pub reaches : (p : Part) (u : ℕ) → IsLast s.parts.items p → slice_get s.path.items p.start ≡ Some u → Reach g u function
+  pub reaches : (p : Part) (u : ℕ) → IsLast s.parts.items p
+      → slice_get s.path.items p.start ≡ Some u → Reach g u function
 
 -- a search where only the parts changed: some of the last ones went
 pub record OnlyParts (old new : Search) : Type 0 where
@@ -122,8 +136,10 @@ pub record MayForget (g : Graph) (s : Search) : Type 0 where
   pub good : IsGood g s
   pub target : ℕ
   pub is_last : IsLast s.pending.items target
-  pub awaited : (i : ℕ) (p : Part) → slice_get s.parts.items i ≡ Some p → p.pending < length s.pending.items
-  pub followed : (i : ℕ) (p : Part) → slice_get s.parts.items i ≡ Some p → Followed s.places.items s.path.items [] p target
+  pub awaited : (i : ℕ) (p : Part) → slice_get s.parts.items i ≡ Some p
+      → p.pending < length s.pending.items
+  pub followed : (i : ℕ) (p : Part) → slice_get s.parts.items i ≡ Some p
+      → Followed s.places.items s.path.items [] p target
 
 -- what was popped from the path so far is closed
 pub record Closes (start : ℕ) (old new : Search) : Type 0 where

@@ -26,8 +26,10 @@ pub record Linked (g : Graph) (found : List Found) (i : ℕ) (f : Found) : Type 
 pub record Trails (g : Graph) (found : List Found) (met : List Bool) : Type 0 where
   pub sized : length met ≡ length g
   pub link : (i : ℕ) (f : Found) → slice_get found i ≡ Some f → 0 < i → Linked g found i f
-  pub met_found : (v : ℕ) → slice_get met v ≡ Some true → (i : ℕ) × (f : Found) × (slice_get found i ≡ Some f) × (f.function ≡ v)
-  pub found_met : (i : ℕ) (f : Found) → slice_get found i ≡ Some f → slice_get met f.function ≡ Some true
+  pub met_found : (v : ℕ) → slice_get met v ≡ Some true
+      → (i : ℕ) × (f : Found) × (slice_get found i ≡ Some f) × (f.function ≡ v)
+  pub found_met : (i : ℕ) (f : Found) → slice_get found i ≡ Some f
+      → slice_get met f.function ≡ Some true
   pub room : length found + unmet met ≤ length g
 
 abbrev pub IsTrail : Graph → Spread → Type 0
@@ -35,7 +37,8 @@ IsTrail g s = Trails g s.found.items s.met.items
 
 -- all that the function at a place mentions was met
 abbrev pub IsDone : Graph → Spread → ℕ → Type 0
-IsDone g s i = (f : Found) (w : ℕ) → slice_get s.found.items i ≡ Some f → Edge g f.function w → slice_get s.met.items w ≡ Some true
+IsDone g s i = (f : Found) (w : ℕ) → slice_get s.found.items i ≡ Some f → Edge g f.function w
+    → slice_get s.met.items w ≡ Some true
 
 pub record Grows (old new : Spread) : Type 0 where
   pub found : (more : List Found) × (new.found.items ≡ old.found.items ++ more)
@@ -43,10 +46,12 @@ pub record Grows (old new : Spread) : Type 0 where
 
 -- a function is met: for the first time, or again
 pub data Meeting (old new : Spread) (target from : ℕ) : Type 0 where
-  again : slice_get old.met.items target ≡ Some true → new.found.items ≡ old.found.items → new.met.items ≡ old.met.items
+  again : slice_get old.met.items target ≡ Some true → new.found.items ≡ old.found.items
+      → new.met.items ≡ old.met.items
       → Meeting old new target from
   first : slice_get old.met.items target ≡ Some false
-      → new.found.items ≡ old.found.items ++ record { function = target; from = from } ∷ [] → new.met.items ≡ set old.met.items target true
+      → new.found.items ≡ old.found.items ++ record { function = target; from = from } ∷ []
+      → new.met.items ≡ set old.met.items target true
       → Meeting old new target from
 
 -- a search that has found its start alone

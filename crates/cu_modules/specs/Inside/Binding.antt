@@ -16,7 +16,8 @@ pub record BoundIsKnown (names : List (List ℕ)) (b : Bound) : Type 0 where
   pub entity : EntityIsKnown names b.entity
 
 -- These are bound.
-pub record IsScope (names : List (List ℕ)) (bindings : List Binding) (s : ModuleScope) : Type 0 where
+pub record IsScope (names : List (List ℕ)) (bindings : List Binding)
+    (s : ModuleScope) : Type 0 where
   pub tells : Tells names bindings s.table
   pub listed : map (bound_meaning names) s.bound.items ≡ bindings
   pub known : All (BoundIsKnown names) s.bound.items

@@ -11,7 +11,8 @@ use Rattle.cu_modules.specs.Inside.Lists.{comes}
 
 -- whether a key is that of a binding
 abbrev pub is_key : List (List ℕ) → Key → Binding → Bool
-is_key names key b = is_bound (space_meaning key.space) (option_map (text_of names) key.qualifier) (text_of names key.base) b
+is_key names key b = is_bound (space_meaning key.space) (option_map (text_of names) key.qualifier)
+    (text_of names key.base) b
 
 -- whether a constructor is one of a type's that come with it, by the numbers of names
 abbrev pub brings : Constructors → code.Entity → code.Entity → Bool

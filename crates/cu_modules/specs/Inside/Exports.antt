@@ -16,5 +16,8 @@ found_items None = []
 found_items (Some v) = v.items
 
 -- Each module has these exports.
-pub record AreInterfaces (names : List (List ℕ)) (before : List Interface) (s : Interfaces) : Type 0 where
-  pub each : (id : NameId) → IsKnown names id → AreEntities names (exports_of before (text_of names id)) (found_items (get eq-value.it s.exports id))
+pub record AreInterfaces (names : List (List ℕ)) (before : List Interface)
+    (s : Interfaces) : Type 0 where
+  pub each : (id : NameId) → IsKnown names id
+      → AreEntities names (exports_of before (text_of names id))
+      (found_items (get eq-value.it s.exports id))

@@ -13,15 +13,18 @@ use Rattle.cu_modules.specs.Walk.{Refusal, VisitAll, import_names, is_there}
 -- ---- imports that are looked at, one after another
 
 -- Those in front of the ones that are left are done.
-pub record Skipped (names : List (List ℕ)) (done : List declared.Module) (all left : List NameId) : Type 0 where
+pub record Skipped (names : List (List ℕ)) (done : List declared.Module)
+    (all left : List NameId) : Type 0 where
   pub front : List NameId
   pub there : All (λ id. is_there (modules_of names done) (text_of names id) ≡ true) front
   pub whole : all ≡ front ++ left
 
 -- the first that isn't done, and those behind it
-abbrev pub Seeks : List (List ℕ) → List declared.Module → List NameId → Option NameId → List NameId → Type 0
+abbrev pub Seeks : List (List ℕ) → List declared.Module → List NameId → Option NameId → List NameId
+    → Type 0
 Seeks names done all None left = Skipped names done all []
-Seeks names done all (Some id) left = Skipped names done all (id ∷ left) × (is_there (modules_of names done) (text_of names id) ≡ false)
+Seeks names done all (Some id) left = Skipped names done all (id ∷ left)
+    × (is_there (modules_of names done) (text_of names id) ≡ false)
 
 -- ---- modules on the path
 
@@ -39,23 +42,27 @@ path_of base [] = base
 path_of base (m ∷ outer) = path_of base outer ++ m.name ∷ []
 
 -- One of the imports of a module is refused, and so is the whole.
-pub record Stops (held : List ℕ → Option (List ℕ)) (path : List (List ℕ)) (done : List Named) (imports : List (List ℕ)) (outcome : Result (List Named) Refusal) : Type 0 where
+pub record Stops (held : List ℕ → Option (List ℕ)) (path : List (List ℕ)) (done : List Named)
+    (imports : List (List ℕ)) (outcome : Result (List Named) Refusal) : Type 0 where
   pub refusal : Refusal
   pub is : outcome ≡ Err refusal
   pub refused : VisitAll held path done imports (Err refusal)
 
 -- The imports of a module are done, and the walk goes on from there.
-pub record Ends (held : List ℕ → Option (List ℕ)) (path : List (List ℕ)) (done : List Named) (imports : List (List ℕ)) (GoesOn : List Named → Type 0) : Type 0 where
+pub record Ends (held : List ℕ → Option (List ℕ)) (path : List (List ℕ)) (done : List Named)
+    (imports : List (List ℕ)) (GoesOn : List Named → Type 0) : Type 0 where
   pub after : List Named
   pub visited : VisitAll held path done imports (Ok after)
   pub rest : GoesOn after
 
 -- what modules on the path come to, where the path below them and what is done are given
-abbrev pub Finishes : (List ℕ → Option (List ℕ)) → List (List ℕ) → List Open → List Named → Result (List Named) Refusal → Type 0
+abbrev pub Finishes : (List ℕ → Option (List ℕ)) → List (List ℕ) → List Open → List Named
+    → Result (List Named) Refusal → Type 0
 Finishes held base [] done outcome = outcome ≡ Ok done
 Finishes held base (m ∷ outer) done outcome =
     Stops held (path_of base outer ++ m.name ∷ []) done m.left outcome
-    ⊎ Ends held (path_of base outer ++ m.name ∷ []) done m.left (λ after. Finishes held base outer (after ++ named_of m ∷ []) outcome)
+    ⊎ Ends held (path_of base outer ++ m.name ∷ []) done m.left
+    (λ after. Finishes held base outer (after ++ named_of m ∷ []) outcome)
 
 -- A module that is on no path below it. Of its imports those that aren't left are met.
 pub record IsPending (path met : List (List ℕ)) (m : Open) : Type 0 where
@@ -68,4 +75,5 @@ pub record IsPending (path met : List (List ℕ)) (m : Open) : Type 0 where
 -- so are all modules on the path, and the root is done at last
 abbrev pub ArePending : List (List ℕ) → List ℕ → List (List ℕ) → List Open → Type 0
 ArePending base root met [] = is_among met root ≡ true
-ArePending base root met (m ∷ outer) = IsPending (path_of base outer) met m × ArePending base root (met ++ m.name ∷ []) outer
+ArePending base root met (m ∷ outer) = IsPending (path_of base outer) met m
+    × ArePending base root (met ++ m.name ∷ []) outer

@@ -8,7 +8,8 @@ use Rattle.cu_syntax.specs.Owners.{ImportIsOf}
 use Rattle.cu_syntax.specs.Syntax as syntax
 
 -- These are the imports, in a module.
-pub record AreImportsOf (owner : NameId) (names : List (List ℕ)) (meant : List syntax.Import) (found : List Import) : Type 0 where
+pub record AreImportsOf (owner : NameId) (names : List (List ℕ)) (meant : List syntax.Import)
+    (found : List Import) : Type 0 where
   pub are : map (import_meaning names) found ≡ meant
   pub owned : All (ImportIsOf owner names) found
 

@@ -22,13 +22,17 @@ comes (constructors.Only names) e = list_any (λ (name : Name). called name e) n
 
 -- whether an entity is a constructor of a type of a name among others
 abbrev pub is_beside : Name → List Entity → Entity → Bool
-is_beside name entities e = list_any (λ (t : Entity). is_type_sort t.sort && called name t && is_constructor_in e t) entities
+is_beside name entities e =
+    list_any (λ (t : Entity). is_type_sort t.sort && called name t
+    && is_constructor_in e t) entities
 
 -- whether an entry names an entity among these
 abbrev pub lists_entity : List Entity → Entity → syntax.Entity → Bool
 lists_entity exports e (entry.Variable at name) = is_function_sort e.sort && called name e
-lists_entity exports e (entry.Type at name which) = is_type_sort e.sort && called name e || comes which e && is_beside name exports e
+lists_entity exports e (entry.Type at name which) =
+    is_type_sort e.sort && called name e || comes which e && is_beside name exports e
 
 -- whether an import with a list leaves an export
 abbrev pub is_left : ImportList → List Entity → Entity → Bool
-is_left list exports e = if list.hides then list_any (lists_entity exports e) list.entities.items else not (list_any (lists_entity exports e) list.entities.items)
+is_left list exports e = if list.hides then list_any (lists_entity exports e) list.entities.items
+    else not (list_any (lists_entity exports e) list.entities.items)

@@ -9,12 +9,14 @@ use Rattle.cu_modules.specs.Inside.Exports.{AreInterfaces}
 use Rattle.cu_modules.specs.Scopes.{Interface, Named, interfaces, scope}
 
 -- It has no fault. A table tells its scope, and its exports were added.
-pub record IsRight (names : List (List ℕ)) (before : List Interface) (m : Named) (table : NameTable) (after : Interfaces) : Type 0 where
+pub record IsRight (names : List (List ℕ)) (before : List Interface) (m : Named) (table : NameTable)
+    (after : Interfaces) : Type 0 where
   pub right : faults before m ≡ []
   pub tells : Tells names (scope before m) table
   pub added : AreInterfaces names (interfaces before (m ∷ [])) after
 
 -- its first fault, in the module of this name
-pub record IsWrongIn (before : List Interface) (m : Named) (name : List ℕ) (fault : Fault) : Type 0 where
+pub record IsWrongIn (before : List Interface) (m : Named) (name : List ℕ)
+    (fault : Fault) : Type 0 where
   pub is_named : name ≡ m.name
   pub is_first : IsFirst (faults before m) fault

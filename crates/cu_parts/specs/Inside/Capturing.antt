@@ -27,22 +27,27 @@ unmet (m ∷ ms) = unmet ms + cond m 0 1
 abbrev pub AreSound : List LocalFunction → ℕ → List Bool → Type 0
 AreSound locals v met = (k : ℕ) → met_at met k ≡ true → Captures locals k v
 
--- from a place on, a local function is met where it uses the variable, or a local function that is met
+-- from a place on, a local function is met where it uses the variable, or a local function that is
+-- met
 abbrev pub AreClosed : List LocalFunction → ℕ → List Bool → ℕ → Type 0
 AreClosed locals v met place = (k : ℕ) (f : LocalFunction) → place ≤ k → slice_get locals k ≡ Some f
     → rules_use (is_met met) v f.rules ≡ true → met_at met k ≡ true
 
 -- a local function is met: for the first time, or it stays as it is
-pub data Meeting (locals : List LocalFunction) (v k : ℕ) (old new : List Bool) (first : Bool) : Type 0 where
+pub data Meeting (locals : List LocalFunction) (v k : ℕ) (old new : List Bool)
+    (first : Bool) : Type 0 where
   stays : first ≡ false → new ≡ old
-      → ((f : LocalFunction) → slice_get locals k ≡ Some f → rules_use (is_met old) v f.rules ≡ true → met_at old k ≡ true)
+      → ((f : LocalFunction) → slice_get locals k ≡ Some f → rules_use (is_met old) v f.rules ≡ true
+      → met_at old k ≡ true)
       → Meeting locals v k old new first
   meets : first ≡ true → slice_get old k ≡ Some false → new ≡ set old k true
-      → (f : LocalFunction) × (slice_get locals k ≡ Some f) × (rules_use (is_met old) v f.rules ≡ true)
+      → (f : LocalFunction) × (slice_get locals k ≡ Some f)
+      × (rules_use (is_met old) v f.rules ≡ true)
       → Meeting locals v k old new first
 
 -- one round over the local functions, down to a place
-pub record Round (locals : List LocalFunction) (v place : ℕ) (old new : List Bool) (more : Bool) : Type 0 where
+pub record Round (locals : List LocalFunction) (v place : ℕ) (old new : List Bool)
+    (more : Bool) : Type 0 where
   pub sized : length new ≡ length old
   pub sound : AreSound locals v old → AreSound locals v new
   pub closed : more ≡ false → (new ≡ old) × AreClosed locals v new place

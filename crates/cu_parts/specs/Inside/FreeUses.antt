@@ -21,7 +21,8 @@ abbrev mutual
   free_uses bound (local.Let x a b) = free_uses bound a ++ free_uses (also x bound) b
   free_uses bound (local.Free x t) = free_uses (also x bound) t
   free_uses bound (local.Or a b) = free_uses bound a ++ free_uses bound b
-  free_uses bound (local.Case mode a alternatives) = free_uses bound a ++ free_in_alternatives bound alternatives
+  free_uses bound (local.Case mode a alternatives) =
+      free_uses bound a ++ free_in_alternatives bound alternatives
 
   pub free_in_all : (ℕ → Bool) → LocalTerms → List ℕ
   free_in_all bound local.NoTerm = []

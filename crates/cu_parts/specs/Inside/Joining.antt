@@ -9,14 +9,17 @@ use Rattle.cu_parts.specs.Inside.LocalConjunction.{has_entities}
 -- nothing comes before
 abbrev pub begins : Counts → Bool
 begins start =
-    nat_eq start.types 0 && nat_eq start.constructors 0 && nat_eq start.functions 0 && nat_eq start.synonyms 0 && nat_eq start.modules 0
+    nat_eq start.types 0 && nat_eq start.constructors 0 && nat_eq start.functions 0
+    && nat_eq start.synonyms 0 && nat_eq start.modules 0
 
 -- what stands beside the functions
 abbrev pub names_fit : LocalKernel → Bool
 names_fit kernel =
-    list_all (type_is_placed kernel) kernel.types && list_all (synonym_is_placed kernel) kernel.synonyms
+    list_all (type_is_placed kernel) kernel.types
+    && list_all (synonym_is_placed kernel) kernel.synonyms
     && list_all (mark_is_placed kernel) kernel.marks && goal_fits kernel kernel.goal
 
 -- functions and built-in entities
 abbrev pub heads_fit : LocalKernel → Bool
-heads_fit kernel = has_entities kernel (heads_program kernel) && list_all (function_fits kernel) kernel.functions
+heads_fit kernel = has_entities kernel (heads_program kernel)
+    && list_all (function_fits kernel) kernel.functions

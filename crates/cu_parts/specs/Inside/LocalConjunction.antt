@@ -28,14 +28,16 @@ local_variable _ = None
 
 -- False -> False; True -> y
 abbrev pub are_local_branches : Special → Option ℕ → LocalAlternatives → Bool
-are_local_branches special y (local.MoreAlternatives p s (local.MoreAlternatives q t local.NoAlternative)) =
+are_local_branches special y
+    (local.MoreAlternatives p s (local.MoreAlternatives q t local.NoAlternative)) =
     is_constant_pattern special.falsity p && is_local_constant special.falsity s
     && is_constant_pattern special.truth q && same_variable y (local_variable t)
 are_local_branches special y _ = false
 
 -- fcase x of those branches
 abbrev pub is_local_distinction : Special → Option ℕ → Option ℕ → LocalTerm → Bool
-is_local_distinction special x y (local.Case m t rows) = is_flex m && same_variable x (local_variable t) && are_local_branches special y rows
+is_local_distinction special x y (local.Case m t rows) =
+    is_flex m && same_variable x (local_variable t) && are_local_branches special y rows
 is_local_distinction special x y _ = false
 
 -- True && x = x
@@ -47,7 +49,8 @@ is_local_true special body _ = false
 -- False && _ = False
 abbrev pub is_local_false : Special → LocalTerm → clean.Patterns → Bool
 is_local_false special body (clean.MorePatterns p (clean.MorePatterns q clean.NoPattern)) =
-    is_constant_pattern special.falsity p && is_variable (pattern_variable q) && is_local_constant special.falsity body
+    is_constant_pattern special.falsity p && is_variable (pattern_variable q)
+    && is_local_constant special.falsity body
 is_local_false special body _ = false
 
 -- x && y by that distinction
@@ -60,7 +63,8 @@ is_local_case special body _ = false
 abbrev pub are_local_rules : Special → List LocalRule → Bool
 are_local_rules special [] = false
 are_local_rules special (r ∷ []) = is_local_case special r.body r.params
-are_local_rules special (r ∷ s ∷ []) = is_local_true special r.body r.params && is_local_false special s.body s.params
+are_local_rules special (r ∷ s ∷ []) =
+    is_local_true special r.body r.params && is_local_false special s.body s.params
 are_local_rules special (r ∷ s ∷ t ∷ rest) = false
 
 -- the rules of `&&`, or its case distinction
@@ -81,5 +85,6 @@ has_values program (Some c) = builds program c 1
 abbrev pub has_entities : LocalKernel → calculus.Program → Bool
 has_entities kernel program =
     builds program kernel.special.falsity 0 && builds program kernel.special.truth 0
-    && nat_lt kernel.special.falsity.0 kernel.special.truth.0 && has_values program kernel.special.values
+    && nat_lt kernel.special.falsity.0 kernel.special.truth.0
+    && has_values program kernel.special.values
     && is_local_both kernel.special (slice_get kernel.functions kernel.special.both.0)

@@ -21,15 +21,20 @@ bound_in = fold-Scope (ℕ → Bool) one_scope
 
 pub bound_in-Parameters : (xs : Bor (List ℕ)) → bound_in (scope.Parameters xs) ≡ held_by xs.now
 unfolding bound_in
-bound_in-Parameters xs = ap bound_in (sym (scope.rolls-Parameters xs)) ∙ fold-roll-Scope (ℕ → Bool) one_scope (layer.Parameters xs)
+bound_in-Parameters xs = ap bound_in (sym (scope.rolls-Parameters xs)) ∙ fold-roll-Scope (ℕ
+    → Bool) one_scope (layer.Parameters xs)
 
-pub bound_in-With : (x : ℕ) (around : Bor Scope) → bound_in (scope.With x around) ≡ also x (bound_in around.now)
+pub bound_in-With : (x : ℕ) (around : Bor Scope)
+    → bound_in (scope.With x around) ≡ also x (bound_in around.now)
 unfolding bound_in
-bound_in-With x around = ap bound_in (sym (scope.rolls-With x around)) ∙ fold-roll-Scope (ℕ → Bool) one_scope (layer.With x around)
+bound_in-With x around = ap bound_in (sym (scope.rolls-With x around)) ∙ fold-roll-Scope (ℕ
+    → Bool) one_scope (layer.With x around)
 
-pub bound_in-WithAll : (xs : Bor (List ℕ)) (around : Bor Scope) → bound_in (scope.WithAll xs around) ≡ also_all xs.now (bound_in around.now)
+pub bound_in-WithAll : (xs : Bor (List ℕ)) (around : Bor Scope)
+    → bound_in (scope.WithAll xs around) ≡ also_all xs.now (bound_in around.now)
 unfolding bound_in
 bound_in-WithAll xs around =
-    ap bound_in (sym (scope.rolls-WithAll xs around)) ∙ fold-roll-Scope (ℕ → Bool) one_scope (layer.WithAll xs around)
+    ap bound_in (sym (scope.rolls-WithAll xs around)) ∙ fold-roll-Scope (ℕ
+    → Bool) one_scope (layer.WithAll xs around)
 
 pub ruleset bound_variants = (bound_in-Parameters, bound_in-With, bound_in-WithAll)

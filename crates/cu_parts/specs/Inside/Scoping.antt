@@ -17,10 +17,11 @@ arities_fit f = is_arity f.arity && fits_arity f.arity f.body && list_all fits_l
 abbrev pub calls_fit : TopFunction → Bool
 calls_fit f = list_all (rule_passes (local_heads f.locals)) (all_rules f)
 
--- The rules of the function itself don't use a variable that they don't bind, and the local functions that capture it stand where
--- it is bound.
+-- The rules of the function itself don't use a variable that they don't bind, and the local
+-- functions that capture it stand where it is bound.
 pub record VariableFits (f : TopFunction) (v : ℕ) : Type 0 where
-  pub closed : (k : ℕ) (rule : LocalRule) → slice_get (rules_of f.body) k ≡ Some rule → IsFree f.locals v rule.body
+  pub closed : (k : ℕ) (rule : LocalRule) → slice_get (rules_of f.body) k ≡ Some rule
+      → IsFree f.locals v rule.body
       → IsTrue (holds v (all_variables rule.params))
   pub captured : (k : ℕ) → Captures f.locals k v → IsTrue (holds v (outer_binders f k))
 
@@ -35,7 +36,8 @@ fits_capturing v bound captures f = not captures || may_capture v bound f
 -- all that are met may capture the variable
 abbrev pub MayCapture : List LocalFunction → ℕ → Bool → List Bool → Type 0
 MayCapture locals v bound met =
-    (k : ℕ) (f : LocalFunction) → slice_get locals k ≡ Some f → met_at met k ≡ true → may_capture v bound f ≡ true
+    (k : ℕ) (f : LocalFunction) → slice_get locals k ≡ Some f → met_at met k ≡ true
+    → may_capture v bound f ≡ true
 
 -- a set has a variable
 abbrev pub is_key : List ℕ → ℕ → Bool
@@ -53,14 +55,16 @@ AreScoped functions = (k : ℕ) (f : TopFunction) → slice_get functions k ≡ 
 -- of the local functions before a place those that are met may capture the variable
 abbrev pub MayBelow : List LocalFunction → ℕ → Bool → List Bool → ℕ → Type 0
 MayBelow locals v bound met n =
-    (k : ℕ) (f : LocalFunction) → k < n → slice_get locals k ≡ Some f → met_at met k ≡ true → may_capture v bound f ≡ true
+    (k : ℕ) (f : LocalFunction) → k < n → slice_get locals k ≡ Some f → met_at met k ≡ true
+    → may_capture v bound f ≡ true
 
 -- each variable fits, or is left
 abbrev pub FitsOrLeft : TopFunction → List ℕ → Type 0
 FitsOrLeft f keys = (x : ℕ) → VariableFits f x ⊎ (is_key keys x ≡ true)
 
 abbrev pub ScopedBelow : List TopFunction → ℕ → Type 0
-ScopedBelow functions n = (k : ℕ) (f : TopFunction) → k < n → slice_get functions k ≡ Some f → IsScoped f
+ScopedBelow functions n = (k : ℕ) (f : TopFunction) → k < n → slice_get functions k ≡ Some f
+    → IsScoped f
 
 -- the variables so far are distinct, and are those of a set
 pub record Distinct (xs keys : List ℕ) : Type 0 where

@@ -25,11 +25,13 @@ pub record State : Type 0 where
   pub scope : Scope
 
 abbrev pub state_of : Graph → Work → State
-state_of graph work = record { graph = graph; root = work.root; ids = work.ids.items; scope = work.scope.items }
+state_of graph work =
+    record { graph = graph; root = work.root; ids = work.ids.items; scope = work.scope.items }
 
 -- a node is made, and a value that is there already is used
 abbrev pub with_node : Target → State → Node → State
-with_node target.Argument s node = record s { graph = s.graph ++ node ∷ []; ids = s.ids ++ length s.graph ∷ [] }
+with_node target.Argument s node =
+    record s { graph = s.graph ++ node ∷ []; ids = s.ids ++ length s.graph ∷ [] }
 with_node target.Root s node = record s { graph = put s.graph s.root node }
 
 abbrev pub with_value : Target → State → Option ℕ → State
@@ -39,16 +41,20 @@ with_value t s None = with_node t s stuck
 
 -- a free variable is bound
 abbrev pub with_free : State → ℕ → State
-with_free s x = record s { graph = s.graph ++ alone kind.Free ∷ []; scope = s.scope ++ (x, length s.graph) ∷ [] }
+with_free s x =
+    record s
+    { graph = s.graph ++ alone kind.Free ∷ []; scope = s.scope ++ (x, length s.graph) ∷ [] }
 
 -- the last argument is what a variable stands for
 abbrev pub bound_last : ℕ → State → Option ℕ → State
-bound_last x s (Some id) = record s { ids = take (length s.ids - 1) s.ids; scope = s.scope ++ (x, id) ∷ [] }
+bound_last x s (Some id) =
+    record s { ids = take (length s.ids - 1) s.ids; scope = s.scope ++ (x, id) ∷ [] }
 bound_last x s None = s
 
 -- a node is made over the last arguments, so many
 abbrev pub finished : State → Kind → ℕ → Target → State
-finished s k n t = with_node t (record s { ids = take (length s.ids - n) s.ids }) (record { kind = k; args = drop (length s.ids - n) s.ids })
+finished s k n t = with_node t (record s { ids = take (length s.ids - n) s.ids })
+    (record { kind = k; args = drop (length s.ids - n) s.ids })
 
 -- what is done at once where an expression's turn comes
 abbrev pub begun : Target → State → Option Expr → State
@@ -84,13 +90,19 @@ abbrev pub tasks_of : Code → ExprId → Target → Option Expr → List Task
 tasks_of program e t None = []
 tasks_of program e t (Some (code.Variable x)) = []
 tasks_of program e t (Some (code.Literal l)) = []
-tasks_of program e t (Some (code.Whole h arguments)) = node_tasks (map argument arguments) (kind_of_whole program h) (length arguments) t
-tasks_of program e t (Some (code.Part h arguments)) = node_tasks (map argument arguments) (kind.Part h) (length arguments) t
-tasks_of program e t (Some (code.Apply function operand)) = node_tasks (map argument (function ∷ operand ∷ [])) kind.Apply 2 t
-tasks_of program e t (Some (code.Or left right)) = node_tasks (map argument (left ∷ right ∷ [])) kind.Or 2 t
-tasks_of program e t (Some (code.Let x bound body)) = argument bound ∷ task.Bind x ∷ task.Build body t ∷ task.Unbind ∷ []
+tasks_of program e t (Some (code.Whole h arguments)) =
+    node_tasks (map argument arguments) (kind_of_whole program h) (length arguments) t
+tasks_of program e t (Some (code.Part h arguments)) =
+    node_tasks (map argument arguments) (kind.Part h) (length arguments) t
+tasks_of program e t (Some (code.Apply function operand)) =
+    node_tasks (map argument (function ∷ operand ∷ [])) kind.Apply 2 t
+tasks_of program e t (Some (code.Or left right)) =
+    node_tasks (map argument (left ∷ right ∷ [])) kind.Or 2 t
+tasks_of program e t (Some (code.Let x bound body)) =
+    argument bound ∷ task.Bind x ∷ task.Build body t ∷ task.Unbind ∷ []
 tasks_of program e t (Some (code.Free x body)) = task.Build body t ∷ task.Unbind ∷ []
-tasks_of program e t (Some (code.Case mode kept scrutinee branches)) = node_tasks (argument scrutinee ∷ map task.Take kept) (kind.Case mode e.0) (length kept + 1) t
+tasks_of program e t (Some (code.Case mode kept scrutinee branches)) =
+    node_tasks (argument scrutinee ∷ map task.Take kept) (kind.Case mode e.0) (length kept + 1) t
 
 abbrev pub left_by : Code → Task → List Task
 left_by program (task.Build e t) = tasks_of program e t (expr_of program e)
@@ -100,7 +112,9 @@ left_by program _ = []
 
 -- an expression's value in one go
 abbrev pub settled : Target → State → Built → State
-settled target.Argument s built = record s { graph = s.graph ++ pushed built; ids = s.ids ++ place_of (length s.graph) built ∷ [] }
+settled target.Argument s built =
+    record s
+    { graph = s.graph ++ pushed built; ids = s.ids ++ place_of (length s.graph) built ∷ [] }
 settled target.Root s built = record s { graph = written s.graph s.root built }
 
 unfoldable pub done : Code → State → Task → State
@@ -128,7 +142,8 @@ parts_of (Some (code.Case mode kept scrutinee branches)) = scrutinee ∷ []
 -- an expression nests less deep than this
 unfoldable pub nests_within : ℕ → Code → ExprId → Bool
 nests_within zero program e = false
-nests_within (suc depth) program e = list_all (nests_within depth program) (parts_of (expr_of program e))
+nests_within (suc depth) program e =
+    list_all (nests_within depth program) (parts_of (expr_of program e))
 
 -- as deep as the code has expressions at most
 abbrev pub nests : Code → ExprId → Bool
@@ -156,7 +171,9 @@ own_weight _ = 4
 
 unfoldable pub weight_within : ℕ → Code → ExprId → ℕ
 weight_within zero program e = 1
-weight_within (suc depth) program e = own_weight (expr_of program e) + all_weigh (weight_within depth program) (parts_of (expr_of program e))
+weight_within (suc depth) program e =
+    own_weight (expr_of program e) + all_weigh (weight_within depth program)
+    (parts_of (expr_of program e))
 
 abbrev pub task_weight : Code → Task → ℕ
 task_weight program (task.Build e t) = weight_within (length program.expressions) program e
@@ -168,7 +185,8 @@ weight program (t ∷ ts) = task_weight program t + weight program ts
 
 -- ** What holds at each moment
 
-pub record Works (program : Code) (start : State) (first : Task) (s : State) (left : List Task) : Type 0 where
+pub record Works (program : Code) (start : State) (first : Task) (s : State)
+    (left : List Task) : Type 0 where
   pub there : s.root < length s.graph
   pub nest : list_all (task_nests program) left ≡ true
   pub comes : all_done program s left ≡ done program start first

@@ -17,7 +17,8 @@ pub record Work : Type 0 where
   pub unfinished : List Unfinished
 
 abbrev pub work_of : Graph → Pushing → Work
-work_of graph pushing = record { graph = graph; ids = pushing.ids.items; unfinished = reverse pushing.unfinished.items }
+work_of graph pushing =
+    record { graph = graph; ids = pushing.ids.items; unfinished = reverse pushing.unfinished.items }
 
 -- what the node of a cell is
 abbrev pub kind_of_cell : Cell → Kind
@@ -38,13 +39,18 @@ closed graph ids outer = record {
   ids = take (length ids - outer.count) ids;
 }
 
--- One argument more of the innermost node to come, which others may follow. The node is pushed with its last one, and is an
--- argument itself.
+-- One argument more of the innermost node to come, which others may follow. The node is pushed with
+-- its last one, and is an argument itself.
 unfoldable pub given_to : Graph → List ℕ → ℕ → List Unfinished → Work
 given_to graph ids id [] = record { graph = graph; ids = ids ++ id ∷ []; unfinished = [] }
 given_to graph ids id (outer ∷ others) =
     if nat_lt 1 outer.missing
-    then record { graph = graph; ids = ids ++ id ∷ []; unfinished = record { kind = outer.kind; count = outer.count; missing = outer.missing - 1 } ∷ others }
+    then record {
+      graph = graph;
+      ids = ids ++ id ∷ [];
+      unfinished = record { kind = outer.kind; count = outer.count; missing = outer.missing - 1 }
+          ∷ others;
+    }
     else
     let after = closed graph (ids ++ id ∷ []) outer in
     given_to after.graph after.ids (length graph) others
@@ -54,8 +60,14 @@ given work id = given_to work.graph work.ids id work.unfinished
 
 -- a cell more: a node without arguments is pushed, and one with arguments is to come
 abbrev pub fed_by : Work → Kind → ℕ → Work
-fed_by work k zero = given_to (work.graph ++ alone k ∷ []) work.ids (length work.graph) work.unfinished
-fed_by work k (suc n) = record { graph = work.graph; ids = work.ids; unfinished = record { kind = k; count = suc n; missing = suc n } ∷ work.unfinished }
+fed_by work k zero = given_to (work.graph ++ alone k ∷ []) work.ids
+    (length work.graph) work.unfinished
+fed_by work k (suc n) =
+    record {
+      graph = work.graph;
+      ids = work.ids;
+      unfinished = record { kind = k; count = suc n; missing = suc n } ∷ work.unfinished;
+    }
 
 abbrev pub fed : Work → Cell → Work
 fed work c = fed_by work (kind_of_cell c) (arity_of c)

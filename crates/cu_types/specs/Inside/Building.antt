@@ -21,9 +21,11 @@ signature_type (signature.Binary t r) = arrows (simple_type t ∷ simple_type t 
 
 -- the type of a constructor of a data type with so many parameters
 abbrev pub made_type : (ℕ → TypeExpr) → ℕ → ℕ → Constructor → TypeExpr
-made_type body place arity c = arrows (map (expanded_by body) c.fields) (data_type place (variables_from 0 arity))
+made_type body place arity c =
+    arrows (map (expanded_by body) c.fields) (data_type place (variables_from 0 arity))
 
 -- the types of the constructors of the data types from a place on
 abbrev pub made_types : (ℕ → TypeExpr) → ℕ → List DataType → List TypeExpr
 made_types body place [] = []
-made_types body place (t ∷ ts) = map (made_type body place t.arity) t.constructors ++ made_types body (place + 1) ts
+made_types body place (t ∷ ts) = map (made_type body place t.arity) t.constructors
+    ++ made_types body (place + 1) ts

@@ -10,7 +10,8 @@ pub record IsForest (parents ranks : List ℕ) : Type 0 where
   pub ranked : length ranks ≡ length parents
   pub low : (k : ℕ) → k < length ranks → slice_index ranks k < 256
   pub within : (k : ℕ) → k < length parents → slice_index parents k < length parents
-  pub rises : (k : ℕ) → k < length parents → slice_index parents k ≢ k → slice_index ranks k < slice_index ranks (slice_index parents k)
+  pub rises : (k : ℕ) → k < length parents → slice_index parents k ≢ k
+      → slice_index ranks k < slice_index ranks (slice_index parents k)
 
 -- each number below the bound has this representative
 pub record Represents (parents : List ℕ) (class : ℕ → ℕ) : Type 0 where

@@ -35,8 +35,8 @@ abbrev pub Meet : Shape → Shape → Type 0
 Meet (shape.Variable x) t = Unit {0}
 Meet (shape.Applied h ps) t = Takes t h (length ps)
 
--- a shape is that of its class's representative, where a function tells classes apart: a head has its arguments in the same
--- classes, and only a variable has a variable for its representative
+-- a shape is that of its class's representative, where a function tells classes apart: a head has
+-- its arguments in the same classes, and only a variable has a variable for its representative
 abbrev pub IsAlike : (ℕ → ℕ) → Shape → Shape → Type 0
 IsAlike f (shape.Variable x) t = Unit {0}
 IsAlike f (shape.Applied h ps) (shape.Variable y) = ⊥
@@ -57,18 +57,22 @@ AreEqual equations ts i j = MadeEqual equations (at ts i) (at ts j)
 abbrev pub PairIsEqual : List Equation → List TypeExpr → Pair → Type 0
 PairIsEqual equations ts p = AreEqual equations ts p.left p.right
 
--- a function from places to classes agrees with pairs, and with the shapes of what representatives stand for
+-- a function from places to classes agrees with pairs, and with the shapes of what representatives
+-- stand for
 pub record Agrees (ss : List Shape) (given : List Pair) (class f : ℕ → ℕ) : Type 0 where
   pub joins : Each (Joins f) given
-  pub alike : (k : ℕ) (s t : Shape) → slice_get ss k ≡ Some s → slice_get ss (class k) ≡ Some t → IsAlike f s t
+  pub alike : (k : ℕ) (s t : Shape) → slice_get ss k ≡ Some s → slice_get ss (class k) ≡ Some t
+      → IsAlike f s t
 
 -- Some pairs are still to be joined. Classes that agree with these agree with all.
-pub record IsClosing (equations : List Equation) (ss : List Shape) (given pending : List Pair) (parents : List ℕ)
+pub record IsClosing (equations : List Equation) (ss : List Shape) (given pending : List Pair)
+    (parents : List ℕ)
     (class : ℕ → ℕ) : Type 0 where
   pub represents : Represents parents class
   pub sound : (k : ℕ) → k < length ss → AreEqual equations (shape.trees ss) k (class k)
   pub pending_sound : Each (PairIsEqual equations (shape.trees ss)) pending
-  pub complete : (f : ℕ → ℕ) → ((k : ℕ) → k < length ss → f (class k) ≡ f k) → Each (Joins f) pending → Agrees ss given class f
+  pub complete : (f : ℕ → ℕ) → ((k : ℕ) → k < length ss → f (class k) ≡ f k)
+      → Each (Joins f) pending → Agrees ss given class f
 
 -- what is left to do of the places that a test passes, one step and one more for each argument
 abbrev pub weight : Shape → ℕ
@@ -82,42 +86,52 @@ owed flags (s ∷ ss) = cond (flags 0) (weight s) 0 + owed (λ k. flags (suc k))
 pub record IsApart (equations : List Equation) (ss : List Shape) (p : Pair) : Type 0 where
   pub within : IsWithin (length ss) p
   pub equal : PairIsEqual equations (shape.trees ss) p
-  pub apart : (s t : Shape) → slice_get ss p.left ≡ Some s → slice_get ss p.right ≡ Some t → Meet s t → ⊥
+  pub apart : (s t : Shape) → slice_get ss p.left ≡ Some s → slice_get ss p.right ≡ Some t
+      → Meet s t → ⊥
 
 -- classes that agree with all
-pub record IsClosed (equations : List Equation) (ss : List Shape) (given : List Pair) (classes : List ℕ) : Type 0 where
+pub record IsClosed (equations : List Equation) (ss : List Shape) (given : List Pair)
+    (classes : List ℕ) : Type 0 where
   pub sized : length classes ≡ length ss
   pub within : (k : ℕ) → k < length ss → slice_index classes k < length ss
-  pub fixed : (k : ℕ) → k < length ss → slice_index classes (slice_index classes k) ≡ slice_index classes k
-  pub sound : (k : ℕ) → k < length ss → AreEqual equations (shape.trees ss) k (slice_index classes k)
+  pub fixed : (k : ℕ) → k < length ss → slice_index classes (slice_index classes k)
+      ≡ slice_index classes k
+  pub sound : (k : ℕ) → k < length ss
+      → AreEqual equations (shape.trees ss) k (slice_index classes k)
   pub joins : Each (Joins (slice_index classes)) given
-  pub alike : (k : ℕ) (s t : Shape) → slice_get ss k ≡ Some s → slice_get ss (slice_index classes k) ≡ Some t
+  pub alike : (k : ℕ) (s t : Shape) → slice_get ss k ≡ Some s
+      → slice_get ss (slice_index classes k) ≡ Some t
       → IsAlike (slice_index classes) s t
 
 -- the one of a pair that may be put under the other comes first
 abbrev pub IsOriented : Pair → Shape → Shape → Pair → Type 0
 IsOriented p s t q =
     ((q ≡ p) × (is_variable t ≡ true → is_variable s ≡ true))
-    ⊎ ((q ≡ record { left = p.right; right = p.left }) × (is_variable s ≡ true → is_variable t ≡ true))
+    ⊎ ((q ≡ record { left = p.right; right = p.left })
+    × (is_variable s ≡ true → is_variable t ≡ true))
 
 -- what is left to do, with the pairs that are pending
 abbrev pub debt : List Shape → List Pair → List ℕ → ℕ
 debt ss pending parents = length pending + owed (is_root parents) ss
 
 -- a representative was put under another
-pub record Unites (s t : Shape) (p : Pair) (before : List Pair) (parents : List ℕ) (after : List Pair) (then : List ℕ) : Type 0 where
+pub record Unites (s t : Shape) (p : Pair) (before : List Pair) (parents : List ℕ)
+    (after : List Pair) (then : List ℕ) : Type 0 where
   pub pushed : after ≡ before ++ paired (places s) (places t)
   pub roots : (k : ℕ) → is_root then k ≡ cond (nat_eq k p.left) false (is_root parents k)
-  pub class : (class : ℕ → ℕ) → Represents parents class → Represents then (joined p.left p.right class)
+  pub class : (class : ℕ → ℕ) → Represents parents class → Represents
+      then (joined p.left p.right class)
 
 -- what joining the classes of a pair leaves
-pub record Joined (ss : List Shape) (p : Pair) (before : List Pair) (parents : List ℕ) (after : List Pair) (then : List ℕ)
+pub record Joined (ss : List Shape) (p : Pair) (before : List Pair) (parents : List ℕ)
+    (after : List Pair) (then : List ℕ)
     (found : Option Pair) : Type 0 where
   pub within : Each (IsWithin (length ss)) after
   pub nearer : debt ss after then ≤ debt ss before parents
   pub closing : (equations : List Equation) (given : List Pair) (class : ℕ → ℕ)
       → IsClosing equations ss given (before ++ p ∷ []) parents class
-      → MatchOption found ((class : ℕ → ℕ) × IsClosing equations ss given after then class) (IsApart equations ss)
+      → MatchOption found ((class : ℕ → ℕ) × IsClosing equations ss given after
+      then class) (IsApart equations ss)
 
 -- classes that agree with all pairs, or two places whose types are apart
 abbrev pub ClosesOr : List Equation → List Shape → List Pair → Outcome → Type 0

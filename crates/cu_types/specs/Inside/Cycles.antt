@@ -27,14 +27,17 @@ put_in classes used place a = cond (nat_eq (class_of classes a) used) place a
 
 abbrev pub wrapped : List ℕ → ℕ → ℕ → Shape → Shape
 wrapped classes used place (shape.Variable x) = shape.Variable x
-wrapped classes used place (shape.Applied h ps) = shape.Applied h (map (put_in classes used place) ps)
+wrapped classes used place (shape.Applied h ps) =
+    shape.Applied h (map (put_in classes used place) ps)
 
 -- classes are those that the equations make
 abbrev pub AreSound : List Equation → List Shape → List ℕ → Type 0
-AreSound equations ss classes = (k : ℕ) → k < length ss → AreEqual equations (trees ss) k (class_of classes k)
+AreSound equations ss classes = (k : ℕ) → k < length ss
+    → AreEqual equations (trees ss) k (class_of classes k)
 
 -- a type of a class that is used, with the first type inside it
-pub record IsUnfolding (ss : List Shape) (classes : List ℕ) (first : ℕ) (now : List Shape) (tasks : List Task) (used place : ℕ) : Type 0 where
+pub record IsUnfolding (ss : List Shape) (classes : List ℕ) (first : ℕ) (now : List Shape)
+    (tasks : List Task) (used place : ℕ) : Type 0 where
   pub more : List Shape
   pub extends : now ≡ ss ++ more
   pub table : IsTable now
@@ -43,14 +46,19 @@ pub record IsUnfolding (ss : List Shape) (classes : List ℕ) (first : ℕ) (now
   pub leaves : Leaves (class_of classes first) tasks
   pub linked : AreLinked ss classes tasks
   pub under : IsUnder ss classes used tasks
-  pub equal : (equations : List Equation) → AreSound equations ss classes → AreEqual equations (trees now) place used
-  pub larger : (σ : Substitution) → size (apply σ (at (trees now) first)) ≤ size (apply σ (at (trees now) place))
+  pub equal : (equations : List Equation) → AreSound equations ss classes
+      → AreEqual equations (trees now) place used
+  pub larger : (σ : Substitution) → size (apply σ (at (trees now) first))
+      ≤ size (apply σ (at (trees now) place))
 
 -- a type that is made equal to the first one, which stands inside it
-pub record Unfolds (ss : List Shape) (classes : List ℕ) (first : ℕ) (now : List Shape) (place : ℕ) : Type 0 where
+pub record Unfolds (ss : List Shape) (classes : List ℕ) (first : ℕ) (now : List Shape)
+    (place : ℕ) : Type 0 where
   pub more : List Shape
   pub extends : now ≡ ss ++ more
   pub table : IsTable now
   pub within : place < length now
-  pub equal : (equations : List Equation) → AreSound equations ss classes → AreEqual equations (trees now) first place
-  pub larger : (σ : Substitution) → size (apply σ (at (trees now) first)) < size (apply σ (at (trees now) place))
+  pub equal : (equations : List Equation) → AreSound equations ss classes
+      → AreEqual equations (trees now) first place
+  pub larger : (σ : Substitution) → size (apply σ (at (trees now) first))
+      < size (apply σ (at (trees now) place))

@@ -1,4 +1,5 @@
--- What is known of functions while the types of a group are inferred: before, while its equations are solved, and after.
+-- What is known of functions while the types of a group are inferred: before, while its equations
+-- are solved, and after.
 use Rattle.std.specs.Prelude.{◌≡◌, ℕ, ◌+◌, ◌<◌, List, [], ◌∷◌, Option, None, Some, length, map, slice_get, slice_index_or, slice_set}
 use Rattle.cu_calculus.specs.declared.ConId.{ConId}
 use Rattle.cu_calculus.specs.declared.FunId.{FunId}
@@ -44,7 +45,8 @@ known_assumptions kernel constructors ks values = record {
 
 -- a member, without what the program says of its function
 abbrev pub plain_member : asked.Member → Member
-plain_member m = record { arity = m.arity; captured = m.captured; declared = m.declared; first = m.first }
+plain_member m =
+    record { arity = m.arity; captured = m.captured; declared = m.declared; first = m.first }
 
 -- the functions of a group become its members, with type variables from a number on
 abbrev pub entered : Kernel → ℕ → List FunId → List Known → List Known
@@ -105,11 +107,14 @@ pub record IsLeft (kernel : Kernel) (before after : List Known) (group : List Fu
 
 abbrev pub Outcomes : Kernel → List Known → List Known → List FunId → Outcome → Type 0
 Outcomes kernel before after group outcome.Typed = IsLeft kernel before after group
-Outcomes kernel before after group (outcome.Clash c) = Clashes (equations kernel (map kept_type before) group) c
-Outcomes kernel before after group outcome.Broken = BreaksSignature kernel (map kept_type before) group
+Outcomes kernel before after group (outcome.Clash c) =
+    Clashes (equations kernel (map kept_type before) group) c
+Outcomes kernel before after group outcome.Broken =
+    BreaksSignature kernel (map kept_type before) group
 
 -- what comes of a solution
-abbrev pub Settled : List asked.Member → Substitution → List FunId → List Known → List Known → Outcome → Type 0
+abbrev pub Settled : List asked.Member → Substitution → List FunId → List Known → List Known
+    → Outcome → Type 0
 Settled ms σ group before after outcome.Typed = KeepsDeclared σ ms × (after ≡ left σ group before)
 Settled ms σ group before after (outcome.Clash c) = ⊥
 Settled ms σ group before after outcome.Broken = KeepsDeclared σ ms → ⊥
@@ -117,7 +122,8 @@ Settled ms σ group before after outcome.Broken = KeepsDeclared σ ms → ⊥
 -- ---- groups one after another
 
 -- what is known before a group
-pub record IsKnown (kernel : Kernel) (groups : List (List FunId)) (place : ℕ) (ks : List Known) : Type 0 where
+pub record IsKnown (kernel : Kernel) (groups : List (List FunId)) (place : ℕ)
+    (ks : List Known) : Type 0 where
   pub sized : length ks ≡ length kernel.functions
   pub none : HasNoMembers ks
   pub typed : (k : ℕ) (other : List FunId) → k < place → slice_get groups k ≡ Some other

@@ -21,9 +21,11 @@ use Rattle.cu_types.specs.declared.node.TypeHead.TheVariants as head
 -- why a group has no types
 abbrev pub Fails : Kernel → List Known → List FunId → TypeFault → Type 0
 Fails kernel before group (fault.TypeClash f c) =
-    (others : List FunId) × (group ≡ f ∷ others) × Clashes (equations kernel (map kept_type before) group) c
+    (others : List FunId) × (group ≡ f ∷ others)
+    × Clashes (equations kernel (map kept_type before) group) c
 Fails kernel before group (fault.Signature f) =
-    (others : List FunId) × (group ≡ f ∷ others) × BreaksSignature kernel (map kept_type before) group
+    (others : List FunId) × (group ≡ f ∷ others)
+    × BreaksSignature kernel (map kept_type before) group
 Fails kernel before group fault.GoalFunctional = ⊥
 Fails kernel before group fault.NoMemory = ⊥
 

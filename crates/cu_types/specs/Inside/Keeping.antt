@@ -63,11 +63,12 @@ shape_meets f ys (shape.Applied h ps) = list_any f ps
 abbrev pub some_meets : Substitution → List ℕ → List ℕ → Bool
 some_meets σ ys xs = list_any (λ x. meets ys (σ x)) xs
 
--- The variables of a group's declared types so far, with those of one more member: all become variables, none of
--- which stands in the type of what the member captured, and none comes twice.
+-- The variables of a group's declared types so far, with those of one more member: all become
+-- variables, none of which stands in the type of what the member captured, and none comes twice.
 abbrev pub joined_if : Substitution → List ℕ → ℕ → ℕ → Option (List ℕ) → Option (List ℕ)
 joined_if σ ks first captured None = None
-joined_if σ ks first captured (Some ys) = cond (some_meets σ ys (numbers_from first captured)) None (joined ks ys)
+joined_if σ ks first captured (Some ys) =
+    cond (some_meets σ ys (numbers_from first captured)) None (joined ks ys)
 
 abbrev pub with_declared : Substitution → List ℕ → ℕ → ℕ → ℕ → Option TypeExpr → Option (List ℕ)
 with_declared σ ks first arity captured None = Some ks
@@ -91,7 +92,8 @@ Told true ks o = o ≡ Some ks
 Told false ks o = o ≡ None
 
 -- the members behind those so far come to the whole
-pub record IsPending (kernel : Kernel) (known : List Known) (σ : Substitution) (ks : List ℕ) (fs : List FunId)
+pub record IsPending (kernel : Kernel) (known : List Known) (σ : Substitution) (ks : List ℕ)
+    (fs : List FunId)
     (whole : Option (List ℕ)) : Type 0 where
   pub rest : List Member
   pub are : AreMembers kernel known fs rest

@@ -17,11 +17,13 @@ use Rattle.cu_types.specs.declared.known.Signing.{Signing}
 -- the type that a head's scheme stands for
 abbrev pub scheme_of : code.Scheme → Scheme
 scheme_of scheme.Unknown = asked.Polymorphic [] (type.Variable 0)
-scheme_of (scheme.Monomorphic first arity) = asked.Monomorphic (arrows (variables_from first arity) (type.Variable (first + arity)))
+scheme_of (scheme.Monomorphic first arity) =
+    asked.Monomorphic (arrows (variables_from first arity) (type.Variable (first + arity)))
 scheme_of (scheme.Polymorphic first count t) = asked.Polymorphic (variables_from first count) t.now
 
 abbrev pub member_scheme : Member → Option TypeExpr → Scheme
-member_scheme m None = asked.Monomorphic (arrows (variables_from m.first m.arity) (type.Variable (m.first + m.arity)))
+member_scheme m None =
+    asked.Monomorphic (arrows (variables_from m.first m.arity) (type.Variable (m.first + m.arity)))
 member_scheme m (Some t) = asked.Polymorphic (take m.captured (variables_from m.first m.arity)) t
 
 abbrev pub scheme_known : Option Known → Scheme
@@ -68,6 +70,7 @@ IsMember kernel _ f m = ⊥
 -- all functions of a group are known as its members
 abbrev pub AreMembers : Kernel → List Known → List FunId → List asked.Member → Type 0
 AreMembers kernel ks [] [] = Unit {0}
-AreMembers kernel ks (f ∷ fs) (m ∷ ms) = IsMember kernel (slice_get ks f.0) f m × AreMembers kernel ks fs ms
+AreMembers kernel ks (f ∷ fs) (m ∷ ms) = IsMember kernel (slice_get ks f.0) f m
+    × AreMembers kernel ks fs ms
 AreMembers kernel ks [] (m ∷ ms) = ⊥
 AreMembers kernel ks (f ∷ fs) [] = ⊥

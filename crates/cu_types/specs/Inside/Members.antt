@@ -19,12 +19,14 @@ abbrev pub rule_between : Assumptions → Environment → ℕ → ℕ → Rule �
 rule_between assumptions env first right rule asked =
     let inner = bind_from env asked.next (all_variables rule.params) in
     term_asks assumptions inner right rule.body
-    (patterns_ask assumptions inner first rule.params (taking (length (all_variables rule.params)) asked))
+    (patterns_ask assumptions inner first rule.params
+    (taking (length (all_variables rule.params)) asked))
 
 abbrev pub rules_between : Assumptions → Environment → ℕ → ℕ → List Rule → Asked → Asked
 rules_between assumptions env first right [] asked = asked
 rules_between assumptions env first right (rule ∷ rules) asked =
-    rules_between assumptions env first right rules (rule_between assumptions env first right rule asked)
+    rules_between assumptions env first right rules
+    (rule_between assumptions env first right rule asked)
 
 -- what a function with so many parameters computes
 abbrev pub body_between : Kernel → Assumptions → Environment → ℕ → ℕ → Body → Asked → Asked
@@ -38,7 +40,8 @@ body_between kernel assumptions env first arity (calculus.External operation) as
 abbrev pub declared_asks : Member → Option TypeExpr → Asked → Asked
 declared_asks m None asked = asked
 declared_asks m (Some t) asked =
-    asking (arrows (drop m.captured (variables_from m.first m.arity)) (type.Variable (m.first + m.arity)))
+    asking (arrows (drop m.captured (variables_from m.first m.arity))
+    (type.Variable (m.first + m.arity)))
     (renamed (m.first + m.arity + 1) t) asked
 
 abbrev pub member_asks : Kernel → Assumptions → Environment → Body → Member → Asked → Asked
@@ -50,12 +53,14 @@ abbrev pub known_asks : Kernel → Assumptions → Environment → Body → Opti
 known_asks kernel assumptions env body None asked = asked
 known_asks kernel assumptions env body (Some known.Nothing) asked = asked
 known_asks kernel assumptions env body (Some (known.Typed t)) asked = asked
-known_asks kernel assumptions env body (Some (known.Member m)) asked = member_asks kernel assumptions env body m asked
+known_asks kernel assumptions env body (Some (known.Member m)) asked =
+    member_asks kernel assumptions env body m asked
 
 -- a function of the program
 abbrev pub function_asks : Kernel → Assumptions → Environment → List Known → FunId → Asked → Asked
 function_asks kernel assumptions env ks f asked =
-    known_asks kernel assumptions env (function_body (slice_get kernel.functions f.0)) (slice_get ks f.0) asked
+    known_asks kernel assumptions env (function_body (slice_get kernel.functions f.0))
+    (slice_get ks f.0) asked
 
 abbrev pub group_asks : Kernel → Assumptions → Environment → List Known → List FunId → Asked → Asked
 group_asks kernel assumptions env ks [] asked = asked

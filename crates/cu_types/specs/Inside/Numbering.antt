@@ -1,4 +1,5 @@
--- Numbering the variables of a type: a walk with a stack of its own, in which each type of a table is made once.
+-- Numbering the variables of a type: a walk with a stack of its own, in which each type of a table
+-- is made once.
 use Rattle.std.specs.Prelude.{◌≡◌, ℕ, ◌+◌, ◌*◌, ◌<◌, ◌++◌, List, [], ◌∷◌, Option, Some, IsTrue, cond, drop, length, map, nat_eq, slice_get, take, ◌-◌}
 use Rattle.indexmap.specs.IndexMap.{get}
 use Rattle.cu_calculus.specs.Valid.{holds}
@@ -20,13 +21,14 @@ pending ts [] = []
 pending ts (task.Enter p ∷ tasks) = variables_in (at ts p) ++ pending ts tasks
 pending ts (task.Leave p ∷ tasks) = pending ts tasks
 
--- Once the tasks are done, the type at one place was made, and no other: to enter a place is to make its type, and to leave one
--- is to make its type of those that were made last.
+-- Once the tasks are done, the type at one place was made, and no other: to enter a place is to
+-- make its type, and to leave one is to make its type of those that were made last.
 abbrev pub Makes : List Shape → ℕ → List Task → List ℕ → Type 0
 Makes ss root [] stack = stack ≡ root ∷ []
 Makes ss root (task.Enter p ∷ tasks) stack = Makes ss root tasks (stack ++ p ∷ [])
 Makes ss root (task.Leave p ∷ tasks) stack =
-    (head : TypeHead) × (arguments : List ℕ) × (rest : List ℕ) × (slice_get ss p ≡ Some (shape.Applied head arguments))
+    (head : TypeHead) × (arguments : List ℕ) × (rest : List ℕ)
+    × (slice_get ss p ≡ Some (shape.Applied head arguments))
     × (stack ≡ rest ++ arguments) × Makes ss root tasks (rest ++ p ∷ [])
 
 -- the tasks are at places of the table
@@ -41,7 +43,8 @@ AreNoted ks [] = Unit {0}
 AreNoted ks (v ∷ vs) = IsTrue (holds v ks) × AreNoted ks vs
 
 -- a type was made with its variables numbered
-pub record IsMade (ts : List TypeExpr) (final ks : List ℕ) (made : List Shape) (p m : ℕ) : Type 0 where
+pub record IsMade (ts : List TypeExpr) (final ks : List ℕ) (made : List Shape)
+    (p m : ℕ) : Type 0 where
   pub within : m < length made
   pub value : at (trees made) m ≡ apply (by_place final) (at ts p)
   pub numbers : AreNoted ks (variables_in (at ts p))
@@ -53,7 +56,8 @@ AllMade P (p ∷ ps) [] = ⊥
 AllMade P (p ∷ ps) (m ∷ ms) = P p m × AllMade P ps ms
 
 -- once the tasks are done, the type at the root is made, with the final numbers
-pub record IsNumbering (ss : List Shape) (root : ℕ) (final : List ℕ) (find : ℕ → Option ℕ) (made : List Shape)
+pub record IsNumbering (ss : List Shape) (root : ℕ) (final : List ℕ) (find : ℕ → Option ℕ)
+    (made : List Shape)
     (known : ℕ → Option ℕ) (ks places : List ℕ) (tasks : List Task) : Type 0 where
   pub variables : HasVariables find made
   pub keys : all_noted ks (pending (trees ss) tasks) ≡ final
@@ -65,7 +69,8 @@ pub record IsNumbering (ss : List Shape) (root : ℕ) (final : List ℕ) (find :
 
 abbrev pub Goes : List Shape → ℕ → List ℕ → Numbering → List Task → Type 0
 Goes ss root final n tasks =
-    IsNumbering ss root final (get nat_eq n.made.variables) (shapes n.made) (get nat_eq n.known) n.variables.keys n.places.items tasks
+    IsNumbering ss root final (get nat_eq n.made.variables) (shapes n.made)
+    (get nat_eq n.known) n.variables.keys n.places.items tasks
 
 -- to enter a type is to enter and to leave each type in it
 abbrev pub effort : List TypeExpr → Task → ℕ
@@ -77,7 +82,8 @@ efforts ts [] = 0
 efforts ts (t ∷ tasks) = effort ts t + efforts ts tasks
 
 -- what a task leaves
-pub record Proceeds (ss : List Shape) (root : ℕ) (final : List ℕ) (n : Numbering) (was tasks : List Task) : Type 0 where
+pub record Proceeds (ss : List Shape) (root : ℕ) (final : List ℕ) (n : Numbering)
+    (was tasks : List Task) : Type 0 where
   pub goes : Goes ss root final n tasks
   pub nearer : efforts (trees ss) tasks < efforts (trees ss) was
 
@@ -91,6 +97,8 @@ pub record Pushes (before after : Numbering) (front : List ℕ) (t : TypeExpr) :
 -- the type at a place was made of the types that were made last, so many
 pub record Joins (before after : Numbering) (p : ℕ) (h : TypeHead) (count : ℕ) : Type 0 where
   pub pushes : Pushes before after (take (length before.places.items - count) before.places.items)
-      (built h (map (at (trees (shapes before.made))) (drop (length before.places.items - count) before.places.items)))
-  pub known : (q : ℕ) → get nat_eq after.known q ≡ cond (nat_eq p q) (Some pushes.place) (get nat_eq before.known q)
+      (built h (map (at (trees (shapes before.made)))
+      (drop (length before.places.items - count) before.places.items)))
+  pub known : (q : ℕ) → get nat_eq after.known q
+      ≡ cond (nat_eq p q) (Some pushes.place) (get nat_eq before.known q)
   pub keys : after.variables.keys ≡ before.variables.keys

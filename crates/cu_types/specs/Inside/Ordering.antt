@@ -1,4 +1,5 @@
--- The classes of a table in an order in which each stands behind the classes of its arguments: a walk in depth.
+-- The classes of a table in an order in which each stands behind the classes of its arguments: a
+-- walk in depth.
 use Rattle.std.specs.Prelude.{◌≡◌, ℕ, ◌+◌, ◌<◌, ◌≤◌, ◌⊎◌, Bool, true, false, List, [], ◌∷◌, Option, Some, MatchOption, length, map, reverse, slice_get, slice_index, slice_index_or}
 use Rattle.cu_kernel.specs.TypeExpr.{TypeExpr}
 use Rattle.cu_types.specs.Inside.Closing.{owed}
@@ -36,7 +37,8 @@ class_of classes k = slice_index classes k
 -- a shape whose arguments are told by where their classes were placed
 abbrev pub placed_shape : List State → List ℕ → Shape → Shape
 placed_shape states classes (shape.Variable x) = shape.Variable x
-placed_shape states classes (shape.Applied h ps) = shape.Applied h (map (λ a. place_of (state_of states (class_of classes a))) ps)
+placed_shape states classes (shape.Applied h ps) =
+    shape.Applied h (map (λ a. place_of (state_of states (class_of classes a))) ps)
 
 -- a class has an argument of another class
 pub record Uses (ss : List Shape) (classes : List ℕ) (user used : ℕ) : Type 0 where
@@ -49,14 +51,17 @@ pub record Uses (ss : List Shape) (classes : List ℕ) (user used : ℕ) : Type 
 
 -- all arguments of a class pass a test of classes
 abbrev pub AllArguments : List Shape → List ℕ → ℕ → (ℕ → Type 0) → Type 0
-AllArguments ss classes r P = (s : Shape) (k a : ℕ) → slice_get ss r ≡ Some s → slice_get (places s) k ≡ Some a → P (class_of classes a)
+AllArguments ss classes r P = (s : Shape) (k a : ℕ) → slice_get ss r ≡ Some s
+    → slice_get (places s) k ≡ Some a → P (class_of classes a)
 
--- Once the tasks are done, in their order, all classes are placed, and each class after its arguments: to enter a place is to
--- place its class, and so is to leave a class.
+-- Once the tasks are done, in their order, all classes are placed, and each class after its
+-- arguments: to enter a place is to place its class, and so is to leave a class.
 abbrev pub Promises : List Shape → List ℕ → (ℕ → Type 0) → List Task → Type 0
 Promises ss classes P [] = (k : ℕ) → k < length ss → P (class_of classes k)
-Promises ss classes P (task.Enter i ∷ tasks) = Promises ss classes (λ c. P c ⊎ (c ≡ class_of classes i)) tasks
-Promises ss classes P (task.Leave r ∷ tasks) = AllArguments ss classes r P × Promises ss classes (λ c. P c ⊎ (c ≡ r)) tasks
+Promises ss classes P (task.Enter i ∷ tasks) =
+    Promises ss classes (λ c. P c ⊎ (c ≡ class_of classes i)) tasks
+Promises ss classes P (task.Leave r ∷ tasks) =
+    AllArguments ss classes r P × Promises ss classes (λ c. P c ⊎ (c ≡ r)) tasks
 
 -- a class is to be left
 abbrev pub Leaves : ℕ → List Task → Type 0
@@ -73,14 +78,17 @@ IsUnder ss classes c (task.Leave r ∷ tasks) = Uses ss classes r c
 -- each task stands under the class that asked for it
 abbrev pub AreLinked : List Shape → List ℕ → List Task → Type 0
 AreLinked ss classes [] = Unit {0}
-AreLinked ss classes (task.Enter i ∷ tasks) = (i < length ss) × IsUnder ss classes (class_of classes i) tasks × AreLinked ss classes tasks
-AreLinked ss classes (task.Leave r ∷ tasks) = (r < length ss) × IsUnder ss classes r tasks × AreLinked ss classes tasks
+AreLinked ss classes (task.Enter i ∷ tasks) =
+    (i < length ss) × IsUnder ss classes (class_of classes i) tasks × AreLinked ss classes tasks
+AreLinked ss classes (task.Leave r ∷ tasks) =
+    (r < length ss) × IsUnder ss classes r tasks × AreLinked ss classes tasks
 
 -- the classes that are to be left are open, each once
 abbrev pub AreOpen : List State → List Task → Type 0
 AreOpen states [] = Unit {0}
 AreOpen states (task.Enter i ∷ tasks) = AreOpen states tasks
-AreOpen states (task.Leave r ∷ tasks) = (state_of states r ≡ state.Open) × (Leaves r tasks → ⊥) × AreOpen states tasks
+AreOpen states (task.Leave r ∷ tasks) = (state_of states r ≡ state.Open) × (Leaves r tasks → ⊥)
+    × AreOpen states tasks
 
 -- the type of a class that was placed
 abbrev pub value_of : List Shape → List State → ℕ → TypeExpr
@@ -88,24 +96,30 @@ value_of solved states c = at (trees solved) (place_of (state_of states c))
 
 -- a substitution makes each type the same as that of its class's representative
 abbrev pub Respects : List Shape → List ℕ → Substitution → Type 0
-Respects ss classes τ = (k : ℕ) → k < length ss → apply τ (at (trees ss) k) ≡ apply τ (at (trees ss) (class_of classes k))
+Respects ss classes τ = (k : ℕ) → k < length ss → apply τ (at (trees ss) k)
+    ≡ apply τ (at (trees ss) (class_of classes k))
 
--- A class was placed: its type is that of its shape over the types of its arguments' classes, and nothing but what each
--- substitution that respects the classes makes the same.
-pub record IsFixed (ss : List Shape) (classes : List ℕ) (states : List State) (solved : List Shape) (c p : ℕ) (s : Shape) : Type 0 where
+-- A class was placed: its type is that of its shape over the types of its arguments' classes, and
+-- nothing but what each substitution that respects the classes makes the same.
+pub record IsFixed (ss : List Shape) (classes : List ℕ) (states : List State) (solved : List Shape)
+    (c p : ℕ) (s : Shape) : Type 0 where
   pub within : p < length solved
-  pub arguments : (k a : ℕ) → slice_get (places s) k ≡ Some a → IsPlaced (state_of states (class_of classes a))
+  pub arguments : (k a : ℕ) → slice_get (places s) k ≡ Some a
+      → IsPlaced (state_of states (class_of classes a))
   pub value : at (trees solved) p ≡ tree_over (λ a. value_of solved states (class_of classes a)) s
-  pub general : (τ : Substitution) → Respects ss classes τ → apply τ (at (trees solved) p) ≡ apply τ (at (trees ss) c)
+  pub general : (τ : Substitution) → Respects ss classes τ
+      → apply τ (at (trees solved) p) ≡ apply τ (at (trees ss) c)
 
-pub record AreFixed (ss : List Shape) (classes : List ℕ) (states : List State) (solved : List Shape) : Type 0 where
+pub record AreFixed (ss : List Shape) (classes : List ℕ) (states : List State)
+    (solved : List Shape) : Type 0 where
   pub sized : length states ≡ length ss
   pub table : IsTable solved
   pub fixed : (c p : ℕ) (s : Shape) → slice_get ss c ≡ Some s → state_of states c ≡ state.Placed p
       → IsFixed ss classes states solved c p s
 
 -- the walk, with the tasks that are left, the next one first
-pub record IsWalk (ss : List Shape) (classes : List ℕ) (states : List State) (solved : List Shape) (tasks : List Task) : Type 0 where
+pub record IsWalk (ss : List Shape) (classes : List ℕ) (states : List State) (solved : List Shape)
+    (tasks : List Task) : Type 0 where
   pub placed : AreFixed ss classes states solved
   pub promises : Promises ss classes (λ c. IsPlaced (state_of states c)) tasks
   pub linked : AreLinked ss classes tasks
@@ -128,7 +142,9 @@ pub record IsCyclic (ss : List Shape) (classes : List ℕ) (tasks : List Task) (
   pub linked : AreLinked ss classes tasks
 
 -- what a task leaves, or the place that it found; tasks as they are kept, the next one last
-pub record Steps (ss : List Shape) (classes : List ℕ) (states : List State) (tasks : List Task) (then : List State)
+pub record Steps (ss : List Shape) (classes : List ℕ) (states : List State) (tasks : List Task)
+    (then : List State)
     (solved : List Shape) (after : List Task) (found : Option ℕ) : Type 0 where
   pub nearer : left_over ss then after ≤ left_over ss states tasks
-  pub walk : MatchOption found (IsWalk ss classes then solved (reverse after)) (IsCyclic ss classes (reverse after))
+  pub walk : MatchOption found (IsWalk ss classes
+      then solved (reverse after)) (IsCyclic ss classes (reverse after))

@@ -43,7 +43,8 @@ Stand ss [] [] = Unit {0}
 Stand ss [] (e ∷ es) = ⊥
 Stand ss (p ∷ ps) [] = ⊥
 Stand ss (p ∷ ps) (e ∷ es) =
-    (p.left < length ss) × (p.right < length ss) × (at (trees ss) p.left ≡ e.left) × (at (trees ss) p.right ≡ e.right) × Stand ss ps es
+    (p.left < length ss) × (p.right < length ss) × (at (trees ss) p.left ≡ e.left)
+    × (at (trees ss) p.right ≡ e.right) × Stand ss ps es
 
 -- what a variable becomes that stands at a place of a table, or nowhere
 abbrev pub bound_at : List ℕ → List Shape → ℕ → Option ℕ → TypeExpr

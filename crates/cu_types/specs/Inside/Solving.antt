@@ -24,15 +24,19 @@ pub record IsArranged (ss : List Shape) (classes found : List ℕ) (made : List 
   pub sized : length found ≡ length ss
   pub fixed : AreFixed ss classes states made
   pub placed : (k : ℕ) → k < length ss → IsPlaced (state_of states (class_of classes k))
-  pub stands : (k : ℕ) → k < length ss → slice_index found k ≡ place_of (state_of states (class_of classes k))
+  pub stands : (k : ℕ) → k < length ss → slice_index found k
+      ≡ place_of (state_of states (class_of classes k))
 
 abbrev pub ArrangesOr : List Shape → List ℕ → Solved → Type 0
-ArrangesOr ss classes (solved.Solution found nodes) = IsArranged ss classes found.items (map shape_of nodes.items)
-ArrangesOr ss classes (solved.Clash nodes p) = (p.left < length ss) × Unfolds ss classes p.left (map shape_of nodes.items) p.right
+ArrangesOr ss classes (solved.Solution found nodes) =
+    IsArranged ss classes found.items (map shape_of nodes.items)
+ArrangesOr ss classes (solved.Clash nodes p) =
+    (p.left < length ss) × Unfolds ss classes p.left (map shape_of nodes.items) p.right
 
--- For each type what it becomes: pairs become the same, a head has what its arguments become, and each solution makes the same
--- of a type and of what it becomes.
-pub record IsSolution (equations : List Equation) (ss : List Shape) (given : List Pair) (found : List ℕ) (made : List Shape) : Type 0 where
+-- For each type what it becomes: pairs become the same, a head has what its arguments become, and
+-- each solution makes the same of a type and of what it becomes.
+pub record IsSolution (equations : List Equation) (ss : List Shape) (given : List Pair)
+    (found : List ℕ) (made : List Shape) : Type 0 where
   pub sized : length found ≡ length ss
   pub table : IsTable made
   pub within : (k : ℕ) → k < length ss → slice_index found k < length made
@@ -49,5 +53,7 @@ pub record IsCollision (equations : List Equation) (now : List Shape) (p : Pair)
   pub clash : IsClash equations (at (trees now) p.left) (at (trees now) p.right)
 
 abbrev pub SolvesOr : List Equation → List Shape → List Pair → Solved → Type 0
-SolvesOr equations ss given (solved.Solution found nodes) = IsSolution equations ss given found.items (map shape_of nodes.items)
-SolvesOr equations ss given (solved.Clash nodes p) = IsCollision equations (map shape_of nodes.items) p
+SolvesOr equations ss given (solved.Solution found nodes) =
+    IsSolution equations ss given found.items (map shape_of nodes.items)
+SolvesOr equations ss given (solved.Clash nodes p) =
+    IsCollision equations (map shape_of nodes.items) p

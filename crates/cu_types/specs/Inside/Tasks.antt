@@ -11,7 +11,8 @@ use Rattle.cu_types.specs.declared.reader.Reader.{Reader}
 use Rattle.cu_types.specs.declared.reading.Reading.{Reading}
 use Rattle.cu_types.specs.declared.reading.Reading.TheVariants as reading
 
--- to read a type is to make it, and to apply a head is to take the types that were made last for its arguments
+-- to read a type is to make it, and to apply a head is to take the types that were made last for
+-- its arguments
 pub data Step : Type 0 where
   Read : TypeExpr → Step
   Apply : TypeHead → ℕ → Step
@@ -45,7 +46,8 @@ efforts [] = 0
 efforts (s ∷ steps) = effort s + efforts steps
 
 -- once the steps are done, this type is made
-pub record IsReading (before : List Shape) (find : ℕ → Option ℕ) (ss : List Shape) (steps : List Step) (places : List ℕ)
+pub record IsReading (before : List Shape) (find : ℕ → Option ℕ) (ss : List Shape)
+    (steps : List Step) (places : List ℕ)
     (t : TypeExpr) : Type 0 where
   pub variables : HasVariables find ss
   pub more : List Shape
@@ -55,13 +57,17 @@ pub record IsReading (before : List Shape) (find : ℕ → Option ℕ) (ss : Lis
   pub makes : done steps (map (at (trees ss)) (reverse places)) ≡ t ∷ []
 
 -- what a step leaves
-pub record Proceeds (before : List Shape) (t : TypeExpr) (was : List Step) (find : ℕ → Option ℕ) (ss : List Shape) (steps : List Step)
+pub record Proceeds (before : List Shape) (t : TypeExpr) (was : List Step) (find : ℕ → Option ℕ)
+    (ss : List Shape) (steps : List Step)
     (places : List ℕ) : Type 0 where
   pub reading : IsReading before find ss steps places t
   pub nearer : efforts steps < efforts was
 
-abbrev pub ReaderProceeds : List Shape → TypeExpr → List Step → Reader → List Reading → List ℕ → Type 0
-ReaderProceeds before t was r tasks places = Proceeds before t was (get nat_eq r.variables) (shapes r) (steps_of tasks) places
+abbrev pub ReaderProceeds : List Shape → TypeExpr → List Step → Reader → List Reading → List ℕ
+    → Type 0
+ReaderProceeds before t was r tasks places =
+    Proceeds before t was (get nat_eq r.variables) (shapes r) (steps_of tasks) places
 
 abbrev pub ReaderReads : List Shape → TypeExpr → Reader → List Step → List ℕ → Type 0
-ReaderReads before t r steps places = IsReading before (get nat_eq r.variables) (shapes r) steps places t
+ReaderReads before t r steps places =
+    IsReading before (get nat_eq r.variables) (shapes r) steps places t

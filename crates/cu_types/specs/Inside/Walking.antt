@@ -20,13 +20,15 @@ scope w = environment w.variables
 -- a head with arguments is of a type
 abbrev pub application_asks : Assumptions → Environment → ℕ → Head → Terms → Asked → Asked
 application_asks assumptions env t h ts asked =
-    terms_ask assumptions env asked.next ts (call_asks assumptions h asked.next (term_count ts) t (taking (term_count ts) asked))
+    terms_ask assumptions env asked.next ts
+    (call_asks assumptions h asked.next (term_count ts) t (taking (term_count ts) asked))
 
 -- a pattern is of one type, and the term behind it is of another
 abbrev pub alternative_asks : Assumptions → Environment → ℕ → ℕ → Pattern → Term → Asked → Asked
 alternative_asks assumptions env s t p a asked =
     let inner = bind_from env asked.next (variables_of p) in
-    term_asks assumptions inner t a (pattern_asks assumptions inner s p (taking (length (variables_of p)) asked))
+    term_asks assumptions inner t a
+    (pattern_asks assumptions inner s p (taking (length (variables_of p)) asked))
 
 -- The equations of a part were read off. All variables are bound as before.
 pub record Walks (before after : Walk) (change : Asked → Asked) : Type 0 where
@@ -38,6 +40,7 @@ pub record Walks (before after : Walk) (change : Asked → Asked) : Type 0 where
 -- Some of it was read off, and what is left, read off, gives the whole.
 pub record IsWalking (before now : Walk) (rest whole : Asked → Asked) : Type 0 where
   pub reader : IsReader now.asking.reader
-  pub going : (asked : Asked) → IsAsking before.asking asked → (mid : Asked) × IsAsking now.asking mid × (rest mid ≡ whole asked)
+  pub going : (asked : Asked) → IsAsking before.asking asked
+      → (mid : Asked) × IsAsking now.asking mid × (rest mid ≡ whole asked)
   pub heads : now.signing ≡ before.signing
   pub scope : scope now ≡ scope before

@@ -55,33 +55,44 @@ unfoldable pub qualifier_binds : List (List ℕ) → Qualifier → List Name
 qualifier_binds names q = qualifier_names (qualifier_meaning names q)
 
 -- qualifiers, and the element behind them
-unfoldable pub qualifiers_ask : List (List ℕ) → List (List ℕ) → Expression → List Qualifier → List Demand
+unfoldable pub qualifiers_ask : List (List ℕ) → List (List ℕ) → Expression → List Qualifier
+    → List Demand
 qualifiers_ask names local element qs =
-    qualifiers_demands local (qualifiers_meaning names qs) ++ expression_demands (behind local (qualifiers_meaning names qs)) (expression_meaning names element)
+    qualifiers_demands local (qualifiers_meaning names qs)
+    ++ expression_demands (behind local (qualifiers_meaning names qs))
+    (expression_meaning names element)
 
 -- ---- by their parts
 
 abbrev pub lambda_asks : List (List ℕ) → List (List ℕ) → List Pattern → Expression → List Demand
-lambda_asks names local ps e = used Values (patterns_build names ps) ++ expression_asks names (with (patterns_bind names ps) local) e
+lambda_asks names local ps e = used Values (patterns_build names ps)
+    ++ expression_asks names (with (patterns_bind names ps) local) e
 
 abbrev pub rule_asks : List (List ℕ) → List (List ℕ) → List Pattern → RightSide → List Demand
-rule_asks names local ps right = used Values (patterns_build names ps) ++ right_asks names (with (patterns_bind names ps) local) right
+rule_asks names local ps right = used Values (patterns_build names ps)
+    ++ right_asks names (with (patterns_bind names ps) local) right
 
 abbrev pub binding_asks : List (List ℕ) → List (List ℕ) → Pattern → RightSide → List Demand
-binding_asks names local p right = used Values (pattern_builds names p) ++ right_asks names local right
+binding_asks names local p right =
+    used Values (pattern_builds names p) ++ right_asks names local right
 
 -- the local variables inside a block
 abbrev pub in_block : List (List ℕ) → List (List ℕ) → List Declaration → List (List ℕ)
 in_block names local ds = with (declared_names (block_declares names ds)) local
 
 abbrev pub let_asks : List (List ℕ) → List (List ℕ) → List Declaration → Expression → List Demand
-let_asks names local ds e = block_asks names ds ++ (declarations_ask names (in_block names local ds) ds ++ expression_asks names (in_block names local ds) e)
+let_asks names local ds e = block_asks names ds
+    ++ (declarations_ask names (in_block names local ds) ds
+    ++ expression_asks names (in_block names local ds) e)
 
 abbrev pub alternative_asks : List (List ℕ) → List (List ℕ) → Alternative → List Demand
-alternative_asks names local a = used Values (pattern_builds names a.pattern) ++ right_asks names (with (pattern_binds names a.pattern) local) a.right
+alternative_asks names local a = used Values (pattern_builds names a.pattern)
+    ++ right_asks names (with (pattern_binds names a.pattern) local) a.right
 
 abbrev pub enumeration_asks : List (List ℕ) → List (List ℕ) → Enumeration → List Demand
-enumeration_asks names local e = expression_asks names local e.first ++ (maybe_asks names local e.second ++ maybe_asks names local e.last)
+enumeration_asks names local e =
+    expression_asks names local e.first
+    ++ (maybe_asks names local e.second ++ maybe_asks names local e.last)
 
 abbrev pub body_asks : List (List ℕ) → List (List ℕ) → Body → List Demand
 body_asks names local (body.Plain e) = expression_asks names local e

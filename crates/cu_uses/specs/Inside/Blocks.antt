@@ -41,15 +41,19 @@ pub record IsOfModule (owner : NameId) (names : List (List ℕ)) (b : Block) : T
   pub function : IfSome b.function (IsKnown names)
 
 -- These declarations, and these names of signatures, were added.
-pub record Gathers (owner : NameId) (names : List (List ℕ)) (before : Block) (declared : List Declared) (signs : List Name) (after : Block) : Type 0 where
+pub record Gathers (owner : NameId) (names : List (List ℕ)) (before : Block)
+    (declared : List Declared) (signs : List Name) (after : Block) : Type 0 where
   pub names_added : Adds owner names before.names.items (declared_names declared) after.names.items
   pub signed_added : Adds owner names before.signed.items signs after.signed.items
   pub keeps : IsOfModule owner names before → IsOfModule owner names after
   pub once : IsOfModule owner names before → (behind : List Declared)
-      → names_meaning names before.once.items ++ declared_once (function_text names before) (declared ++ behind) ≡ names_meaning names after.once.items ++ declared_once (function_text names after) behind
+      → names_meaning names before.once.items
+      ++ declared_once (function_text names before) (declared ++ behind)
+      ≡ names_meaning names after.once.items ++ declared_once (function_text names after) behind
 
 -- A block has these declarations, and these names of signatures.
-pub record IsBlockOf (owner : NameId) (names : List (List ℕ)) (declared : List Declared) (signs : List Name) (b : Block) : Type 0 where
+pub record IsBlockOf (owner : NameId) (names : List (List ℕ)) (declared : List Declared)
+    (signs : List Name) (b : Block) : Type 0 where
   pub is_names : names_meaning names b.names.items ≡ declared_names declared
   pub is_once : names_meaning names b.once.items ≡ declared_once None declared
   pub is_signed : names_meaning names b.signed.items ≡ signs

@@ -48,11 +48,13 @@ unfoldable pub types_build : List (List ℕ) → List TypeTerm → List Name
 types_build names ts = all_type_constructors (types_meaning names ts)
 
 -- Names of a module, which a table has, were added: these.
-pub record Adds (owner : NameId) (names : List (List ℕ)) (before : List code.Name) (added : List Name) (after : List code.Name) : Type 0 where
+pub record Adds (owner : NameId) (names : List (List ℕ)) (before : List code.Name)
+    (added : List Name) (after : List code.Name) : Type 0 where
   pub adds : names_meaning names after ≡ names_meaning names before ++ added
   pub owned : All (NameIsOf owner names) before → All (NameIsOf owner names) after
 
 -- These variables and these constructors were found.
-pub record Finds (owner : NameId) (names : List (List ℕ)) (before : Found) (binds builds : List Name) (after : Found) : Type 0 where
+pub record Finds (owner : NameId) (names : List (List ℕ)) (before : Found)
+    (binds builds : List Name) (after : Found) : Type 0 where
   pub variables : Adds owner names before.variables.items binds after.variables.items
   pub constructors : Adds owner names before.constructors.items builds after.constructors.items

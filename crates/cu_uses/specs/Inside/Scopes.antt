@@ -45,19 +45,27 @@ table_in = fold-Scope NameTable table_of
 
 pub local-Top : (table : Bor NameTable) → is_local (scope.Top table) ≡ (λ text. false)
 unfolding is_local
-local-Top table = ap is_local (sym (scope.rolls-Top table)) ∙ fold-roll-Scope (NameId → Bool) local_in (layer.Top table)
+local-Top table = ap is_local (sym (scope.rolls-Top table)) ∙ fold-roll-Scope (NameId
+    → Bool) local_in (layer.Top table)
 
-pub local-Inside : (names : Bor (List Name)) (around : Bor Scope) → is_local (scope.Inside names around) ≡ or_among names.now (is_local around.now)
+pub local-Inside : (names : Bor (List Name)) (around : Bor Scope)
+    → is_local (scope.Inside names around) ≡ or_among names.now (is_local around.now)
 unfolding is_local
-local-Inside names around = ap is_local (sym (scope.rolls-Inside names around)) ∙ fold-roll-Scope (NameId → Bool) local_in (layer.Inside names around)
+local-Inside names around =
+    ap is_local (sym (scope.rolls-Inside names around)) ∙ fold-roll-Scope (NameId
+    → Bool) local_in (layer.Inside names around)
 
 pub table-Top : (table : Bor NameTable) → table_in (scope.Top table) ≡ table.now
 unfolding table_in
-table-Top table = ap table_in (sym (scope.rolls-Top table)) ∙ fold-roll-Scope NameTable table_of (layer.Top table)
+table-Top table = ap table_in (sym (scope.rolls-Top table)) ∙ fold-roll-Scope NameTable table_of
+    (layer.Top table)
 
-pub table-Inside : (names : Bor (List Name)) (around : Bor Scope) → table_in (scope.Inside names around) ≡ table_in around.now
+pub table-Inside : (names : Bor (List Name)) (around : Bor Scope)
+    → table_in (scope.Inside names around) ≡ table_in around.now
 unfolding table_in
-table-Inside names around = ap table_in (sym (scope.rolls-Inside names around)) ∙ fold-roll-Scope NameTable table_of (layer.Inside names around)
+table-Inside names around =
+    ap table_in (sym (scope.rolls-Inside names around)) ∙ fold-roll-Scope NameTable table_of
+    (layer.Inside names around)
 
 pub ruleset local_variants = (local-Top, local-Inside)
 
@@ -67,14 +75,17 @@ pub ruleset table_variants = (table-Top, table-Inside)
 pub record Sees (w : World) (local : List (List ℕ)) (s : Scope) : Type 0 where
   pub differ : AllDiffer w.names
   pub tells : Tells w.names w.bindings (table_in s)
-  pub sees : (id : NameId) → IsKnown w.names id → is_local s id ≡ is_among local (text_of w.names id)
+  pub sees : (id : NameId) → IsKnown w.names id
+      → is_local s id ≡ is_among local (text_of w.names id)
 
 -- These variables were found, and the uses of these constructors told.
-pub record Opens (w : World) (before : FirstFault) (binds builds : List syntax.Name) (found : List Name) (after : FirstFault) : Type 0 where
+pub record Opens (w : World) (before : FirstFault) (binds builds : List syntax.Name)
+    (found : List Name) (after : FirstFault) : Type 0 where
   pub variables : Adds w.owner w.names [] binds found
   pub told : Told w before (used Values builds) after
 
 -- These variables were found, and what is asked was told.
-pub record Brings (w : World) (before : FirstFault) (binds : List syntax.Name) (demands : List Demand) (found : List Name) (after : FirstFault) : Type 0 where
+pub record Brings (w : World) (before : FirstFault) (binds : List syntax.Name)
+    (demands : List Demand) (found : List Name) (after : FirstFault) : Type 0 where
   pub variables : Adds w.owner w.names [] binds found
   pub told : Told w before demands after

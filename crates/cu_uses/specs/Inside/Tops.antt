@@ -28,10 +28,16 @@ pub record Top : Type 0 where
 
 -- what one item declares
 abbrev pub top : Declared → List Name → List Name → List Name → Top
-top declared signs types fixes = record { declared = declared ∷ []; signs = signs; types = types; fixes = fixes }
+top declared signs types fixes =
+    record { declared = declared ∷ []; signs = signs; types = types; fixes = fixes }
 
 abbrev pub both : Top → Top → Top
-both s t = record { declared = s.declared ++ t.declared; signs = s.signs ++ t.signs; types = s.types ++ t.types; fixes = s.fixes ++ t.fixes }
+both s t = record {
+  declared = s.declared ++ t.declared;
+  signs = s.signs ++ t.signs;
+  types = s.types ++ t.types;
+  fixes = s.fixes ++ t.fixes;
+}
 
 abbrev pub nothing : Top
 nothing = record { declared = []; signs = []; types = []; fixes = [] }
@@ -58,13 +64,15 @@ abbrev pub constructor_names : List ConstructorDeclaration → List code.Name
 constructor_names cs = map (λ (c : ConstructorDeclaration). c.name) cs
 
 -- What these items declare was added.
-pub record Reads (owner : NameId) (names : List (List ℕ)) (before : TopLevel) (t : Top) (after : TopLevel) : Type 0 where
+pub record Reads (owner : NameId) (names : List (List ℕ)) (before : TopLevel) (t : Top)
+    (after : TopLevel) : Type 0 where
   pub values : Gathers owner names before.values t.declared t.signs after.values
   pub types : Adds owner names before.types.items t.types after.types.items
   pub fixed : Adds owner names before.fixed.items t.fixes after.fixed.items
 
 -- This is what items declare.
-pub record IsTop (owner : NameId) (names : List (List ℕ)) (t : Top) (found : TopLevel) : Type 0 where
+pub record IsTop (owner : NameId) (names : List (List ℕ)) (t : Top)
+    (found : TopLevel) : Type 0 where
   pub values : IsBlockOf owner names t.declared t.signs found.values
   pub types : Adds owner names [] t.types found.types.items
   pub fixed : Adds owner names [] t.fixes found.fixed.items
@@ -75,7 +83,9 @@ unfoldable pub types_ask : List (List ℕ) → List Name → List TypeTerm → L
 types_ask names parameters ts = type_demands parameters (types_meaning names ts)
 
 unfoldable pub fields_ask : List (List ℕ) → List Name → List ConstructorDeclaration → List Demand
-fields_ask names parameters cs = flat_map (λ (c : syntax.ConstructorDeclaration). type_demands parameters c.fields) (map (constructor_meaning names) cs)
+fields_ask names parameters cs =
+    flat_map (λ (c : syntax.ConstructorDeclaration). type_demands parameters c.fields)
+    (map (constructor_meaning names) cs)
 
 unfoldable pub item_asks : List (List ℕ) → Item → List Demand
 item_asks names item = item_demands (item_meaning names item)

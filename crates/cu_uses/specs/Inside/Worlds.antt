@@ -14,5 +14,7 @@ pub record World : Type 0 where
   pub bindings : List Binding
 
 -- What is wrong with these demands was told behind what was told before.
-pub record Told (w : World) (before : FirstFault) (demands : List Demand) (after : FirstFault) : Type 0 where
-  pub told : (faults : List Fault) → AreTold w.owner w.names faults before → AreTold w.owner w.names (faults ++ demand_faults w.bindings demands) after
+pub record Told (w : World) (before : FirstFault) (demands : List Demand)
+    (after : FirstFault) : Type 0 where
+  pub told : (faults : List Fault) → AreTold w.owner w.names faults before
+      → AreTold w.owner w.names (faults ++ demand_faults w.bindings demands) after

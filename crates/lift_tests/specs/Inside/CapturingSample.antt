@@ -1,5 +1,5 @@
--- A top-level function whose local function captures its parameter: `f x = g x where g y = x`, where
--- x and y have the numbers 0 and 1.
+-- A top-level function whose local function captures its parameter: `f x = g x where g y = x`,
+-- where x and y have the numbers 0 and 1.
 use Rattle.std.specs.Prelude.{ℕ, [], ◌∷◌, None}
 use Rattle.cu_calculus.specs.Term as clean
 use Rattle.cu_kernel.specs.LocalKernel.{LocalFunction, LocalRule, Rules, TopFunction}
@@ -8,7 +8,8 @@ use Rattle.cu_kernel.specs.LocalTerm.{LocalTerm}
 use Rattle.cu_kernel.specs.declared.local.LocalHead.TheVariants as head
 
 abbrev pub rule_of_one : ℕ → LocalTerm → LocalRule
-rule_of_one x body = record { params = clean.MorePatterns (clean.Any x) clean.NoPattern; body = body }
+rule_of_one x body =
+    record { params = clean.MorePatterns (clean.Any x) clean.NoPattern; body = body }
 
 abbrev pub inner_call : LocalTerm
 inner_call = local.Whole (head.Local 0) (local.MoreTerms (local.Variable 0) local.NoTerm)
