@@ -89,7 +89,7 @@ const NOT_EXPORTED: [Case; 9] = [
     ("import L\nz = r", "UnknownName L:1:5 q"),
 ];
 
-const IMPORTED: [Case; 16] = [
+const IMPORTED: [Case; 18] = [
     ("import B\ny = B.x", RIGHT),
     ("import qualified B\ny = B.x", RIGHT),
     ("import qualified B\ny = x", "UnknownName M:2:5 x"),
@@ -98,11 +98,14 @@ const IMPORTED: [Case; 16] = [
     ("import T (T(P))\ny = P", RIGHT),
     ("import T (T(P))\ny = Q", "UnknownName M:2:5 Q"),
     ("import T (T)\ny = P", "UnknownName M:2:5 P"),
+    ("import T (T)\ny :: T -> T\ny z = z", RIGHT),
     ("import T (T(..))\ny = Q", RIGHT),
     // all constructors that are exported, which are fewer
     ("import K (T(..))\ny = P", RIGHT),
     ("import K (T(..))\ny = Q", "UnknownName M:2:5 Q"),
+    // a synonym brings no constructor
     ("import T (Y(..))\ny :: Y\ny = 1", RIGHT),
+    ("import T (Y(..))\ny = P", "UnknownName M:2:5 P"),
     ("import T\ny :: S -> S\ny z = z", RIGHT),
     ("import B hiding (x)\nimport C\ny = x", RIGHT),
     ("import T hiding (T(Q), f)\ny = P\nf = y", RIGHT),
@@ -161,7 +164,7 @@ const USED: [Case; 15] = [
     ("import B\nimport C\ny z | x = z where x = True", RIGHT),
 ];
 
-const TYPES: [Case; 10] = [
+const TYPES: [Case; 11] = [
     // types are one name space, functions and constructors another
     ("data P = P\nf = P", RIGHT),
     ("data P = Q\ndata P = R", "Duplicate M:2:6 P"),
@@ -170,6 +173,7 @@ const TYPES: [Case; 10] = [
     ("data P a = P b", "UnknownName M:1:14 b"),
     ("data P a a = P a", "Duplicate M:1:10 a"),
     ("newtype P a = P [a]", RIGHT),
+    ("newtype P a = P b", "UnknownName M:1:17 b"),
     ("type P a = a -> P a", RIGHT),
     ("type P a = [b]", "UnknownName M:1:13 b"),
     ("f :: a -> b\nf z = z", RIGHT),
