@@ -8,7 +8,7 @@ log=$top/crates/curry/out/build.log
 
 is_stale() {
   [ -x "$program" ] && [ -f "$stamp" ] || return 0
-  [ -n "$(find "$top/crates" "$top/crates.txt" -name out -prune -o -type f -newer "$stamp" -print -quit)" ]
+  [ -n "$(find "$top/crates" "$top/crates.txt" \( -name out -o -name must-fail \) -prune -o -type f -newer "$stamp" -print -quit)" ]
 }
 
 # The lines of crates.txt for the program and the crates that it stands on.
