@@ -24,7 +24,7 @@ pub record IsTable (modules : List Named) (table : List (List ℕ)) : Type 0 whe
   pub differ : AllDiffer table
   pub has : All (Contains table) (names_of modules)
 
--- the same with the name of goals, and the variables of this one
+-- A table that has the names of modules, the name of goals, and those of this goal's free variables.
 pub record IsGoalTable (modules : List Named) (goal : Goal) (table : List (List ℕ)) : Type 0 where
   pub of_modules : IsTable modules table
   pub name : Contains table goal_name

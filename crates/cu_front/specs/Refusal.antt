@@ -9,7 +9,7 @@ use Rattle.cu_uses.specs.Faults as uses
 use Rattle.cu_declared.specs.TypeFaults as types
 
 pub data Refusal : Type 0 where
-  -- a fault of the walk over the modules, or in the text of the goal
+  -- a fault of the walk over imports, or of the tokens, layout or syntax of a module or the goal
   Walked : walk.Refusal → Refusal
   -- a fault of the names in the text of a module
   InNames : List ℕ → uses.Fault → Refusal
@@ -24,7 +24,8 @@ pub data Refusal : Type 0 where
   -- the first function of the first dependency group that can't be typed, where the equations of
   -- the group have no solution
   TypeClash : List ℕ → Refusal
-  -- the same, where they have solutions, and none that keeps to the declared types
+  -- the first function of the first dependency group that can't be typed, where the equations of
+  -- the group have solutions, but none that keeps to the declared types
   Signature : List ℕ → Refusal
   -- the first function whose definitional tree is too big
   TreeTooBig : List ℕ → Refusal

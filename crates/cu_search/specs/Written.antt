@@ -4,11 +4,12 @@ use Rattle.cu_io.specs.Rose.{Rose}
 use Rattle.cu_search.specs.declared.fault.SearchFault.{SearchFault}
 use Rattle.cu_search.specs.declared.fault.SearchFault.TheVariants.{NoMemory, Write}
 
--- after the output held `before`, it holds these bytes too, where the sink tells
+-- What a sink took is what it had taken before, and then these bytes. Where it doesn't tell what it
+-- took (None), nothing is said.
 abbrev pub Adds : Option (List ℕ) → Option (List ℕ) → List ℕ → Type 0
 Adds before after bytes = after ≡ option_map (λ told. told ++ bytes) before
 
--- a front of these bytes was added
+-- a prefix of these bytes was added
 abbrev pub AddsFront : Option (List ℕ) → Option (List ℕ) → List ℕ → Type 0
 AddsFront before after bytes = (n : ℕ) × (n ≤ length bytes) × Adds before after (take n bytes)
 

@@ -32,7 +32,7 @@ pub(crate) enum Ending {
 pub(crate) enum Stepped<S> {
     /// The search goes on with another level.
     On(Level<S>),
-    /// It ends.
+    /// The search for all values ends.
     Ended(Ending),
 }
 

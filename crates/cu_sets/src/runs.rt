@@ -17,9 +17,9 @@ use std::alloc::{AllocError, Global};
 /// What becomes of a branch, by whether exactly one follows.
 #[derive(Drop)]
 enum Onward<S> {
-    /// This one alone does.
+    /// Exactly this branch follows.
     Only(Branch<S>),
-    /// Anything else becomes of it.
+    /// Anything else becomes of the branch.
     Other(Outcome<S>),
 }
 
