@@ -46,7 +46,7 @@ pub record SomeContinues (program : Code) (claims : List Claim) (before : State)
   pub continues : Continues program claims (graph_of before) (graph_of state) assigned later
 
 -- Claims of the program that agree with what searches find: where the search of a claim's function
--- on its arguments ends, it has found the claim's values.
+-- on its arguments ends, it has found the claim's values. Claims that are true at a level do.
 pub record AgreeWithSearches (program : Code) (limits : Limits) (claims : List Claim) : Type 0 where
   pub of_program : IsTrue (list_all (is_claim_of (program_of program)) claims)
   pub agree : (k : ℕ) (claim : Claim) (values : List Value) → slice_get claims k ≡ Some claim

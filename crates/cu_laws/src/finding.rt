@@ -17,6 +17,7 @@ ghost use Rattle.cu_machine.specs.Next.{Reading};
 ghost use Rattle.cu_machine.specs.State.{start_of};
 ghost use Rattle.cu_laws.specs.AtLevel.{AreBelow, AreLevelsOf};
 ghost use Rattle.cu_laws.specs.Instance.{Covered, IsExhausted};
+ghost use Rattle.cu_laws.specs.Promises.{AgreeWithSearches};
 ghost use Rattle.cu_laws.specs.Traced.{AreFound};
 
 /// In a program that has set levels, a list that a search for all values of a
@@ -32,6 +33,17 @@ pub fn found_lists_are_true()
         (claims : List Claim) → IsTrue (is_well_formed program) → AreLevelsOf program levels
         → AreFound program limits claims → AreBelow levels level claims
         → AreTrue (program_of program) levels level claims }
+{}
+
+/// Claims that are true at a level agree with what searches find, so the laws of
+/// completeness hold over them: they are claims of the program, and where the
+/// search of a claim's function on its arguments ends, it has found the claim's
+/// values.
+pub fn true_claims_agree_with_searches()
+    ensures { (program : Code) (limits : Limits) (levels : List ℕ) (level : ℕ)
+        (claims : List Claim) → IsTrue (is_well_formed program)
+        → AreLevelsOf program levels → AreTrue (program_of program) levels level claims
+        → AgreeWithSearches program limits claims }
 {}
 
 /// Every answer that is listed has a derivation from the rules, set functions

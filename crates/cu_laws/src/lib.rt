@@ -17,7 +17,10 @@ pub use answers::{
 };
 pub use completeness::{needed_nodes_have_values, rows_are_complete};
 pub use covering::{answers_cover, derivations_begin};
-pub use finding::{exhausted_listings_cover, found_lists_are_true, listed_answers_derive};
+pub use finding::{
+    exhausted_listings_cover, found_lists_are_true, listed_answers_derive,
+    true_claims_agree_with_searches,
+};
 pub use soundness::{
     deliveries_are_sound, derivations_depend_on_their_variables, readings_are_good, rows_are_sound,
     steps_are_sound, what_nodes_may_have_is_closed, written_expressions_are_worth_their_terms,

@@ -28,7 +28,8 @@ ghost use Rattle.cu_laws.specs.Traced.{IsTraced};
 /// Where states follow one that promises an answer, one of them loses no
 /// value. While no search for all values of a function runs this needs no more
 /// than claims of the program; where one runs, claims that agree with what
-/// searches find.
+/// searches find, as those that are true at a level do
+/// (`true_claims_agree_with_searches`).
 pub fn steps_are_complete()
     ensures idle { (program : Code) (claims : List Claim) (limits : Limits) (graph : Graph)
         (root : ℕ) (goals : List ℕ) (states : List State) (assigned : Assignment)
