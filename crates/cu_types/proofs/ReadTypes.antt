@@ -1,15 +1,16 @@
 -- Types that are read into a table.
-use Rattle.std.proofs.Common.{◌≡◌, ◌≢◌, ℕ, zero, suc, ◌+◌, ◌<◌, ◌≤◌, ◌⊎◌, inl, inr, Bool, cond, List, [], ◌∷◌, ◌++◌, Option, None, Some, length, map, nat_eq, get_or, slice_get, refl, sym, ap, ◌∙◌, subst, arith, append_assoc, length-append}
+use Rattle.std.proofs.Common.{◌≡◌, ◌≢◌, ℕ, zero, suc, ◌+◌, ◌<◌, ◌≤◌, ◌⊎◌, inl, inr, Bool, cond, List, [], ◌∷◌, ◌++◌, Option, None, Some, length, map, nat_eq, get_or, slice_get, option_map, refl, sym, ap, ◌∙◌, subst, arith, append_assoc, length-append}
 use Rattle.std.specs.Option.{option_and_then}
 use mathlib.Core.Path.{fun_ext}
 use Rattle.std.proofs.lemmas.Bool.{cases_eq, eq-eqb, ne_eqb}
-use Rattle.std.proofs.lemmas.Option.{slice_get-get_or, slice_get_within}
+use Rattle.std.proofs.lemmas.Option.{slice_get-get_or, slice_get-map, slice_get_within}
 use Rattle.cu_kernel.specs.TypeExpr as type
 use Rattle.cu_kernel.specs.TypeExpr.{TypeExpr}
 use Rattle.cu_types.proofs.TableLemmas.{map_same, mapped_length, mapped_twice, trees_fit}
 use Rattle.cu_types.proofs.Unfolding.{kept_shape, kept_tree, longer, no_more, shape_at_end}
 use Rattle.cu_types.proofs.Walks.{applied_built, last_tree, table_pushed}
 use Rattle.cu_types.specs.Inside.Closing.{Each, IsWithin, PairIsEqual}
+use Rattle.cu_types.specs.Inside.Expanding.{HasArguments}
 use Rattle.cu_types.specs.Inside.Reading.{HasVariables, Reads, Stand, bound, bound_at}
 use Rattle.cu_types.specs.Inside.Solving.{IsSolution, solved_at}
 use Rattle.cu_types.specs.Meaning.{type_at}
@@ -18,6 +19,7 @@ use Rattle.cu_types.specs.Table.{IsFull, IsTable, MayStand, Shape, at, built, sh
 use Rattle.cu_types.specs.Types.{Substitution, apply}
 use Rattle.cu_types.specs.Unification as made
 use Rattle.cu_types.specs.Unification.{Equation, IsMostGeneral, Solves}
+use Rattle.cu_types.specs.declared.node.Node.{Node}
 use Rattle.cu_types.specs.declared.node.TypeHead.{TypeHead}
 use Rattle.cu_types.specs.declared.pair.Pair.{Pair}
 
@@ -89,6 +91,25 @@ reads_known find ss x k has is = record {
   extends = no_more ss;
   within = slice_get_within ss k (shape.Variable x) (has.known x k is);
   value = trees_fit ss k (shape.Variable x) has.table (has.known x k is);
+}
+
+applied_shape : (s : Shape) (h : TypeHead) (ps : List ℕ) → HasArguments s h ps → s ≡ shape.Applied h ps
+applied_shape (shape.Variable x) h ps has = absurd has
+applied_shape (shape.Applied g qs) h ps has = ap (λ (k : TypeHead). shape.Applied k qs) has.0 ∙ ap (shape.Applied h) has.1
+
+-- a node with the same head and arguments at the same places stands there already
+pub place_has : (nodes : List Node) (place : ℕ) (x : Node) (h : TypeHead) (ps : List ℕ) → slice_get nodes place ≡ Some x
+    → HasArguments (shape_of x) h ps → slice_get (map shape_of nodes) place ≡ Some (shape.Applied h ps)
+place_has nodes place x h ps is has =
+    slice_get-map shape_of nodes place ∙ ap (option_map shape_of) is ∙ ap Some (applied_shape (shape_of x) h ps has)
+
+pub reads_applied : (ss : List Shape) (h : TypeHead) (ps : List ℕ) (place : ℕ) → IsTable ss
+    → slice_get ss place ≡ Some (shape.Applied h ps) → Reads ss ss (built h (map (at (trees ss)) ps)) place
+reads_applied ss h ps place table is = record {
+  more = [];
+  extends = no_more ss;
+  within = slice_get_within ss place (shape.Applied h ps) is;
+  value = trees_fit ss place (shape.Applied h ps) table is;
 }
 
 -- what was read stands as it did

@@ -1,5 +1,5 @@
--- Types in a table: each is made of types that stand before it, so that a type that stands at
--- several places is kept once.
+-- Types in a table: each is made of types that stand before it and that it names by their places,
+-- so that types may share their parts.
 use Rattle.std.specs.Prelude.{◌≡◌, ℕ, ◌<◌, ◌++◌, List, [], ◌∷◌, Some, length, map, slice_get, slice_index_or}
 use Rattle.cu_kernel.specs.TypeExpr as type
 use Rattle.cu_kernel.specs.TypeExpr.{TypeExpr}

@@ -1,6 +1,7 @@
-//! Types in a table, where a type that stands at several places is kept once.
+//! Types in a table, which name their arguments by places and so share them.
 ghost use Rattle.std.specs.Prelude.{◌≡◌, ◌↔◌, IsTrue};
 ghost use Rattle.cu_types.specs.Inside.Closing.{Meet, Takes, is_variable};
+ghost use Rattle.cu_types.specs.Inside.Expanding.{HasArguments};
 ghost use Rattle.cu_types.specs.Table.{places, shape_of};
 
 use cu_kernel::TypeName;
@@ -63,6 +64,16 @@ impl Node {
         match self {
             Node::Variable(_) => true,
             Node::Applied(own, arguments) => *own == head && arguments.len() == count,
+        }
+    }
+
+    /// Whether this has a head with these arguments.
+    pub(crate) fn has_arguments(&self, head: TypeHead, arguments: &[usize]) -> bool
+        ensures { IsTrue result ↔ HasArguments (shape_of self.now) head arguments.now }
+    {
+        match self {
+            Node::Variable(_) => false,
+            Node::Applied(own, places) => *own == head && places.as_slice() == arguments,
         }
     }
 }

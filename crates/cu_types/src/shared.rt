@@ -5,8 +5,8 @@ ghost use Rattle.cu_types.specs.Table.{IsTable, at, shape_of, trees};
 use crate::Node;
 use std::marker::Model;
 
-/// A type in a table of its own, where a type that stands at several places
-/// is kept once. Contracts see the type.
+/// A type in a table of its own that was made by hash consing, so that a type
+/// that stands at several places is kept once. Contracts see the type.
 #[derive(Drop)]
 pub struct SharedType {
     types: Vec<Node>,

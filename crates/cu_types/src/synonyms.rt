@@ -3,7 +3,7 @@ ghost use Rattle.std.specs.Prelude.{◌≡◌, ◌<◌, ◌↔◌, ℕ, IfOk, Is
 ghost use Rattle.cu_kernel.specs.KernelOf.{synonym_meaning};
 ghost use Rattle.cu_kernel.specs.TypeExpr.{TypeExpr};
 ghost use Rattle.cu_kernel.specs.TypesOf.{type_of};
-ghost use Rattle.cu_types.specs.Inside.Expanding.{HasArguments, IsVariable, head_expanded, name_expanded, shape_expanded};
+ghost use Rattle.cu_types.specs.Inside.Expanding.{IsVariable, head_expanded, name_expanded, shape_expanded};
 ghost use Rattle.cu_types.specs.Inside.Reading.{AllRead, IsReader, Reads, shapes};
 ghost use Rattle.cu_types.specs.Synonyms.{bodies, expanded_by, for_parameters};
 ghost use Rattle.cu_types.specs.Table.{IsFull, IsTable, MayStand, at, shape_of, tree_over, trees};
@@ -232,16 +232,6 @@ pub(crate) fn synonym_types(alloc: Global, program: &Program) -> Result<Vec<Shar
     Ok(types)
 }
 
-/// Whether a type of a table has a head with these arguments.
-fn has_arguments(node: &Node, head: TypeHead, arguments: &[usize]) -> bool
-    ensures { IsTrue result ↔ HasArguments (shape_of node.now) head arguments.now }
-{
-    match node {
-        Node::Variable(_) => false,
-        Node::Applied(own, places) => *own == head && places.as_slice() == arguments,
-    }
-}
-
 /// Whether a type of a table is this variable.
 fn is_variable(node: &Node, x: u32) -> bool
     ensures { IsTrue result ↔ IsVariable (shape_of node.now) x }
@@ -259,7 +249,7 @@ fn is_same_node(left: &Node, right: &Node) -> bool
 {
     match right {
         Node::Variable(x) => is_variable(left, *x),
-        Node::Applied(head, arguments) => has_arguments(left, *head, arguments.as_slice()),
+        Node::Applied(head, arguments) => left.has_arguments(*head, arguments.as_slice()),
     }
 }
 

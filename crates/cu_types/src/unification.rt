@@ -16,7 +16,7 @@ use std::alloc::{AllocError, Global};
 use thiserror::Error;
 
 /// A substitution: a type for each type variable. Its types stand in a table,
-/// where a type that stands at several places is kept once.
+/// with one entry for all types that the equations make equal.
 #[derive(Drop)]
 pub struct Subst {
     /// The numbers of the variables that have a type.
@@ -104,7 +104,11 @@ pub(crate) fn solved(
         (λ s. IsMostGeneral (subst_of s) equations × IsTable (types_of_subst s) × HasPlaces s)
         (Clashes equations)) }
 {
-    let Reader { nodes, variables } = reader;
+    let Reader {
+        nodes,
+        variables,
+        ..
+    } = reader;
     match solve(alloc, nodes, pairs)? {
         Solved::Solution(places, types) => Ok(Ok(Subst {
             variables,

@@ -1,6 +1,6 @@
-use Rattle.std.proofs.Common.{◌≡◌, length, map, nat_eq, refl, arith}
+use Rattle.std.proofs.Common.{◌≡◌, ℕ, List, Some, length, map, nat_eq, slice_get, refl, subst, arith}
 use Rattle.indexmap.specs.IndexMap.{get}
-use Rattle.cu_types.proofs.ReadTypes.{reads_pushed, variables_applied}
+use Rattle.cu_types.proofs.ReadTypes.{reads_applied, reads_pushed, variables_applied}
 use Rattle.cu_types.proofs.TableLemmas.{mapped_length}
 use Rattle.cu_types.proofs.Unfolding.{pushed_shapes}
 use Rattle.cu_types.proofs.reader.Reader.apply.Goals as goal
@@ -8,6 +8,12 @@ use Rattle.cu_types.specs.Inside.Reading.{shapes}
 use Rattle.cu_types.specs.Table as shape
 use Rattle.cu_types.specs.Table.{at, built, shape_of, trees}
 use Rattle.cu_types.specs.declared.node.Node.TheVariants as node
+
+pub returns-in-Some-clause-read : goal.returns-in-Some-clause-read
+returns-in-Some-clause-read c =
+    reads_applied (shapes c.args.self.now) c.args.head c.args.arguments.items c.in-Some.place c.requires.reader.table
+    (subst (λ (ps : List ℕ). slice_get (shapes c.args.self.now) c.in-Some.place ≡ Some (shape.Applied c.args.head ps))
+    c.as_slice-2.ensures.value c.in-Some.ensures)
 
 pub returns-clause-reader : goal.returns-clause-reader
 returns-clause-reader c =
