@@ -4,6 +4,8 @@
 #[cfg(test)]
 mod answers;
 #[cfg(test)]
+mod doubled_types;
+#[cfg(test)]
 mod inference;
 #[cfg(test)]
 mod sample_types;

@@ -1,6 +1,6 @@
 //! Unification.
 use cu_kernel::{TypeId, TypeName, TypeTerm};
-use cu_types::{Equation, UnifyFault, unify};
+use cu_types::{Equation, Node, TypeHead, UnifyFault, unify};
 use std::alloc::{AllocError, Global};
 
 fn boxed(alloc: Global, term: TypeTerm) -> Result<Box<TypeTerm>, AllocError> {
@@ -93,4 +93,41 @@ fn heads_clash(rt: HostRuntime) {
     let Err(UnifyFault::Clash(_)) = unify(alloc, equations.as_slice()) else {
         panic!(rt; "no clash");
     };
+}
+
+/// x0 = Int, x0 = Char
+fn int_and_char(alloc: Global) -> Result<Vec<Equation>, AllocError> {
+    let mut equations = Vec::new(alloc);
+    for id in [16, 17] {
+        equations.push(Equation {
+            left: TypeTerm::Var(0),
+            right: named(alloc, id),
+        })?;
+    }
+    Ok(equations)
+}
+
+/// Whether a type of a table is this one, without arguments.
+fn is_named(types: &[Node], place: usize, id: usize) -> bool {
+    match types.get(place) {
+        Some(Node::Applied(TypeHead::Named(TypeName::Data(own)), arguments)) => {
+            own.0 == id && arguments.is_empty()
+        }
+        _ => false,
+    }
+}
+
+#[test]
+fn a_clash_names_its_types(rt: HostRuntime) {
+    let alloc = rt.alloc();
+    let Ok(equations) = int_and_char(alloc) else {
+        panic!(rt; "no memory");
+    };
+    let Err(UnifyFault::Clash(clash)) = unify(alloc, equations.as_slice()) else {
+        panic!(rt; "no clash");
+    };
+    let types = clash.types.as_slice();
+    let in_order = is_named(types, clash.left, 16) && is_named(types, clash.right, 17);
+    let reversed = is_named(types, clash.left, 17) && is_named(types, clash.right, 16);
+    assert!(rt; in_order || reversed);
 }

@@ -128,7 +128,7 @@ fn take<T: Drop>(alloc: Global, found: &mut Vec<T>, count: u32) -> Option<Vec<T>
 }
 
 /// A mark of a function.
-fn mark(declared: Option<TypeTerm>, captured: u32) -> Mark {
+pub(crate) fn mark(declared: Option<TypeTerm>, captured: u32) -> Mark {
     Mark {
         module: 0,
         public: true,
@@ -431,7 +431,9 @@ fn modules(alloc: Global) -> Option<Vec<ModuleInfo>> {
     Some(modules)
 }
 
-fn parts(alloc: Global, line: &str) -> Option<ProgramParts> {
+/// The parts of the program of a line, behind `&&` and the operations that are
+/// built in.
+pub(crate) fn parts(alloc: Global, line: &str) -> Option<ProgramParts> {
     let mut read = read_line(alloc, line)?;
     let functions = functions(alloc, &mut read)?;
     let goal = goal(alloc, read.goal, functions.len())?;
@@ -446,12 +448,16 @@ fn parts(alloc: Global, line: &str) -> Option<ProgramParts> {
     })
 }
 
-/// The program of a line behind `&&` and the operations that are built in,
-/// where the line can be read and the program is valid.
-pub(crate) fn program(alloc: Global, line: &str) -> Option<Program> {
-    let parts = parts(alloc, line)?;
+/// The program of these parts, where it is valid.
+pub(crate) fn valid_program(parts: ProgramParts) -> Option<Program> {
     if !parts.valid().ok()? {
         return None;
     }
     Some(Program::new(parts))
+}
+
+/// The program of a line behind `&&` and the operations that are built in,
+/// where the line can be read and the program is valid.
+pub(crate) fn program(alloc: Global, line: &str) -> Option<Program> {
+    valid_program(parts(alloc, line)?)
 }
