@@ -8,6 +8,8 @@ mod commands;
 #[cfg(test)]
 mod files;
 #[cfg(test)]
+mod gates;
+#[cfg(test)]
 mod memory;
 #[cfg(test)]
 mod output;
@@ -17,3 +19,5 @@ mod runs;
 mod texts;
 #[cfg(test)]
 mod types;
+#[cfg(test)]
+mod workers;

@@ -1,7 +1,7 @@
 //! Runs of the public call, over libraries and outputs that are values.
 use cu_cmd::{Status, top};
 use cu_io::{ShelfLibrary, Sink, VecSink, VecSource};
-use cu_pile::OpenGate;
+use cu_pile::{Gate, OpenGate};
 use std::alloc::{AllocError, Global};
 use std::process::Abort;
 use std::thread::Threads;
@@ -32,27 +32,40 @@ pub(crate) fn run<R: Threads + Sync>(
     library: &mut ShelfLibrary,
     output: &mut VecSink,
 ) -> Result<Status, AllocError> {
+    run_at(rt, alloc, &OpenGate, words, library, output)
+}
+
+/// Runs it with workers that pass a gate.
+fn run_at<R: Threads + Sync, G: Gate + Sync>(
+    rt: &R,
+    alloc: Global,
+    gate: &G,
+    words: &[&str],
+    library: &mut ShelfLibrary,
+    output: &mut VecSink,
+) -> Result<Status, AllocError> {
     let mut owned = Vec::new(alloc);
     for word in words {
         owned.push(String::from_str(alloc, word)?)?;
     }
     let words = owned.as_slice();
     let mut input = VecSource::new(Vec::new(alloc), Vec::new(alloc));
-    Ok(top(rt, alloc, words, library, &mut input, output, &OpenGate))
+    Ok(top(rt, alloc, words, library, &mut input, output, gate))
 }
 
 /// Runs a command where `M` has this text, with an output that fails at these
 /// pieces, after so many bytes of each.
-fn run_in<R: Threads + Sync>(
+fn run_in<R: Threads + Sync, G: Gate + Sync>(
     rt: &R,
     alloc: Global,
+    gate: &G,
     text: &str,
     words: &[&str],
     output: Result<VecSink, AllocError>,
 ) -> Result<(Status, VecSink), AllocError> {
     let mut library = library_of(alloc, text)?;
     let mut sink = output?;
-    let status = run(rt, alloc, words, &mut library, &mut sink)?;
+    let status = run_at(rt, alloc, gate, words, &mut library, &mut sink)?;
     Ok((status, sink))
 }
 
@@ -76,7 +89,20 @@ pub(crate) fn expect<R: Threads + Abort + AllocGlobal + Sync>(
     written: &str,
     status: Status,
 ) {
-    let found = run_in(rt, rt.alloc(), text, words, output);
+    expect_at(rt, &OpenGate, text, words, output, written, status);
+}
+
+/// Expects that it ends so with workers that pass a gate.
+pub(crate) fn expect_at<R: Threads + Abort + AllocGlobal + Sync, G: Gate + Sync>(
+    rt: &R,
+    gate: &G,
+    text: &str,
+    words: &[&str],
+    output: Result<VecSink, AllocError>,
+    written: &str,
+    status: Status,
+) {
+    let found = run_in(rt, rt.alloc(), gate, text, words, output);
     let (ended, sink) = found.expect(rt, "memory");
     assert_eq!(rt; str::from_utf8(sink.bytes()), Ok(written));
     assert_eq!(rt; ended, status);
@@ -89,7 +115,7 @@ pub(crate) fn written<R: Threads + Abort + AllocGlobal + Sync>(
     words: &[&str],
 ) -> String {
     let alloc = rt.alloc();
-    let (_, sink) = run_in(rt, alloc, text, words, whole(alloc)).expect(rt, "memory");
+    let (_, sink) = run_in(rt, alloc, &OpenGate, text, words, whole(alloc)).expect(rt, "memory");
     let written = str::from_utf8(sink.bytes()).expect(rt, "a text");
     String::from_str(alloc, written).expect(rt, "memory")
 }

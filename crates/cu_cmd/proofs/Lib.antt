@@ -1,3 +1,4 @@
+pub mod DepthLemmas
 pub mod ReportLemmas
 pub mod SearchLemmas
 pub mod TotalsLemmas

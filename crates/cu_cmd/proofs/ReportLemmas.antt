@@ -26,7 +26,7 @@ use Rattle.cu_names.specs.declared.names.NameId.{NameId}
 use Rattle.cu_search.specs.Totals.{totals_of}
 use Rattle.cu_search.specs.Written.{Adds, AddsFront}
 use Rattle.cu_words.specs.Words.{Command, Compile, Compiling, IsCommand, ReadsAs, Solve, Solving, Trial, Trying}
-use Rattle.cu_theorem.specs.Listed.{ListsSolutions, listing_of}
+use Rattle.cu_theorem.specs.Listed.{listing_of}
 use Rattle.cu_cmd.specs.Report.{
   AsksNothing,
   CommandReport,
@@ -35,34 +35,23 @@ use Rattle.cu_cmd.specs.Report.{
   Report,
   SolveReport,
   TrialReport,
-  Writes,
-  WritesReport,
-  WritesResult,
-  WritesWhole,
-  WritesWholly,
   command,
   listed,
   listing_pieces,
   listing_text,
   module_refused,
   notation_of,
-  nothing,
-  prefix,
   printed,
   refused,
   status_of,
-  totals_pieces,
-  totals_text,
-  trial_goal,
-  trial_held,
-  trial_library,
-  trial_limits,
   trial_refused,
   tried,
   usage,
   usage_line,
 }
 use Rattle.cu_cmd.specs.Runs.{Ends, EndsWhole, Faults, HasRunCause, HasWriteCause, IsSolved, status_after}
+use Rattle.cu_cmd.specs.Trials.{totals_pieces, totals_text, trial_goal, trial_held, trial_library, trial_limits}
+use Rattle.cu_cmd.specs.Written.{Writes, WritesReport, WritesResult, WritesWhole, WritesWholly, nothing, prefix}
 use Rattle.cu_cmd.specs.declared.fault.RunFault.{RunFault}
 use Rattle.cu_cmd.specs.declared.fault.RunFault.TheVariants as fault
 use Rattle.cu_cmd.specs.declared.status.Status.{Status}
@@ -350,14 +339,14 @@ command_whole (Err fault.NoMemory) words asked before after reads is whole = tt
 pub asks_as : (one other : Command) → one ≡ other → AsksNothing other → AsksNothing one
 asks_as one other same asks = subst (λ (c : Command). AsksNothing c) (sym same) asks
 
--- ---- solutions
+-- ---- what a solve lists
 
-pub solutions_held : (holdings : Option Holdings) (words : List (List ℕ))
-    → ((held : compiling.Held) (root text : List ℕ) (limits : SearchLimits) → ListsSolutions held root text limits)
-    → IfSome holdings (λ held. (solve : Solve) → ReadsAs words (Solving solve)
-    → ListsSolutions (held.module_at solve.folder) solve.name solve.goal solve.limits)
-solutions_held None words all = tt
-solutions_held (Some held) words all = λ solve reads. all (held.module_at solve.folder) solve.name solve.goal solve.limits
+-- what holds of the listings of all goals holds of that of a solve
+pub lists_held : (P : compiling.Held → List ℕ → List ℕ → SearchLimits → Type 0) (holdings : Option Holdings) (words : List (List ℕ))
+    → ((held : compiling.Held) (root text : List ℕ) (limits : SearchLimits) → P held root text limits)
+    → IfSome holdings (λ held. (solve : Solve) → ReadsAs words (Solving solve) → P (held.module_at solve.folder) solve.name solve.goal solve.limits)
+lists_held P None words all = tt
+lists_held P (Some held) words all = λ solve reads. all (held.module_at solve.folder) solve.name solve.goal solve.limits
 
 -- ---- statuses
 

@@ -5,41 +5,30 @@ use Rattle.std.specs.Prelude.{
   ℕ,
   zero,
   suc,
-  ℤ,
   List,
   [],
   ◌∷◌,
-  ◌++◌,
   Option,
-  None,
   Some,
   codes,
-  decimal,
   map,
   slice_get,
 }
-use Rattle.std.specs.Fmt.{signed_decimal}
 use Rattle.std.specs.List.{concat}
 use Rattle.cu_calculus.specs.Program as calculus
-use Rattle.cu_flattext.specs.Naming.{Lowered}
 use Rattle.cu_flattext.specs.Text.{text_of_module}
 use Rattle.cu_front.specs.Compiling.{Compiles, ModuleCompiles, ModulesRefused, Refuses}
 use Rattle.cu_front.specs.Refusal.{Refusal}
 use Rattle.cu_front.specs.RefusalLine.{refusal_line}
-use Rattle.cu_io.specs.Calls.{no_calls}
-use Rattle.cu_io.specs.Shelf.{Shelf, shelf_holdings}
 use Rattle.cu_kernel.specs.Kernel.{Goal, Kernel}
 use Rattle.cu_kernel.specs.TypeExpr.{TypeExpr}
 use Rattle.cu_machine.specs.Listing.{Listing}
 use Rattle.cu_machine.specs.declared.End.{End}
 use Rattle.cu_machine.specs.declared.End.TheVariants as ends
-use Rattle.cu_machine.specs.declared.SearchLimits.{SearchLimits}
 use Rattle.cu_names.specs.Texts.{text_of}
 use Rattle.cu_names.specs.declared.names.NameId.{NameId}
-use Rattle.cu_search.specs.Lines.{Notation, end_text, listing_bytes, pieces}
+use Rattle.cu_search.specs.Lines.{Notation, pieces}
 use Rattle.cu_search.specs.Totals.{totals_of}
-use Rattle.cu_search.specs.declared.totals.Totals.{Totals}
-use Rattle.cu_search.specs.Written.{Adds, AddsFront}
 use Rattle.cu_theorem.specs.Listed.{listing_of}
 use Rattle.cu_values.specs.ProgramLabels.{labels_of}
 use Rattle.cu_words.specs.Words.{
@@ -53,6 +42,7 @@ use Rattle.cu_words.specs.Words.{
   Trial,
   Trying,
 }
+use Rattle.cu_cmd.specs.Trials.{totals_pieces, trial_goal, trial_held, trial_limits}
 use Rattle.cu_cmd.specs.declared.status.Status.{Status}
 use Rattle.cu_cmd.specs.declared.status.Status.TheVariants as status
 
@@ -88,52 +78,6 @@ status_of (ends.NoMore (suc waits)) = status.Floundered
 status_of (ends.Rounds d count) = status.Limit
 status_of (ends.Answers count) = status.Limit
 status_of (ends.Stopped stop d) = status.Stopped
-
--- ---- trials
-
--- The module of trials, which is built in. In it `grow n 0` has the numbers of n bits, each once.
-abbrev pub trial_module : List ℕ
-trial_module =
-    codes "bit = 0\nbit = 1\ngrow n x = if n == 0 then x else grow (n - 1) (x + x + bit)\n"
-
--- the library of a trial, which holds this module alone
-abbrev pub trial_library : Shelf
-trial_library = record {
-  modules = record { dir = codes ""; name = codes "Trial"; text = trial_module } ∷ [];
-  files = [];
-  failing = [];
-  calls = no_calls;
-}
-
-abbrev pub trial_held : List ℕ → Option (List ℕ)
-trial_held = (shelf_holdings trial_library).module_at (codes "")
-
--- the goal of a trial
-abbrev pub trial_goal : ℕ → List ℕ
-trial_goal depth = codes "grow " ++ (decimal depth ++ codes " 0")
-
--- the limits of a trial; of those that its words don't tell, what a `solve` has by default
-abbrev pub trial_limits : Trial → SearchLimits
-trial_limits trial = record {
-  rounds = 100000;
-  answers = None;
-  stride = trial.stride;
-  step = record { nodes = 1000000; width = trial.width };
-}
-
--- what is written in place of the lines of a listing
-abbrev pub answers_line : ℕ → List ℕ
-answers_line lines = codes "answers " ++ (decimal lines ++ codes "\n")
-
-abbrev pub sum_line : ℤ → List ℕ
-sum_line sum = codes "sum " ++ (signed_decimal sum ++ codes "\n")
-
-abbrev pub totals_pieces : Totals → End → List (List ℕ)
-totals_pieces totals end = answers_line totals.lines ∷ sum_line totals.sum ∷ end_text end ∷ []
-
--- what a listing comes to, and how it ends
-abbrev pub totals_text : Listing → List ℕ
-totals_text found = concat (totals_pieces (totals_of found) found.end)
 
 -- ---- reports, command by command
 
@@ -198,61 +142,3 @@ pub data Report (words : List (List ℕ)) (held : Held) : List (List ℕ) → St
   -- what the command that the words ask for writes
   command : (asked : Command) (written : List (List ℕ)) (answer : Status) → ReadsAs words asked
       → CommandReport held asked written answer → Report words held written answer
-
--- ---- what was written of a report
-
--- A prefix of a report was written: nothing, or a prefix of these bytes.
-pub data WritesPrefix (Due : List (List ℕ) → Status → Type 0) (before after : Option (List ℕ))
-    : Type 0 where
-  nothing : after ≡ before → WritesPrefix Due before after
-  prefix : (written : List (List ℕ)) (answer : Status) → Due written answer
-      → AddsFront before after (concat written) → WritesPrefix Due before after
-
--- the whole report was written, and the run ends with its status
-pub record WritesReport (answer : Status) (Due : List (List ℕ) → Status → Type 0)
-    (before after : Option (List ℕ)) : Type 0 where
-  pub written : List (List ℕ)
-  pub is_report : Due written answer
-  pub adds : Adds before after (concat written)
-
--- What a run that ends with this status wrote: where the outside failed or memory ran out, a
--- prefix of the report; otherwise the report. A sink tells bytes and not pieces, so that each line
--- is one piece is left to tests.
-abbrev pub Writes : Status → (List (List ℕ) → Status → Type 0) → Option (List ℕ)
-    → Option (List ℕ) → Type 0
-Writes status.ReadFault Due before after = WritesPrefix Due before after
-Writes status.WriteFault Due before after = WritesPrefix Due before after
-Writes status.NoMemory Due before after = WritesPrefix Due before after
-Writes answer Due before after = WritesReport answer Due before after
-
--- ---- whole texts, whatever the library tells
-
--- A command that ends with this status wrote a whole listing that ends so, the whole text of a
--- module, or, as a trial, what the lines of such a listing come to.
-abbrev pub WritesResult : Command → Status → Option (List ℕ) → Option (List ℕ) → Type 0
-WritesResult (Solving solve) answer before after =
-    (notation : Notation) × (found : Listing) × (answer ≡ status_of found.end)
-    × Adds before after (listing_bytes notation found)
-WritesResult (Compiling compile) answer before after =
-    (program : Lowered) × (id : NameId) × (answer ≡ status.Done)
-    × Adds before after (text_of_module program id)
-WritesResult (Trying trial) answer before after =
-    (found : Listing) × (answer ≡ status_of found.end) × Adds before after (totals_text found)
-
--- That, or the whole line of a refusal.
-abbrev pub WritesWholly : Command → Status → Option (List ℕ) → Option (List ℕ) → Type 0
-WritesWholly asked status.Refused before after =
-    (refusal : Refusal) × Adds before after (refusal_line refusal)
-WritesWholly asked answer before after = WritesResult asked answer before after
-
--- A run that ends with this status wrote its line, or the whole of what the command that its words
--- ask for comes to: this is said also where nothing is known of what the library holds. After a
--- fault of reading nothing was written; of a fault of writing and of want of memory it says
--- nothing.
-abbrev pub WritesWhole : List (List ℕ) → Status → Option (List ℕ) → Option (List ℕ) → Type 0
-WritesWhole words status.Usage before after = Adds before after usage_line
-WritesWhole words status.ReadFault before after = after ≡ before
-WritesWhole words status.WriteFault before after = Unit {0}
-WritesWhole words status.NoMemory before after = Unit {0}
-WritesWhole words answer before after =
-    (asked : Command) × ReadsAs words asked × WritesWholly asked answer before after

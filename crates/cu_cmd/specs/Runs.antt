@@ -6,7 +6,7 @@ use Rattle.cu_flattext.specs.declared.fault.PrintFault.TheVariants as print
 use Rattle.cu_search.specs.declared.fault.SearchFault.{SearchFault}
 use Rattle.cu_search.specs.declared.fault.SearchFault.TheVariants as search
 use Rattle.cu_words.specs.Words.{Command}
-use Rattle.cu_cmd.specs.Report.{WritesPrefix, WritesReport, WritesWholly}
+use Rattle.cu_cmd.specs.Written.{WritesPrefix, WritesReport, WritesWholly}
 use Rattle.cu_cmd.specs.declared.fault.RunFault.{RunFault}
 use Rattle.cu_cmd.specs.declared.fault.RunFault.TheVariants.{NoMemory, Read, Write}
 use Rattle.cu_cmd.specs.declared.status.Status.{Status}

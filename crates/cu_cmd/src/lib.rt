@@ -5,6 +5,7 @@
 
 mod command;
 mod compiling;
+mod depths;
 mod fault;
 mod pieces;
 mod problem;

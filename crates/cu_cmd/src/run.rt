@@ -1,14 +1,17 @@
 //! The public call.
 ghost use Rattle.std.specs.Prelude.{◌≡◌, IfOk, IfSome, List, OnErr, OnOk, map, string_bytes, ℕ};
 ghost use Rattle.cu_cmd.specs.Causes.{HasCause, IsNoUsage, IsUsage};
-ghost use Rattle.cu_cmd.specs.Report.{AsksNothing, Held, Report, Writes, WritesWhole, usage_line};
+ghost use Rattle.cu_cmd.specs.Depths.{ListsByDepth};
+ghost use Rattle.cu_cmd.specs.Report.{AsksNothing, Held, Report, usage_line};
 ghost use Rattle.cu_cmd.specs.Runs.{HasWriteCause};
+ghost use Rattle.cu_cmd.specs.Written.{Writes, WritesWhole};
 ghost use Rattle.cu_cmd.specs.declared.status.Status.TheVariants.{Usage};
 ghost use Rattle.cu_search.specs.Written.{Adds, AddsFront};
 ghost use Rattle.cu_theorem.specs.Listed.{ListsSolutions};
 ghost use Rattle.cu_words.specs.Words.{Command, IsCommand, ReadsAs, Solve, Solving};
 
 use crate::command::{run, workers_of};
+use crate::depths::answers_are_listed_by_depth;
 use crate::fault::{RunFault, status_after};
 use crate::pieces::write_piece;
 use crate::search::Workers;
@@ -42,6 +45,12 @@ pub fn top<R: Threads + Sync, L: Library, O: Source, S: Sink, G: Gate + Sync>(
     ensures solutions { IfSome (L.holdings library.old) (λ held. (solve : Solve)
         → ReadsAs (map string_bytes words.now) (Solving solve)
         → ListsSolutions (held.module_at solve.folder) solve.name solve.goal solve.limits) }
+    // An answer at depth d of the goal's search tree is listed in round d, so with `[d]`, where the
+    // limits allow that many rounds and answers and the listing hasn't ended before it; by a stride
+    // of more steps than one it is due in round d or an earlier one. No other answer is listed.
+    ensures depth { IfSome (L.holdings library.old) (λ held. (solve : Solve)
+        → ReadsAs (map string_bytes words.now) (Solving solve)
+        → ListsByDepth (held.module_at solve.folder) solve.name solve.goal solve.limits) }
     // A status that says so comes with one whole line, or with the whole of what the command that
     // the words ask for comes to, also where the library doesn't tell what it holds.
     ensures whole { WritesWhole (map string_bytes words.now) result
@@ -73,6 +82,7 @@ pub fn top<R: Threads + Sync, L: Library, O: Source, S: Sink, G: Gate + Sync>(
         → AsksNothing asked → library.new ≡ library.old }
 {
     solutions_are_listed();
+    answers_are_listed_by_depth();
     match read_words(alloc, words) {
         Ok(Some(command)) => {
             one_reading();

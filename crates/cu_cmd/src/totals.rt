@@ -3,8 +3,9 @@ ghost use Rattle.std.specs.Prelude.{◌≡◌, ◌≤◌, IfOk, OnErr, OnOk, Som
 ghost use Rattle.std.specs.List.{concat};
 ghost use Rattle.cu_calculus.specs.FlatProgram as flats;
 ghost use Rattle.cu_cmd.specs.Report as report;
-ghost use Rattle.cu_cmd.specs.Report.{totals_pieces, totals_text};
 ghost use Rattle.cu_cmd.specs.Runs.{HasWriteCause, IsSolved};
+ghost use Rattle.cu_cmd.specs.Trials as trials;
+ghost use Rattle.cu_cmd.specs.Trials.{totals_pieces, totals_text};
 ghost use Rattle.cu_flat.specs.Layout.{laid_out};
 ghost use Rattle.cu_front.specs.CompileAnswers.{HasGoal};
 ghost use Rattle.cu_kernel.specs.Kernel.{Goal};
@@ -92,13 +93,13 @@ fn write_totals<S: Sink>(
 }
 
 fn answers_line(alloc: Global, lines: u64) -> Result<String, AllocError>
-    ensures { IfOk result (λ line. string_bytes line ≡ report.answers_line lines) }
+    ensures { IfOk result (λ line. string_bytes line ≡ trials.answers_line lines) }
 {
     format!(in alloc; "answers {lines}\n")
 }
 
 fn sum_line(alloc: Global, sum: i128) -> Result<String, AllocError>
-    ensures { IfOk result (λ line. string_bytes line ≡ report.sum_line sum) }
+    ensures { IfOk result (λ line. string_bytes line ≡ trials.sum_line sum) }
 {
     format!(in alloc; "sum {sum}\n")
 }

@@ -1,8 +1,8 @@
 //! The command `trial`.
 ghost use Rattle.std.specs.Prelude.{◌≡◌, ◌≤◌, IfOk, string_bytes};
-ghost use Rattle.cu_cmd.specs.Report as report;
 ghost use Rattle.cu_cmd.specs.Report.{TrialReport};
 ghost use Rattle.cu_cmd.specs.Runs.{Ends, EndsWhole, HasWriteCause, IsSolved};
+ghost use Rattle.cu_cmd.specs.Trials as trials;
 ghost use Rattle.cu_search.specs.Standing.{widest};
 ghost use Rattle.cu_words.specs.Words.{Trying, trial_of};
 
@@ -64,7 +64,7 @@ pub(crate) fn try_search<R: Threads + Sync, G: Gate + Sync, S: Sink>(
 
 /// A library that holds the module of trials.
 fn trial_library(alloc: Global) -> Result<ShelfLibrary, AllocError>
-    ensures { IfOk result (λ library. library ≡ report.trial_library) }
+    ensures { IfOk result (λ library. library ≡ trials.trial_library) }
 {
     let text = "bit = 0\nbit = 1\ngrow n x = if n == 0 then x else grow (n - 1) (x + x + bit)\n";
     let mut library = ShelfLibrary::new(alloc, Vec::new(alloc));
@@ -74,14 +74,14 @@ fn trial_library(alloc: Global) -> Result<ShelfLibrary, AllocError>
 
 /// The goal of a trial.
 fn trial_goal(alloc: Global, depth: u32) -> Result<String, AllocError>
-    ensures { IfOk result (λ goal. string_bytes goal ≡ report.trial_goal depth) }
+    ensures { IfOk result (λ goal. string_bytes goal ≡ trials.trial_goal depth) }
 {
     format!(in alloc; "grow {depth} 0")
 }
 
 /// The limits of a trial.
 fn limits(trial: &Trial) -> SearchLimits
-    ensures { result ≡ report.trial_limits (trial_of trial.now) }
+    ensures { result ≡ trials.trial_limits (trial_of trial.now) }
 {
     SearchLimits {
         rounds: 100_000,

@@ -1,4 +1,6 @@
-use Rattle.cu_cmd.proofs.ReportLemmas.{asks_as, command_whole, command_writes, none_so, reads_so, solutions_held, usage_whole, usage_writes, usage_writes_held}
+use Rattle.cu_cmd.proofs.ReportLemmas.{asks_as, command_whole, command_writes, lists_held, none_so, reads_so, usage_whole, usage_writes, usage_writes_held}
+use Rattle.cu_cmd.specs.Depths.{ListsByDepth}
+use Rattle.cu_theorem.specs.Listed.{ListsSolutions}
 use Rattle.cu_words.specs.Words.{asked}
 use Rattle.cu_cmd.proofs.run.top.Goals as goal
 
@@ -44,10 +46,19 @@ returns-in-Ok-Some-clause-own_library g c = λ other reads asks.
     (asks_as (asked c.in-Ok-Some.command) other (c.one_reading.ensures _ _ _ (reads_so _ _ _ c.in-Ok-Some.field-0-is c.in-Ok-Some.ensures.read) reads) asks)
 
 pub returns-in-Ok-Some-clause-solutions : goal.returns-in-Ok-Some-clause-solutions
-returns-in-Ok-Some-clause-solutions g c = solutions_held (g.L.Library.holdings c.args.library.now) _ c.solutions_are_listed.ensures
+returns-in-Ok-Some-clause-solutions g c = lists_held ListsSolutions (g.L.Library.holdings c.args.library.now) _ c.solutions_are_listed.ensures
 
 pub returns-in-Ok-None-clause-solutions : goal.returns-in-Ok-None-clause-solutions
-returns-in-Ok-None-clause-solutions g c = solutions_held (g.L.Library.holdings c.args.library.now) _ c.solutions_are_listed.ensures
+returns-in-Ok-None-clause-solutions g c = lists_held ListsSolutions (g.L.Library.holdings c.args.library.now) _ c.solutions_are_listed.ensures
 
 pub returns-in-Err-clause-solutions : goal.returns-in-Err-clause-solutions
-returns-in-Err-clause-solutions g c = solutions_held (g.L.Library.holdings c.args.library.now) _ c.solutions_are_listed.ensures
+returns-in-Err-clause-solutions g c = lists_held ListsSolutions (g.L.Library.holdings c.args.library.now) _ c.solutions_are_listed.ensures
+
+pub returns-in-Ok-Some-clause-depth : goal.returns-in-Ok-Some-clause-depth
+returns-in-Ok-Some-clause-depth g c = lists_held ListsByDepth (g.L.Library.holdings c.args.library.now) _ c.answers_are_listed_by_depth.ensures
+
+pub returns-in-Ok-None-clause-depth : goal.returns-in-Ok-None-clause-depth
+returns-in-Ok-None-clause-depth g c = lists_held ListsByDepth (g.L.Library.holdings c.args.library.now) _ c.answers_are_listed_by_depth.ensures
+
+pub returns-in-Err-clause-depth : goal.returns-in-Err-clause-depth
+returns-in-Err-clause-depth g c = lists_held ListsByDepth (g.L.Library.holdings c.args.library.now) _ c.answers_are_listed_by_depth.ensures

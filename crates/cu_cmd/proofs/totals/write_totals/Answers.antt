@@ -2,7 +2,7 @@ use Rattle.std.proofs.Common.{rules, ◌≡◌, subst}
 use Rattle.cu_search.specs.Lines.{end_text}
 use Rattle.cu_search.specs.Written.{Adds, AddsFront}
 use Rattle.cu_search.proofs.WrittenLemmas.{OnErr-always}
-use Rattle.cu_cmd.specs.Report.{answers_line, sum_line}
+use Rattle.cu_cmd.specs.Trials.{answers_line, sum_line}
 use Rattle.cu_cmd.proofs.TotalsLemmas.{in_first, in_second, in_third}
 use Rattle.cu_cmd.proofs.totals.write_totals.Goals as goal
 

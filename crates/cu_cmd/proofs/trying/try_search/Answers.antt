@@ -1,6 +1,6 @@
 use Rattle.std.proofs.Common.{rules, ◌≡◌}
 use Rattle.cu_calculus.specs.FlatProgram.{program_of}
-use Rattle.cu_cmd.specs.Report.{trial_goal}
+use Rattle.cu_cmd.specs.Trials.{trial_goal}
 use Rattle.cu_theorem.specs.Listed.{listing_of}
 use Rattle.cu_cmd.proofs.ReportLemmas.{refusal_ends_whole, totals_end, totals_end_whole, trial_compiles, trial_refusal_ends, trial_tells}
 use Rattle.cu_words.specs.Words.{Trying, trial_of}

@@ -1,0 +1,67 @@
+//! Gates that count, and that hold an item until others have entered.
+use cu_pile::Gate;
+use std::sync::{Mutex, Wait};
+use std::thread;
+
+/// How many times a gate that holds an item looks for the others.
+const TURNS: u32 = 100_000_000;
+
+/// What has passed a gate.
+#[derive(Drop)]
+pub struct Passed {
+    /// How many other items have entered.
+    pub others: u32,
+    /// The end was reached before they had.
+    pub ended: bool,
+}
+
+/// Holds one item until so many others have entered.
+#[derive(Drop)]
+pub struct HoldingGate<'r, R: Wait> {
+    rt: &'r R,
+    held: u32,
+    others: u32,
+    passed: Mutex<Passed>,
+}
+
+impl<'r, R: Wait> HoldingGate<'r, R> {
+    pub fn new(rt: &'r R, held: u32, others: u32) -> HoldingGate<'r, R> {
+        let passed = Mutex::new(Passed {
+            others: 0,
+            ended: false,
+        });
+        HoldingGate {
+            rt,
+            held,
+            others,
+            passed,
+        }
+    }
+
+    /// Whether the end was reached.
+    pub fn ended(&self) -> bool {
+        self.passed.lock(self.rt).ended
+    }
+
+    /// How many other items have entered.
+    pub fn entered(&self) -> u32 {
+        self.passed.lock(self.rt).others
+    }
+}
+
+impl<'r, R: Wait> Gate for HoldingGate<'r, R> {
+    fn enter(&self, number: u32) {
+        if number != self.held {
+            let mut passed = self.passed.lock(self.rt);
+            passed.others = passed.others.saturating_add(1);
+            return;
+        }
+        for _ in 0..TURNS {
+            if self.entered() >= self.others {
+                return;
+            }
+            thread::yield_now();
+        }
+        self.passed.lock(self.rt).ended = true;
+    }
+}
