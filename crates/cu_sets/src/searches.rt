@@ -17,11 +17,15 @@ use cu_step::{Branch, Outcome, Running, step};
 use std::alloc::{AllocError, Global};
 use std::mem;
 
+/// How many searches may run within each other. A step of a search within
+/// another takes some of the thread's stack, of which a worker has 2 MiB.
+const MOST_NESTED: u32 = 128;
+
 /// One step of a branch in every state. Where a search for all values of a
 /// function runs in it, the level of the search takes one step, and so do the
-/// searches in that level. An `Err` says that memory ran out, or that a graph
-/// has 4,294,967,295 nodes and needs one more.
-#[cycle(searches)]
+/// searches in that level. An `Err` says that memory ran out, that a graph has
+/// 4,294,967,295 nodes and needs one more, or that more than 128 searches run
+/// within each other.
 pub fn advance<S: Store>(
     alloc: Global,
     program: &FlatProgram,
@@ -36,8 +40,29 @@ pub fn advance<S: Store>(
         (λ outcome. All (λ branch. IsValid program.now (state_of S.content branch))
         (branches_of outcome)) }
 {
+    advance_within(alloc, program, branch, limits, MOST_NESTED)
+}
+
+/// One step of a branch in which at most so many searches run within each
+/// other.
+#[cycle(searches)]
+fn advance_within<S: Store>(
+    alloc: Global,
+    program: &FlatProgram,
+    branch: Branch<S>,
+    limits: &Limits,
+    nested: u32,
+) -> Result<Outcome<S>, AllocError>
+    requires valid { IsValid program.now (state_of S.content branch) }
+    ensures next { IfOk result (λ outcome. next_of S.content outcome
+        ≡ next program.now limits.now (state_of S.content branch)) }
+    ensures inner { IfOk result (λ outcome. IsFalse (is_inner outcome)) }
+    ensures valid { IfOk result
+        (λ outcome. All (λ branch. IsValid program.now (state_of S.content branch))
+        (branches_of outcome)) }
+{
     match step(alloc, program, branch, limits)? {
-        Outcome::Inner(branch) => searched(alloc, program, branch.opened(), limits),
+        Outcome::Inner(branch) => searched(alloc, program, branch.opened(), limits, nested),
         outcome => Ok(outcome),
     }
 }
@@ -49,6 +74,7 @@ fn searched<S: Store>(
     program: &FlatProgram,
     running: Running<S>,
     limits: &Limits,
+    nested: u32,
 ) -> Result<Outcome<S>, AllocError>
     requires valid { IsValid program.now (running_state S.content running) }
     ensures next { IfOk result (λ outcome. next_of S.content outcome
@@ -65,7 +91,10 @@ fn searched<S: Store>(
     }
     let mut running = running;
     let level = mem::replace(&mut running.level, Vec::new(alloc));
-    let after = stepped(alloc, program, level, limits)?;
+    let Some(nested) = nested.checked_sub(1) else {
+        return Err(AllocError);
+    };
+    let after = stepped(alloc, program, level, limits, nested)?;
     after_level(alloc, running, after, limits)
 }
 
@@ -77,6 +106,7 @@ fn stepped<S: Store>(
     program: &FlatProgram,
     level: Vec<Branch<S>>,
     limits: &Limits,
+    nested: u32,
 ) -> Result<Stepped<S>, AllocError>
     requires valid { All (λ branch. IsValid program.now (state_of S.content branch)) level.items }
     ensures { IfOk result (λ after. event_of S.content after
@@ -84,7 +114,7 @@ fn stepped<S: Store>(
 {
     let mut after = Level::new(alloc);
     for branch in level {
-        let outcome = advance(alloc, program, branch, limits)?;
+        let outcome = advance_within(alloc, program, branch, limits, nested)?;
         if let Some(ending) = after.add(outcome)? {
             return Ok(Stepped::Ended(ending));
         }

@@ -26,19 +26,19 @@ same content o branch given is tells keeps =
     let kept = keeps (sym tells ∙ ap is_inner is) in
     let e : outcome.Inner branch ≡ outcome.Inner given = sym is ∙ kept in cc
 
-pub advance-returns-in-Inner-clause-next : goal.advance-returns-in-Inner-clause-next
-advance-returns-in-Inner-clause-next g t c =
+pub advance_within-returns-in-Inner-clause-next : goal.advance_within-returns-in-Inner-clause-next
+advance_within-returns-in-Inner-clause-next g t c =
     let content = g.S.Store.content in
     let branch = c.args.branch in
     let given = same content _ c.in-Inner.branch branch c.in-Inner.is c.in_ok-outcome.ensures.inner c.in_ok-outcome.ensures.same in
     if_ok c.searched.result _ _
     (λ o is. is ∙ ap (next c.args.program.now c.args.limits.now) (c.opened.ensures ∙ ap (state_of content) given)) c.searched.ensures.next
 
-pub advance-returns-in-Inner-clause-valid : goal.advance-returns-in-Inner-clause-valid
-advance-returns-in-Inner-clause-valid g t c =
+pub advance_within-returns-in-Inner-clause-valid : goal.advance_within-returns-in-Inner-clause-valid
+advance_within-returns-in-Inner-clause-valid g t c =
     if_ok c.searched.result _ _
     (follow_valid g.S.Store.content c.args.program.now c.args.limits.now (state_of g.S.Store.content c.args.branch) c.searched.ensures.well_formed c.requires.valid)
-    (advance-returns-in-Inner-clause-next g t c)
+    (advance_within-returns-in-Inner-clause-next g t c)
 
 pub searched-returns-then-is_too_large-clause-next : goal.searched-returns-then-is_too_large-clause-next
 searched-returns-then-is_too_large-clause-next g t c =
@@ -118,8 +118,8 @@ stepped-loop-branch-init g t c =
     steps_begin (state_of content) program limits (level_of content c.new-after.result) (into_iter_items c.into_iter-branch-iterator.result) all c.new-after.ensures
     c.into_iter-branch-iterator.ensures.into_iter_gives.0 c.requires.valid
 
-pub stepped-advance-requires : goal.stepped-advance-requires
-stepped-advance-requires g t c κs within =
+pub stepped-advance_within-requires : goal.stepped-advance_within-requires
+stepped-advance_within-requires g t c κs within =
     let content = g.S.Store.content in
     let program = c.args.program.now in
     let limits = c.args.limits.now in

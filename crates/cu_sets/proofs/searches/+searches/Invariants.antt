@@ -14,8 +14,8 @@ invariant-stepped-loop-branch g l =
     let content = g.S.Store.content in
     Steps (state_of content) l.program l.limits (level_of content l.after) (into_iter_items l.branch-iterator) l.fn.level.items
 
-abbrev pub decreases-advance : goal.decreases-advance
-decreases-advance g l = 3 * nesting (state_of g.S.Store.content l.branch)
+abbrev pub decreases-advance_within : goal.decreases-advance_within
+decreases-advance_within g l = 3 * nesting (state_of g.S.Store.content l.branch)
 
 abbrev pub decreases-searched : goal.decreases-searched
 decreases-searched g l = 3 * deepest (states_of (map (state_of g.S.Store.content) l.running.level.items)) + 2
