@@ -32,8 +32,8 @@ pub in_its_round : (code : Code) (limits : SearchLimits) (start state : State) (
     → Due code limits start state depth (λ round before. Place code limits start state round before reading)
 in_its_round code limits start state depth reading due place among is =
     at (due code limits start state depth reading among is) where
-  at : Due code limits start state depth (λ round before. Among (Answered round reading) (listing code limits start).lines
-      ⊎ EndedBefore limits round (earlier code limits start round before) (listing code limits start))
-      → Due code limits start state depth (λ round before. Place code limits start state round before reading)
-  at (round, most, same, before, reaches, listed) =
-      (round, most, same, before, reaches, place code limits start state round before reading reaches is)
+      at : Due code limits start state depth (λ round before. Among (Answered round reading) (listing code limits start).lines
+          ⊎ EndedBefore limits round (earlier code limits start round before) (listing code limits start))
+          → Due code limits start state depth (λ round before. Place code limits start state round before reading)
+      at (round, most, same, before, reaches, listed) =
+          (round, most, same, before, reaches, place code limits start state round before reading reaches is)

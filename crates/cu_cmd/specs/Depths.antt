@@ -7,7 +7,7 @@ use Rattle.cu_kernel.specs.Kernel.{Goal, Kernel}
 use Rattle.cu_machine.specs.Among.{Among}
 use Rattle.cu_machine.specs.Earlier.{EndedBefore, IsListed, IsReached, earlier}
 use Rattle.cu_machine.specs.Level.{level, step_level}
-use Rattle.cu_machine.specs.Listing.{Answered, Listing}
+use Rattle.cu_machine.specs.Listing.{Answered}
 use Rattle.cu_machine.specs.Next.{Answer, Reading, next}
 use Rattle.cu_machine.specs.Run.{reached, reading_at, run}
 use Rattle.cu_machine.specs.State.{State, start_of}

@@ -1,4 +1,3 @@
-use Rattle.std.proofs.Common.{◌≡◌}
 use Rattle.cu_calculus.specs.FlatProgram.{program_of}
 use Rattle.cu_flattext.specs.Text.{lowered}
 use Rattle.cu_cmd.proofs.ReportLemmas.{done_is_solved, module_refusal_ends, refusal_ends_whole, run_cause, text_ends, text_ends_whole}
