@@ -107,8 +107,9 @@ pub(crate) fn solved(
     let Reader {
         nodes,
         variables,
-        ..
+        added,
     } = reader;
+    drop(added);
     match solve(alloc, nodes, pairs)? {
         Solved::Solution(places, types) => Ok(Ok(Subst {
             variables,
