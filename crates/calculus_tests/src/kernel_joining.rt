@@ -55,7 +55,8 @@ const NO_PARTS: Counts = Counts {
 /// The constructor of the values of set functions.
 const VALUES: ConId = ConId(19);
 
-/// The parts of two modules, joined; the first has that constructor.
+/// The parts of two modules, joined; the first has the constructor of the
+/// values of set functions.
 fn joined(alloc: Global) -> Result<LocalParts, AllocError> {
     let start = Counts {
         modules: 1,

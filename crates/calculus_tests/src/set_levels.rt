@@ -37,8 +37,8 @@ fn chooser(alloc: Global, heads: &[Head]) -> Result<Function, AllocError> {
     of_rules(0, Ok(rules))
 }
 
-/// The first three functions of the sample, of which none mentions another,
-/// and these behind them.
+/// The first three functions of the sample, of which none mentions another, and
+/// after them functions that mention these heads.
 fn parts(alloc: Global, rows: &[&[Head]]) -> Result<ProgramParts, AllocError> {
     let mut functions = top_functions(alloc, Ok(constant(alloc, TRUE)));
     let mut marks = top_marks(alloc);

@@ -6,7 +6,7 @@ use std::alloc::{AllocError, Global};
 use std::process::Abort;
 use std::thread::Threads;
 
-/// The text of the module `M`, a goal there, and what is expected.
+/// The text of the module `M`, a goal in it, and what is expected.
 pub(crate) type Case = (&'static str, &'static str, &'static str);
 
 const COINS: &str = "coin = 0 ? 1\ndouble x = x + x";
@@ -205,7 +205,7 @@ const FORMS: [Case; 13] = [
     ),
 ];
 
-/// Refusals. Types are looked at behind names, and before operators; operators
+/// Refusals. Types are looked at after names, and before operators; operators
 /// that can't be grouped are told before other faults, and modules before the
 /// goal.
 const REFUSALS: [Case; 37] = [

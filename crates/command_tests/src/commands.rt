@@ -16,7 +16,7 @@ const USAGE: &str = "bad command line\n";
 
 const LOOP: &str = "loop = loop";
 
-/// The option behind a goal, its value, and what is written.
+/// The option after a goal, its value, and what is written.
 type Limit = (&'static str, &'static str, &'static str, Status);
 
 const LIMITS: [Limit; 12] = [
@@ -77,7 +77,7 @@ fn outputs_break_off(rt: HostRuntime) {
         let output = failing(alloc, *piece, *count);
         expect(&rt, COIN, &COIN_WORDS, output, written, Status::WriteFault);
     }
-    // There is no fourth piece.
+    // The output gets no fourth piece.
     let output = failing(alloc, 3, 1);
     expect(&rt, COIN, &COIN_WORDS, output, COIN_LISTING, Status::Done);
     let words = ["solve", "M", "--goal", "toss"];

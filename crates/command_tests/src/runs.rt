@@ -35,7 +35,7 @@ pub(crate) fn run<R: Threads + Sync>(
     run_at(rt, alloc, &OpenGate, words, library, output)
 }
 
-/// Runs it with workers that pass a gate.
+/// Runs the command of these words, with workers that pass a gate.
 fn run_at<R: Threads + Sync, G: Gate + Sync>(
     rt: &R,
     alloc: Global,
@@ -79,8 +79,7 @@ pub(crate) fn failing(alloc: Global, piece: u64, count: usize) -> Result<VecSink
     VecSink::new(alloc, ROOM, vec![in alloc; (piece, count)]?)
 }
 
-/// Expects that a command ends so where `M` has this text: with these bytes in
-/// the output, and this status.
+/// Expects what a command writes where `M` has this text, and its status.
 pub(crate) fn expect<R: Threads + Abort + AllocGlobal + Sync>(
     rt: &R,
     text: &str,
@@ -92,7 +91,7 @@ pub(crate) fn expect<R: Threads + Abort + AllocGlobal + Sync>(
     expect_at(rt, &OpenGate, text, words, output, written, status);
 }
 
-/// Expects that it ends so with workers that pass a gate.
+/// Expects what a command writes with workers that pass a gate, and its status.
 pub(crate) fn expect_at<R: Threads + Abort + AllocGlobal + Sync, G: Gate + Sync>(
     rt: &R,
     gate: &G,

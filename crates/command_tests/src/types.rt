@@ -10,7 +10,8 @@ use std::thread::Threads;
 /// A local function that depends on the function around it is of that one's group.
 const OUTER: &str = "f xs = (g 1, g 'a') where\n  g y = const y (f [])";
 
-/// Where its type is declared, it has an instance at each use there too.
+/// A local function whose type is declared has an instance at each use, also in
+/// the function around it.
 const DECLARED_INNER: &str = "f xs = (g 1, g 'a') where\n  g :: b -> b\n  g y = const y (f [])";
 
 /// Lists of pairs of pairs, whose type changes at the recursion.
@@ -503,8 +504,8 @@ fn the_first_refusal_is_told(rt: HostRuntime) {
     }
 }
 
-/// A module with a function whose definitional tree has more than 65,536 expressions,
-/// and more behind it.
+/// A module with a function whose definitional tree has more than 65,536
+/// expressions, and more after it.
 fn large_module(alloc: Global, behind: &str) -> Result<String, AllocError> {
     let mut text = String::new(alloc);
     for _ in 0..LARGE_RULES {
@@ -518,7 +519,7 @@ fn large_module(alloc: Global, behind: &str) -> Result<String, AllocError> {
     Ok(text)
 }
 
-/// Expects this refusal where that module is compiled.
+/// Expects this refusal where the module with the large function is compiled.
 fn expect_large<R: Threads + Abort + AllocGlobal + Sync>(rt: &R, behind: &str, line: &str) {
     let module = large_module(rt.alloc(), behind).expect(rt, "memory");
     let output = whole(rt.alloc());

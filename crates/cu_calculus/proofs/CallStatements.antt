@@ -1,4 +1,5 @@
--- That a function on argument values concludes a value is what a proof of the call's statement says.
+-- That a function on argument values concludes a value is what a proof of the call's statement
+-- says.
 use Rattle.std.proofs.Common.{◌≡◌, ℕ, zero, suc, ◌+◌, Bool, true, false, ◌&&◌, List, [], ◌∷◌, Some, IsTrue, if◌then◌else◌, nat_eq, nat_lt, slice_get, refl, ap, sym, ◌∙◌, subst, arith, add-one, eq-eqb, ne_eqb, lt-ltb}
 use Rattle.std.specs.List.{list_all}
 use Rattle.std.specs.Prelude.{slice_index_or}

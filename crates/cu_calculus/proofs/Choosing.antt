@@ -1,4 +1,5 @@
--- The relation of choosing and its function say the same: each look drops a row or meets one of its demands.
+-- The relation of choosing and its function say the same: each look drops a row or meets one of its
+-- demands.
 use Rattle.std.proofs.Common.{◌≡◌, ℕ, zero, suc, ◌+◌, ◌<◌, ◌≤◌, Bool, true, false, not, ◌||◌, List, [], ◌∷◌, ◌++◌, if◌then◌else◌, cond, filter, map, replicate, take, drop, length, Option, None, Some, option_map, slice_get, refl, ap, sym, ◌∙◌, subst, arith, add-one, eq-eqb}
 use Rattle.std.proofs.lemmas.Bool.Decides.{Decides-int_eq}
 use Rattle.cu_calculus.specs.declared.ConId.{ConId}
@@ -66,7 +67,8 @@ spliced_demands k arguments ps =
     let place : list_demands (drop (k + 1) ps) ≡ list_demands (drop (suc k) ps) = ap (λ n. list_demands (drop n ps)) (add-one k) in
     omega arith
 
--- the patterns of a row, narrowed, demand no more than before, and less where the row demands something there
+-- the patterns of a row, narrowed, demand no more than before, and less where the row demands
+-- something there
 narrowed_demands : (k n : ℕ) (row : Row) → list_demands (narrowed k n row).patterns + demanded (demand_at k row) ≤ list_demands row.patterns
 narrowed_demands k n row = by (slice_get row.patterns k) refl
   where
@@ -94,7 +96,8 @@ kept_fewer : (b : Bool) (k n : ℕ) (row : Row) (kept rows : List Row) → deman
 kept_fewer true k n row kept rows e h = let fewer = narrowed_demands k n row in omega arith
 kept_fewer false k n row kept rows e h = omega arith
 
--- rows that pass a test, narrowed, take no more looks, and fewer where the first demands something there
+-- rows that pass a test, narrowed, take no more looks, and fewer where the first demands something
+-- there
 narrowed_looks : (k n : ℕ) (test : Row → Bool) (rows : List Row) → looks (map (narrowed k n) (filter test rows)) ≤ looks rows
 narrowed_looks k n test [] = omega arith
 narrowed_looks k n test (row ∷ rows) = kept_looks (test row) k n row (filter test rows) rows (narrowed_looks k n test rows)

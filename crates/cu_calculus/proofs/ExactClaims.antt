@@ -1,4 +1,5 @@
--- The rows of true claims are the exact ones of lower levels, and function and arguments determine a row.
+-- The rows of true claims are the exact ones of lower levels, and function and arguments determine
+-- a row.
 use Rattle.std.proofs.Common.{◌≡◌, ℕ, zero, suc, ◌<◌, true, List, [], ◌∷◌, ◌⊎◌, inl, inr, Some, IsTrue, slice_get, refl, ap₂, sym, ◌∙◌, subst, arith, Ordering, Less, Equal, Greater}
 use Rattle.std.specs.Ordering.{is_lt}
 use Rattle.std.proofs.lemmas.Bool.{and_parts, cases_eq}
@@ -19,7 +20,7 @@ rises_tail : (x : Value) (xs : List Value) → IsTrue (rises (x ∷ xs)) → IsT
 rises_tail x [] h = refl
 rises_tail x (y ∷ ys) h = (and_parts (is_lt (value_order x y)) (rises (y ∷ ys)) h).1
 
--- what stands behind in a rising list is greater
+-- what stands later in a rising list is greater
 rises_above : (x : Value) (xs : List Value) (k : ℕ) (v : Value) → IsTrue (rises (x ∷ xs)) → slice_get xs k ≡ Some v → value_order x v ≡ Less
 rises_above x [] k v h e = let no : ⊥ = cc in absurd no
 rises_above x (y ∷ ys) zero v h e =

@@ -1,4 +1,5 @@
--- Terms that fit a program still fit when their variables may be any, and so do the parts of a program that is valid.
+-- Terms that fit a program still fit when their variables may be any, and so do the parts of a
+-- program that is valid.
 use Rattle.std.proofs.Common.{◌≡◌, ℕ, zero, suc, Bool, true, false, not, ◌&&◌, ◌||◌, List, Some, IsTrue, nat_eq, slice_get, refl, subst}
 use Rattle.std.specs.List.{list_all}
 use Rattle.std.proofs.lemmas.Bool.{and_from, and_parts}

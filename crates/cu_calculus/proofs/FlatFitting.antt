@@ -24,7 +24,7 @@ use Rattle.cu_calculus.specs.WellFormed.{all_differ, bound_by, fit_branches, fit
 use Rattle.cu_calculus.proofs.FlatTerms.{branches_fit, fits_branch}
 use Rattle.cu_calculus.proofs.Fitting.{Wider, both_wider, fits_wider, or_wider}
 
--- ** Tests
+-- ---- tests
 
 or_assoc : (a b c : Bool) → (a || (b || c)) ≡ ((a || b) || c)
 or_assoc true b c = refl
@@ -46,7 +46,7 @@ or_false : (a b : Bool) → IsTrue ((a || false) || b) → IsTrue (a || b)
 or_false true b h = refl
 or_false false b h = h
 
--- ** Heads
+-- ---- heads
 
 pub function_there : (program : Code) (f : FunId) → function_of (program_of program) f ≡ option_map (function_in program) (slice_get program.functions f.0)
 function_there program f = slice_get-map (function_in program) program.functions f.0
@@ -75,7 +75,7 @@ allowed_kept program (head.Fun f) = refl
 allowed_kept program (head.Con c) = refl
 allowed_kept program (head.Set f) = refl
 
--- ** Patterns
+-- ---- patterns
 
 pub any_count : (xs : List ℕ) → pattern_count (all_any xs) ≡ length xs
 any_count [] = refl
@@ -128,13 +128,13 @@ pub differ_kept : (t : ExprId → Term) (branches : List Branch) → flat.all_di
 differ_kept t [] = refl
 differ_kept t (branch ∷ branches) = rw (demands_kept t branch.pattern branches, differ_kept t branches) refl
 
--- ** Scopes
+-- ---- scopes
 
 holds_parts : (y : ℕ) (xs ys : List ℕ) → holds y (xs ++ ys) ≡ (holds y xs || holds y ys)
 holds_parts y [] ys = refl
 holds_parts y (x ∷ xs) ys = rw (holds_parts y xs ys) (or_assoc (nat_eq y x) (holds y xs) (holds y ys))
 
--- what is in scope with a list of variables behind it
+-- what is in scope with a list of variables after it
 held_behind : (y : ℕ) (xs ys : List ℕ) → IsTrue (holds y (xs ++ ys)) → IsTrue (holds y ys || holds y xs)
 held_behind y xs ys h = or_swap (holds y xs) (holds y ys) (subst (λ (b : Bool). IsTrue b) (holds_parts y xs ys) h)
 
@@ -168,7 +168,7 @@ kept_there scope (x ∷ kept) all y h =
 kept_with : (scope kept xs : List ℕ) → IsTrue (list_all (λ x. holds x scope) kept) → Wider (λ y. holds y (kept ++ xs)) (also_all xs (λ y. holds y scope))
 kept_with scope kept xs all y h = or_wider (holds y xs) (holds y kept) (holds y scope) (kept_there scope kept all y) (held_behind y kept xs h)
 
--- ** Terms
+-- ---- terms
 
 -- expressions that pass a test in a scope have terms that fit there
 abbrev pub Fitting : Code → (List ℕ → ExprId → Bool) → (ExprId → Term) → Type 0

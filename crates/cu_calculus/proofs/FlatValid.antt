@@ -32,7 +32,7 @@ all_pass f p q each (x ∷ xs) h =
     let parts = and_parts (p x) (list_all p xs) h in
     and_from (q (f x)) (list_all q (map f xs)) (each x parts.0) (all_pass f p q each xs parts.1)
 
--- ** Flat terms
+-- ---- flat terms
 
 abbrev pub AreFlat : (List ℕ → ExprId → Bool) → (ExprId → Term) → Type 0
 AreFlat part t = (scope : List ℕ) (e : ExprId) → IsTrue (part scope e) → IsTrue (is_flat_term (t e))
@@ -94,7 +94,7 @@ within_flat program zero scope e h = absurd (true≢false (sym h))
 within_flat program (suc depth) scope e h =
     over_flat (fits depth program) (term_within depth program) program scope (expr_of program e) (within_flat program depth) h
 
--- ** Functions
+-- ---- functions
 
 body_valid : (program : Code) (arity : ℕ) (body : code.Body) → IsTrue (fits_body program arity body)
     → IsTrue (valid.fits_body (program_of program) arity (body_in program body))
@@ -139,7 +139,7 @@ function_flat : (program : Code) (function : code.Function) → IsTrue (fits_fun
 function_flat program function h =
     body_flat program function.arity function.body (and_parts (is_arity function.arity) (fits_body program function.arity function.body) h).1
 
--- ** The conjunction
+-- ---- the conjunction
 
 over_variable : (t : ExprId → Term) (x : ℕ) (o : Option Expr) → is_variable x o ≡ true → term_over t o ≡ term.Variable x
 over_variable t x (Some (code.Variable y)) h = ap term.Variable (sym (eqb-true x y h))
@@ -236,7 +236,7 @@ rule_conjoins program arity (code.Rule (x ∷ y ∷ []) e) no_false no_true fit 
     by_case (body_in program (code.Rule (x ∷ y ∷ []) e)) x y (different x y tests.0) (ap rule term)
 rule_conjoins program arity _ no_false no_true fit h = absurd (true≢false (sym h))
 
--- ** The built-in entities
+-- ---- the built-in entities
 
 abbrev pub Both : Code → FunId → Type 0
 Both program f = (function : Function) × (function_of (program_of program) f ≡ Some function) × (function.arity ≡ 2)
@@ -291,7 +291,7 @@ special_there program all h =
       values = values_taken program s.values last.1;
     }
 
--- ** Programs
+-- ---- programs
 
 abbrev pub sound_constructors : Code → Bool
 sound_constructors program = list_all (λ constructor. is_arity constructor.arity) program.constructors

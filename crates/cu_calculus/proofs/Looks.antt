@@ -131,7 +131,7 @@ narrow_looked k v arguments values rows at inner none = record {
   complete = λ row among e. or_other (wants_nothing (demand_at k row)) (meets v (demand_at k row)) (no_variable k rows none row among) e;
 }
 
--- or those that demand nothing too
+-- the rows that demand what stands at the place, or demand nothing there
 wide_looked : (k : ℕ) (v : Value) (arguments values : List Value) (rows : List Row) → slice_get values k ≡ Some v → parts_of v ≡ Some arguments
     → Looked rows values (narrow k (admits v) rows arguments values)
 wide_looked k v arguments values rows at inner = record {

@@ -1,4 +1,5 @@
--- What a pattern matches, it matches when more is known of it, and its variables stand for at least what they did.
+-- What a pattern matches, it matches when more is known of it, and its variables stand for at least
+-- what they did.
 use Rattle.std.proofs.Common.{◌≡◌, ℕ, Bool, true, false, [], ◌∷◌, ◌++◌, if◌then◌else◌, nat_eq, Option, None, Some, option_map, refl, ap, ap₂, sym, ◌∙◌, subst}
 use Rattle.cu_calculus.specs.declared.ConId.{ConId}
 use Rattle.cu_calculus.specs.declared.Lit.{Lit}
@@ -10,7 +11,7 @@ use Rattle.cu_calculus.specs.Term as term
 use Rattle.cu_calculus.specs.Term.{Pattern, Patterns}
 use Rattle.cu_calculus.specs.Value.{Value, Values}
 
--- what an alias binds behind its variable
+-- what an alias binds after its variable
 pub record Behind (x : ℕ) (u : Value) (found : Option Bindings) (all : Bindings) : Type 0 where
   pub rest : Bindings
   pub is : found ≡ Some rest
@@ -48,7 +49,7 @@ pub record Rises (low : Bindings) (found : Option Bindings) : Type 0 where
   pub is : found ≡ Some high
   pub above : BindingsBelow low high
 
--- a match behind a test
+-- a match after a test
 pub tested : (b : Bool) (found : Option Bindings) (all : Bindings) → (if b then found else None) ≡ Some all → (b ≡ true) × (found ≡ Some all)
 tested true found all e = (refl, e)
 tested false found all e = let no : ⊥ = cc in absurd no

@@ -1,4 +1,5 @@
--- A derivation over claims is one over any claims that have the rows that it cites, and so is a proof.
+-- A derivation over claims is one over any claims that have the rows that it cites, and so is a
+-- proof.
 use Rattle.std.proofs.Common.{◌≡◌, ℕ, zero, suc, ◌+◌, List, [], ◌∷◌, ◌++◌, ◌⊎◌, inl, inr, length, slice_get, Some, IsTrue, refl, ap, ◌∙◌}
 use Rattle.std.specs.List.{list_all}
 use Rattle.cu_calculus.specs.declared.Head.{Head}
@@ -13,7 +14,7 @@ use Rattle.cu_calculus.specs.Term.{Term, Terms}
 use Rattle.cu_calculus.specs.Value.{Value, Values}
 use Rattle.cu_calculus.proofs.Lists.{all_append, get_behind, get_front}
 
--- rows of a list's front and of its back are the list's
+-- rows of a list's prefix and of its rest are the list's
 pub rows_front : (one two others : List Claim) → AreRows (one ++ two) others → AreRows one others
 rows_front one two others rows k claim e = rows k claim (get_front one two k claim e)
 

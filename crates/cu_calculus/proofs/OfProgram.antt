@@ -1,4 +1,5 @@
--- Values of a program: what is below one is one, matching gives such values, and so do the built-in operations.
+-- Values of a program: what is below one is one, matching gives such values, and so do the built-in
+-- operations.
 use Rattle.std.proofs.Common.{◌≡◌, ℕ, ◌+◌, ◌-◌, ◌^◌, Bool, true, false, ◌&&◌, List, [], ◌∷◌, if◌then◌else◌, Option, None, Some, IsTrue, nat_eq, nat_lt, nat_le, refl, ap, sym, subst, arith, ℤ, pos, negsuc, ◌+ℤ◌, ◌-ℤ◌, ◌*ℤ◌, ltb-true, leb-true, le-leb, ◌⊎◌, inl, inr}
 use Rattle.std.specs.List.{list_all}
 use Rattle.std.specs.Prelude.{int_le, int_lt}

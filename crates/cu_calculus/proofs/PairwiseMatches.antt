@@ -1,4 +1,5 @@
--- Patterns that match values in pairs, and what becomes of them where the arguments at a place stand in its stead.
+-- Patterns that match values in pairs, and what becomes of them where the arguments of what stands
+-- at a position take its place.
 use Rattle.std.proofs.Common.{◌≡◌, ℕ, zero, suc, ◌+◌, Bool, true, false, ◌&&◌, List, [], ◌∷◌, ◌++◌, if◌then◌else◌, length, replicate, take, drop, Option, None, Some, is_some, option_map, slice_get, refl, ap, sym, ◌∙◌, subst, arith, add-one, eqb-true}
 use Rattle.std.specs.List.{list_all}
 use Rattle.std.proofs.lemmas.Bool.{and_from, and_parts}
@@ -72,7 +73,8 @@ match_admits (term.Exactly l) _ e = let no : ⊥ = cc in absurd no
 match_admits (term.Built c ps) (value.Constructed d vs) e = constructor_back c d (some_if (same_constructor c d) (all_matched ps vs) e).0
 match_admits (term.Built c ps) _ e = let no : ⊥ = cc in absurd no
 
--- a pattern matches a value exactly where it admits it and the patterns of its arguments match the arguments
+-- a pattern matches a value exactly where it admits it and the patterns of its arguments match the
+-- arguments
 literal_arguments : (p : Pattern) (l : Lit) → does_match p (value.Literal l) ≡ true → all_match (arguments_of 0 p) [] ≡ true
 literal_arguments (term.Any x) l e = refl
 literal_arguments (term.Exactly m) l e = refl

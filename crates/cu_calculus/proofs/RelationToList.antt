@@ -1,5 +1,5 @@
--- What the relation gives, some proof concludes: the steps for the parts of a derivation are put behind those that are there
--- already, and the step that cites them behind all.
+-- What the relation gives, some proof concludes: the steps for the parts of a derivation are put
+-- after those that are there already, and the step that cites them after all.
 use Rattle.std.proofs.Common.{◌≡◌, ◌≢◌, ℕ, true, ◌&&◌, List, [], ◌∷◌, ◌++◌, length, slice_get, None, Some, IsTrue, refl, ap, sym, ◌∙◌, subst, append_assoc, append-nil}
 use Rattle.std.specs.List.{list_all}
 use Rattle.std.proofs.lemmas.Bool.{and_from, and_parts}
@@ -32,7 +32,7 @@ pub says_about : (program : Program) (env : Environment) (bindings : Bindings) (
     → Says (about bindings t v) env t v
 says_about program env bindings t v h = record { at = λ x. ap (λ (e : Environment). e x) h.says; term = refl; value = refl }
 
--- such a statement is the program's
+-- a statement about a program's bindings, term and value is one of the program
 pub about_of : (program : Program) (env : Environment) (bindings : Bindings) (t : Term) (v : Value) → Stands program env bindings
     → IsTrue (fits_term program any t) → IsTrue (is_of program v) → IsTrue (is_statement_of program (about bindings t v))
 about_of program env bindings t v h fits known =
@@ -63,7 +63,7 @@ module _ (program : Program) (claims : List Claim) where
     pub speak : IsTrue (list_all (λ step. is_statement_of program step.statement) steps)
     pub follow : AllFollow program claims steps
 
-  -- steps behind others, the last of which has a statement
+  -- steps after others, the last of which has a statement
   pub record Grown (before : List Step) (s : Statement) : Type 0 where
     pub middle : List Step
     pub step : Step
@@ -72,7 +72,7 @@ module _ (program : Program) (claims : List Claim) where
     pub is : step.statement ≡ s
     pub sound : Sound (middle ++ step ∷ [])
 
-  -- steps behind others, among which these statements stand
+  -- steps after others, among which these statements stand
   pub record Reached (before : List Step) (ss : List Statement) : Type 0 where
     pub after : List Step
     pub more : List Step

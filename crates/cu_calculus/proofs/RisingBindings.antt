@@ -9,7 +9,7 @@ use Rattle.cu_calculus.specs.Shape.{is_of}
 use Rattle.cu_calculus.specs.Value.{Value}
 use Rattle.cu_calculus.proofs.OfProgram.{EnvOf, bind_all_of, bindings_of}
 
--- a binding before another one, in its place, or behind it
+-- a binding before another one, in its place, or after it
 abbrev pub placed : Bool → Bool → ℕ → Value → ℕ → Value → Bindings → Bindings → Bindings
 placed true same x v y w rest behind = (x, v) ∷ (y, w) ∷ rest
 placed false true x v y w rest behind = (x, v) ∷ rest
@@ -135,7 +135,7 @@ stands_bind_all program env bindings ((x, v) ∷ more) h k =
     let parts = and_parts (is_of program v) (bindings_of program more) k in
     stands_bind program (bind_all env more) (all_added bindings more) x v (stands_bind_all program env bindings more h parts.1) parts.0
 
--- such an environment has values of the program
+-- an environment for which a program's bindings stand has values of the program
 pub stands_of : (program : Program) (env : Environment) (bindings : Bindings) → Stands program env bindings → EnvOf program env
 stands_of program env bindings h x =
     subst (λ (e : Environment). IsTrue (is_of program (e x))) h.says (bind_all_of program empty bindings (λ y. refl) h.known x)

@@ -1,4 +1,5 @@
--- The alternative that values take matches them, where all is of the program, and no earlier one does.
+-- The alternative that values take matches them, where all is of the program, and no earlier one
+-- does.
 use Rattle.std.proofs.Common.{◌≡◌, ℕ, zero, suc, ◌+◌, ◌<◌, ◌≤◌, Bool, true, false, ◌&&◌, List, [], ◌∷◌, inl, inr, cond, filter, map, length, Option, None, Some, is_some, not, slice_get, refl, ap, sym, ◌∙◌, subst, arith}
 use Rattle.std.specs.List.{list_all}
 use Rattle.std.proofs.lemmas.Bool.{and_from, and_parts}

@@ -1,4 +1,5 @@
--- True claims are of their program, rows of them are true, and so are two lists of them together and all of them at higher levels.
+-- True claims are of their program, rows of them are true, and so are two lists of them together
+-- and all of them at higher levels.
 use Rattle.std.proofs.Common.{◌≡◌, ℕ, zero, suc, ◌≤◌, Bool, true, ◌&&◌, List, [], ◌∷◌, ◌++◌, ◌⊎◌, inl, inr, Option, None, Some, IsTrue, option_map, is_some, slice_get, refl, ap, ap₂, sym, subst, arith}
 use Rattle.std.specs.List.{list_all}
 use Rattle.std.proofs.lemmas.Bool.{and_from, and_parts, cases_eq}

@@ -40,7 +40,8 @@ pub bind_all_below : (low high : Environment) (bindings : Bindings) → EnvBelow
 bind_all_below low high [] h = h
 bind_all_below low high ((x, v) ∷ bindings) h = bind_below (bind_all low bindings) (bind_all high bindings) x v (bind_all_below low high bindings h)
 
--- what is below a partial application is nothing or one of the same head, and likewise for a constructor
+-- what is below a partial application is nothing or one of the same head, and likewise for a
+-- constructor
 pub data LowPartial (h : Head) (us : Values) : Value → Type 0 where
   nothing : LowPartial h us value.Bottom
   same : (ws : Values) → AllBelow ws us → LowPartial h us (value.Partial h ws)
@@ -168,7 +169,7 @@ below_bare _ _ (below.constructed c us vs below.none) h = inr refl
 below_bare _ _ (below.constructed c us vs (below.more u v us' vs' p ps)) h = let no : ⊥ = cc in absurd no
 below_bare _ _ (below.partial k us vs p) h = let no : ⊥ = cc in absurd no
 
--- so is what is below the value of a built-in operation
+-- what is below the value of a built-in operation is nothing or that value
 pub below_answer : (program : Program) (operation : Primitive) (us : Values) (v w : Value) → Answers program operation us v → Below w v
     → (w ≡ value.Bottom) ⊎ (w ≡ v)
 below_answer program operation us v w (builtin.of_literals _ ls _ _ e f) h =

@@ -1,5 +1,5 @@
--- The order of approximation on partial values: what is below says less, and never anything
--- different.
+-- The order of approximation on partial values (González-Moreno and others 1999): what is below
+-- says less, and never anything different.
 use Rattle.std.specs.Prelude.{◌≡◌, ℕ, [], ◌∷◌}
 use Rattle.cu_calculus.specs.declared.ConId.{ConId}
 use Rattle.cu_calculus.specs.declared.Head.{Head}
@@ -9,6 +9,7 @@ use Rattle.cu_calculus.specs.Value as value
 use Rattle.cu_calculus.specs.Value.{Value, Values}
 
 mutual
+  -- the first value approximates the second
   pub data Below : Value → Value → Type 0 where
     bottom : (v : Value) → Below value.Bottom v
     variable : (x : ℕ) → Below (value.Variable x) (value.Variable x)
@@ -18,7 +19,7 @@ mutual
     partial : (h : Head) (us vs : Values) → AllBelow us vs
         → Below (value.Partial h us) (value.Partial h vs)
 
-  -- values that are below others in pairs
+  -- as many values on both sides, each of which approximates its partner
   pub data AllBelow : Values → Values → Type 0 where
     none : AllBelow value.NoValue value.NoValue
     more : (u v : Value) (us vs : Values) → Below u v → AllBelow us vs
@@ -28,7 +29,7 @@ mutual
 abbrev pub EnvBelow : Environment → Environment → Type 0
 EnvBelow low high = (x : ℕ) → Below (low x) (high x)
 
--- bindings of the same variables in pairs, to at most the values of the others
+-- bindings of the same variables on both sides, each to at most the value that its partner binds
 abbrev pub BindingsBelow : Bindings → Bindings → Type 0
 BindingsBelow [] [] = Unit {0}
 BindingsBelow ((x, u) ∷ low) ((y, v) ∷ high) = (x ≡ y) × Below u v × BindingsBelow low high

@@ -1,4 +1,5 @@
--- What the built-in operations answer on values.
+-- What the built-in operations answer on values. Of these the Curry Report defines `==`, the
+-- equation `=:=` and the concurrent conjunction `&`.
 use Rattle.std.specs.Prelude.{◌≡◌, Bool, true, false, List, [], ◌∷◌, Option, None, Some, if◌then◌else◌, ℤ, pos, negsuc, ◌+ℤ◌, ◌-ℤ◌, ◌*ℤ◌, int_lt, int_le, IsTrue}
 use Rattle.std.specs.Ordering.{int_eq}
 use Rattle.cu_calculus.specs.declared.ConId.{ConId}
@@ -14,19 +15,21 @@ use Rattle.cu_calculus.specs.Shape.{is_total_data}
 use Rattle.cu_calculus.specs.Value as value
 use Rattle.cu_calculus.specs.Value.{Value, Values, MoreValues, NoValue}
 
--- True and False
+-- the value True or False
 abbrev pub truth_of : Program → Bool → Value
 truth_of program true = value.Constructed program.special.truth NoValue
 truth_of program false = value.Constructed program.special.falsity NoValue
 
+-- the value of an integer, where the language has it
 abbrev pub integer : ℤ → Option Value
 integer n = if is_integer n then Some (value.Literal (Int n)) else None
 
+-- the value of the character with a number, where that is a Unicode scalar
 abbrev pub character : ℤ → Option Value
 character (pos n) = if is_scalar n then Some (value.Literal (Char n)) else None
 character (negsuc n) = None
 
--- what an operation on integers answers
+-- what an operation on two integers answers; a quotient by 0 has no answer
 abbrev pub on_integers : Program → Primitive → ℤ → ℤ → Option Value
 on_integers program prim.Add m n = integer (m +ℤ n)
 on_integers program prim.Sub m n = integer (m -ℤ n)
@@ -46,14 +49,14 @@ on_literals program prim.Ord (Char c ∷ []) = Some (value.Literal (Int (pos c))
 on_literals program prim.Chr (Int n ∷ []) = character n
 on_literals program _ _ = None
 
--- literals as values
+-- several literals as values
 abbrev pub literals : List Lit → Values
 literals [] = NoValue
 literals (l ∷ ls) = MoreValues (value.Literal l) (literals ls)
 
--- Comparing by `==`: different literals or constructors are not the same, and neither are a literal
--- and a constructor. With the same constructor the arguments are compared from the left, up to the
--- first pair that isn't the same.
+-- Comparing by `==` answers whether two values are the same. Different literals or constructors are
+-- not, and neither are a literal and a constructor. With the same constructor the arguments are
+-- compared from the left, up to the first pair that isn't the same.
 mutual
   pub data Compares : Value → Value → Bool → Type 0 where
     two_literals : (l m : Lit) (answer : Bool) → answer ≡ same_literal l m
@@ -67,6 +70,8 @@ mutual
     alike : (c : ConId) (us vs : Values) (answer : Bool) → AllCompare us vs answer
         → Compares (value.Constructed c us) (value.Constructed c vs) answer
 
+  -- Comparing values in pairs from the left answers true where each pair is the same, and false at
+  -- the first that isn't.
   pub data AllCompare : Values → Values → Bool → Type 0 where
     none : AllCompare NoValue NoValue true
     first_differs : (u v : Value) (us vs : Values) → Compares u v false

@@ -8,12 +8,13 @@ use Rattle.cu_calculus.specs.Proof.{Statement}
 use Rattle.cu_calculus.specs.Term.{Whole}
 use Rattle.cu_calculus.specs.Value.{MoreValues, NoValue, Value, Values, count}
 
--- variables from a number on stand for these values
+-- the bindings of the variables from x on to these values, one after another
 abbrev pub bindings_from : ℕ → Values → Bindings
 bindings_from x NoValue = []
 bindings_from x (MoreValues v vs) = (x, v) ∷ bindings_from (x + 1) vs
 
--- a function on argument values has a value
+-- the statement that a function on argument values has a value: the arguments are variables that
+-- are bound to them
 abbrev pub call_statement : FunId → Values → Value → Statement
 call_statement f vs v =
     record {

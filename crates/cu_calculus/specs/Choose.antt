@@ -1,6 +1,7 @@
--- Choose: which alternative of a case distinction a value takes. Patterns are looked at from left
--- to right, as far as the first alternative demands, and alternatives are given up where they can't
--- be taken any more.
+-- Which alternative of a case distinction a value takes. Patterns are looked at from left to right,
+-- as far as the first alternative demands, and alternatives are given up where they can't be taken
+-- any more. The rows are a clause matrix, and a look specializes it (Maranget, Compiling pattern
+-- matching to good decision trees, 2008).
 use Rattle.std.specs.Prelude.{◌≡◌, ℕ, ◌+◌, zero, suc, Bool, true, false, not, ◌||◌, List, [], ◌∷◌, ◌++◌, Option, None, Some, if◌then◌else◌, nat_eq, option_map, slice_get, take, drop, map, filter, length, replicate}
 use Rattle.std.specs.List.{list_any}
 use Rattle.cu_calculus.specs.declared.ConId.{ConId}
@@ -12,23 +13,26 @@ use Rattle.cu_calculus.specs.Term.{Alternatives, Any, Built, Exactly, MoreAltern
 use Rattle.cu_calculus.specs.Value as value
 use Rattle.cu_calculus.specs.Value.{Value, list_of}
 
--- patterns at positions, and the alternative that they are of, counted from 0
+-- a row of the clause matrix: patterns at positions, and the number of their alternative, counted
+-- from 0
 pub record Row : Type 0 where
   pub patterns : List Pattern
   pub choice : ℕ
 
--- what a pattern demands
+-- what a pattern demands of a value: nothing, a literal or a constructor
 pub data Demand : Type 0 where
   Nothing : Demand
   ALiteral : Lit → Demand
   AConstructor : ConId → Demand
 
+-- the demand of a pattern
 abbrev pub demand_of : Pattern → Demand
 demand_of (Any x) = Nothing
 demand_of (Exactly l) = ALiteral l
 demand_of (Built c ps) = AConstructor c
 demand_of (Named x p) = demand_of p
 
+-- the list of patterns
 abbrev pub list_patterns : Patterns → List Pattern
 list_patterns NoPattern = []
 list_patterns (MorePatterns p ps) = p ∷ list_patterns ps
@@ -41,6 +45,7 @@ arguments_of n (Exactly l) = []
 arguments_of n (Built c ps) = list_patterns ps
 arguments_of n (Named x p) = arguments_of n p
 
+-- whether anything is demanded
 abbrev pub is_demanding : Demand → Bool
 is_demanding Nothing = false
 is_demanding (ALiteral l) = true
@@ -52,35 +57,41 @@ leftmost [] = None
 leftmost (p ∷ ps) = if is_demanding (demand_of p) then Some 0
     else option_map (λ k. k + 1) (leftmost ps)
 
+-- what a row demands at a position
 abbrev pub demand_at : ℕ → Row → Demand
 demand_at position row =
     elim (slice_get row.patterns position) [ Some p ↦ demand_of p | None ↦ Nothing ]
 
+-- whether this literal is demanded
 abbrev pub wants_literal : Lit → Demand → Bool
 wants_literal l (ALiteral m) = same_literal l m
 wants_literal l _ = false
 
+-- whether this constructor is demanded
 abbrev pub wants_constructor : ConId → Demand → Bool
 wants_constructor c (AConstructor d) = same_constructor c d
 wants_constructor c _ = false
 
+-- whether anything but this literal is demanded, or nothing
 abbrev pub not_literal : Lit → Demand → Bool
 not_literal l (ALiteral m) = not (same_literal l m)
 not_literal l _ = true
 
+-- whether nothing is demanded
 abbrev pub wants_nothing : Demand → Bool
 wants_nothing Nothing = true
 wants_nothing (ALiteral l) = false
 wants_nothing (AConstructor c) = false
 
--- some row demands nothing at a position
+-- whether some row demands nothing at a position
 abbrev pub has_variable : ℕ → List Row → Bool
 has_variable position rows = list_any (λ row. wants_nothing (demand_at position row)) rows
 
--- the arguments in place of what stands at a position
+-- a list in which the arguments of what stands at a position take its place
 abbrev pub spliced : {A : Type 0} → ℕ → List A → List A → List A
 spliced position arguments xs = take position xs ++ arguments ++ drop (position + 1) xs
 
+-- a row in which the patterns for n arguments take the place of the pattern at a position
 abbrev pub narrowed : ℕ → ℕ → Row → Row
 narrowed position n row = record {
   patterns =
@@ -91,22 +102,25 @@ narrowed position n row = record {
   choice = row.choice;
 }
 
+-- what a look at the rows leads to
 pub data Look : Type 0 where
-  -- no alternative is taken
+  -- No alternative is taken.
   Nowhere : Look
-  -- this alternative is taken
+  -- The alternative of this number is taken.
   Take : ℕ → Look
-  -- fewer rows are left, over the same values
+  -- Fewer rows are left, over the same values.
   Again : List Row → Look
-  -- fewer rows are left, over the arguments of what stands at a position
+  -- Fewer rows are left, over the arguments of what stands at a position. (This is specialization
+  -- of a clause matrix, and binds no variable.)
   Narrow : List Row → List Value → Look
 
--- the rows that pass a test at a position, over the arguments of what stands there
+-- specialization: the rows that pass a test at a position, over the arguments of what stands there
 abbrev pub narrow : ℕ → (Demand → Bool) → List Row → List Value → List Value → Look
 narrow position test rows arguments values =
     Narrow (map (narrowed position (length arguments))
     (filter (λ row. test (demand_at position row)) rows)) (spliced position arguments values)
 
+-- whether two constructors are of one type of the program
 abbrev pub same_type : Program → ConId → ConId → Bool
 same_type program c d = elim (constructor_of program c) [
   | Some a ↦ elim (constructor_of program d) [
@@ -116,10 +130,11 @@ same_type program c d = elim (constructor_of program c) [
   | None ↦ false
 ]
 
--- A literal stands at a position, where the first row demands something; the Bool says whether some
--- row has a variable there. Without one, the rows that want another literal or a constructor go.
--- With one, so they do where the first wants this literal; where it wants another, the rows that
--- want that one go; where it wants a constructor, nothing is taken.
+-- A look where a literal stands at a position at which the first row demands something. The Bool
+-- says whether some row demands nothing there. If none does, the rows that want another literal or
+-- a constructor go. Else the first row decides: where it wants this literal, all that want another
+-- one or a constructor go; where it wants another literal, the rows that want that one go; where it
+-- wants a constructor, no alternative is taken.
 abbrev pub at_literal : ℕ → Lit → Demand → Bool → List Row → List Value → Look
 at_literal position l first false rows values = narrow position (wants_literal l) rows [] values
 at_literal position l (ALiteral m) true rows values =
@@ -129,10 +144,11 @@ at_literal position l (ALiteral m) true rows values =
 at_literal position l (AConstructor c) true rows values = Nowhere
 at_literal position l Nothing true rows values = Nowhere
 
--- A constructor stands there. Without a variable at the position, the rows that want another
--- constructor or a literal go. With one, so they do where the first wants a constructor of the same
--- type, and nothing is taken where it wants one of another type; where it wants a literal, the rows
--- that want that literal go.
+-- A look where a constructor stands at a position at which the first row demands something. The
+-- Bool says whether some row demands nothing there. If none does, the rows that want another
+-- constructor or a literal go. Else the first row decides: where it wants a constructor of the same
+-- type, all that want another one or a literal go; where it wants one of another type, no
+-- alternative is taken; where it wants a literal, the rows that want that literal go.
 abbrev pub at_constructor : Program → ℕ → ConId → Demand → Bool → List Row → List Value → List Value
     → Look
 at_constructor program position c first false rows arguments values =
@@ -145,6 +161,8 @@ at_constructor program position c (ALiteral m) true rows arguments values =
     Again (filter (λ row. not_literal m (demand_at position row)) rows)
 at_constructor program position c Nothing true rows arguments values = Nowhere
 
+-- a look at a position, by the value that stands there: one of which nothing is known, a variable
+-- or a partial application takes no alternative
 abbrev pub look_at : Program → ℕ → Row → List Row → List Value → Option Value → Look
 look_at program position first rows values (Some (value.Literal l)) =
     at_literal position l (demand_at position first) (has_variable position rows) rows values
@@ -153,18 +171,20 @@ look_at program position first rows values (Some (value.Constructed c vs)) =
     (list_of vs) values
 look_at program position first rows values _ = Nowhere
 
+-- a look at the leftmost position at which the first row demands something; where it demands
+-- nothing, its alternative is taken
 abbrev pub look_from : Program → Row → List Row → List Value → Option ℕ → Look
 look_from program first rows values None = Take first.choice
 look_from program first rows values (Some position) =
     look_at program position first rows values (slice_get values position)
 
--- one look at rows over values
+-- one look at a clause matrix over values
 abbrev pub look : Program → List Row → List Value → Look
 look program [] values = Nowhere
 look program (first ∷ rows) values =
     look_from program first (first ∷ rows) values (leftmost first.patterns)
 
--- the rows over the values take an alternative
+-- The rows over the values take an alternative, after some looks.
 pub data Chooses (program : Program) : List Row → List Value → ℕ → Type 0 where
   taken : (rows : List Row) (values : List Value) (choice : ℕ)
       → look program rows values ≡ Take choice → Chooses program rows values choice
@@ -175,19 +195,20 @@ pub data Chooses (program : Program) : List Row → List Value → ℕ → Type 
       → look program rows values ≡ Narrow fewer parts
       → Chooses program fewer parts choice → Chooses program rows values choice
 
--- the rows of alternatives, of which the first gets the number n
+-- the rows of alternatives, of which the first has the number n
 abbrev pub rows_from : ℕ → Alternatives → List Row
 rows_from n NoAlternative = []
 rows_from n (MoreAlternatives p t alternatives) =
     record { patterns = p ∷ []; choice = n } ∷ rows_from (n + 1) alternatives
 
+-- the pattern and the term of the alternative with a number, counted from 0
 abbrev pub alternative_at : Alternatives → ℕ → Option (Pattern × Term)
 alternative_at NoAlternative k = None
 alternative_at (MoreAlternatives p t alternatives) zero = Some (p, t)
 alternative_at (MoreAlternatives p t alternatives) (suc k) = alternative_at alternatives k
 
 -- Alternatives select a term for a value, and bind variables: the value takes the alternative, and
--- its pattern matches.
+-- matches its pattern with these bindings.
 pub record Selects (program : Program) (alternatives : Alternatives) (u : Value) (t : Term)
     (bindings : Bindings) : Type 0 where
   pub choice : ℕ

@@ -1,5 +1,5 @@
--- Flat code: a program whose bodies stand as expressions in one list, where parts are named by
--- their places.
+-- Flat code: a program whose bodies stand as expressions in one list, where an expression names its
+-- parts by their indices.
 use Rattle.std.specs.Prelude.{ℕ, Bool, true, false, List, [], Option, None, Some, slice_get}
 use Rattle.cu_calculus.specs.declared.ConId.{ConId}
 use Rattle.cu_calculus.specs.declared.ExprId.{ExprId}
@@ -17,10 +17,12 @@ pub data Shallow : Type 0 where
   Exactly : Lit → Shallow
   Built : ConId → List ℕ → Shallow
 
+-- a branch of a case distinction: a pattern and the index of a body
 pub record Branch : Type 0 where
   pub pattern : Shallow
   pub body : ExprId
 
+-- an expression, which names its parts by their indices
 pub data Expr : Type 0 where
   Variable : ℕ → Expr
   Literal : Lit → Expr
@@ -41,24 +43,26 @@ pub data Body : Type 0 where
   Rule : List ℕ → ExprId → Body
   External : Primitive → Body
 
+-- a function: how many parameters it has, and its body
 pub record Function : Type 0 where
   pub arity : ℕ
   pub body : Body
 
+-- flat code: functions, constructors, built-in entities, and the list of all expressions
 pub record Code : Type 0 where
   pub functions : List Function
   pub constructors : List Constructor
   pub special : Special
   pub expressions : List Expr
 
--- the rule of a function, or what is built in, where there is such a function
+-- the rule of a function, or the operation that is built in, where there is such a function
 abbrev pub body_of : Code → FunId → Option Body
 body_of code f = elim (slice_get code.functions f.0) [
   | Some function ↦ Some function.body
   | None ↦ None
 ]
 
--- a function with a rule
+-- whether a function has a rule
 abbrev pub is_rule : Option Body → Bool
 is_rule (Some (Rule params e)) = true
 is_rule _ = false
@@ -67,11 +71,12 @@ is_rule _ = false
 abbrev pub expr_of : Code → ExprId → Option Expr
 expr_of code e = slice_get code.expressions e.0
 
--- the variables that a case distinction keeps
+-- the variables that an expression keeps, where it is a case distinction
 abbrev pub kept_in : Option Expr → List ℕ
 kept_in (Some (Case mode kept e branches)) = kept
 kept_in _ = []
 
+-- the variables that an expression of the code keeps, where it is a case distinction
 abbrev pub kept_by : Code → ExprId → List ℕ
 kept_by code e = kept_in (expr_of code e)
 
@@ -81,6 +86,7 @@ abbrev pub function_arity : Code → FunId → Option ℕ
 function_arity code f =
     elim (slice_get code.functions f.0) [ Some function ↦ Some function.arity | None ↦ None ]
 
+-- how many arguments a head takes, where it is one of the code
 abbrev pub arity_of : Code → Head → Option ℕ
 arity_of code (head.Fun f) = function_arity code f
 arity_of code (head.Con c) =

@@ -14,7 +14,8 @@ use Rattle.cu_calculus.specs.Term.{Term}
 use Rattle.cu_calculus.specs.Value as value
 use Rattle.cu_calculus.specs.Value.{Value}
 
--- its constructors, those of Bool, of lists, and that of the values of a set function
+-- the example's constructors: those of Bool, those of lists, and that of the values of a set
+-- function
 abbrev pub falsity : ConId
 falsity = record { 0 = 0 }
 
@@ -30,7 +31,7 @@ cons = record { 0 = 3 }
 abbrev pub some_values : ConId
 some_values = record { 0 = 4 }
 
--- its functions
+-- the example's functions
 abbrev pub conjunction : FunId
 conjunction = record { 0 = 0 }
 
@@ -50,7 +51,7 @@ special = record {
   values = Some some_values;
 }
 
--- True && x = x, and False && x = False
+-- the rules True && x = x and False && x = False
 abbrev pub true_first : Rule
 true_first = record {
   params = term.MorePatterns (term.Built truth term.NoPattern)
@@ -58,6 +59,7 @@ true_first = record {
   body = term.Variable 0;
 }
 
+-- the rule False && x = False
 abbrev pub false_first : Rule
 false_first = record {
   params = term.MorePatterns (term.Built falsity term.NoPattern)
@@ -71,7 +73,7 @@ conjunction_function = record { arity = 2; body = Rules (true_first ∷ false_fi
 abbrev pub number : ℕ → Lit
 number n = Int (pos n)
 
--- coin = 0 ? 1
+-- the rule coin = 0 ? 1
 abbrev pub coin_rule : Rule
 coin_rule =
     record {
@@ -82,7 +84,7 @@ coin_rule =
 abbrev pub coin_function : Function
 coin_function = record { arity = 0; body = Rules (coin_rule ∷ []) }
 
--- every = the set function of coin
+-- the rule of every, which is a call of coin's set function
 abbrev pub every_rule : Rule
 every_rule = record { params = term.NoPattern; body = term.Whole (head.Set coin) term.NoTerm }
 
@@ -92,6 +94,7 @@ every_function = record { arity = 0; body = Rules (every_rule ∷ []) }
 abbrev pub constructor : ℕ → ℕ → Constructor
 constructor of_type arity = record { of_type = of_type; arity = arity }
 
+-- the example's program
 abbrev pub program : Program
 program = record {
   functions = conjunction_function ∷ coin_function ∷ every_function ∷ [];
@@ -100,17 +103,17 @@ program = record {
   special = special;
 }
 
--- the levels of its functions
+-- the least levels of the example's functions
 abbrev pub levels : List ℕ
 levels = 0 ∷ 0 ∷ 1 ∷ []
 
--- the literal of a number, and a row that says that these are the values of coin
+-- the literal of a number, and a claim that these are the values of coin
 abbrev pub literal : ℕ → Value
 literal n = value.Literal (number n)
 
 abbrev pub coin_row : List Value → Claim
 coin_row values = record { function = coin; arguments = value.NoValue; values = values }
 
--- the values of coin, as a value of the program
+-- the value of a call of every: the values of coin as a value of the program
 abbrev pub both_values : Value
 both_values = collected program some_values (literal 0 ∷ literal 1 ∷ [])

@@ -9,27 +9,30 @@ use Rattle.cu_calculus.specs.Program.{Body, External, Function, Program, Rules}
 use Rattle.cu_calculus.specs.Term as term
 use Rattle.cu_calculus.specs.Term.{Alternatives, Pattern, Patterns, Term, Terms}
 
--- variables as patterns
+-- several variables, as patterns
 abbrev pub all_any : List ℕ → Patterns
 all_any [] = term.NoPattern
 all_any (x ∷ xs) = term.MorePatterns (term.Any x) (all_any xs)
 
+-- the pattern that a branch's pattern is
 abbrev pub pattern_of : Shallow → Pattern
 pattern_of (code.Exactly l) = term.Exactly l
 pattern_of (code.Built c xs) = term.Built c (all_any xs)
 
+-- the terms that `part` gives of several expressions
 abbrev pub terms_of : (ExprId → Term) → List ExprId → Terms
 terms_of part [] = term.NoTerm
 terms_of part (e ∷ es) = term.MoreTerms (part e) (terms_of part es)
 
+-- the alternatives that branches are, where `part` gives the terms of their bodies
 abbrev pub alternatives_of : (ExprId → Term) → List Branch → Alternatives
 alternatives_of part [] = term.NoAlternative
 alternatives_of part (branch ∷ branches) =
     term.MoreAlternatives (pattern_of branch.pattern) (part branch.body)
     (alternatives_of part branches)
 
--- What stands for an expression that there isn't: a case distinction without branches, which has no
--- value.
+-- The term of a number that names no expression: a case distinction without alternatives, which has
+-- no value.
 abbrev pub no_term : Term
 no_term = term.Case Rigid (term.Variable 0) term.NoAlternative
 
@@ -53,18 +56,22 @@ unfoldable pub term_within : ℕ → Code → ExprId → Term
 term_within zero program e = no_term
 term_within (suc depth) program e = term_over (term_within depth program) (expr_of program e)
 
+-- the term of an expression of the code
 abbrev pub term_of : Code → ExprId → Term
 term_of program e = term_within (length program.expressions) program e
 
+-- the body of a function of the code
 abbrev pub body_in : Code → code.Body → Body
 body_in program (code.Rule params e) =
     Rules (record { params = all_any params; body = term_of program e } ∷ [])
 body_in program (code.External operation) = External operation
 
+-- the function that a function of the code is
 abbrev pub function_in : Code → code.Function → Function
 function_in program function =
     record { arity = function.arity; body = body_in program function.body }
 
+-- the program that flat code is
 abbrev pub program_of : Code → Program
 program_of program = record {
   functions = map (function_in program) program.functions;

@@ -1,8 +1,9 @@
--- The rewriting logic with call-time choice: what a term may be worth. It is CRWL with partial
--- applications (HO-CRWL), to which this system's profile adds choices, case distinctions, built-in
--- operations and set functions (Antoy and Hanus, Set functions for functional logic programming,
--- 2009) as rows of their own. A free variable stands for total data, and a set function asks for
--- ground arguments.
+-- The rewriting logic with call-time choice: what a term may be worth. It is CRWL (González-Moreno,
+-- Hortalá-González, López-Fraguas and Rodríguez-Artalejo 1999) with partial applications (HO-CRWL,
+-- 1997); the choice of an argument's value at the call is Hussmann's (1993). This system's profile
+-- adds choices, case distinctions, built-in operations and set functions (Antoy and Hanus, Set
+-- functions for functional logic programming, 2009) as rows of their own. A free variable stands
+-- for total data, and a set function asks for ground arguments.
 use Rattle.std.specs.Prelude.{◌≡◌, ℕ, List, [], ◌∷◌, Some, IsTrue, slice_get}
 use Rattle.cu_calculus.specs.declared.ConId.{ConId}
 use Rattle.cu_calculus.specs.declared.FunId.{FunId}
@@ -22,26 +23,28 @@ use Rattle.cu_calculus.specs.Term.{Alternatives, Term, Terms}
 use Rattle.cu_calculus.specs.Value as value
 use Rattle.cu_calculus.specs.Value.{Value, Values, and_then, count, values_of}
 
--- A row of claims: it says that these are all the ground values of a function on ground arguments.
+-- A claim: these are all the ground values of a function on ground arguments.
 pub record Claim : Type 0 where
   pub function : FunId
   pub arguments : Values
   pub values : List Value
 
--- the value of a set call: the list of the values, as a list of the language behind its constructor
+-- several values as a list of the language, by the constructors `[]` and `:`
 abbrev pub listed : ConId → ConId → List Value → Value
 listed nil cons [] = value.Constructed nil value.NoValue
 listed nil cons (v ∷ vs) =
     value.Constructed cons
     (value.MoreValues v (value.MoreValues (listed nil cons vs) value.NoValue))
 
+-- the value of a set call: the constructor of the values of set functions, on the list of the
+-- values
 abbrev pub collected : Program → ConId → List Value → Value
 collected program c vs =
     value.Constructed c
     (value.MoreValues (listed program.special.nil program.special.cons vs) value.NoValue)
 
 mutual
-  -- a term has a value, where its variables stand for what the environment says
+  -- A term has a value, where its variables stand for what the environment says.
   pub data Gives (program : Program) (claims : List Claim) : Environment → Term → Value
       → Type 0 where
     bottom : (env : Environment) (t : Term) → Gives program claims env t value.Bottom
@@ -74,7 +77,7 @@ mutual
         → Gives program claims (bind_all env bindings) t v
         → Gives program claims env (term.Case mode a alternatives) v
 
-  -- terms have values in pairs
+  -- Terms have values, one each.
   pub data AllGive (program : Program) (claims : List Claim) : Environment → Terms → Values
       → Type 0 where
     none : (env : Environment) → AllGive program claims env term.NoTerm value.NoValue
@@ -82,7 +85,7 @@ mutual
         → Gives program claims env t v → AllGive program claims env ts vs
         → AllGive program claims env (term.MoreTerms t ts) (value.MoreValues v vs)
 
-  -- a head on as many values as it takes has a value
+  -- A head on as many values as it takes has a value.
   pub data Applied (program : Program) (claims : List Claim) : Head → Values → Value → Type 0 where
     constructed : (c : ConId) (us : Values)
         → Applied program claims (head.Con c) us (value.Constructed c us)
@@ -103,8 +106,8 @@ mutual
         → program.special.values ≡ Some c
         → Below v (collected program c claim.values) → Applied program claims (head.Set f) us v
 
-  -- a functional value on one argument more has a value: its head lacks further ones, or has as
-  -- many as it takes
+  -- The application of a functional value to one argument more has a value: a functional value
+  -- where its head lacks further arguments, else what the head gives on all of them.
   pub data AppliedTo (program : Program) (claims : List Claim) : Value → Value → Value
       → Type 0 where
     extended : (h : Head) (us more : Values) (u : Value) → more ≡ and_then us u

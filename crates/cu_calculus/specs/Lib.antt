@@ -1,26 +1,54 @@
-pub mod Answered
-pub mod Below
-pub mod Builtin
-pub mod Calls
-pub mod Choose
-pub mod Chosen
-pub mod Claims
-pub mod Code
-pub mod Coin
-pub mod Compared
-pub mod Flat
-pub mod FlatProgram
-pub mod Gives
-pub mod Joined
+-- In the order in which to read them.
+
+-- The literals of the language.
 pub mod Literal
-pub mod Match
-pub mod Order
-pub mod Program
-pub mod Proof
-pub mod Proved
-pub mod Rows
-pub mod Shape
-pub mod Term
-pub mod Valid
+-- Partial values.
 pub mod Value
+-- The order of approximation on partial values.
+pub mod Below
+-- Patterns and terms.
+pub mod Term
+-- Programs: functions with their rules, constructors, built-in entities.
+pub mod Program
+-- Total values, data, ground data; the values of a program.
+pub mod Shape
+-- The order in which the values of a set function are listed.
+pub mod Order
+-- Matching, and what variables stand for.
+pub mod Match
+-- What the built-in operations answer.
+pub mod Builtin
+-- Which alternative of a case distinction a value takes.
+pub mod Choose
+-- The rewriting logic: which values a term has.
+pub mod Gives
+-- Set levels, true claims, and derivations over them.
+pub mod Claims
+-- Which programs are valid.
+pub mod Valid
+-- Derivations as lists of statements.
+pub mod Proof
+-- What the two forms of the calculus say of a statement.
+pub mod Proved
+-- Statements about calls.
+pub mod Calls
+-- The claims that derivations and proofs cite.
+pub mod Rows
+-- Two proofs joined to one.
+pub mod Joined
+-- Flat programs.
+pub mod Flat
+-- Flat code.
+pub mod Code
+-- The program that flat code is.
+pub mod FlatProgram
+-- Which flat code is well-formed.
 pub mod WellFormed
+-- Which alternative is taken, as a function.
+pub mod Chosen
+-- Comparing by `==`, as a function.
+pub mod Compared
+-- What the built-in operations answer, as a function.
+pub mod Answered
+-- An example: a choice and its set function.
+pub mod Coin

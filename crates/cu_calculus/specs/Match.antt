@@ -1,4 +1,4 @@
--- What patterns demand of values, and what their variables stand for then.
+-- Matching: whether a value matches a pattern, and what the pattern's variables stand for then.
 use Rattle.std.specs.Prelude.{ℕ, Bool, List, [], ◌∷◌, ◌++◌, Option, None, Some, if◌then◌else◌, nat_eq, option_map}
 use Rattle.cu_calculus.specs.declared.ConId.{ConId}
 use Rattle.cu_calculus.specs.Literal.{same_literal}
@@ -6,13 +6,15 @@ use Rattle.cu_calculus.specs.Term.{Any, Built, Exactly, MorePatterns, Named, NoP
 use Rattle.cu_calculus.specs.Value as value
 use Rattle.cu_calculus.specs.Value.{Value, Values, MoreValues, NoValue}
 
--- what variables stand for; Bottom where nothing is known
+-- what variables stand for: a value each, Bottom where nothing is known
 abbrev pub Environment : Type 0
 Environment = ℕ → Value
 
+-- variables, each with the value that it is bound to
 abbrev pub Bindings : Type 0
 Bindings = List (ℕ × Value)
 
+-- the environment in which nothing is known of any variable
 abbrev pub empty : Environment
 empty x = value.Bottom
 
@@ -20,19 +22,24 @@ empty x = value.Bottom
 abbrev pub bind : Environment → ℕ → Value → Environment
 bind env x v y = if nat_eq x y then v else env y
 
+-- an environment in which variables stand for the values that they are bound to; the first binding
+-- of a variable counts
 abbrev pub bind_all : Environment → Bindings → Environment
 bind_all env [] = env
 bind_all env ((x, v) ∷ bindings) = bind (bind_all env bindings) x v
 
+-- whether two constructors are the same
 abbrev pub same_constructor : ConId → ConId → Bool
 same_constructor c d = nat_eq c.0 d.0
 
+-- the bindings of both sides, where both match
 abbrev pub both : Option Bindings → Option Bindings → Option Bindings
 both (Some a) (Some b) = Some (a ++ b)
 both _ _ = None
 
--- Match: a variable takes the value, an alias does so too, and a constructor or a literal needs the
--- same one there.
+-- The bindings of a match, where the value matches the pattern. A variable is bound to the value,
+-- and so is an alias; a literal or a constructor matches only itself, and a constructor's arguments
+-- match its patterns.
 abbrev mutual
   pub matched : Pattern → Value → Option Bindings
   matched (Any x) v = Some ((x, v) ∷ [])
@@ -43,6 +50,7 @@ abbrev mutual
       else None
   matched (Built c ps) _ = None
 
+  -- the bindings of values that match patterns in pairs, where each does
   pub all_matched : Patterns → Values → Option Bindings
   all_matched NoPattern NoValue = Some []
   all_matched (MorePatterns p ps) (MoreValues v vs) = both (matched p v) (all_matched ps vs)

@@ -1,5 +1,6 @@
--- Derivations as lists: each statement follows from earlier ones, which it cites in the order in
--- which its row names them.
+-- Proofs: derivations of the rewriting logic (González-Moreno and others 1999) as lists of
+-- statements. Each statement follows from earlier ones, which it cites in the order in which its
+-- row names them.
 use Rattle.std.specs.Prelude.{◌≡◌, ◌≢◌, ℕ, Bool, true, ◌&&◌, List, [], ◌∷◌, ◌++◌, Option, None, Some, IsTrue, is_some, map, nat_lt, slice_get}
 use Rattle.std.specs.List.{list_all}
 use Rattle.cu_calculus.specs.declared.ConId.{ConId}
@@ -22,32 +23,32 @@ use Rattle.cu_calculus.specs.Valid.{fits_term}
 use Rattle.cu_calculus.specs.Value as value
 use Rattle.cu_calculus.specs.Value.{Value, Values, and_then, count}
 
--- a term has a value, where its variables stand for what the bindings say
+-- a statement: a term has a value, where its variables stand for what the bindings say
 pub record Statement : Type 0 where
   pub env : Bindings
   pub term : Term
   pub value : Value
 
--- what the bindings of a statement say
+-- the environment that the bindings of a statement describe
 abbrev pub env_of : Statement → Environment
 env_of statement = bind_all empty statement.env
 
--- a statement is about this term in this environment, and gives this value; a variable that it
--- doesn't bind stands for Bottom
+-- A statement is about this term in this environment, and gives this value. A variable that it
+-- doesn't bind stands for Bottom.
 pub record Says (statement : Statement) (env : Environment) (t : Term) (v : Value) : Type 0 where
   pub at : (x : ℕ) → env_of statement x ≡ env x
   pub term : statement.term ≡ t
   pub value : statement.value ≡ v
 
--- statements about terms, one for each
+-- The statements are about these terms, one for each, and give these values.
 abbrev pub AllSay : List Statement → Environment → Terms → Values → Type 0
 AllSay [] env term.NoTerm value.NoValue = Unit {0}
 AllSay (s ∷ ss) env (term.MoreTerms t ts) (value.MoreValues v vs) =
     Says s env t v × AllSay ss env ts vs
 AllSay _ env _ _ = ⊥
 
--- What the cited statements have to be so that a head on values has a value: none, or the rule's
--- body on what it bound.
+-- The statements that a call of a head on values cites for a value: none, or that of the rule's
+-- right side under the bindings of the match.
 pub data Applies (program : Program) (claims : List Claim) : Head → Values → List Statement → Value
     → Type 0 where
   constructed : (c : ConId) (us : Values) (v : Value) → v ≡ value.Constructed c us
@@ -68,8 +69,8 @@ pub data Applies (program : Program) (claims : List Claim) : Head → Values →
       → program.special.values ≡ Some c
       → Below v (collected program c claim.values) → Applies program claims (head.Set f) us [] v
 
--- The same for a functional value on one argument more: none where its head lacks further ones,
--- else what the head needs.
+-- The statements that the application of a functional value to one more argument cites for a value:
+-- none where its head lacks further arguments, else those that the call of the head cites.
 pub data AppliesTo (program : Program) (claims : List Claim) : Value → Value → List Statement
     → Value → Type 0 where
   extended : (h : Head) (us more : Values) (u : Value) → more ≡ and_then us u
@@ -80,8 +81,8 @@ pub data AppliesTo (program : Program) (claims : List Claim) : Value → Value �
       → IsTrue (takes (arity_in program h) (count all)) → Applies program claims h all last v
       → AppliesTo program claims (value.Partial h us) u last v
 
--- The table of the calculus: a statement follows from cited ones, by a row for its form of term, or
--- for Bottom. The cited ones stand in the order in which the row names them.
+-- The table of the calculus: a statement follows from cited ones, by the row for its form of term
+-- or by that for Bottom. The cited statements stand in the order in which the row names them.
 pub data Follows (program : Program) (claims : List Claim) : List Statement → Environment → Term
     → Value → Type 0 where
   bottom : (env : Environment) (t : Term) → Follows program claims [] env t value.Bottom
@@ -121,11 +122,11 @@ pub record Step : Type 0 where
   pub cites : List ℕ
   pub statement : Statement
 
--- the statements of steps
+-- the statements of the steps of a proof
 abbrev pub statements : List Step → List Statement
 statements steps = map (λ step. step.statement) steps
 
--- the statements that these numbers cite, of those that stand before
+-- The statements are those with these numbers, among the earlier ones.
 abbrev pub Cites : List Statement → List ℕ → List Statement → Type 0
 Cites before [] [] = Unit {0}
 Cites before (k ∷ ks) (s ∷ ss) = (slice_get before k ≡ Some s) × Cites before ks ss
@@ -141,32 +142,33 @@ pub data AllFollow (program : Program) (claims : List Claim) : List Step → Typ
       (env_of step.statement) step.statement.term step.statement.value
       → after ≡ before ++ step ∷ [] → AllFollow program claims after
 
--- bindings in rising order of their variables, without repeats
+-- whether bindings stand in rising order of their variables, without repeats
 abbrev pub are_rising : Bindings → Bool
 are_rising [] = true
 are_rising (b ∷ []) = true
 are_rising (b ∷ c ∷ more) = nat_lt b.0 c.0 && are_rising (c ∷ more)
 
--- a statement of a program: its values are the program's, and its term fits, whatever its variables
+-- whether a statement is one of the program: its values are the program's, and its term fits,
+-- whatever variables it has
 abbrev pub is_statement_of : Program → Statement → Bool
 is_statement_of program s =
     are_rising s.env && list_all (λ b. is_of program b.1) s.env
     && fits_term program (λ x. true) s.term && is_of program s.value
 
--- a claim of a program: its function and its values are the program's
+-- whether a claim is one of the program: its function and its values are the program's
 abbrev pub is_claim_of : Program → Claim → Bool
 is_claim_of program claim =
     is_some (function_of program claim.function) && are_of program claim.arguments
     && list_all (is_of program) claim.values
 
--- Checks: a proof is at least one step, speaks of the program, and each of its steps follows.
+-- A proof checks: it has at least one step, speaks of the program, and each of its steps follows.
 pub record Checks (program : Program) (claims : List Claim) (proof : List Step) : Type 0 where
   pub begun : proof ≢ []
   pub speaks : IsTrue (list_all (λ step. is_statement_of program step.statement) proof)
   pub claimed : IsTrue (list_all (is_claim_of program) claims)
   pub follows : AllFollow program claims proof
 
--- the last statement of a proof
+-- the last statement of a proof, which it concludes
 abbrev pub conclusion : List Step → Option Statement
 conclusion [] = None
 conclusion (step ∷ []) = Some step.statement

@@ -5,12 +5,12 @@ use Rattle.cu_calculus.specs.Gives.{Claim, Gives}
 use Rattle.cu_calculus.specs.Program.{Program}
 use Rattle.cu_calculus.specs.Proof.{Checks, Statement, Step, conclusion, env_of}
 
--- a statement's term has its value where its variables stand for what its bindings say
+-- A statement's term has its value where its variables stand for what its bindings say.
 abbrev pub IsGiven : Program → List Claim → Statement → Type 0
 IsGiven program claims statement =
     Gives program claims (env_of statement) statement.term statement.value
 
--- some proof that checks concludes a statement
+-- Some proof that checks concludes the statement.
 abbrev pub IsProved : Program → List Claim → Statement → Type 0
 IsProved program claims statement = (proof : List Step) × Checks program claims proof
     × (conclusion proof ≡ Some statement)

@@ -7,8 +7,9 @@ use Rattle.cu_calculus.specs.declared.Head.{Head}
 use Rattle.cu_calculus.specs.declared.Lit.{Lit}
 
 mutual
+  -- a partial value
   pub data Value : Type 0 where
-    -- nothing is known of it
+    -- the value of which nothing is known
     Bottom : Value
     -- a free variable
     Variable : ℕ → Value
@@ -18,21 +19,22 @@ mutual
     -- a partial application: a head with fewer arguments than it takes
     Partial : Head → Values → Value
 
+  -- several values
   pub data Values : Type 0 where
     NoValue : Values
     MoreValues : Value → Values → Values
 
--- values of a list
+-- the values of a list
 abbrev pub values_of : List Value → Values
 values_of [] = NoValue
 values_of (v ∷ vs) = MoreValues v (values_of vs)
 
--- the list of values
+-- the list of some values
 abbrev pub list_of : Values → List Value
 list_of NoValue = []
 list_of (MoreValues v vs) = v ∷ list_of vs
 
--- one value more, at the end
+-- some values, and one more at their end
 abbrev pub and_then : Values → Value → Values
 and_then NoValue v = MoreValues v NoValue
 and_then (MoreValues u us) v = MoreValues u (and_then us v)

@@ -1,6 +1,6 @@
--- Well-formed flat code: each number names an expression that there is, calls are whole, variables
--- are in scope, and each case distinction keeps the variables that its branches use. It is the code
--- of a valid flat program.
+-- Well-formed flat code: each number names an expression that there is, heads have as many
+-- arguments as they take, variables are in scope, and each case distinction keeps the variables
+-- that its branches use. Such code is that of a valid flat program.
 use Rattle.std.specs.Prelude.{ℕ, zero, suc, Bool, true, false, not, ◌&&◌, List, [], ◌∷◌, ◌++◌, nat_eq, nat_lt, Option, None, Some, length}
 use Rattle.std.specs.List.{filter, list_all, list_any}
 use Rattle.cu_calculus.specs.declared.ConId.{ConId}
@@ -16,54 +16,58 @@ use Rattle.cu_calculus.specs.Match.{same_constructor}
 use Rattle.cu_calculus.specs.Shape.{takes, takes_more}
 use Rattle.cu_calculus.specs.Valid.{external_arity, holds, is_arity, is_linear}
 
--- a set function stands only where the program has the constructor of its values
+-- whether a head may stand in the code: a set function only where the program has the constructor
+-- of the values of set functions
 abbrev pub is_allowed : Code → Head → Bool
 is_allowed program (head.Set f) = elim program.special.values [ Some c ↦ true | None ↦ false ]
 is_allowed program _ = true
 
+-- whether both case distinctions are rigid, or both flexible
 abbrev pub same_mode : Mode → Mode → Bool
 same_mode Rigid Rigid = true
 same_mode Flex Flex = true
 same_mode _ _ = false
 
--- a literal of the language, or a constructor of the program over as many different variables as it
--- has arguments
+-- whether a pattern is a literal of the language, or a constructor of the program over as many
+-- different variables as it has arguments
 abbrev pub fits_pattern : Code → Shallow → Bool
 fits_pattern program (code.Exactly l) = is_literal l
 fits_pattern program (code.Built c xs) =
     takes (arity_of program (head.Con c)) (length xs) && is_linear xs
 
+-- whether two patterns have the same literal or the same constructor
 abbrev pub same_pattern : Shallow → Shallow → Bool
 same_pattern (code.Exactly l) (code.Exactly m) = same_literal l m
 same_pattern (code.Built c xs) (code.Built d ys) = same_constructor c d
 same_pattern _ _ = false
 
--- no two branches have the same literal or constructor
+-- whether no two branches have the same literal or constructor
 abbrev pub all_differ : List Branch → Bool
 all_differ [] = true
 all_differ (branch ∷ branches) =
     not (list_any (λ other. same_pattern branch.pattern other.pattern) branches)
     && all_differ branches
 
+-- the variables that a branch's pattern binds
 abbrev pub bound_by : Shallow → List ℕ
 bound_by (code.Exactly l) = []
 bound_by (code.Built c xs) = xs
 
--- Branches over the variables that their case distinction keeps, as a closure does. Those are
--- different, no two patterns are alike, and each body stands over them and its pattern's own
--- variables alone.
+-- Whether branches fit over the variables that their case distinction keeps, as a closure keeps its
+-- variables. The kept variables are different, no two patterns are alike, and each branch's body
+-- uses them and its pattern's own variables alone.
 abbrev pub fit_branches : (List ℕ → ExprId → Bool) → Code → List ℕ → List Branch → Bool
 fit_branches part program kept branches =
     is_linear kept && all_differ branches
     && list_all (λ branch. fits_pattern program branch.pattern
     && part (kept ++ bound_by branch.pattern) branch.body) branches
 
--- a scope without a variable
+-- the variables of a scope but one
 abbrev pub without : ℕ → List ℕ → List ℕ
 without x scope = filter (λ y. not (nat_eq x y)) scope
 
--- One expression in a scope, whose parts are tested by `part` in theirs. A variable doesn't stand
--- in its own definition by Let.
+-- Whether one expression fits in a scope, where `part` tests its parts in theirs. A variable
+-- doesn't stand in its own definition by Let.
 abbrev pub fits_expr : (List ℕ → ExprId → Bool) → Code → List ℕ → Option Expr → Bool
 fits_expr part program scope None = false
 fits_expr part program scope (Some (code.Variable x)) = holds x scope
@@ -81,40 +85,44 @@ fits_expr part program scope (Some (code.Or left right)) = part scope left && pa
 fits_expr part program scope (Some (code.Case mode kept e branches)) =
     list_all (λ x. holds x scope) kept && part scope e && fit_branches part program kept branches
 
--- an expression of the code in a scope; the first number bounds how deep expressions nest
+-- whether an expression of the code fits in a scope; the first number bounds how deep expressions
+-- nest
 abbrev pub fits : ℕ → Code → List ℕ → ExprId → Bool
 fits zero program scope e = false
 fits (suc depth) program scope e = fits_expr (fits depth program) program scope (expr_of program e)
 
--- a function of so many parameters; its body nests no deeper than the code has expressions
+-- whether the body of a function with so many parameters fits; it nests no deeper than the code has
+-- expressions
 abbrev pub fits_body : Code → ℕ → Body → Bool
 fits_body program arity (code.Rule params body) =
     nat_eq (length params) arity && is_linear params
     && fits (length program.expressions) program params body
 fits_body program arity (code.External operation) = nat_eq (external_arity operation) arity
 
+-- whether a function has an arity that a graph can hold, and a body that fits it
 abbrev pub fits_function : Code → Function → Bool
 fits_function program function = is_arity function.arity
     && fits_body program function.arity function.body
 
--- The branches of a case distinction fit over what it keeps. Other expressions are looked at where
--- they are parts.
+-- Whether the branches of an expression fit over the variables that it keeps, where it is a case
+-- distinction. Other expressions are tested where they are parts.
 abbrev pub fits_case : Code → Expr → Bool
 fits_case program (code.Case mode kept e branches) =
     fit_branches (fits (length program.expressions) program) program kept branches
 fits_case program _ = true
 
+-- whether an expression is this variable
 abbrev pub is_variable : ℕ → Option Expr → Bool
 is_variable x (Some (code.Variable y)) = nat_eq x y
 is_variable x _ = false
 
--- a constructor without arguments
+-- whether an expression is this constructor without arguments
 abbrev pub is_constant : ConId → Option Expr → Bool
 is_constant c (Some (code.Whole (head.Con d) [])) = same_constructor c d
 is_constant c _ = false
 
--- The rule of `&&`: a flexible case distinction on the first parameter, which gives False for
--- False, and for True the second parameter.
+-- Whether an expression is the case distinction of `&&`: a flexible one on the first parameter,
+-- which gives False for False, and the second parameter for True.
 abbrev pub conjoins_cases : Code → ℕ → ℕ → Option Expr → Bool
 conjoins_cases program x y (Some (code.Case Flex kept scrutinee (first ∷ second ∷ []))) =
     is_variable x (expr_of program scrutinee)
@@ -124,13 +132,14 @@ conjoins_cases program x y (Some (code.Case Flex kept scrutinee (first ∷ secon
     && is_variable y (expr_of program second.body)
 conjoins_cases program x y _ = false
 
+-- whether a body is the rule of `&&`
 abbrev pub conjoins : Code → Option Body → Bool
 conjoins program (Some (code.Rule (x ∷ y ∷ []) body)) =
     not (nat_eq x y) && conjoins_cases program x y (expr_of program body)
 conjoins program _ = false
 
--- the built-in entities are there, with their arities, False is declared before True, and `&&` has
--- its rule
+-- whether the built-in entities are there, with their arities, False is declared before True, and
+-- `&&` has its rule
 abbrev pub has_special : Code → Bool
 has_special program =
     takes (arity_of program (head.Con program.special.falsity)) 0
@@ -145,8 +154,8 @@ has_special program =
       | None ↦ true
     ]
 
--- all functions and case distinctions fit, constructors have arities that a graph can hold, and the
--- built-in entities are there
+-- Whether code is well-formed: all functions and case distinctions fit, constructors have arities
+-- that a graph can hold, and the built-in entities are there.
 abbrev pub is_well_formed : Code → Bool
 is_well_formed program =
     list_all (λ constructor. is_arity constructor.arity) program.constructors

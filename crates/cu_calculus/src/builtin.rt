@@ -1,4 +1,4 @@
-//! What is built in.
+//! The operations that are built in, and the entities that they speak of.
 use crate::{ConId, FunId};
 
 /// The operations that are built in.
@@ -6,21 +6,21 @@ use crate::{ConId, FunId};
 pub enum Primitive {
     /// The sum of two integers.
     Add,
-    /// Their difference.
+    /// The difference of two integers.
     Sub,
-    /// Their product.
+    /// The product of two integers.
     Mul,
-    /// Their quotient, rounded towards minus infinity.
+    /// The quotient of two integers, rounded towards minus infinity.
     Div,
-    /// The rest of that division.
+    /// The rest of the division that rounds towards minus infinity.
     Mod,
-    /// Whether an integer is below another.
+    /// Whether the first integer is below the second.
     Less,
-    /// Whether it is at most the other.
+    /// Whether the first integer is at most the second.
     AtMost,
-    /// Whether it is above the other.
+    /// Whether the first integer is above the second.
     Greater,
-    /// Whether it is at least the other.
+    /// Whether the first integer is at least the second.
     AtLeast,
     /// Whether two data terms are the same, `==`.
     Equal,
@@ -32,11 +32,12 @@ pub enum Primitive {
     Ord,
     /// The character of a number.
     Chr,
-    /// No value at all.
+    /// The operation that has no value.
     Failed,
 }
 
-/// The entities that the built-in operations and set functions speak of.
+/// The entities of a program that the built-in operations and set functions
+/// speak of.
 #[derive(Clone, Copy, Debug, PartialEq, Eq)]
 pub struct Special {
     /// The constructor `False`.
@@ -49,7 +50,7 @@ pub struct Special {
     pub cons: ConId,
     /// The operation `&&`.
     pub both: FunId,
-    /// The constructor of the values of a set function, where the program has
+    /// The constructor of the values of set functions, where the program has
     /// set functions.
     pub values: Option<ConId>,
 }

@@ -42,8 +42,8 @@ pub fn values_have_a_total_order()
     ensures same { (u v : Value) → (value_order u v ≡ Equal) ↔ (u ≡ v) }
 {}
 
-/// What a pattern matches it matches when more is known of it, with values
-/// of its variables that say at least as much.
+/// Matching is monotonic: what a pattern matches it also matches when more is
+/// known of it, with values of its variables that say at least as much.
 pub fn matches_rise()
     ensures one { (p : Pattern) (u v : Value) (low : Bindings) → Below u v → matched p u ≡ Some low
         → (high : Bindings) × (matched p v ≡ Some high) × BindingsBelow low high }
@@ -65,8 +65,8 @@ pub fn choices_rise()
         → Chooses program rows us choice → Chooses program rows vs choice }
 {}
 
-/// At most one alternative is taken, and a function finds it: each look
-/// leads to fewer looks, and what it leaves is chosen among in its place.
+/// At most one alternative is taken, and a function finds it. Each look leads
+/// to rows that need fewer looks, of which one is taken in their place.
 pub fn choosing_is_a_function()
     ensures same { (program : Program) (rows : List Row) (values : List Value) (choice : ℕ)
         → Chooses program rows values choice ↔ (chosen program rows values ≡ Some choice) }

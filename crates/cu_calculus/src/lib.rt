@@ -31,12 +31,12 @@ pub enum Lit {
     Char(char),
 }
 
-/// An operation, by its place among the program's operations.
+/// An operation of a program, by its index among the program's operations.
 #[derive(Clone, Copy, Debug, PartialEq, Eq)]
 pub struct FunId(pub usize);
 
-/// A constructor, by its place among the program's constructors: those of
-/// the first type first, each in the order of its declaration.
+/// A constructor of a program, by its number: those of the first type come
+/// first, each in the order of its declaration.
 #[derive(Clone, Copy, Debug, PartialEq, Eq)]
 pub struct ConId(pub usize);
 
@@ -54,12 +54,13 @@ pub enum Head {
 /// Whether a case distinction waits for a free variable or binds it.
 #[derive(Clone, Copy, Debug, PartialEq, Eq)]
 pub enum Mode {
-    /// It waits, as `case`.
+    /// The case distinction waits for a free variable (residuation), as `case`
+    /// does.
     Rigid,
-    /// It binds, as `fcase`.
+    /// The case distinction binds a free variable (narrowing), as `fcase` does.
     Flex,
 }
 
-/// An expression, by its place among the program's expressions.
+/// An expression of flat code, by its index among the program's expressions.
 #[derive(Clone, Copy, Debug, PartialEq, Eq)]
 pub struct ExprId(pub usize);

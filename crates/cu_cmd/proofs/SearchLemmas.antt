@@ -28,7 +28,7 @@ pub record IsOpened (s : Standing) (names : List (List ℕ)) (program : Kernel) 
   pub of_program : Some given ≡ program.goal
   pub laid : code ≡ laid_out (program_of code)
 
--- what it lists
+-- what a search lists that was opened for a program's goal
 pub left_is : (s : Standing) (names : List (List ℕ)) (program : Kernel) (code : Code) (limits : SearchLimits) (given goal : Goal)
     → IsOpened s names program code limits given → program.goal ≡ Some goal → left_of s ≡ listing_of limits (program_of code) goal
 left_is s names program code limits given goal begun has =

@@ -14,9 +14,9 @@ use Rattle.cu_machine.specs.State.{State, start_of}
 use Rattle.cu_machine.specs.declared.SearchLimits.{SearchLimits}
 use Rattle.cu_theorem.specs.Listed.{listing_of}
 
--- An answer of a round stands in the listing right behind what the rounds list before it, unless
--- the listing has ended by then: since the limits don't allow that many rounds or answers, or since
--- the search has stopped.
+-- An answer of a round stands in the listing right after what the rounds list before it, unless the
+-- listing has ended by then: since the limits don't allow that many rounds or answers, or since the
+-- search has stopped.
 abbrev pub IsListedInRound : Program → Goal → SearchLimits → ℕ → List State → Reading → Type 0
 IsListedInRound flat goal limits round before reading =
     let code = laid_out flat in
@@ -46,7 +46,7 @@ ListedAnswersAreOfTheirRound flat goal limits = (round : ℕ) (reading : Reading
     × (run limits.stride (laid_out flat) limits.step state ≡ Answer reading)
     × (reading ≡ reading_at (reached limits.stride (laid_out flat) limits.step state))
 
--- Whatever program a goal in a module comes to: each answer of its search tree is listed in the
+-- Whatever program a goal in a module comes to, each answer of its search tree is listed in the
 -- round of its depth, and each answer that is listed is of the depth of its round.
 pub record ListsByDepth (held : Held) (root text : List ℕ) (limits : SearchLimits) : Type 0 where
   pub answers_are_listed : (names : List (List ℕ)) (program : Kernel) (flat : Program)

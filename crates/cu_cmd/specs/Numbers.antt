@@ -1,8 +1,9 @@
--- The numbers that the process ends with.
+-- The numbers with which the process ends.
 use Rattle.std.specs.Prelude.{ℕ}
 use Rattle.cu_cmd.specs.declared.status.Status.{Status}
 use Rattle.cu_cmd.specs.declared.status.Status.TheVariants as status
 
+-- the number with which the process ends, for each status
 abbrev pub number_of : Status → ℕ
 number_of status.Done = 0
 number_of status.Floundered = 1

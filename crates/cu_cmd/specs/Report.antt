@@ -46,32 +46,34 @@ use Rattle.cu_cmd.specs.Trials.{totals_pieces, trial_goal, trial_held, trial_lim
 use Rattle.cu_cmd.specs.declared.status.Status.{Status}
 use Rattle.cu_cmd.specs.declared.status.Status.TheVariants as status
 
--- the texts of modules, by folder and name, where they are held
+-- the library as a function: the text of the module of a name in a folder, where there is one
 abbrev pub Held : Type 0
 Held = List ℕ → List ℕ → Option (List ℕ)
 
 -- ---- refusals
 
+-- the line for words outside the command grammar
 abbrev pub usage_line : List ℕ
 usage_line = codes "bad command line\n"
 
 -- ---- listings
 
--- what the listing of a goal calls things, under a table of names
+-- the names that the listing of a goal uses, under a table of names
 abbrev pub notation_of : List (List ℕ) → Kernel → Goal → Notation
 notation_of names program goal = record {
   labels = labels_of names program;
   variables = map (text_of names) goal.names;
 }
 
--- the pieces of what is listed of a goal, and their bytes
+-- the pieces of a goal's listing: its lines
 abbrev pub listing_pieces : List (List ℕ) → Kernel → Goal → Listing → List (List ℕ)
 listing_pieces names program goal found = pieces (notation_of names program goal) found
 
+-- the bytes of a goal's listing
 abbrev pub listing_text : List (List ℕ) → Kernel → Goal → Listing → List ℕ
 listing_text names program goal found = concat (listing_pieces names program goal found)
 
--- the status of a listing that ends so
+-- the status of a run whose listing has this end
 abbrev pub status_of : End → Status
 status_of (ends.NoMore zero) = status.Done
 status_of (ends.NoMore (suc waits)) = status.Floundered
@@ -81,12 +83,13 @@ status_of (ends.Stopped stop d) = status.Stopped
 
 -- ---- reports, command by command
 
--- A solve writes these pieces and ends with this status.
+-- What a `solve` writes, in pieces, and the status that it ends with: the line of a refusal, or the
+-- goal's listing.
 pub data SolveReport (held : Held) (solve : Solve) : List (List ℕ) → Status → Type 0 where
-  -- a module or a goal that is refused
+  -- The module or the goal is refused.
   refused : (refusal : Refusal) → Refuses (held solve.folder) solve.name solve.goal refusal
       → SolveReport held solve (refusal_line refusal ∷ []) status.Refused
-  -- the listing of the goal
+  -- The goal's listing is written.
   listed : (names : List (List ℕ)) (program : Kernel) (flat : calculus.Program) (goal : Goal)
       (found : Listing) (written : List (List ℕ)) (answer : Status)
       → Compiles (held solve.folder) solve.name solve.goal names program flat
@@ -94,12 +97,13 @@ pub data SolveReport (held : Held) (solve : Solve) : List (List ℕ) → Status 
       → written ≡ listing_pieces names program goal found → answer ≡ status_of found.end
       → SolveReport held solve written answer
 
--- So does a `compile`.
+-- What a `compile` writes, in pieces, and the status that it ends with: the line of a refusal, or
+-- the module's text in FlatCurry.
 pub data CompileReport (held : Held) (compile : Compile) : List (List ℕ) → Status → Type 0 where
-  -- a module that is refused
+  -- The module is refused.
   module_refused : (refusal : Refusal) → ModulesRefused (held compile.folder) compile.name refusal
       → CompileReport held compile (refusal_line refusal ∷ []) status.Refused
-  -- the text of the module
+  -- The text of the module is written.
   printed : (names : List (List ℕ)) (program : Kernel) (interface : List TypeExpr)
       (flat : calculus.Program) (id : NameId) (text : List ℕ)
       → ModuleCompiles (held compile.folder) compile.name names program interface flat
@@ -108,13 +112,14 @@ pub data CompileReport (held : Held) (compile : Compile) : List (List ℕ) → S
       (record { names = names; kernel = program; interface = interface; flat = flat }) id
       → CompileReport held compile (text ∷ []) status.Done
 
--- So does a trial, whatever the library holds.
+-- What a trial writes, in pieces, and the status that it ends with. It doesn't depend on what the
+-- library holds.
 pub data TrialReport (trial : Trial) : List (List ℕ) → Status → Type 0 where
-  -- a module or a goal that is refused
+  -- The module or the goal of the trial is refused.
   trial_refused : (refusal : Refusal)
       → Refuses trial_held (codes "Trial") (trial_goal trial.depth) refusal
       → TrialReport trial (refusal_line refusal ∷ []) status.Refused
-  -- what the lines of the goal's listing come to
+  -- What the lines of the goal's listing come to is written.
   tried : (names : List (List ℕ)) (program : Kernel) (flat : calculus.Program) (goal : Goal)
       (found : Listing) (written : List (List ℕ)) (answer : Status)
       → Compiles trial_held (codes "Trial") (trial_goal trial.depth) names program flat
@@ -122,12 +127,13 @@ pub data TrialReport (trial : Trial) : List (List ℕ) → Status → Type 0 whe
       → written ≡ totals_pieces (totals_of found) found.end → answer ≡ status_of found.end
       → TrialReport trial written answer
 
+-- What a command writes, in pieces, and the status that it ends with.
 abbrev pub CommandReport : Held → Command → List (List ℕ) → Status → Type 0
 CommandReport held (Solving solve) = SolveReport held solve
 CommandReport held (Compiling compile) = CompileReport held compile
 CommandReport held (Trying trial) = TrialReport trial
 
--- a command that asks nothing of the library
+-- The command asks nothing of the library.
 abbrev pub AsksNothing : Command → Type 0
 AsksNothing (Solving solve) = ⊥
 AsksNothing (Compiling compile) = ⊥
@@ -135,10 +141,11 @@ AsksNothing (Trying trial) = Unit {0}
 
 -- ---- the report
 
--- The run writes these pieces and ends with this status.
+-- What a run writes, in pieces, and the status that it ends with, by its words and by what the
+-- library holds.
 pub data Report (words : List (List ℕ)) (held : Held) : List (List ℕ) → Status → Type 0 where
-  -- words outside the command grammar
+  -- The words are outside the command grammar.
   usage : (IsCommand words → ⊥) → Report words held (usage_line ∷ []) status.Usage
-  -- what the command that the words ask for writes
+  -- The words are in the command grammar, and the command that they ask for is run.
   command : (asked : Command) (written : List (List ℕ)) (answer : Status) → ReadsAs words asked
       → CommandReport held asked written answer → Report words held written answer

@@ -12,10 +12,12 @@ use Rattle.cu_cmd.specs.declared.fault.RunFault.TheVariants.{NoMemory, Read, Wri
 use Rattle.cu_cmd.specs.declared.status.Status.{Status}
 use Rattle.cu_cmd.specs.declared.status.Status.TheVariants as status
 
+-- the fault of a run for one of printing
 abbrev pub fault_of_print : PrintFault → RunFault
 fault_of_print print.Write = Write
 fault_of_print print.NoMemory = NoMemory
 
+-- the fault of a run for one of a search
 abbrev pub fault_of_search : SearchFault → RunFault
 fault_of_search search.Write = Write
 fault_of_search search.NoMemory = NoMemory
@@ -27,20 +29,21 @@ status_after (Err Read) = status.ReadFault
 status_after (Err Write) = status.WriteFault
 status_after (Err NoMemory) = status.NoMemory
 
--- the report was written, or, where the run broke off, a prefix of it
+-- The report was written, or, where the run broke off, a prefix of it.
 abbrev pub Ends : Result Status RunFault → (List (List ℕ) → Status → Type 0) → Option (List ℕ)
     → Option (List ℕ) → Type 0
 Ends (Ok answer) Due before after = WritesReport answer Due before after
 Ends (Err fault) Due before after = WritesPrefix Due before after
 
--- the whole of what a command comes to was written, where the run didn't break off
+-- The whole result of a command was written, where the run didn't break off, and nothing, where
+-- reading failed.
 abbrev pub EndsWhole : Result Status RunFault → Command → Option (List ℕ) → Option (List ℕ)
     → Type 0
 EndsWhole (Ok answer) asked before after = WritesWholly asked answer before after
 EndsWhole (Err Read) asked before after = after ≡ before
 EndsWhole (Err fault) asked before after = Unit {0}
 
--- a status with which a command ends that didn't break off
+-- The status is that of a command that didn't break off.
 abbrev pub IsSolved : Status → Type 0
 IsSolved status.Done = Unit {0}
 IsSolved status.Floundered = Unit {0}
@@ -51,14 +54,15 @@ IsSolved answer = ⊥
 
 -- ---- counts of faults
 
--- The output's count rose where it failed, and stands otherwise. The library isn't asked.
+-- The output's count of faults rose where the output failed, and stands otherwise. The library
+-- isn't asked, so that reading can't fail.
 abbrev pub HasWriteCause : {A : Type 0} → Result A RunFault → ℕ → ℕ → Type 0
 HasWriteCause (Ok x) old new = new ≡ old
 HasWriteCause (Err Read) old new = ⊥
 HasWriteCause (Err Write) old new = Rose old new
 HasWriteCause (Err NoMemory) old new = new ≡ old
 
--- counts of faults of the library and the output
+-- the counts of faults of the library and the output
 pub record Faults : Type 0 where
   pub library : ℕ
   pub output : ℕ

@@ -15,23 +15,23 @@ use Rattle.cu_cmd.specs.Trials.{totals_text}
 use Rattle.cu_cmd.specs.declared.status.Status.{Status}
 use Rattle.cu_cmd.specs.declared.status.Status.TheVariants as status
 
--- A prefix of a report was written: nothing, or a prefix of these bytes.
+-- A prefix of a report was written: nothing, or a prefix of the bytes of all its pieces.
 pub data WritesPrefix (Due : List (List ℕ) → Status → Type 0) (before after : Option (List ℕ))
     : Type 0 where
   nothing : after ≡ before → WritesPrefix Due before after
   prefix : (written : List (List ℕ)) (answer : Status) → Due written answer
       → AddsFront before after (concat written) → WritesPrefix Due before after
 
--- the whole report was written, and the run ends with its status
+-- The whole report was written, and the run ends with its status.
 pub record WritesReport (answer : Status) (Due : List (List ℕ) → Status → Type 0)
     (before after : Option (List ℕ)) : Type 0 where
   pub written : List (List ℕ)
   pub is_report : Due written answer
   pub adds : Adds before after (concat written)
 
--- What a run that ends with this status wrote: where the outside failed or memory ran out, a
--- prefix of the report; otherwise the report. A sink tells bytes and not pieces, so that each line
--- is one piece is left to tests.
+-- What a run that ends with this status wrote: where the outside failed or memory ran out, a prefix
+-- of the report; otherwise the report. A sink tells bytes and not pieces, so that each line is one
+-- piece is left to tests.
 abbrev pub Writes : Status → (List (List ℕ) → Status → Type 0) → Option (List ℕ)
     → Option (List ℕ) → Type 0
 Writes status.ReadFault Due before after = WritesPrefix Due before after
@@ -41,8 +41,8 @@ Writes answer Due before after = WritesReport answer Due before after
 
 -- ---- whole texts, whatever the library tells
 
--- A command that ends with this status wrote a whole listing that ends so, the whole text of a
--- module, or, as a trial, what the lines of such a listing come to.
+-- A command that ends with this status wrote its whole result: a listing whose end has this status,
+-- the text of a module, or, as a trial, what the lines of such a listing come to.
 abbrev pub WritesResult : Command → Status → Option (List ℕ) → Option (List ℕ) → Type 0
 WritesResult (Solving solve) answer before after =
     (notation : Notation) × (found : Listing) × (answer ≡ status_of found.end)
@@ -53,16 +53,17 @@ WritesResult (Compiling compile) answer before after =
 WritesResult (Trying trial) answer before after =
     (found : Listing) × (answer ≡ status_of found.end) × Adds before after (totals_text found)
 
--- That, or the whole line of a refusal.
+-- A command that ends with this status wrote the line of a refusal, where the status is Refused,
+-- and else its whole result.
 abbrev pub WritesWholly : Command → Status → Option (List ℕ) → Option (List ℕ) → Type 0
 WritesWholly asked status.Refused before after =
     (refusal : Refusal) × Adds before after (refusal_line refusal)
 WritesWholly asked answer before after = WritesResult asked answer before after
 
--- A run that ends with this status wrote its line, or the whole of what the command that its words
--- ask for comes to: this is said also where nothing is known of what the library holds. After a
--- fault of reading nothing was written; of a fault of writing and of want of memory it says
--- nothing.
+-- A run that ends with this status wrote the line for a wrong command line, or the whole of what
+-- the command that its words ask for comes to. This is said also where nothing is known of what the
+-- library holds. After a fault of reading nothing was written; of a fault of writing and of an
+-- allocation failure nothing is said.
 abbrev pub WritesWhole : List (List ℕ) → Status → Option (List ℕ) → Option (List ℕ) → Type 0
 WritesWhole words status.Usage before after = Adds before after usage_line
 WritesWhole words status.ReadFault before after = after ≡ before

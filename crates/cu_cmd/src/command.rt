@@ -16,8 +16,8 @@ use cu_words::Asked;
 use std::alloc::Global;
 use std::thread::Threads;
 
-/// How many workers a command asks for, 1 to 64; one that searches nothing asks
-/// for one.
+/// How many workers a command asks for, 1 to 64. A command that searches
+/// nothing asks for one.
 pub(crate) fn workers_of(command: &Asked<'_>) -> u32
     requires ranges { HasItsRanges (asked command.now) }
     ensures { (1 ≤ result) × (result ≤ 64) }

@@ -1,4 +1,4 @@
-//! The depth of answers.
+//! A law of the depth of answers.
 ghost use Rattle.std.specs.Prelude.{List, ℕ};
 ghost use Rattle.cu_cmd.specs.Depths.{ListsByDepth};
 ghost use Rattle.cu_front.specs.Compiling.{Held};

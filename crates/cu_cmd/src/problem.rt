@@ -1,4 +1,4 @@
-//! What a search is asked.
+//! What a search is asked for.
 use cu_front::Compiled;
 use cu_machine::SearchLimits;
 use cu_names::Names;

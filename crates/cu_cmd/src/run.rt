@@ -1,4 +1,4 @@
-//! The public call.
+//! The call that runs a command: `top`.
 ghost use Rattle.std.specs.Prelude.{◌≡◌, IfOk, IfSome, List, OnErr, OnOk, map, string_bytes, ℕ};
 ghost use Rattle.cu_cmd.specs.Causes.{HasCause, IsNoUsage, IsUsage};
 ghost use Rattle.cu_cmd.specs.Depths.{ListsByDepth};
@@ -25,6 +25,10 @@ use std::thread::Threads;
 
 /// Runs the command that the words say, and answers how it ended. The input
 /// isn't read.
+///
+/// Over a library that doesn't tell what it holds, as the one over files, the
+/// clauses `report`, `solutions` and `depth` say nothing: they speak of a
+/// library that does.
 pub fn top<R: Threads + Sync, L: Library, O: Source, S: Sink, G: Gate + Sync>(
     rt: &R,
     alloc: Global,
@@ -51,11 +55,13 @@ pub fn top<R: Threads + Sync, L: Library, O: Source, S: Sink, G: Gate + Sync>(
     ensures depth { IfSome (L.holdings library.old) (λ held. (solve : Solve)
         → ReadsAs (map string_bytes words.now) (Solving solve)
         → ListsByDepth (held.module_at solve.folder) solve.name solve.goal solve.limits) }
-    // A status that says so comes with one whole line, or with the whole of what the command that
-    // the words ask for comes to, also where the library doesn't tell what it holds.
+    // What a run wrote, by its status, also where the library doesn't tell what
+    // it holds: the line for a wrong command line, the line of a refusal, or
+    // the whole result of the command.
     ensures whole { WritesWhole (map string_bytes words.now) result
         (S.written output.old) (S.written output.new) }
-    // Each status has its cause.
+    // Each status has its cause: counts of faults rise only where the status
+    // says so.
     ensures cause { HasCause result
         (record {
           library = L.fault_count library.old;
@@ -68,8 +74,9 @@ pub fn top<R: Threads + Sync, L: Library, O: Source, S: Sink, G: Gate + Sync>(
           output = S.fault_count output.new;
         }) }
     ensures input { input.new ≡ input.old }
-    // Words outside the command grammar, and no others, are answered so, whatever the library
-    // holds, and whether it tells that or not.
+    // Words outside the command grammar, and no others, give the status Usage
+    // and its line, unless the output fails or memory runs out, whatever the
+    // library holds, and whether it tells that or not.
     ensures usage { (IsCommand (map string_bytes words.now) → ⊥) → IsUsage result }
     ensures usage_library { (IsCommand (map string_bytes words.now) → ⊥)
         → library.new ≡ library.old }

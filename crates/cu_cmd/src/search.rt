@@ -27,7 +27,7 @@ use std::thread::Threads;
 pub(crate) struct Workers<'a, R, G> {
     pub(crate) rt: &'a R,
     pub(crate) gate: &'a G,
-    /// How many there are, 1 to 64.
+    /// How many workers there are, 1 to 64.
     pub(crate) count: u32,
 }
 
@@ -74,7 +74,7 @@ pub(crate) fn list<R: Threads + Sync, G: Gate + Sync, S: Sink>(
     Ok(status_of(end))
 }
 
-/// How a run ends whose listing ends so.
+/// The status of a run whose listing has this end.
 pub(crate) fn status_of(end: End) -> Status
     ensures status { result ≡ report.status_of end }
     ensures solved { IsSolved result }

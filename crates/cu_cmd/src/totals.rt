@@ -69,7 +69,7 @@ pub(crate) fn total<R: Threads + Sync, G: Gate + Sync, S: Sink>(
     Ok(status_of(found.0))
 }
 
-/// Writes what lines come to and how their listing ends, a line each.
+/// Writes what lines come to, and how their listing ends, in three lines.
 fn write_totals<S: Sink>(
     alloc: Global,
     totals: Totals,

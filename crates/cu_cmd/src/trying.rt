@@ -56,7 +56,7 @@ pub(crate) fn try_search<R: Threads + Sync, G: Gate + Sync, S: Sink>(
             total(alloc, workers, &problem, output)
         }
         Err(CompileFault::Refused(refusal)) => refuse(alloc, &names, &refusal, output),
-        // This library is in memory, and none of its calls fails.
+        // The library of trials is in memory, and none of its calls fails.
         Err(CompileFault::Fetch) => Err(RunFault::NoMemory),
         Err(CompileFault::NoMemory) => Err(RunFault::NoMemory),
     }

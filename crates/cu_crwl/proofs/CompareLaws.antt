@@ -53,7 +53,7 @@ and_assoc None b c = refl
 and_assoc (Some true) b c = refl
 and_assoc (Some false) b c = refl
 
--- as many arguments, and then what stands behind
+-- as many arguments, and then what stands after them
 pairs_front : (m q : ℕ) (us vs : Values) (last : Option Bool) → m ≤ count us → m ≤ count vs
     → and_compared (all_compared (front m us) (front m vs)) (pairs_compared q (back m us) (back m vs) last) ≡ pairs_compared (q + m) us vs last
 pairs_front zero q us vs last e f = rw add-zero refl
@@ -88,7 +88,8 @@ pairs_heads c d us vs q last =
     ∙ ap (λ (x : Values). pairs_compared (suc q) (value.MoreValues (first (put c us)) (back (arity_of c) us)) x last) (put_parts d vs)
     ∙ ap (λ x. and_compared x (pairs_compared q (back (arity_of c) us) (back (arity_of d) vs) last)) (heads_compared c d us vs)
 
--- cells of values of which some pairs are still to be compared, the answer where these are the same, and what the comparison answers
+-- cells of values of which some pairs are still to be compared, the answer where these are the
+-- same, and what the comparison answers
 pub record Compares (cs ds : List Cell) (left : ℕ) (last answer : Option Bool) : Type 0 where
   pub spelled : IsSpelled cs
   pub others : IsSpelled ds
@@ -107,7 +108,7 @@ met_first met c d cs ds q last answer is p =
     ∙ ap (λ m. and_compared (answer_of m (front (arity_of c) (read_all cs)) (front (arity_of d) (read_all ds)))
     (pairs_compared q (back (arity_of c) (read_all cs)) (back (arity_of d) (read_all ds)) last)) (sym is)
 
--- what is left behind heads that are alike
+-- what is left after heads that are alike
 pub record Left (m n q : ℕ) (whole : Bool) (left : ℕ) (now : Bool) : Type 0 where
   pub same : m ≡ n → (left ≡ q + m) × (now ≡ whole)
   pub differ : (m ≡ n → ⊥) → (left ≡ min m n) × (now ≡ false)
@@ -168,7 +169,7 @@ step c d cs ds q whole answer left now alike p l = go (eqb_tells (arity_of c) (a
     go (inl e) = step_same c d cs ds q whole answer left now alike p l e.1
     go (inr e) = step_differ c d cs ds q whole answer left now alike p l e.1
 
--- ** The same at places in lists of cells
+-- ---- the same at places in lists of cells
 
 pub begins : (u v : Value) (cs ds : List Cell) → cs ≡ spell u → ds ≡ spell v → Compares cs ds 1 (Some true) (compared u v)
 begins u v cs ds e f =

@@ -1,4 +1,4 @@
--- Cells of values of a program.
+-- Whether the cells of a value are those of a program's values.
 use Rattle.std.specs.Prelude.{Bool, true, ◌&&◌}
 use Rattle.cu_calculus.specs.declared.Head.TheVariants as head
 use Rattle.cu_calculus.specs.Literal.{is_literal}
@@ -7,6 +7,7 @@ use Rattle.cu_calculus.specs.Shape.{is_allowed, takes, takes_more}
 use Rattle.cu_values.specs.declared.cell.Cell.{Cell}
 use Rattle.cu_values.specs.declared.cell.Cell.TheVariants as cell
 
+-- whether a cell of a value is the program's, by its head and its number of arguments
 abbrev pub cell_is_of : Program → Cell → Bool
 cell_is_of program cell.Bottom = true
 cell_is_of program (cell.LVar x) = true

@@ -1,4 +1,5 @@
--- The rows of patterns that the checker chooses among, and what it finds out about them.
+-- The clause matrix (Maranget 2008) among whose rows the checker chooses an alternative, and what a
+-- look at it finds, as the code's values stand for them.
 use Rattle.std.specs.Prelude.{Bool, ◌||◌, List, map}
 use denote.Ref.{Bor}
 use Rattle.cu_calculus.specs.Choose as calculus
@@ -14,22 +15,25 @@ use Rattle.cu_crwl.specs.declared.choose.Look.{Look}
 use Rattle.cu_crwl.specs.declared.choose.Look.TheVariants as look
 use Rattle.cu_crwl.specs.declared.choose.Row.{Row}
 
+-- the demand that a demand of the code stands for
 abbrev pub demand_meaning : Demand → calculus.Demand
 demand_meaning demand.Nothing = calculus.Nothing
 demand_meaning (demand.Literal l) = calculus.ALiteral l
 demand_meaning (demand.Constructor c) = calculus.AConstructor c
 
--- patterns behind references
+-- the patterns that references to patterns of the code stand for
 abbrev pub patterns_at : List (Bor Pattern) → List clean.Pattern
 patterns_at ps = map (λ p. pattern_of p.now) ps
 
+-- the row that a row of the code stands for
 abbrev pub row_meaning : Row → calculus.Row
 row_meaning row = record { patterns = patterns_at row.patterns.items; choice = row.choice }
 
+-- the rows that rows of the code stand for
 abbrev pub rows_meaning : List Row → List calculus.Row
 rows_meaning rows = map row_meaning rows
 
--- which demands stay
+-- whether a row with this demand stays
 abbrev pub keeps : Keep → calculus.Demand → Bool
 keeps (keep.OnlyLiteral l) d = wants_literal l d
 keeps (keep.LiteralOrNothing l) d = wants_nothing d || wants_literal l d
@@ -37,6 +41,7 @@ keeps (keep.NotLiteral l) d = not_literal l d
 keeps (keep.OnlyConstructor c) d = wants_constructor c d
 keeps (keep.ConstructorOrNothing c) d = wants_nothing d || wants_constructor c d
 
+-- the outcome of a look that one of the code stands for
 abbrev pub look_meaning : Look → calculus.Look
 look_meaning look.Nowhere = calculus.Nowhere
 look_meaning (look.Take k) = calculus.Take k

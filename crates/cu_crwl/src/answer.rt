@@ -73,7 +73,7 @@ fn pair(values: &[Value]) -> Option<(&Value, &Value)>
     }
 }
 
-/// True or False.
+/// The value True or False.
 #[tactic(auto, unfolding(cu_kernel::specs::Heads::heads_program))]
 fn truth(alloc: Global, heads: &Heads, holds: bool) -> Result<Value, AllocError>
     ensures { IfOk result (λ v. v ≡ truth_of (heads_program heads.now) holds) }
@@ -98,7 +98,7 @@ fn true_where(alloc: Global, heads: &Heads, holds: bool) -> Result<Option<Value>
     }
 }
 
-/// What `==` answers.
+/// What `==` answers on two values.
 fn equal(
     alloc: Global,
     heads: &Heads,
@@ -117,7 +117,7 @@ fn equal(
     }
 }
 
-/// What `=:=` answers.
+/// What `=:=` answers on two values.
 fn unify(
     alloc: Global,
     heads: &Heads,
@@ -129,7 +129,7 @@ fn unify(
     true_where(alloc, heads, value_is(left, right) && total_data(left))
 }
 
-/// What `&` answers.
+/// What `&` answers on two values.
 fn conjoin(
     alloc: Global,
     heads: &Heads,
@@ -143,15 +143,15 @@ fn conjoin(
     true_where(alloc, heads, value_is(left, &yes) && value_is(right, &yes))
 }
 
-/// Whether a value is total data: nothing in it is unknown, and it has no
-/// partial application.
+/// Whether a value is total data: Bottom and partial applications stand nowhere
+/// in it.
 pub(crate) fn total_data(value: &Value) -> bool
     ensures { result ≡ is_total_data value.now }
 {
     value.is_total() && value.is_data()
 }
 
-/// An operation on values that are literals.
+/// What an operation answers on values that are literals.
 fn on_values(
     alloc: Global,
     heads: &Heads,
@@ -167,7 +167,7 @@ fn on_values(
     }
 }
 
-/// The literals that values are, where they all are literals.
+/// The literals that values are, where all of them are literals.
 fn literals(alloc: Global, values: &[Value]) -> Result<Option<Vec<Lit>>, AllocError>
     ensures { IfOk result (λ found. option_map (λ ls. ls.items) found ≡ literals_in
         (values_of values.now)) }
@@ -182,7 +182,7 @@ fn literals(alloc: Global, values: &[Value]) -> Result<Option<Vec<Lit>>, AllocEr
     Ok(Some(found))
 }
 
-/// An operation on literals.
+/// What an operation answers on literals.
 fn on_literals(
     alloc: Global,
     heads: &Heads,
@@ -201,7 +201,7 @@ fn on_literals(
     Ok(None)
 }
 
-/// An operation on one literal.
+/// What an operation answers on one literal.
 fn on_one(alloc: Global, operation: Prim, literal: Lit) -> Result<Option<Value>, AllocError>
     ensures { IfOk result (λ found. found ≡ on_one operation literal) }
 {
@@ -212,7 +212,7 @@ fn on_one(alloc: Global, operation: Prim, literal: Lit) -> Result<Option<Value>,
     }
 }
 
-/// An operation on two literals.
+/// What an operation answers on two literals.
 fn on_two(
     alloc: Global,
     heads: &Heads,
@@ -229,7 +229,7 @@ fn on_two(
     }
 }
 
-/// An operation on two integers.
+/// What an operation answers on two integers.
 fn on_integers(
     alloc: Global,
     heads: &Heads,

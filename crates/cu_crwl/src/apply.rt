@@ -21,7 +21,7 @@ use cu_kernel::{Body, ConId, FunId, Function, Head, Heads, Rule};
 use cu_values::{Cell, Value};
 use std::alloc::{AllocError, Global};
 
-/// Whether values are one by one the same.
+/// Whether values are the same in pairs.
 pub(crate) fn values_are(left: &[Value], right: &[Value]) -> bool
     ensures { result ≡ same_values (values_of left.now) (values_of right.now) }
 {
@@ -56,7 +56,7 @@ fn is_constructed(
     }
 }
 
-/// Whether two heads are one.
+/// Whether two heads are the same.
 fn heads_are(left: Head, right: Head) -> bool
     ensures { result ≡ same_head left right }
 {
@@ -68,7 +68,7 @@ fn heads_are(left: Head, right: Head) -> bool
     }
 }
 
-/// Whether a value is a partial application of these values.
+/// Whether a value is the partial application of a head to these values.
 pub(crate) fn is_applied(head: Head, arguments: &[Value], value: &Value) -> Result<bool, AllocError>
     ensures { IfOk result (λ yes. yes ≡ is_part head (values_of arguments.now) value.now) }
 {
@@ -84,7 +84,7 @@ pub(crate) fn is_applied(head: Head, arguments: &[Value], value: &Value) -> Resu
     }
 }
 
-/// The one statement that is cited.
+/// The cited statement, where exactly one is cited.
 pub(crate) fn one<'a>(cited: &[&'a Statement]) -> Option<&'a Statement>
     ensures { option_map (λ s. statement_of s.now) result ≡ one_cited (statements_at cited.now) }
 {
@@ -95,7 +95,7 @@ pub(crate) fn one<'a>(cited: &[&'a Statement]) -> Option<&'a Statement>
     }
 }
 
-/// The two statements that are cited.
+/// The cited statements, where exactly two are cited.
 pub(crate) fn two<'a>(cited: &[&'a Statement]) -> Option<(&'a Statement, &'a Statement)>
     ensures { option_map (λ pair. (statement_of pair.0.now, statement_of pair.1.now)) result
         ≡ two_cited (statements_at cited.now) }
@@ -129,7 +129,8 @@ pub(crate) fn given_values(
     Ok(values)
 }
 
-/// Whether a rule's patterns match, and a statement gives its body's value.
+/// Whether a rule's patterns match values, and a statement gives its right
+/// side's value under the bindings of the match.
 fn rule_gives(
     alloc: Global,
     rule: &Rule,
@@ -146,7 +147,8 @@ fn rule_gives(
     }
 }
 
-/// Whether some rule does so.
+/// Whether the one cited statement gives the value of the right side of a rule
+/// that matches.
 fn rules_give(
     alloc: Global,
     rules: &[Rule],
@@ -171,7 +173,7 @@ fn rules_give(
     Ok(false)
 }
 
-/// Whether a function's body on values gives a value.
+/// Whether a function's body on values gives a value, by the cited statements.
 fn body_gives(
     alloc: Global,
     heads: &Heads,
@@ -207,8 +209,8 @@ pub(crate) fn function<'a>(heads: &Heads<'a>, f: FunId) -> Option<&'a Function>
     }
 }
 
-/// The value of a set call: the list of the values behind its constructor. Its
-/// cells are written in one pass.
+/// The value of a set call: the constructor of the values of set functions, on
+/// the list of the values. The cells are written in one pass.
 fn collected(
     alloc: Global,
     heads: &Heads,
@@ -265,7 +267,8 @@ fn claim_gives(
     Ok(value.leq(&all))
 }
 
-/// Whether some claim is so.
+/// Whether some claim is about a function on these values, and its list is at
+/// least a value.
 #[tactic(auto, unfolding(cu_kernel::specs::Heads::heads_program))]
 fn claims_give(
     alloc: Global,

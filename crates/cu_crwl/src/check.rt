@@ -24,12 +24,12 @@ use cu_kernel::{Heads, Program, Term};
 use std::alloc::{AllocError, Global};
 
 /// Whether a proof checks over claims: it speaks of the program, and each of
-/// its steps follows from the steps that it cites, which stand before it, by
-/// a row of the calculus.
+/// its steps follows from the steps that it cites, which stand before it, by a
+/// row of the calculus.
 ///
 /// # Errors
 ///
-/// Want of memory.
+/// An allocation failure.
 pub fn checks(
     alloc: Global,
     program: &Program,
@@ -129,8 +129,8 @@ fn cited<'a>(
     Ok(Some(found))
 }
 
-/// Whether a statement follows from cited ones, by the row for what isn't
-/// known or by the one for its term.
+/// Whether a statement follows from cited ones, by the row for Bottom or by the
+/// row for its term's form.
 #[tactic(auto, unfolding(crate::specs::Table::follows))]
 fn follows(
     alloc: Global,
@@ -150,7 +150,7 @@ fn follows(
     row_follows(alloc, heads, claims, cited, statement)
 }
 
-/// Whether it follows by the row for its term.
+/// Whether a statement follows from cited ones by the row for its term's form.
 #[tactic(auto, using(cu_kernel::specs::TermsOf::terms_of_variants, crate::proofs::FollowForms::term_counts), unfolding(crate::specs::Table::row_follows))]
 fn row_follows(
     alloc: Global,
@@ -203,7 +203,7 @@ fn row_follows(
 ///
 /// # Errors
 ///
-/// Want of memory.
+/// An allocation failure.
 pub fn conclusion(alloc: Global, proof: &Proof) -> Result<Statement, AllocError>
     ensures { IfOk result (λ statement. calculus.conclusion proof.now ≡ Some
         (statement_of statement)) }

@@ -14,24 +14,24 @@ use std::alloc::{AllocError, Global};
 /// What a pattern demands of a value.
 #[derive(Clone, Copy)]
 pub(crate) enum Demand {
-    /// Nothing.
+    /// The pattern demands nothing.
     Nothing,
-    /// A literal.
+    /// The pattern demands this literal.
     Literal(Lit),
-    /// A constructor.
+    /// The pattern demands this constructor.
     Constructor(ConId),
 }
 
-/// The patterns of an alternative that are still to be looked at, one for
-/// each value that is looked at.
+/// A row of the clause matrix: the patterns of an alternative that are still to
+/// be looked at, one for each value that is looked at.
 #[derive(Drop)]
 pub(crate) struct Row<'a> {
     pub(crate) patterns: Vec<&'a Pattern>,
-    /// The alternative's place, counted from 0.
+    /// The number of the alternative, counted from 0.
     pub(crate) choice: usize,
 }
 
-/// Which rows stay, by what they demand at a position.
+/// A test that says which rows stay, by what they demand at a position.
 #[derive(Clone, Copy)]
 pub(crate) enum Keep {
     OnlyLiteral(Lit),
@@ -46,15 +46,15 @@ pub(crate) enum Keep {
 pub(crate) enum Look<'a> {
     /// No alternative is taken.
     Nowhere,
-    /// This one is taken.
+    /// The alternative of this number is taken.
     Take(usize),
     /// Fewer rows are left, over the same values.
     Again(Vec<Row<'a>>),
-    /// Fewer rows are left, over the arguments of a value.
+    /// Fewer rows are left, over the arguments of the value that was looked at.
     Narrow(Vec<Row<'a>>, Vec<Value>),
 }
 
-/// What a pattern demands.
+/// What a pattern demands of a value.
 #[tactic(auto, using(cu_kernel::specs::TermsOf::patterns_of_variants))]
 fn demanded(pattern: &Pattern) -> Demand
     ensures { demand_meaning result ≡ demand_of (pattern_of pattern.now) }
@@ -68,7 +68,7 @@ fn demanded(pattern: &Pattern) -> Demand
 }
 
 impl Demand {
-    /// Whether something is demanded.
+    /// Whether the demand is a literal or a constructor.
     fn is_some(self) -> bool
         ensures { result ≡ is_demanding (demand_meaning self) }
     {
@@ -81,7 +81,7 @@ impl Demand {
 }
 
 impl Keep {
-    /// Whether a row with this demand stays.
+    /// Whether a row with this demand stays by the test.
     fn admits(self, demand: Demand) -> bool
         ensures { result ≡ keeps self (demand_meaning demand) }
     {
@@ -131,7 +131,7 @@ impl<'a> Row<'a> {
         }
     }
 
-    /// The same row.
+    /// A copy of the row.
     fn copied(&self, alloc: Global) -> Result<Row<'a>, AllocError>
         ensures { IfOk result (λ row. row_meaning row ≡ row_meaning self.now) }
     {
@@ -143,8 +143,8 @@ impl<'a> Row<'a> {
         })
     }
 
-    /// The row over the arguments of what stands at a position, which are so
-    /// many.
+    /// The row over the arguments of what stands at a position; there are
+    /// `count` of them.
     fn narrowed(&self, alloc: Global, position: usize, count: usize) -> Result<Row<'a>, AllocError>
         ensures { IfOk result (λ row. row_meaning row ≡ narrowed position count
             (row_meaning self.now)) }
@@ -246,7 +246,7 @@ fn spliced(
     Ok(all)
 }
 
-/// The rows that stay.
+/// The rows that stay by the test at a position.
 fn kept<'a>(
     alloc: Global,
     rows: &[Row<'a>],
@@ -265,7 +265,8 @@ fn kept<'a>(
     Ok(some)
 }
 
-/// The rows that stay, over the arguments of what stands at a position.
+/// The rows that stay by the test, over the arguments of what stands at a
+/// position.
 fn all_narrowed<'a>(
     alloc: Global,
     rows: &[Row<'a>],
@@ -282,8 +283,8 @@ fn all_narrowed<'a>(
     Ok(all)
 }
 
-/// The rows that stay, and the values, over the arguments of what stands at a
-/// position.
+/// The rows that stay by the test, and the values, over the arguments of what
+/// stands at a position: specialization of the clause matrix.
 fn narrow<'a>(
     alloc: Global,
     rows: &[Row<'a>],
@@ -302,7 +303,7 @@ fn narrow<'a>(
     Ok(Look::Narrow(fewer, parts))
 }
 
-/// The rows that don't demand a literal at a position, over the same values.
+/// The rows that don't demand this literal at a position, over the same values.
 fn again<'a>(
     alloc: Global,
     rows: &[Row<'a>],
@@ -317,7 +318,7 @@ fn again<'a>(
     Ok(Look::Again(fewer))
 }
 
-/// A literal stands at a position.
+/// A look at a position at which a literal stands.
 fn at_literal<'a>(
     alloc: Global,
     rows: &[Row<'a>],
@@ -374,7 +375,7 @@ fn of_one_type(heads: &Heads, constructor: ConId, other: ConId) -> bool
     }
 }
 
-/// A constructor stands at a position.
+/// A look at a position at which a constructor stands.
 fn at_constructor<'a>(
     alloc: Global,
     heads: &Heads,
@@ -484,7 +485,7 @@ fn one_look<'a>(
     }
 }
 
-/// A row for each alternative.
+/// The clause matrix of alternatives: a row for each.
 fn rows_of(alloc: Global, alternatives: &[(Pattern, Term)]) -> Result<Vec<Row<'_>>, AllocError>
     ensures { IfOk result (λ rows. rows_meaning rows.items ≡ rows_from 0
         (alternatives_of alternatives.now)) }
@@ -498,7 +499,7 @@ fn rows_of(alloc: Global, alternatives: &[(Pattern, Term)]) -> Result<Vec<Row<'_
     Ok(rows)
 }
 
-/// The alternative that a value takes, by its place, if it takes one.
+/// The number of the alternative that a value takes, if it takes one.
 pub(crate) fn chosen(
     alloc: Global,
     heads: &Heads,

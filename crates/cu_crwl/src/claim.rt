@@ -6,44 +6,43 @@ use cu_kernel::{FunId, Term};
 use cu_values::Value;
 use std::marker::Model;
 
-/// A row of claims: it says that these are all the ground values of a
-/// function on ground arguments.
+/// A claim: these are all the ground values of a function on ground arguments.
 #[derive(Drop)]
 pub struct Claim {
-    /// The function.
+    /// The function of which the values are claimed.
     pub function: FunId,
-    /// Its arguments, in order.
+    /// The arguments on which the values are claimed, in order.
     pub arguments: Vec<Value>,
-    /// Its values.
+    /// The values that are claimed to be all.
     pub values: Vec<Value>,
 }
 
-/// What a proof may use about set functions.
+/// The claims that a proof may use for set calls.
 #[derive(Drop)]
 pub struct Claims {
-    /// The rows.
+    /// The claims, as rows of a list.
     pub rows: Vec<Claim>,
 }
 
 /// A statement: a term has a value, where its variables stand for what the
-/// bindings say. A variable that isn't bound stands for what isn't known.
+/// bindings say. A variable that isn't bound stands for Bottom.
 #[derive(Drop)]
 pub struct Statement {
     /// Variables and their values, in rising order without repeats.
     pub env: Vec<(u32, Value)>,
-    /// The term.
+    /// The term that has the value.
     pub term: Term,
-    /// Its value.
+    /// The value that the term has.
     pub value: Value,
 }
 
 /// A step of a proof.
 #[derive(Drop)]
 pub struct Step {
-    /// The places of the earlier steps that it follows from, counted from 0,
-    /// in the order in which its row of the calculus names them.
+    /// The indices of the earlier steps from which this one follows, counted
+    /// from 0, in the order in which its row of the calculus names them.
     pub cites: Vec<usize>,
-    /// What it says.
+    /// The statement of the step.
     pub statement: Statement,
 }
 
@@ -71,7 +70,7 @@ impl Model for Proof {
 }
 
 impl Proof {
-    /// The proof of these steps; there is at least one.
+    /// The proof of these steps, of which there is at least one.
     pub fn new(steps: Vec<Step>) -> Proof
         requires { steps.items ≢ [] }
         ensures { result ≡ map step_of steps.items }
@@ -79,7 +78,7 @@ impl Proof {
         Proof { steps }
     }
 
-    /// The steps, in order.
+    /// The steps of the proof, in order.
     pub fn steps(&self) -> &[Step]
         ensures steps { map step_of result.now ≡ self.now }
         ensures begun { result.now ≢ [] }

@@ -5,18 +5,18 @@ ghost use Rattle.cu_crwl.specs.Comparing.{heads_meet};
 
 use cu_values::{Cell, Value};
 
-/// What the heads of two values say about them.
+/// What the heads of two values say about `==`.
 #[derive(Clone, Copy)]
 pub(crate) enum Met {
-    /// They have no answer.
+    /// `==` has no answer on the two values.
     Unanswered,
-    /// They differ.
+    /// The two values differ.
     Different,
-    /// They are as alike as their arguments are.
+    /// The two values are the same exactly if their arguments are.
     Alike,
 }
 
-/// What two heads say about the values.
+/// What two heads say about `==` on the values.
 fn heads_meet(left: Cell, right: Cell) -> Met
     ensures { result ≡ heads_meet left right }
 {
@@ -41,22 +41,22 @@ fn heads_meet(left: Cell, right: Cell) -> Met
     }
 }
 
-/// The pairs of values, from the left, that are still to be compared.
+/// The pairs of values, from the left, that `==` has still to compare.
 #[derive(Clone, Copy)]
 struct Pairs {
-    /// How many there are.
+    /// How many pairs there are.
     left: usize,
-    /// Whether these are all. If not, there is no answer where each of them is
-    /// the same.
+    /// Whether these pairs are all. If not, there is no answer where each of
+    /// them is the same.
     whole: bool,
 }
 
 impl Pairs {
     ghost use Rattle.std.specs.Prelude.{◌≡◌, ◌≢◌, ◌+◌, ◌<◌, ◌^◌, false, min};
 
-    /// What is left after heads that are alike, with these numbers of
-    /// arguments. Where the numbers differ, neither the arguments that have no
-    /// partner nor the pairs behind them count.
+    /// The pairs that are left after two heads that are alike, with these
+    /// numbers of arguments. Where the numbers differ, neither the arguments
+    /// that have no partner nor the pairs after them count.
     fn after(self, mine: u32, others: u32) -> Pairs
         requires some { 0 < self.left }
         requires fits { self.left + mine < 2 ^ 64 }

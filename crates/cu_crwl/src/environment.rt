@@ -15,7 +15,7 @@ use cu_kernel::Term;
 use cu_values::{Cell, Value};
 use std::alloc::{AllocError, Global};
 
-/// Whether two values are one.
+/// Whether two values are the same.
 #[tactic(auto, using(crate::proofs::Orders::alike))]
 pub(crate) fn value_is(left: &Value, right: &Value) -> bool
     ensures { result ≡ same_value left.now right.now }
@@ -48,7 +48,7 @@ pub(crate) fn bound(bindings: &[(u32, Value)], variable: u32) -> Option<&Value>
     None
 }
 
-/// Whether values are one, where a value that isn't there is unknown.
+/// Whether values are the same, where a missing value stands for Bottom.
 fn both_are(found: Option<&Value>, expected: Option<&Value>) -> bool
     ensures { result ≡ same_value (unwrap_or (option_copied found.entry) value.Bottom)
         (unwrap_or (option_copied expected.entry) value.Bottom) }
@@ -61,7 +61,7 @@ fn both_are(found: Option<&Value>, expected: Option<&Value>) -> bool
     }
 }
 
-/// Whether nothing is known of a value.
+/// Whether a value is Bottom.
 pub(crate) fn is_unknown(value: &Value) -> bool
     ensures { result ≡ is_bottom value.now }
 {
@@ -71,7 +71,7 @@ pub(crate) fn is_unknown(value: &Value) -> bool
     }
 }
 
-/// Whether bindings say of a variable what new ones over old ones say.
+/// Whether bindings say of a variable what new bindings over old ones say.
 #[tactic(auto, using(crate::proofs::EnvironmentLaws::agrees_at_is))]
 fn agree_at(
     bindings: &[(u32, Value)],
@@ -88,7 +88,8 @@ fn agree_at(
     both_are(bound(bindings, variable), expected)
 }
 
-/// Whether they do so of each variable that some bindings bind.
+/// Whether bindings say of each of some variables what new bindings over old
+/// ones say.
 fn agree_on(
     variables: &[(u32, Value)],
     bindings: &[(u32, Value)],
@@ -105,7 +106,7 @@ fn agree_on(
     true
 }
 
-/// Whether bindings say of every variable what new ones over old ones say.
+/// Whether bindings say of every variable what new bindings over old ones say.
 #[tactic(auto, unfolding(crate::specs::Environments::agrees))]
 fn agree(bindings: &[(u32, Value)], new: &[(u32, Value)], old: &[(u32, Value)]) -> bool
     ensures { result ≡ agrees bindings.now new.now old.now }
@@ -115,8 +116,8 @@ fn agree(bindings: &[(u32, Value)], new: &[(u32, Value)], old: &[(u32, Value)]) 
         && agree_on(old, bindings, new, old)
 }
 
-/// Whether a statement is about a term, in the environment of new bindings
-/// over old ones.
+/// Whether a statement is about a term, in the environment of new bindings over
+/// old ones.
 #[tactic(auto, unfolding(crate::specs::Environments::is_about))]
 pub(crate) fn concerns(
     statement: &Statement,
@@ -129,7 +130,8 @@ pub(crate) fn concerns(
     agree(&statement.env, new, old) && term_is(&statement.term, term)
 }
 
-/// Whether it is about the term and gives a value.
+/// Whether a statement is about a term, in the environment of new bindings over
+/// old ones, and gives a value.
 #[tactic(auto, unfolding(crate::specs::Environments::says))]
 pub(crate) fn states(
     statement: &Statement,
@@ -144,7 +146,7 @@ pub(crate) fn states(
     concerns(statement, new, old, term) && value_is(&statement.value, value)
 }
 
-/// Whether statements are about terms, one for each.
+/// Whether statements are about terms in an environment, one for each.
 pub(crate) fn concern_all(statements: &[&Statement], env: &[(u32, Value)], terms: &[Term]) -> bool
     ensures { result ≡ all_about (statements_at statements.now) env.now (terms_of terms.now) }
 {

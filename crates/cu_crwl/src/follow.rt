@@ -22,8 +22,8 @@ use cu_kernel::{Head, Heads, Pattern, Term};
 use cu_values::{Cell, Value};
 use std::alloc::{AllocError, Global};
 
-/// A variable's value is below what the bindings say; where they say nothing,
-/// it is unknown.
+/// The row for a variable: the value approximates what the bindings say, which
+/// is Bottom where they say nothing.
 #[tactic(auto, using(crate::proofs::EnvironmentLaws::below_bound))]
 pub(crate) fn is_below(value: &Value, env: &[(u32, Value)], variable: u32) -> bool
     ensures { result ≡ is_below value.now (bind_all empty env.now variable) }
@@ -34,7 +34,7 @@ pub(crate) fn is_below(value: &Value, env: &[(u32, Value)], variable: u32) -> bo
     }
 }
 
-/// The row of a head with all its arguments.
+/// The row for a head with all its arguments.
 pub(crate) fn whole_follows(
     alloc: Global,
     heads: &Heads,
@@ -58,7 +58,7 @@ pub(crate) fn whole_follows(
     applies(alloc, heads, claims, head, &values, last, value)
 }
 
-/// The row of a partial application.
+/// The row for a partial application.
 pub(crate) fn part_follows(
     alloc: Global,
     parts: &[&Statement],
@@ -77,7 +77,8 @@ pub(crate) fn part_follows(
     is_applied(head, &values, value)
 }
 
-/// A partial application on one value more.
+/// Whether a head on the values of a partial application and one more gives a
+/// value.
 #[tactic(auto, using(crate::proofs::FollowForms::count_is))]
 fn applied_to(
     alloc: Global,
@@ -105,7 +106,7 @@ fn applied_to(
     }
 }
 
-/// What a value gives on another one.
+/// Whether a functional value, applied to another one, gives a value.
 fn application_gives(
     alloc: Global,
     heads: &Heads,
@@ -129,7 +130,7 @@ fn application_gives(
     }
 }
 
-/// The row of a function on an argument.
+/// The row for the application of a function to an argument.
 pub(crate) fn apply_follows(
     alloc: Global,
     heads: &Heads,
@@ -164,7 +165,7 @@ pub(crate) fn apply_follows(
     )
 }
 
-/// The row of a local definition.
+/// The row for a local definition.
 pub(crate) fn let_follows(
     alloc: Global,
     cited: &[&Statement],
@@ -186,8 +187,9 @@ pub(crate) fn let_follows(
     }
 }
 
-/// Whether two statements say so: of the definition, and of the body where
-/// the variable stands for the definition's value.
+/// Whether two statements give the value of a local definition's body: one of
+/// the definition, and one of the body where the variable stands for the
+/// definition's value.
 fn let_gives(
     alloc: Global,
     first: &Statement,
@@ -209,8 +211,8 @@ fn let_gives(
     Ok(states(second, &binding, env, body, value))
 }
 
-/// The row of a free variable: it stands for what the cited statement says of
-/// it.
+/// The row for a free variable, which stands for what the cited statement says
+/// of it.
 pub(crate) fn free_follows(
     alloc: Global,
     heads: &Heads,
@@ -230,7 +232,7 @@ pub(crate) fn free_follows(
     }
 }
 
-/// Whether a statement says so of the body, where the variable stands for
+/// Whether a statement gives the body's value, where the variable stands for
 /// total data of the program.
 #[tactic(auto, using(crate::proofs::EnvironmentLaws::free_bound))]
 fn free_gives(
@@ -262,7 +264,7 @@ fn free_gives(
     }
 }
 
-/// The row of a choice between two terms.
+/// The row for a choice between two terms.
 pub(crate) fn or_follows(
     cited: &[&Statement],
     env: &[(u32, Value)],
@@ -280,7 +282,7 @@ pub(crate) fn or_follows(
     }
 }
 
-/// The row of a case distinction.
+/// The row for a case distinction.
 pub(crate) fn case_follows(
     alloc: Global,
     heads: &Heads,
@@ -344,7 +346,7 @@ fn choice_gives(
     }
 }
 
-/// Whether it gives the value of the alternative at a place.
+/// Whether a statement gives the value of the alternative of a number.
 fn alternative_gives(
     alloc: Global,
     statement: &Statement,

@@ -9,8 +9,8 @@ ghost use Rattle.cu_calculus.specs.Value.{Value};
 ghost use Rattle.cu_crwl.specs.Steps.{all_follow};
 ghost use Rattle.cu_crwl.specs.Table.{follows};
 
-/// The table of the calculus can be decided: one test says of a statement
-/// and of cited ones whether it follows from them, and one says of steps
+/// The table of the calculus can be decided: one test says of a statement and
+/// of cited ones whether it follows from them, and another says of steps
 /// whether each follows from those that it cites.
 pub fn following_is_decided()
     ensures statement { (program : Program) (claims : List Claim) (cited : List Statement)

@@ -10,7 +10,7 @@ use cu_kernel::{Lit, Pattern};
 use cu_values::{Cell, Value};
 use std::alloc::{AllocError, Global};
 
-/// Whether a value is a literal.
+/// Whether a value is this literal.
 pub(crate) fn literal_is(literal: Lit, value: &Value) -> bool
     ensures { result ≡ is_literal_value literal value.now }
 {
@@ -84,7 +84,8 @@ pub(crate) fn match_patterns(
     Ok(Some(bindings))
 }
 
-/// A variable for the whole value, before what was found.
+/// The bindings that were found, and before them that of a variable to the
+/// whole value.
 fn with_whole(
     found: Option<Vec<(u32, Value)>>,
     variable: u32,

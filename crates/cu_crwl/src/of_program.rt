@@ -117,7 +117,7 @@ fn cell_is_of(heads: &Heads, cell: Cell) -> bool
     }
 }
 
-/// Every literal is one of the language.
+/// Whether a literal is one of the language, which its type makes sure of.
 fn literal_is_of(literal: Lit) -> bool
     ensures { result ≡ is_literal literal }
 {

@@ -23,7 +23,7 @@ pub(crate) fn pattern_is(left: &Pattern, right: &Pattern) -> bool
     }
 }
 
-/// Whether patterns are one by one the same.
+/// Whether patterns are the same in pairs.
 #[cycle(patterns)]
 fn patterns_are(left: &[Pattern], right: &[Pattern]) -> bool
     ensures { result ≡ same_patterns (patterns_of left.now) (patterns_of right.now) }
@@ -71,7 +71,7 @@ pub(crate) fn term_is(left: &Term, right: &Term) -> bool
     }
 }
 
-/// Whether terms are one by one the same.
+/// Whether terms are the same in pairs.
 #[cycle(terms)]
 fn terms_are(left: &[Term], right: &[Term]) -> bool
     ensures { result ≡ same_terms (terms_of left.now) (terms_of right.now) }
@@ -87,7 +87,7 @@ fn terms_are(left: &[Term], right: &[Term]) -> bool
     true
 }
 
-/// Whether alternatives are one by one the same.
+/// Whether alternatives are the same in pairs.
 #[cycle(terms)]
 fn alternatives_are(left: &[(Pattern, Term)], right: &[(Pattern, Term)]) -> bool
     ensures { result ≡ same_alternatives (alternatives_of left.now) (alternatives_of right.now) }

@@ -21,7 +21,7 @@ numbered owner name number = record { owner = owner; name = name; number = numbe
 abbrev pub belongs_to : List ℕ → List ℕ → Numbered → Bool
 belongs_to owner name n = bytes_eq n.owner owner && bytes_eq n.name name
 
--- The number that belongs to a name of a module. Where there are several, it is the first.
+-- The number that belongs to a name of a module. Where several belong to it, the first counts.
 abbrev pub number_at : List Numbered → List ℕ → List ℕ → Option ℕ
 number_at [] owner name = None
 number_at (n ∷ numbers) owner name =
@@ -41,8 +41,8 @@ parameters_by owner _ = []
 abbrev pub parameters_in : Named → List Numbered
 parameters_in m = flat_map (parameters_by m.name) m.syntax.items
 
--- `Int` and `Char` have no declaration, and no parameters. The other types that are built in have
--- signs and no names: `[a]`, `(a, b)`, `()`.
+-- The parameters of `Int` and `Char`, which have no declaration: none. The other types that are
+-- built in have signs and no names: `[a]`, `(a, b)`, `()`.
 abbrev pub built_in_parameters : List Numbered
 built_in_parameters = map (λ name. numbered prelude_name name 0) literal_names
 

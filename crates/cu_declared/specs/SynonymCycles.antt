@@ -22,7 +22,7 @@ synonyms_by (syntax.Synonym at name parameters meant) =
     record { at = at; name = name.text; right = meant } ∷ []
 synonyms_by _ = []
 
--- the synonyms of a module, in the order of the text, which gives them numbers from 0
+-- the synonyms of a module, in the order of the text, by which they are numbered from 0
 abbrev pub synonyms_in : Named → List Synonym
 synonyms_in m = flat_map synonyms_by m.syntax.items
 
@@ -45,7 +45,7 @@ pub record Mentions (bindings : List Binding) (m : Named) (i j : ℕ) : Type 0 w
   pub means : meant bindings Types used.name ≡ entity ∷ []
   pub is_synonym : number_of (synonym_numbers m) entity ≡ Some j
 
--- Synonym i leads to synonym j by the names on right sides.
+-- Synonym i leads to synonym j by the names on the right of synonyms, in one step or more.
 pub data LeadsTo (bindings : List Binding) (m : Named) : ℕ → ℕ → Type 0 where
   at_once : (i j : ℕ) → Mentions bindings m i j → LeadsTo bindings m i j
   by_way_of : (i j k : ℕ) → Mentions bindings m i j → LeadsTo bindings m j k

@@ -14,7 +14,7 @@ abbrev pub wrong_at : faults.Wrong → Position → Fault
 wrong_at wrong at = record { wrong = wrong; at = at }
 
 -- The module of the fault that an answer tells, and the fault, have this property. Of a synonym the
--- answer has the name alone. Want of memory says nothing.
+-- answer has the name alone. An allocation failure says nothing.
 abbrev pub TellsFault : List (List ℕ) → (List ℕ → Fault → Type 0) → TypeNameFault → Type 0
 TellsFault names P (answer.TypeArity place) =
     P (text_of names place.«module») (wrong_at faults.TypeArity (position_of place))

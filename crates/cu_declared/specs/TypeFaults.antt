@@ -18,7 +18,7 @@ pub data Wrong : Type 0 where
   -- the synonym of this name leads to itself
   SynonymCycle : List ℕ → Wrong
 
--- what is wrong, at which place of a text
+-- what is wrong, and at which place of a text
 pub record Fault : Type 0 where
   pub wrong : Wrong
   pub at : Position
@@ -33,14 +33,15 @@ cycle_fault s = record { wrong = SynonymCycle s.name; at = s.at }
 abbrev pub scope_at : List Named → ℕ → Named → List Binding
 scope_at modules number m = scope (interfaces_before modules number) m
 
--- The name means a type alone that hasn't as many parameters as the name has arguments.
+-- A use of a name means one type alone, and that hasn't as many parameters as the name has
+-- arguments.
 pub record HasWrongNumber (modules : List Named) (bindings : List Binding) (used : TypeUse) : Type 0
   where
     pub entity : Entity
     pub means : meant bindings Types used.name ≡ entity ∷ []
     pub differs : parameters_of modules entity ≢ Some used.arguments
 
--- one of these uses has a wrong number of arguments
+-- the fault that one of these uses has a wrong number of arguments
 pub record IsArityFault (modules : List Named) (bindings : List Binding) (uses : List TypeUse)
     (fault : Fault) : Type 0 where
   pub used : TypeUse
@@ -49,7 +50,7 @@ pub record IsArityFault (modules : List Named) (bindings : List Binding) (uses :
   pub has : HasWrongNumber modules bindings used
   pub is : fault ≡ arity_fault used
 
--- one of a module's synonyms leads to itself
+-- the fault that one of a module's synonyms leads to itself
 pub record IsCycleFault (bindings : List Binding) (m : Named) (fault : Fault) : Type 0 where
   pub number : ℕ
   pub synonym : Synonym

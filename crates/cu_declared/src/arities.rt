@@ -15,7 +15,8 @@ use crate::numbers::Numbers;
 use cu_entities::{Entity, Space};
 use cu_modules::Scopes;
 
-/// The type that a name means in the module of a number, where it is one.
+/// The type that a name means in the module of a number, where it means one
+/// alone.
 pub(crate) fn meaning(scopes: &Scopes, number: u32, used: TypeUse) -> Option<Entity>
     ensures meaning { (w : World) → IsAt w number scopes.now → UseIsOf w.owner w.names used
         → option_map (entity_meaning w.names) result
@@ -25,7 +26,8 @@ pub(crate) fn meaning(scopes: &Scopes, number: u32, used: TypeUse) -> Option<Ent
     scopes.meaning(number, Space::Types, used.name.qualifier, used.name.base)
 }
 
-/// Whether a number of parameters is another one than that of the arguments.
+/// Whether a type hasn't as many parameters as there are arguments: their
+/// number is another one, or isn't known.
 fn differs(parameters: Option<usize>, arguments: usize) -> bool
     ensures { result ≡ differs parameters arguments }
 {
@@ -47,7 +49,7 @@ fn is_wrong(scopes: &Scopes, number: u32, types: &Numbers, used: TypeUse) -> boo
     }
 }
 
-/// Tells whether a use has a wrong number of arguments.
+/// Tells a use that has a wrong number of arguments.
 fn tell_arity(scopes: &Scopes, number: u32, types: &Numbers, used: TypeUse, first: &mut FirstFault)
     ensures { (w : World) (numbers : List Numbered) → IsAt w number scopes.now
         → UseIsOf w.owner w.names used → Have w.names numbers types.now

@@ -42,7 +42,7 @@ fn add_built_in(names: &Names, numbers: &mut Numbers) -> Result<(), AllocError>
     numbers.add(prelude, char, 0)
 }
 
-/// The name of a text that the table has.
+/// The number of a text that the table has.
 fn found(names: &Names, text: &str) -> NameId
     requires { Contains names.now text.now }
     ensures { slice_get names.now result.0 ≡ Some text.now }
@@ -108,14 +108,14 @@ fn of_fault(fault: Fault) -> TypeNameFault
     }
 }
 
-/// Whether in modules, each of which stands behind those that it imports, each
+/// Whether in modules, each of which stands after those that it imports, each
 /// name of a type has as many arguments as the type that it means has
 /// parameters, and no synonym leads to itself. Scopes tell what names mean.
 ///
 /// # Errors
 ///
 /// The first fault of the first module that has one, by its place in the text;
-/// a synonym's is that of its declaration. `NoMemory`.
+/// the place of a synonym's fault is that of its declaration. `NoMemory`.
 pub fn declared_types(
     alloc: Global,
     names: &Names,

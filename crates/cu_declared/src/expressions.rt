@@ -69,7 +69,7 @@ pub(crate) fn expression(
     }
 }
 
-/// Several expressions.
+/// Finds the names of types in several expressions.
 #[cycle(signatures)]
 fn expressions(
     alloc: Global,
@@ -86,7 +86,7 @@ fn expressions(
     Ok(())
 }
 
-/// The operands behind operators.
+/// Finds the names of types in the operands after operators.
 #[cycle(signatures)]
 fn operands(
     alloc: Global,
@@ -104,7 +104,7 @@ fn operands(
     Ok(())
 }
 
-/// The right-hand sides of alternatives.
+/// Finds the names of types in the right-hand sides of alternatives.
 #[cycle(signatures)]
 fn alternatives(
     alloc: Global,
@@ -121,7 +121,8 @@ fn alternatives(
     Ok(())
 }
 
-/// The first number, the second and the last.
+/// Finds the names of types in an enumeration: in the first number, the second
+/// and the last.
 #[cycle(signatures)]
 fn enumeration(
     alloc: Global,
@@ -137,7 +138,7 @@ fn enumeration(
     maybe(alloc, numbers.last, found)
 }
 
-/// An expression, if it is there.
+/// Finds the names of types in an expression, if it is there.
 #[cycle(signatures)]
 fn maybe(
     alloc: Global,
@@ -153,7 +154,7 @@ fn maybe(
     }
 }
 
-/// Several qualifiers.
+/// Finds the names of types in several qualifiers.
 #[cycle(signatures)]
 fn qualifiers(
     alloc: Global,
@@ -170,7 +171,7 @@ fn qualifiers(
     Ok(())
 }
 
-/// A qualifier.
+/// Finds the names of types in a qualifier.
 #[cycle(signatures)]
 fn qualifier(alloc: Global, q: &Qualifier<'_>, found: &mut Vec<TypeUse>) -> Result<(), AllocError>
     ensures { (owner : NameId) (names : List (List ℕ)) → QualifierIsOf owner names q.now
@@ -184,7 +185,7 @@ fn qualifier(alloc: Global, q: &Qualifier<'_>, found: &mut Vec<TypeUse>) -> Resu
     }
 }
 
-/// A right-hand side with its local declarations.
+/// Finds the names of types in a right-hand side with its local declarations.
 #[cycle(signatures)]
 fn right_side(
     alloc: Global,
@@ -200,7 +201,7 @@ fn right_side(
     declarations(alloc, node.local.as_slice(), found)
 }
 
-/// An expression, or guards.
+/// Finds the names of types in an expression, or in guards.
 #[cycle(signatures)]
 fn body(alloc: Global, b: &Body<'_>, found: &mut Vec<TypeUse>) -> Result<(), AllocError>
     ensures { (owner : NameId) (names : List (List ℕ)) → BodyIsOf owner names b.now
@@ -212,7 +213,7 @@ fn body(alloc: Global, b: &Body<'_>, found: &mut Vec<TypeUse>) -> Result<(), All
     }
 }
 
-/// Guards and the expressions behind them.
+/// Finds the names of types in guards and in the expressions after them.
 #[cycle(signatures)]
 fn guards(alloc: Global, cases: &[Guard<'_>], found: &mut Vec<TypeUse>) -> Result<(), AllocError>
     ensures { (owner : NameId) (names : List (List ℕ)) → All (GuardIsOf owner names) cases.now
@@ -226,7 +227,7 @@ fn guards(alloc: Global, cases: &[Guard<'_>], found: &mut Vec<TypeUse>) -> Resul
     Ok(())
 }
 
-/// Several declarations.
+/// Finds the names of types in several declarations.
 #[cycle(signatures)]
 fn declarations(
     alloc: Global,
@@ -243,7 +244,8 @@ fn declarations(
     Ok(())
 }
 
-/// A declaration: the type of a signature, or what a right-hand side has.
+/// Finds the names of types in a declaration: in the type of a signature, or in
+/// a right-hand side.
 #[cycle(signatures)]
 pub(crate) fn declaration(
     alloc: Global,

@@ -15,7 +15,7 @@ pub(crate) struct FirstFault {
 }
 
 impl Wrong {
-    /// Its place among these.
+    /// The rank of the fault's kind among the kinds of faults.
     fn rank(self) -> u32
         ensures { result ≡ rank_of self }
     {
@@ -27,7 +27,7 @@ impl Wrong {
 }
 
 impl Fault {
-    /// Whether this comes before another one.
+    /// Whether this fault comes before another one.
     fn is_before(self, other: Fault) -> bool
         ensures { (names : List (List ℕ))
             → result ≡ is_before (fault_meaning names self) (fault_meaning names other) }
@@ -41,7 +41,7 @@ impl Fault {
 }
 
 impl FirstFault {
-    /// No fault was told.
+    /// The state in which no fault was told.
     pub(crate) fn new() -> FirstFault
         ensures { (owner : NameId) (names : List (List ℕ)) → AreTold owner names [] result }
     {

@@ -9,7 +9,8 @@ pub(crate) struct TypeUse {
     pub(crate) arguments: usize,
 }
 
-/// What is wrong. Of two faults at one place the earlier of these comes first.
+/// What is wrong with types. Of two faults at one place the one whose kind
+/// stands earlier here comes first.
 #[derive(Clone, Copy)]
 pub(crate) enum Wrong {
     /// A type's name has a wrong number of arguments.

@@ -26,7 +26,7 @@ pub(crate) struct Numbers {
     numbers: IndexMap<Key, usize>,
 }
 
-/// A number that was there, or else a new one.
+/// The number that was there, or else a new one.
 fn first_or(found: Option<&usize>, number: usize) -> usize
     ensures { result ≡ first_or (option_copied found.entry) number }
 {
@@ -37,7 +37,7 @@ fn first_or(found: Option<&usize>, number: usize) -> usize
 }
 
 impl Numbers {
-    /// No numbers.
+    /// The table without numbers.
     pub(crate) fn new(alloc: Global) -> Numbers
         ensures { (names : List (List ℕ)) → Have names [] result }
     {
@@ -46,7 +46,7 @@ impl Numbers {
         }
     }
 
-    /// A number for a name of a module.
+    /// Adds a number for a name of a module, unless the name has one.
     pub(crate) fn add(
         &mut self,
         owner: NameId,
@@ -65,7 +65,7 @@ impl Numbers {
         Ok(())
     }
 
-    /// The number that belongs to an entity.
+    /// The number that belongs to an entity, if one does.
     pub(crate) fn of(&self, entity: Entity) -> Option<usize>
         ensures { (names : List (List ℕ)) (numbers : List Numbered)
             → EntityIsKnown names entity → Have names numbers self.now

@@ -9,7 +9,7 @@ use crate::found::TypeUse;
 use cu_syntax::{TypeNode, TypeTerm};
 use std::alloc::{AllocError, Global};
 
-/// Finds the names in a type.
+/// Finds the names of types in a type.
 #[cycle(types)]
 pub(crate) fn type_term(
     alloc: Global,
@@ -39,7 +39,7 @@ pub(crate) fn type_term(
     }
 }
 
-/// Finds the names in several types.
+/// Finds the names of types in several types.
 #[cycle(types)]
 pub(crate) fn types(
     alloc: Global,

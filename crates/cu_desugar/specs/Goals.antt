@@ -12,7 +12,7 @@ use Rattle.cu_translation.specs.Numbering.{all_binders, all_functions, at_name}
 use Rattle.cu_uses.specs.Inside.Gathered.{names_meaning}
 use Rattle.cu_desugar.specs.declared.goals.GoalParts.{GoalParts}
 
--- The variables, sites, numbers and dependencies are those of the goal.
+-- What the code knows of a goal's text is right: its variables, sites, numbers and dependencies.
 pub record IsGoal (t : Text) (goal : Goal) (found : GoalParts) : Type 0 where
   pub free : names_meaning t.names found.free.items ≡ goal.free
   pub owned : All (NameIsOf t.owner t.names) found.free.items

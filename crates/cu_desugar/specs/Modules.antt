@@ -15,17 +15,17 @@ use Rattle.cu_desugar.specs.declared.modules.Modules.{Modules}
 abbrev pub named : Modules → List Named
 named m = modules_of m.names.now m.modules.now
 
--- A table has the names of the modules, and what is known of them is theirs.
+-- A table has the names of the modules, and what the code knows of these is right.
 pub record AreKnown (m : Modules) : Type 0 where
   pub built_in : HasBuiltIn m.names.now
   pub has : All (HasModule m.names.now) m.modules.now
   pub scopes : AreScopes m.names.now (named m) m.scopes.now
   pub entities : AreEntities m.names.now (named m) m.entities.now
 
--- the number of the name of the module of a number, of which its places are
+-- the number of the name of this module, which owns the places of the module
 abbrev pub owner_of : Modules → ℕ → NameId
 owner_of m number = id_of m.names.now (module_at (named m) number).name
 
--- the same of goals
+-- the number of the name `goal`, which owns the places of a goal
 abbrev pub goal_owner : Modules → NameId
 goal_owner m = id_of m.names.now goal_name

@@ -15,13 +15,13 @@ use Rattle.cu_translation.specs.Translation as meant
 use Rattle.cu_desugar.specs.declared.outcomes.Outcome.{Outcome}
 use Rattle.cu_desugar.specs.declared.outcomes.Outcome.TheVariants as outcome
 
--- It is this outcome, and a fault is one of a text of the module.
+-- The code's outcome stands for this one, and its fault, if it has one, is of a text of the module.
 abbrev pub IsOutcome : NameId → meant.Outcome → Outcome → Type 0
 IsOutcome owner whole (outcome.Translated parts) = whole ≡ meant.Translated (local_kernel_of parts)
 IsOutcome owner whole (outcome.Refused fault) =
     (whole ≡ meant.Refused (fault_meaning fault)) × FaultIsOf owner fault
 
--- what a module among others is translated to, by what is known of it
+-- what a module among others is translated to, where its reading is given
 unfoldable pub reading_translated : List Named → Reading → meant.Outcome
 reading_translated modules r =
     meant.outcome (first_fault (flat_map (group_clashes r.names) (groups_in r.m)))

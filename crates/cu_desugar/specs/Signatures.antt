@@ -6,7 +6,8 @@ use Rattle.cu_syntax.specs.Owners.{TypeIsOf}
 use Rattle.cu_syntax.specs.Syntax.{TypeTerm}
 use Rattle.cu_syntax.specs.Types.{type_meaning}
 
--- It is this one, and its tokens are those of the text.
+-- The declared type that was found, if one was, is the one that the definitions have, and its
+-- tokens are those of the text.
 pub record IsSignature (t : Text) (declared : Option TypeTerm) (found : Option code.TypeTerm)
     : Type 0 where
   pub meaning : option_map (type_meaning t.names) found ≡ declared

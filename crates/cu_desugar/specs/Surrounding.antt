@@ -10,7 +10,8 @@ use Rattle.cu_translation.specs.Numbering.{all_binders, all_functions}
 use Rattle.cu_translation.specs.Sites.{Node}
 use Rattle.cu_desugar.specs.declared.around.Around.{Around}
 
--- These nodes stand in the text, and behind their variables these are numbered.
+-- What the code knows of the names around a text is right. The text has some nodes, whose variables
+-- are numbered first, and after them those of `last`.
 pub record Surrounds (w : Setting) (a : Around) : Type 0 where
   pub top : TellsNames w.names w.around.names a.top
   pub nodes : List Node

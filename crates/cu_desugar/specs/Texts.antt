@@ -17,7 +17,7 @@ function_in t f = group_meaning t.names f.group
 abbrev pub nodes_in : Text → FunctionText → List Node
 nodes_in t f = group_nodes (function_in t f)
 
--- The sites, numbers and dependencies are those of the function's rules.
+-- What the code knows of a function's text is right: its sites, numbers and dependencies.
 pub record IsText (t : Text) (f : FunctionText) : Type 0 where
   pub owned : GroupIsOf t.owner t.names f.group
   pub stands : Stands t (nodes_in t f) f.sites
@@ -25,7 +25,7 @@ pub record IsText (t : Text) (f : FunctionText) : Type 0 where
       f.numbers
   pub dependent : AreDependencies (nodes_in t f) f.dependencies
 
--- These are the functions of a text.
+-- The functions that the code found are those of these groups of rules.
 pub record AreTexts (t : Text) (whole : List Group) (found : List FunctionText) : Type 0 where
   pub are : map (function_in t) found ≡ whole
   pub known : All (IsText t) found

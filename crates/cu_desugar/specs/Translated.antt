@@ -1,10 +1,10 @@
--- What modules and goals are translated to, opened only where a proof asks for it.
+-- What modules and goals are translated to, under names that proofs unfold only where they must.
 use Rattle.std.specs.Prelude.{ℕ, List}
 use Rattle.cu_modules.specs.Scopes.{Named}
 use Rattle.cu_syntax.specs.Syntax.{Goal}
 use Rattle.cu_translation.specs.Translation.{Outcome, goal_translation, translation}
 
--- what the module of a number is translated to, under a table of names
+-- what the module of this number is translated to, under a table of names
 unfoldable pub translated : List (List ℕ) → List Named → ℕ → Outcome
 translated table modules number = translation table modules number
 

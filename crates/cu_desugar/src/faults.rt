@@ -34,7 +34,7 @@ fn first_clash(
     Ok(first.fault())
 }
 
-/// The first of the other faults of functions.
+/// The first fault of functions, clashes of operators apart.
 fn first_fault(
     alloc: Global,
     top: TopNames<'_>,

@@ -24,7 +24,8 @@ use cu_sites::Group;
 use cu_toplevel::TopNames;
 use std::alloc::{AllocError, Global};
 
-/// A number of parameters. More than 32 bits count are want of memory.
+/// A number of parameters in 32 bits. A larger one counts as an allocation
+/// failure.
 pub(crate) fn arity(count: usize) -> Result<u32, AllocError>
     ensures { IfOk result (λ found. found ≡ count) }
 {
@@ -59,7 +60,7 @@ pub(crate) fn rules(
     Ok(found)
 }
 
-/// A function of top level.
+/// A function of top level, by its rules.
 fn top_function(
     alloc: Global,
     top: TopNames<'_>,

@@ -71,7 +71,7 @@ impl<'t> GoalParts<'t> {
         })
     }
 
-    /// What surrounds the text.
+    /// What surrounds the text of the goal.
     fn around<'a>(&'a self, top: TopNames<'a>) -> Around<'a>
         ensures { (t : Text) (names : meant.Names) (goal : syntax.Goal)
             → TellsNames t.names names top.entry → IsGoal t goal self.now

@@ -53,7 +53,7 @@ fn declared_type(
     }
 }
 
-/// A function of a block.
+/// A local function of a block, by its rules.
 fn block_function(
     alloc: Global,
     around: &Around<'_>,
@@ -84,7 +84,7 @@ fn block_function(
     })
 }
 
-/// One function.
+/// The list of one function.
 fn alone(alloc: Global, function: LocalFunction) -> Result<Vec<LocalFunction>, AllocError>
     ensures { IfOk result (λ found. found.items ≡ function ∷ []) }
 {

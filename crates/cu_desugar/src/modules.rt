@@ -12,7 +12,7 @@ use cu_modules::{Module, Scopes};
 use cu_names::Names;
 use cu_toplevel::{Entities, Reading, TopNames};
 
-/// Modules, each behind those that it imports, with what is known of their
+/// Modules, each after those that it imports, with what is known of their
 /// names.
 #[derive(Clone, Copy)]
 pub struct Modules<'a> {

@@ -19,9 +19,9 @@ pub(crate) enum Outcome {
     Refused(Fault),
 }
 
-/// The program of these parts. All is right of them where nothing was refused,
-/// which is tested here once more: wrong parts would be answered as want of
-/// memory.
+/// The program of these parts. Where nothing was refused all is right with
+/// them, which is tested here once more: wrong parts would be answered as an
+/// allocation failure.
 fn program(alloc: Global, parts: LocalParts) -> Result<LocalProgram, DesugarFault>
     ensures program { IfOk result (λ program. program ≡ local_kernel_of parts) }
     ensures fault { IfErr result (λ fault. fault ≡ NoMemory) }

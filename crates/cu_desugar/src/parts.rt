@@ -34,7 +34,7 @@ use cu_toplevel::{Reading, TopNames, goal_part, module_part};
 use cu_translation::DesugarFault;
 use std::alloc::{AllocError, Global};
 
-/// What a module is translated to, or why it is refused, where these are its
+/// What a module is translated to, or why it is refused. `texts` are its
 /// functions that have rules.
 fn reading_outcome(
     alloc: Global,
@@ -60,8 +60,7 @@ fn reading_outcome(
     }
 }
 
-/// What a module is translated to, or why it is refused, where this is its
-/// reading.
+/// What a module is translated to, or why it is refused, by its reading.
 fn outcome_by_reading(
     alloc: Global,
     reading: &Reading<'_>,
@@ -76,7 +75,7 @@ fn outcome_by_reading(
         → IfOk result (IsOutcome t.owner (reading_translated modules r)) }
 {
     let mut written = function_texts(alloc, module)?;
-    // a shared loan of the vector means too much to be compared in a proof
+    // A shared loan of the vector would be too large to be compared in a proof.
     let texts = written.as_mut_slice();
     reading_outcome(alloc, reading, texts)
 }
@@ -94,7 +93,7 @@ fn module_outcome(alloc: Global, modules: Modules<'_>, number: u32) -> Result<Ou
 }
 
 /// What a goal in the module of a number is translated to, or why it is
-/// refused, where this is what is known of its text.
+/// refused, by what is known of its text.
 fn text_outcome(
     alloc: Global,
     top: TopNames<'_>,
@@ -163,12 +162,13 @@ pub fn desugar(
     answer(alloc, outcome)
 }
 
-/// The part of a program that a goal in the module of a number is translated to:
-/// a function behind all others, which takes the goal's variables.
+/// The part of a program that a goal in the module of a number is translated
+/// to: a function after all others, which takes the goal's variables.
 ///
 /// # Errors
 ///
-/// As those of [`desugar`], of the goal's text.
+/// The first clash of operators in the goal's text, or else the first of the
+/// other faults; `NoMemory`.
 pub fn desugar_goal(
     alloc: Global,
     modules: Modules<'_>,

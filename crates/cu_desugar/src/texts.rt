@@ -43,7 +43,7 @@ impl<'t> FunctionText<'t> {
         })
     }
 
-    /// What surrounds the text.
+    /// What surrounds the text of the function.
     pub(crate) fn around<'a>(&'a self, top: TopNames<'a>) -> Around<'a>
         ensures { (t : Text) (names : meant.Names) → TellsNames t.names names top.entry
             → IsText t self.now

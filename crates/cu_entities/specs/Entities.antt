@@ -35,12 +35,13 @@ same_space Types Types = true
 same_space Values Values = true
 same_space _ _ = false
 
--- A name that a module declares twice in one name space is one entity.
+-- Whether two entities are one. A name that a module declares twice in one name space is one
+-- entity.
 abbrev pub same_entity : Entity → Entity → Bool
 same_entity e f = bytes_eq e.owner f.owner
     && (bytes_eq e.name f.name && same_space (space_of e.sort) (space_of f.sort))
 
--- each entity once
+-- the entities of a list, each once, where it stands first
 abbrev pub distinct : List Entity → List Entity
 distinct [] = []
 distinct (e ∷ entities) = e ∷ filter (λ f. not (same_entity e f)) (distinct entities)

@@ -33,7 +33,7 @@ entity_meaning names e =
 abbrev pub entities_meaning : List (List ℕ) → List Entity → List meant.Entity
 entities_meaning names entities = map (entity_meaning names) entities
 
--- ---- the same by numbers
+-- ---- name spaces and identity, decided by the numbers of names
 
 abbrev pub sort_in : Sort → Space
 sort_in sort.DataType = space.Types

@@ -8,11 +8,11 @@ use Rattle.cu_entities.specs.declared.entity_set.EntitySet.{EntitySet}
 use Rattle.cu_entities.specs.Entities.{Entity, distinct, same_entity}
 use Rattle.cu_entities.specs.EntityMeaning.{EntityIsKnown, entities_meaning, entity_meaning, identity_of}
 
--- whether another entity is this one
+-- whether another entity is the one at hand
 abbrev pub alike : Entity → Entity → Bool
 alike e f = same_entity f e
 
--- These entities were added.
+-- The set of entities that the code holds is that of these, which were added in this order.
 pub record IsSet (names : List (List ℕ)) (entities : List Entity) (s : EntitySet) : Type 0 where
   pub listed : entities_meaning names s.list.items ≡ distinct entities
   pub seen : (e : code.Entity) → EntityIsKnown names e

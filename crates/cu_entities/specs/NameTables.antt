@@ -30,7 +30,7 @@ meant_at names bindings k =
     counted (meant_by bindings (space_meaning k.space) (option_map (text_of names) k.qualifier)
     (text_of names k.base))
 
--- What look-ups give is what names mean where these are bound.
+-- A look-up finds of each name what it means where these entities are bound.
 pub record IsTable (names : List (List ℕ)) (bindings : List Binding)
     (found : Key → Option Meant) : Type 0 where
   pub means : (k : Key) → KeyIsKnown names k → option_map (count_meaning names) (found k)
@@ -48,7 +48,7 @@ with_one names bindings qualifier e = bindings ++ binding_of names qualifier e �
 abbrev pub key_of : Option NameId → Entity → Key
 key_of qualifier e = record { qualifier = qualifier; base = e.name; space = sort_in e.sort }
 
--- A table of what names mean where these are bound.
+-- A table tells of each name what it means where these entities are bound.
 pub record Tells (names : List (List ℕ)) (bindings : List Binding)
     (table : NameTable) : Type 0 where
   pub is_table : IsTable names bindings (get eq-value.it table.meant)

@@ -45,14 +45,14 @@ impl Sort {
         }
     }
 
-    /// Whether it is a function.
+    /// Whether an entity of this sort is a function.
     pub fn is_function(self) -> bool
         ensures { result ≡ is_function_sort self }
     {
         matches!(self, Sort::Function | Sort::SetFunction(_))
     }
 
-    /// Whether it is a type.
+    /// Whether an entity of this sort is a type.
     pub fn is_type(self) -> bool
         ensures { result ≡ is_type_sort self }
     {
@@ -61,8 +61,8 @@ impl Sort {
 }
 
 impl Entity {
-    /// Whether two are one entity: a name that a module declares twice in one
-    /// name space is.
+    /// Whether two entities are one. A name that a module declares twice in one
+    /// name space is one entity.
     pub fn is(self, other: Entity) -> bool
         ensures { result ≡ same_entities self other }
     {
@@ -71,7 +71,7 @@ impl Entity {
             && self.sort.space() == other.sort.space()
     }
 
-    /// Whether this is a constructor of a type.
+    /// Whether this is a constructor of the type `t`.
     pub fn is_constructor_of(self, t: Entity) -> bool
         ensures { result ≡ is_constructor_in self t }
     {

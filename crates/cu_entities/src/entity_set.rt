@@ -13,7 +13,7 @@ use cu_names::NameId;
 use indexmap::IndexSet;
 use std::alloc::{AllocError, Global};
 
-/// What tells entities apart.
+/// What tells entities apart: the module, the name and the name space.
 #[derive(Clone, Copy, Debug, PartialEq, Eq, Hash)]
 struct Identity {
     owner: NameId,
@@ -41,7 +41,7 @@ pub struct EntitySet {
 }
 
 impl EntitySet {
-    /// No entity.
+    /// The set without entities.
     pub fn new(alloc: Global) -> EntitySet
         ensures { (names : List (List ℕ)) → IsSet names [] result }
     {
@@ -51,11 +51,11 @@ impl EntitySet {
         }
     }
 
-    /// Adds an entity, unless it is there.
+    /// Adds an entity, unless the set has it.
     ///
     /// # Errors
     ///
-    /// Want of memory. The set is of no use then.
+    /// An allocation failure. The set is of no use then.
     pub fn add(&mut self, entity: Entity) -> Result<(), AllocError>
         ensures { (names : List (List ℕ)) (entities : List meant.Entity)
             → AllDiffer names → EntityIsKnown names entity → IsSet names entities self.old
@@ -68,7 +68,7 @@ impl EntitySet {
         Ok(())
     }
 
-    /// Whether an entity was added.
+    /// Whether an entity was added to the set.
     pub fn has(&self, entity: Entity) -> bool
         ensures { (names : List (List ℕ)) (entities : List meant.Entity)
             → EntityIsKnown names entity → IsSet names entities self.now

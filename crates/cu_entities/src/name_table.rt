@@ -21,7 +21,7 @@ pub struct Key {
     pub space: Space,
 }
 
-/// What a name means, where it means something.
+/// What a name means that means something: one entity, or several.
 #[derive(Clone, Copy, Debug, PartialEq, Eq)]
 pub enum Meant {
     One(Entity),
@@ -46,7 +46,7 @@ fn joined(meant: Option<&Meant>, entity: Entity) -> Meant
 }
 
 impl Key {
-    /// The name of an entity behind a qualifier, or without one.
+    /// The name of an entity, written with a qualifier or without one.
     pub fn of(qualifier: Option<NameId>, entity: Entity) -> Key
         ensures { result ≡ key_of qualifier entity }
     {
@@ -68,11 +68,11 @@ impl NameTable {
         }
     }
 
-    /// Binds an entity behind a qualifier, or without one.
+    /// Binds an entity under its name, with a qualifier or without one.
     ///
     /// # Errors
     ///
-    /// Want of memory. The table is of no use then.
+    /// An allocation failure. The table is of no use then.
     pub fn bind(&mut self, qualifier: Option<NameId>, entity: Entity) -> Result<(), AllocError>
         ensures { (names : List (List ℕ)) (bindings : List Binding)
             → AllDiffer names → IfSome qualifier (IsKnown names) → EntityIsKnown names entity

@@ -14,16 +14,16 @@ use Rattle.cu_faults.specs.declared.first.First.{First}
 abbrev pub FaultIsOf : NameId → code.Fault → Type 0
 FaultIsOf owner f = PlaceIsOf owner f.place
 
--- The first of these faults of a text of a module, if there is one.
+-- The fault that was found is the first of these faults of a text of a module, if there are any.
 pub record IsFirst (owner : NameId) (faults : List Fault) (found : Option code.Fault) : Type 0 where
   pub meaning : option_map fault_meaning found ≡ first_fault faults
   pub owned : IfSome found (FaultIsOf owner)
 
--- These faults of a text of a module were told.
+-- The code holds the first of these faults of a text of a module, if there are any.
 pub record AreTold (owner : NameId) (faults : List Fault) (s : First) : Type 0 where
   pub first : IsFirst owner faults s.fault
 
--- These faults were told behind those that were told before.
+-- These faults were told, after those that were told before.
 pub record Told (owner : NameId) (before : First) (faults : List Fault) (after : First) : Type 0
   where
     pub told : (others : List Fault) → AreTold owner others before

@@ -1,4 +1,4 @@
-//! Constructors between patterns that have no grouped tree.
+//! Constructor operators between patterns that have no grouped tree.
 ghost use Rattle.std.specs.Prelude.{◌≡◌, IfOk, OnOk};
 ghost use Rattle.cu_syntax.specs.Owners.{PatItemsAreOf};
 ghost use Rattle.cu_translation.specs.Meaning.{Setting};
@@ -11,8 +11,8 @@ use cu_syntax::PatItems;
 use cu_translation::{Fault, Surroundings, Wrong};
 use std::alloc::{AllocError, Global};
 
-/// Tells the place of patterns with constructors between them, unless they have
-/// a grouped tree.
+/// Tells the place of patterns with constructor operators between them, unless
+/// they have a grouped tree.
 pub(crate) fn tell_clash<A: Surroundings>(
     alloc: Global,
     around: &A,

@@ -16,7 +16,7 @@ pub struct First {
 }
 
 impl First {
-    /// No fault was told.
+    /// The state in which no fault was told.
     pub fn new() -> First
         ensures { (owner : NameId) → AreTold owner [] result }
     {

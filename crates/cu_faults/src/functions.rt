@@ -25,7 +25,7 @@ use std::alloc::{AllocError, Global};
 ///
 /// # Errors
 ///
-/// Want of memory.
+/// An allocation failure.
 pub fn first_clash<A: Surroundings>(
     alloc: Global,
     around: &A,
@@ -40,11 +40,11 @@ pub fn first_clash<A: Surroundings>(
     Ok(first.fault())
 }
 
-/// The first of the other faults of a function of top level.
+/// The first fault of a function of top level, clashes of operators apart.
 ///
 /// # Errors
 ///
-/// Want of memory.
+/// An allocation failure.
 pub fn first_fault<A: Surroundings>(
     alloc: Global,
     around: &A,
@@ -64,11 +64,11 @@ pub fn first_fault<A: Surroundings>(
     Ok(first.fault())
 }
 
-/// The first of the other faults of a goal of this module.
+/// The first fault of a goal of this module, clashes of operators apart.
 ///
 /// # Errors
 ///
-/// Want of memory.
+/// An allocation failure.
 pub fn first_goal_fault<A: Surroundings>(
     alloc: Global,
     around: &A,
@@ -87,11 +87,11 @@ pub fn first_goal_fault<A: Surroundings>(
     Ok(first.fault())
 }
 
-/// Tells the other faults of a function of top level.
+/// Tells the faults of a function of top level, clashes of operators apart.
 ///
 /// # Errors
 ///
-/// Want of memory; what was told is of no use then.
+/// An allocation failure. What was told is of no use then.
 pub fn tell_function<A: Surroundings>(
     alloc: Global,
     around: &A,
@@ -114,7 +114,8 @@ pub fn tell_function<A: Surroundings>(
     tell_text(alloc, around, owner, sites, dependencies, first)
 }
 
-/// Tells what else is wrong with what stands in a text of a module.
+/// Tells the faults of what stands in a text of a module, clashes of operators
+/// apart.
 fn tell_text<A: Surroundings>(
     alloc: Global,
     around: &A,
@@ -132,7 +133,7 @@ fn tell_text<A: Surroundings>(
     tell_recursive(alloc, owner, dependencies, first)
 }
 
-/// Tells the variables that depend on themselves.
+/// Tells the variables of a text that depend on themselves.
 fn tell_recursive(
     alloc: Global,
     owner: NameId,

@@ -29,7 +29,7 @@ use std::alloc::{AllocError, Global};
 ///
 /// # Errors
 ///
-/// Want of memory; what was told is of no use then.
+/// An allocation failure. What was told is of no use then.
 pub fn tell_clashes<A: Surroundings>(
     alloc: Global,
     around: &A,
@@ -76,7 +76,7 @@ fn clashes_at<A: Surroundings>(
     }
 }
 
-/// Tells what else is wrong with what stands in a text.
+/// Tells the faults of what stands in a text, clashes of operators apart.
 pub(crate) fn tell_nodes<A: Surroundings>(
     alloc: Global,
     around: &A,
@@ -93,7 +93,7 @@ pub(crate) fn tell_nodes<A: Surroundings>(
     Ok(())
 }
 
-/// Tells what else is wrong with a node.
+/// Tells the faults of a node, clashes of operators apart.
 fn faults_at<A: Surroundings>(
     alloc: Global,
     around: &A,
@@ -137,9 +137,9 @@ fn faults_at<A: Surroundings>(
     }
 }
 
-/// Tells a name at a spot that is one of set functions, unless it may stand on
-/// these arguments. No local name is one, so the scope is looked at for those of
-/// top level alone.
+/// Tells a name of set functions at a spot, unless it may stand on these
+/// arguments. No local name is one, so the scope is looked at for names of top
+/// level alone.
 fn use_in<A: Surroundings>(
     alloc: Global,
     around: &A,
@@ -175,7 +175,8 @@ fn is_set_name(referent: Referent) -> bool
     }
 }
 
-/// Tells what else is wrong with patterns whose variables are declared together.
+/// Tells the faults of patterns whose variables are declared together, clashes
+/// of operators apart.
 fn declared<A: Surroundings>(
     alloc: Global,
     around: &A,

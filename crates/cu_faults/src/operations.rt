@@ -17,7 +17,8 @@ use cu_syntax::{Expression, ExpressionNode, Name};
 use cu_translation::{Fault, Surroundings, Wrong};
 use std::alloc::{AllocError, Global};
 
-/// Tells the place of operands and operators, unless they have a grouped tree.
+/// Tells the place of an expression with operators, unless these have a grouped
+/// tree.
 pub(crate) fn clash<A: Surroundings>(
     alloc: Global,
     around: &A,
@@ -41,7 +42,8 @@ pub(crate) fn clash<A: Surroundings>(
     Ok(())
 }
 
-/// Tells the names of set functions between operands.
+/// Tells the names of set functions that stand between operands, unless they
+/// may stand there.
 pub(crate) fn set_names<A: Surroundings>(
     alloc: Global,
     around: &A,
@@ -62,7 +64,8 @@ pub(crate) fn set_names<A: Surroundings>(
     operators(alloc, around, scope, parts.as_slice(), first)
 }
 
-/// The same of operands and operators in the order of their tree, each operator
+/// Tells the names of set functions among operators that may not stand there.
+/// Operands and operators stand in the order of their tree, each operator
 /// before its operands.
 fn operators<A: Surroundings>(
     alloc: Global,
@@ -83,7 +86,8 @@ fn operators<A: Surroundings>(
     Ok(())
 }
 
-/// Tells the operator that stands before a part, if there is one.
+/// Tells the operator that stands before a part, if there is one, and may not
+/// stand there.
 fn operator<A: Surroundings>(
     alloc: Global,
     around: &A,
@@ -103,7 +107,7 @@ fn operator<A: Surroundings>(
     }
 }
 
-/// The operand that a part is, if it is one.
+/// The operand that a part is, if it is an operand.
 fn operand_in<'t>(part: Part<Expression<'t>>) -> Option<Expression<'t>>
     ensures { result ≡ operand_in part.entry }
 {
@@ -114,7 +118,7 @@ fn operand_in<'t>(part: Part<Expression<'t>>) -> Option<Expression<'t>>
     }
 }
 
-/// The operator that a part is, if it is one with a name.
+/// The operator that a part is, if it is an operator with a name.
 fn operator_in(part: Part<Expression<'_>>) -> Option<Name>
     ensures { result ≡ operator_in part.entry }
 {

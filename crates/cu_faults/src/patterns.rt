@@ -13,17 +13,17 @@ use cu_syntax::{ConstructorItem, Name, PatItems, Pattern, PatternNode};
 use cu_translation::{Fault, Referent, Surroundings, Wrong};
 use std::alloc::{AllocError, Global};
 
-/// What is told of patterns.
+/// Which faults of patterns are told.
 #[derive(Clone, Copy, Debug, PartialEq, Eq)]
 pub(crate) enum Sought {
-    /// Constructors between patterns that have no grouped tree.
+    /// Constructor operators between patterns that have no grouped tree.
     Clashes,
     /// Constructors with a wrong number of patterns.
     Counts,
 }
 
-/// Whether what a name refers to takes so many arguments. What is no function
-/// and no constructor is told elsewhere.
+/// Whether what a name refers to takes so many arguments. A name that is no
+/// function and no constructor is told elsewhere.
 fn takes(referent: Referent, count: usize) -> bool
     ensures { result ≡ takes (Some (referent_meaning referent)) count }
 {
@@ -47,8 +47,8 @@ impl Sought {
         }
     }
 
-    /// Tells what is wrong with patterns with constructors between them, those
-    /// in the patterns apart.
+    /// Tells what is wrong with patterns with constructor operators between
+    /// them, faults in these patterns apart.
     fn operators<A: Surroundings>(
         self,
         alloc: Global,
@@ -120,8 +120,8 @@ pub(crate) fn patterns<A: Surroundings>(
     Ok(())
 }
 
-/// Tells what is wrong with constructors between patterns, and with the patterns
-/// behind them.
+/// Tells what is wrong with the patterns after constructor operators, and with
+/// these operators.
 #[cycle(patterns)]
 fn operands<A: Surroundings>(
     alloc: Global,

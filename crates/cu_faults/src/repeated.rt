@@ -14,7 +14,7 @@ use cu_translation::{Fault, Wrong};
 use cu_uses::TextSet;
 use std::alloc::{AllocError, Global};
 
-/// Tells the variables that stand before in the same patterns.
+/// Tells the variables that stand a second time in patterns.
 pub(crate) fn tell_variables(
     alloc: Global,
     ps: &[Pattern<'_>],
@@ -27,7 +27,7 @@ pub(crate) fn tell_variables(
     repeated(alloc, names.as_slice(), first)
 }
 
-/// Tells the names whose text stands before.
+/// Tells the names of a list whose text stands earlier in it.
 fn repeated(alloc: Global, names: &[Name], first: &mut First) -> Result<(), AllocError>
     ensures { (w : Setting) → AllDiffer w.names → All (NameIsOf w.owner w.names) names.now
         → OnOk result (Told w.owner first.old (repeats w.names [] names.now) first.new) }

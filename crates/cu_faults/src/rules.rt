@@ -30,7 +30,8 @@ pub(crate) fn tell_rules(group: &Group<'_>, first: &mut First)
     }
 }
 
-/// Tells the first rule behind the most that a function may have.
+/// Tells the first rule of a function after the most rules that a function may
+/// have.
 pub(crate) fn tell_length(group: &Group<'_>, first: &mut First)
     ensures { (owner : NameId) (names : List (List ℕ)) → GroupIsOf owner names group.now
         → Told owner first.old (length_faults (group_meaning names group.now)) first.new }

@@ -21,8 +21,8 @@ use cu_syntax::{Expression, Name};
 use cu_translation::{Fault, Referent, Surroundings, Wrong};
 use std::alloc::{AllocError, Global};
 
-/// Tells a name on arguments that is one of set functions, unless it may stand on
-/// them.
+/// Tells a name on arguments that is a name of set functions, unless it may
+/// stand on them.
 pub(crate) fn use_at<A: Surroundings>(
     alloc: Global,
     around: &A,
@@ -52,8 +52,8 @@ pub(crate) fn use_at<A: Surroundings>(
     }
 }
 
-/// Tells a name that is one of set functions, unless its first argument is the
-/// name of a function of their arity, and the others aren't too many.
+/// Tells a name of set functions, unless its first argument is the name of a
+/// function of their arity, and the other arguments aren't too many.
 pub(crate) fn tell_use<A: Surroundings>(
     alloc: Global,
     around: &A,
@@ -83,7 +83,7 @@ pub(crate) fn tell_use<A: Surroundings>(
     Ok(())
 }
 
-/// What an argument refers to, if it is there and is a name alone.
+/// What an argument refers to, if it is there and is a name and nothing else.
 fn name_of<A: Surroundings>(
     alloc: Global,
     around: &A,
@@ -101,8 +101,9 @@ fn name_of<A: Surroundings>(
     }
 }
 
-/// Whether the first argument, of which this is known, is the name of a function
-/// of top level of so many parameters, and no more others follow than these.
+/// Whether the first argument, which refers to `argument`, is the name of a
+/// function of top level of `count` parameters, and at most `count` other
+/// arguments follow.
 fn is_set_call(count: usize, argument: Option<Referent>, others: usize) -> bool
     ensures { (rest : List (Option definitions.Referent)) → length rest ≡ others
         → result ≡ is_set_call count (option_map referent_meaning argument ∷ rest) }

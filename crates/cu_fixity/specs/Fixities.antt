@@ -15,7 +15,7 @@ pub record Table : Type 0 where
 abbrev pub same : NameId → NameId → Bool
 same a b = nat_eq a.0 b.0
 
--- `:` between a list's first element and the others
+-- the fixity of `:`, the constructor that stands between a list's first element and the others
 abbrev pub cons : Fixity
 cons = record { side = Right; level = 5 }
 
@@ -28,7 +28,8 @@ abbrev pub fixity_in : Table → NameId → Fixity
 fixity_in table operator = if same operator table.colon then cons
     else unwrap_or (lookup (same operator) table.declared) undeclared
 
--- One operator has this fixity now, unless it is `:`, and all others have theirs.
+-- A table after one declaration: the operator has this fixity, unless it is `:`, and each other
+-- operator has the fixity that it had.
 pub record Declares (before : Table) (declared : NameId) (fixity : Fixity)
     (after : Table) : Type 0 where
   pub colon : after.colon ≡ before.colon

@@ -35,7 +35,7 @@ same_side Right Right = true
 same_side Neither Neither = true
 same_side _ _ = false
 
--- both of one level and grouped to this side
+-- whether two fixities are of one level and both are grouped to this side
 abbrev pub both : Side → Fixity → Fixity → Bool
 both side f g = nat_eq f.level g.level && (same_side f.side side && same_side g.side side)
 
@@ -63,12 +63,12 @@ is_grouped fixity (Between l o r) =
     (fits_left fixity o (top l) && fits_right fixity o (top r))
     && (is_grouped fixity l && is_grouped fixity r)
 
--- A tree of a list of items, whose operands fit their operators.
+-- A tree has these items, and the operands of its operators fit.
 pub record Grouped {A O : Type 0} (fixity : O → Fixity) (items : List (Item A O))
     (tree : Tree A O) : Type 0 where
   pub flattens : flatten tree ≡ items
   pub fits : IsTrue (is_grouped fixity tree)
 
--- The items have no such tree.
+-- A list of items has no tree whose operands fit.
 abbrev pub HasNoTree : {A O : Type 0} → (O → Fixity) → List (Item A O) → Type 0
 HasNoTree {A} {O} fixity items = (tree : Tree A O) → ¬ (Grouped fixity items tree)

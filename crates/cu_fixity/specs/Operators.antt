@@ -49,7 +49,7 @@ polish (Leaf a) = Operand a ∷ []
 polish (Applied o t) = Prefix o ∷ polish t
 polish (Between l o r) = Infix o ∷ polish l ++ polish r
 
--- These are the items of a tree in Polish notation, whose operands fit.
+-- These are the items in Polish notation of a tree of a list of items whose operands fit.
 pub record IsGrouped {A O : Type 0} (fixity : O → Fixity) (items : List (Item A O))
     (parts : List (Item A O)) : Type 0 where
   pub tree : Tree A O

@@ -5,7 +5,7 @@ use Rattle.cu_syntax.specs.Owners.{NameIsOf, PlaceIsOf}
 use Rattle.cu_fixity.specs.declared.part.Part.{Part}
 use Rattle.cu_fixity.specs.declared.part.Part.TheVariants as part
 
--- A part of a module, whose names a table has, given which operands are.
+-- A part is of a module, and a table has its names, given which operands are so.
 abbrev pub PartIsOf : {T : Type 0} → (NameId → List (List ℕ) → T → Type 0) → NameId → List (List ℕ)
     → Part T → Type 0
 PartIsOf OperandIsOf owner names (part.Operand x) = OperandIsOf owner names x

@@ -49,11 +49,11 @@ piece_of table (part.Operator name) = piece.Operator (fixity_in table name.text)
 abbrev pub taken : {T : Type 0} → List (Part T) → Cell → Option (Part T)
 taken parts c = slice_get parts (number c)
 
--- The pieces have no tree.
+-- Pieces have no tree whose operands fit.
 abbrev pub HasNone : List Piece → Type 0
 HasNone pieces = HasNoTree (fixity_at pieces) (items_of pieces)
 
--- The parts are put into the order of a tree of their pieces.
+-- Written parts are put into the order of a tree of their pieces.
 pub record IsOrder {T : Type 0} (pieces : List Piece)
     (written ordered : List (Part T)) : Type 0 where
   pub tree : Tree ℕ ℕ

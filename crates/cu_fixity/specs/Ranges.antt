@@ -46,8 +46,8 @@ root fixity n before (Infix o ∷ items) =
 abbrev pub candidate : Option ℕ → Option (Candidate ℕ)
 candidate = option_map (λ n. record { at = n; operator = n })
 
--- the one of an earlier operator and the piece of a number that stands above the other, by their
--- numbers
+-- the number of the earlier operator, if there is one, or of this piece: the one that stands above
+-- the other
 abbrev pub raised_by : (ℕ → Fixity) → Option ℕ → ℕ → Option Piece → Option ℕ
 raised_by fixity earlier n (Some piece.Operand) = earlier
 raised_by fixity None n _ = Some n
@@ -68,7 +68,8 @@ fits fixity (under.Minus n) p = fits_behind fixity n p
 fits fixity (under.LeftOf n) p = fits_left fixity n p
 fits fixity (under.RightOf n) p = fits_right fixity n p
 
--- A tree is one of a range of the pieces, and fits.
+-- A tree solves a task: its items are the task's range of the pieces, its operands fit, and it fits
+-- where it is to stand.
 pub record Solves (pieces : List Piece) (task : Task) (tree : Tree ℕ ℕ) : Type 0 where
   pub grouped : Grouped (fixity_at pieces) (between task.from task.to (items_of pieces)) tree
   pub fits : fits (fixity_at pieces) task.under (top tree) ≡ true
@@ -97,8 +98,8 @@ number (cell.Operand n) = n
 number (cell.Minus n) = n
 number (cell.Operator n) = n
 
--- Each tree that solves a task begins with this cell of the range, and goes on with trees that
--- solve the parts; and so does none but these.
+-- The trees that solve a task are those that begin with this cell of its range and go on with trees
+-- that solve the parts.
 pub record IsHead (pieces : List Piece) (task : Task) (c : Cell) : Type 0 where
   pub after : task.from ≤ number c
   pub before : number c < task.to
@@ -111,7 +112,7 @@ pub record IsHead (pieces : List Piece) (task : Task) (c : Cell) : Type 0 where
 abbrev pub HasNoHead : List Piece → Task → Type 0
 HasNoHead pieces task = (tree : Tree ℕ ℕ) → ¬ (Solves pieces task tree)
 
--- a range of so many pieces
+-- a task's range lies within so many pieces
 pub record IsWithin (count : ℕ) (task : Task) : Type 0 where
   pub rises : task.from ≤ task.to
   pub ends : task.to ≤ count
@@ -120,12 +121,13 @@ abbrev pub AllWithin : ℕ → List Task → Type 0
 AllWithin count [] = Unit {0}
 AllWithin count (task ∷ tasks) = IsWithin count task × AllWithin count tasks
 
--- more than the parts of a task have together
+-- a measure of tasks: it is greater than that of what is left of the first of them
 abbrev pub weight : List Task → ℕ
 weight [] = 0
 weight (task ∷ tasks) = 2 * (task.to - task.from) + 1 + weight tasks
 
--- The trees of all pieces are what these cells spell and trees that solve the tasks, in order.
+-- The trees of all pieces are those that these cells spell, followed by trees that solve the tasks
+-- in order.
 pub record Builds (pieces : List Piece) (cells : List Cell) (tasks : List Task) : Type 0 where
   pub within : AllWithin (length pieces) tasks
   pub taken : (tree : Tree ℕ ℕ) → Grouped (fixity_at pieces) (items_of pieces) tree

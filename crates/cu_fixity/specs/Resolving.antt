@@ -35,7 +35,7 @@ abbrev pub pattern_parts : List (List ℕ) → List (Part patterns.Pattern)
     → List (Item Pattern Operator)
 pattern_parts table parts = map (item_of (pattern_meaning table) table) parts
 
--- Operators have these fixities in a table of declarations.
+-- Operators have in a table the fixities that the definitions give them.
 abbrev pub HaveFixities : List (List ℕ) → (Name → Fixity) → Table → List names.Name → Type 0
 HaveFixities table fixity declared operators =
     All (λ name. fixity (name_meaning table name) ≡ fixity_in declared name.text) operators
@@ -46,7 +46,7 @@ operators_of items = map (λ item. item.operator) items.rest.items
 abbrev pub constructors_of : PatItems → List names.Name
 constructors_of items = map (λ item. item.operator) items.rest.items
 
--- A clash is told at this place, and this holds. Want of memory says nothing.
+-- A clash is told at this place, and this holds. An allocation failure says nothing.
 abbrev pub Clashes : Place → Type 0 → FixityClash → Type 0
 Clashes place P (clash.At at) = (at ≡ place) × P
 Clashes place P clash.NoMemory = Unit {0}

@@ -7,13 +7,14 @@ use Rattle.cu_fixity.specs.declared.tree.Cell.{Cell}
 use Rattle.cu_fixity.specs.declared.tree.Cell.TheVariants as cell
 use Rattle.cu_fixity.specs.Grouping.{Applied, Between, Leaf, Tree}
 
--- an operator, and then its operands from left to right
+-- the cells of a tree: an operator, and then its operands from left to right
 abbrev pub spelled : Tree ℕ ℕ → List Cell
 spelled (Leaf n) = cell.Operand n ∷ []
 spelled (Applied n t) = cell.Minus n ∷ spelled t
 spelled (Between l n r) = cell.Operator n ∷ spelled l ++ spelled r
 
--- what a cell makes of the trees behind it
+-- the trees that a cell and the trees after it make: an operator takes the first one or two as its
+-- operands
 abbrev pub behind : Cell → List (Tree ℕ ℕ) → List (Tree ℕ ℕ)
 behind (cell.Operand n) trees = Leaf n ∷ trees
 behind (cell.Minus n) (t ∷ trees) = Applied n t ∷ trees
@@ -32,7 +33,7 @@ first_of (t ∷ trees) = t
 abbrev pub read : List Cell → Tree ℕ ℕ
 read cells = first_of (read_all cells)
 
--- That reading gives back what was spelled, which the code of trees needs.
+-- Reading the cells that a tree spells gives the tree, which storing trees as cells needs.
 pub read_all-spelled : (t : Tree ℕ ℕ) (cells : List Cell)
     → read_all (spelled t ++ cells) ≡ t ∷ read_all cells
 read_all-spelled (Leaf n) cells = refl
@@ -46,7 +47,7 @@ read_all-spelled (Between l n r) cells =
 pub read-spelled : (t : Tree ℕ ℕ) → read (spelled t) ≡ t
 read-spelled t = ap read (sym (append-nil (spelled t))) ∙ ap first_of (read_all-spelled t [])
 
--- how trees are stored
+-- how cells are stored
 abbrev cell_to : Cell → ℕ ⊎ (ℕ ⊎ ℕ)
 cell_to (cell.Operand n) = inl n
 cell_to (cell.Minus n) = inr (inl n)

@@ -55,13 +55,13 @@ impl Fixities {
     /// Declares the fixity of an operator, in place of what was declared of it
     /// before. That of `:` stays as it is.
     ///
-    /// An operator is known by its text. Where a local variable hides a declared
-    /// operator, declare it with `UNDECLARED`, and behind its scope with what
-    /// `of` gave before.
+    /// An operator is known by its text. Where a local variable hides a
+    /// declared operator, declare it with `UNDECLARED`, and after its scope
+    /// with what `of` gave before.
     ///
     /// # Errors
     ///
-    /// Want of memory; then the fixities are as before.
+    /// An allocation failure. The fixities are then as before.
     pub fn declare(&mut self, operator: NameId, fixity: Fixity) -> Result<(), AllocError>
         ensures declared { OnOk result (Declares self.old operator fixity self.new) }
         ensures err { OnErr result (self.new ≡ self.old) }

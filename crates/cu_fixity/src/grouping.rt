@@ -9,16 +9,16 @@ ghost use Rattle.cu_fixity.specs.Ranges.{HasNoHead, IsHead, IsWithin, between, c
 use crate::{Cell, Fixity, Piece, Side, Tree};
 use std::alloc::{AllocError, Global};
 
-/// Where a tree is to stand.
+/// Where a tree is to stand, which decides which operators may be at its top.
 #[derive(Clone, Copy)]
 enum Under {
-    /// At the top.
+    /// Below no operator: the tree is the whole.
     Nothing,
-    /// Behind the minus of this number.
+    /// As the operand of the minus of this number.
     Minus(usize),
     /// As the left operand of the operator of this number.
     LeftOf(usize),
-    /// As its right operand.
+    /// As the right operand of the operator of this number.
     RightOf(usize),
 }
 
@@ -31,12 +31,12 @@ struct Task {
 }
 
 /// The tree of all pieces whose operands fit their operators, if they have one.
-/// They never have two. The time is at most proportional to the square of the
+/// No pieces have two. The time is at most proportional to the square of the
 /// number of pieces.
 ///
 /// # Errors
 ///
-/// Want of memory.
+/// An allocation failure.
 pub fn group(alloc: Global, pieces: &[Piece]) -> Result<Option<Tree>, AllocError>
     ensures tree { IfOk result
         (λ found. IfSome found (Grouped (fixity_at pieces.now) (items_of pieces.now))) }
@@ -130,8 +130,8 @@ fn root(pieces: &[Piece], from: usize, to: usize) -> Option<usize>
     best
 }
 
-/// The one of an earlier operator, if there is one, and the piece behind it
-/// that stands above the other.
+/// The number of an earlier operator, if there is one, or of a piece after it:
+/// the one that stands above the other.
 fn better(pieces: &[Piece], earlier: Option<usize>, n: usize) -> Option<usize>
     requires { n < length pieces.now }
     ensures { result ≡ raised pieces.now earlier n }

@@ -49,7 +49,8 @@ pub struct Expr<'t> {
     pub parts: Vec<Part<Expression<'t>>>,
 }
 
-/// A pattern with its operators grouped, in the same notation.
+/// A pattern with its operators grouped: its parts in Polish notation, each
+/// operator before its operands.
 #[derive(Debug, Drop)]
 pub struct Pat<'t> {
     pub parts: Vec<Part<Pattern<'t>>>,
@@ -89,7 +90,8 @@ pub fn resolve<'t>(
 ///
 /// # Errors
 ///
-/// As those of `resolve`.
+/// `At`, with the place of the first token of the items, exactly where they
+/// have no tree in which all operands fit, and `NoMemory`.
 pub fn resolve_pattern<'t>(
     alloc: Global,
     items: &PatItems<'t>,

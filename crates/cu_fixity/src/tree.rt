@@ -18,7 +18,7 @@ impl Cell {
     ghost use Rattle.std.specs.Prelude.{◌≡◌};
     ghost use Rattle.cu_fixity.specs.Ranges.{number};
 
-    /// The number of its piece.
+    /// The number of the cell's piece.
     pub fn number(self) -> usize
         ensures { result ≡ number self }
     {

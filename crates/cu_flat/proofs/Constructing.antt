@@ -27,7 +27,7 @@ use Rattle.cu_flat.proofs.LaidProgram.{laid-same, laid-well_formed}
 use Rattle.cu_flat.proofs.Laying.{next-begins}
 use Rattle.cu_flat.proofs.Lengths.{length-body}
 
--- ** Constructors
+-- ---- constructors
 
 abbrev pub fit_arities : List calculus.Constructor → Bool
 fit_arities cs = list_all (λ c. is_arity c.arity) cs
@@ -55,7 +55,7 @@ next-type ts i t below is h =
     (sym (list_all-append (λ c. is_arity c.arity) mine others)
     ∙ subst (λ (us : List DataType). IsTrue (fit_arities (constructors_from i (map type_meaning us)))) (left ts i t below is) h)
 
--- ** Functions
+-- ---- functions
 
 -- a rule over its parameters, which are variables
 pub rule-laid : (rule : Rule) (old new : List Expr) (params used : List ℕ) (e : ExprId) → params ≡ all_variables rule.params
@@ -74,7 +74,8 @@ rule-flat rule h =
     let parts = and_parts (are_variables rule.params && is_linear (all_variables rule.params)) (is_flat_term rule.body) h in
     ((and_parts (are_variables rule.params) (is_linear (all_variables rule.params)) parts.0).0, parts.1)
 
--- What was laid out of some functions, and those that are left: they are flat, and all together come to what all come to.
+-- What was laid out of some functions, and those that are left: they are flat, and all together
+-- come to what all come to.
 pub record FunctionsLeft (fs rest : List Function) (old new : List Expr) (made : List code.Function) : Type 0 where
   pub flat : IsTrue (list_all (λ f. is_flat_body f.body) rest)
   pub all : made ++ functions_from (length new) rest ≡ functions_from (length old) fs
@@ -117,7 +118,7 @@ FunctionsLeft-all fs rest old new made is left = record {
   written = sym (append-nil new) ∙ sym (ap (λ r. new ++ expressions_from (length new) r) is) ∙ left.written;
 }
 
--- ** Programs
+-- ---- programs
 
 -- what was written for the parts of a program is its code
 pub program-laid : (parts : Kernel) (fs : List kernel.Function) (types : List kernel.DataType) (functions : List code.Function)
@@ -132,7 +133,7 @@ program-laid parts fs types functions constructors special old new is_functions 
     (subst (λ (es : List Expr). AreFunctionsLaid (map plain_function fs) es new functions) is_old laid) in
     rw (there.functions, is_constructors, is_types, is_special, there.written) refl
 
--- it is well-formed, and has that program
+-- the code of a valid flat program is well-formed, and is the code of that program
 pub laid-fits : (program : Program) (code : Code) → code ≡ laid_out program → IsValid program → IsTrue (is_flat program) → IsTrue (is_well_formed code)
 laid-fits program code is valid flat = subst (λ (c : Code). IsTrue (is_well_formed c)) (sym is) (laid-well_formed program valid flat)
 

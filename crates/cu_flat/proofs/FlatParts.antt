@@ -17,7 +17,7 @@ use Rattle.cu_kernel.specs.declared.term.Term.{Term}
 two : {A B : Type 0} (f : A → B → clean.Term) (a b : A) (c d : B) → a ≡ b → c ≡ d → f a c ≡ f b d
 two f a b c d p q = rw (p, q) refl
 
--- ** The term that a variant stands for
+-- ---- the term that a variant stands for
 
 pub var-is : (t : Term) (x : ℕ) → t ≡ term.Var x → term_of t ≡ clean.Variable x
 var-is t x is = ap term_of is ∙ term_of-Var x
@@ -50,7 +50,7 @@ pub case-is : (t : Term) (mode : Mode) (a : Box Term Global) (rows : Vec (Patter
 case-is t mode a rows x xs is p q =
     ap term_of is ∙ term_of-Case mode a rows ∙ two (clean.Case mode) _ _ _ _ (ap term_of (sym p)) (ap alternatives_of (sym q))
 
--- ** Its parts are flat
+-- ---- its parts are flat
 
 flat-of : (t s : clean.Term) → t ≡ s → IsTrue (is_flat_term t) → IsTrue (is_flat_term s)
 flat-of t s e h = sym (ap is_flat_term e) ∙ h

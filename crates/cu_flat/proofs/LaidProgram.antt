@@ -26,7 +26,7 @@ use Rattle.cu_flat.proofs.LaidTerms.{HasHeads, laid-term, length-variables, vari
 use Rattle.cu_flat.proofs.Lengths.{Stands, Stands-all, Stands-left, Stands-right, length-body, length-layout}
 use Rattle.cu_flat.proofs.Scopes.{uses-may}
 
--- ** Functions
+-- ---- functions
 
 one-rule : (params : Patterns) (body : Term) (rule : Rule) → params ≡ rule.params → body ≡ rule.body
     → calculus.Rules (record { params = params; body = body } ∷ []) ≡ calculus.Rules (rule ∷ [])
@@ -106,7 +106,7 @@ module _ (program : Code) (of : Program) (heads : HasHeads program of) where
         cases = all_append (fits_case program) xs ys body.cases others.cases;
       }
 
--- ** Heads
+-- ---- heads
 
 arity-get : (n : ℕ) (fs : List Function) (k : ℕ)
     → ◌≡◌ {A = Option ℕ} (elim (slice_get (functions_from n fs) k) [ Some function ↦ Some function.arity | None ↦ None ])
@@ -123,7 +123,7 @@ laid-heads of = record { arities = arities; sets = refl }
     arities (head.Con c) = sym (arity_kept (laid_out of) (head.Con c))
     arities (head.Set f) = arity-get 0 of.functions f.0
 
--- ** The conjunction
+-- ---- the conjunction
 
 -- a function, and where its body's expressions stand
 record Found (es : List Expr) (functions : List code.Function) (k : ℕ) (f : Function) : Type 0 where
@@ -200,7 +200,7 @@ body-conjoins program n _ (by_case body x y other is) plain stands =
     subst (λ (b : Body). IsTrue (conjoins program (Some (body_at n b)))) (sym is)
     (rule-conjoins program n x y other (subst (λ (b : Body). Stands program.expressions n (body_layout n b)) is stands))
 
--- ** The built-in entities
+-- ---- the built-in entities
 
 values-there : (program : Code) (of : Program) → HasHeads program of → (o : Option ConId) → ((c : ConId) → o ≡ Some c → arity_in of (head.Con c) ≡ Some 1)
     → elim o [ Some c ↦ takes (arity_of program (head.Con c)) 1 | None ↦ true ] ≡ true
@@ -235,7 +235,7 @@ special-there of sound plain =
     (ap (λ o. takes o 2) (heads.arities (head.Fun special.both) ∙ ap (option_map (λ f. f.arity)) s.both.1 ∙ ap Some s.both.2))
     (values-there program of heads special.values s.values)
 
--- ** Programs
+-- ---- programs
 
 all-laid : (of : Program) → IsValid of → IsTrue (is_flat of) → FunctionsLaid (laid_out of) of (laid-heads of) 0 of.functions
 all-laid of sound plain =

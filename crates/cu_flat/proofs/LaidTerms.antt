@@ -26,7 +26,7 @@ use Rattle.cu_flat.specs.Layout.{beside, binding, branch_layouts, branch_sizes, 
 use Rattle.cu_flat.proofs.Lengths.{Stands, Stands-last, Stands-left, Stands-right, length-branch_layouts, length-layout, length-layouts, size-some}
 use Rattle.cu_flat.proofs.Scopes.{Holds, Holds-behind, Holds-binding, Holds-kept, Holds-without, kept-held, linear-binding, linear-kept, uses-may}
 
--- ** Patterns
+-- ---- patterns
 
 -- patterns that are variables are the variables that they bind
 pub variables-all_any : (ps : Patterns) → IsTrue (are_variables ps) → all_any (all_variables ps) ≡ ps
@@ -60,7 +60,7 @@ pub record HasHeads (program : Code) (of : Program) : Type 0 where
   pub arities : (h : Head) → arity_of program h ≡ arity_in of h
   pub sets : program.special ≡ of.special
 
--- ** Parts that are the same
+-- ---- parts that are the same
 
 two-same : (f : Term → Term → Term) (a b c d : Term) → a ≡ c → b ≡ d → f a b ≡ f c d
 two-same f a b c d p q = rw (p, q) refl
@@ -102,10 +102,10 @@ module _ (program : Code) (of : Program) (heads : HasHeads program of) where
   pattern-fits (term.Any x) shallow fit linear = absurd (true≢false (sym shallow))
   pattern-fits (term.Named x p) shallow fit linear = absurd (true≢false (sym shallow))
 
-  -- ** What holds of a term that was laid out, of terms, and of the branches of a case distinction
+  -- ---- what holds of a term, terms, and the branches of a case distinction that were laid out
 
-  -- The expression of the term fits wherever the variables that it uses are in scope, and has that term; the branches of all
-  -- case distinctions fit over what they keep.
+  -- The expression of the term fits wherever the variables that it uses are in scope, and has that
+  -- term; the branches of all case distinctions fit over what they keep.
   pub record Laid (scope : List ℕ) (n : ℕ) (t : Term) : Type 0 where
     pub fitting : (depth : ℕ) (actual : List ℕ) → size t ≤ depth → Holds (uses t) actual → IsTrue (fits depth program actual (place n t))
     pub same : (depth : ℕ) → size t ≤ depth → term_within depth program (place n t) ≡ t
@@ -136,7 +136,7 @@ module _ (program : Code) (of : Program) (heads : HasHeads program of) where
   found-same zero k e found t some deep is h = absurd (omega arith)
   found-same (suc depth) k e found t some deep is h = ap (term_over (term_within depth program)) is ∙ h depth deep
 
-  -- a term whose own expression stands behind its parts
+  -- a term whose own expression stands after its parts
   made : (scope : List ℕ) (n : ℕ) (t : Term) (parts : List Expr) (e : Expr) → layout n scope t ≡ parts ++ e ∷ []
       → length parts ≡ size t - 1 → Stands program.expressions n (parts ++ e ∷ [])
       → ((less : ℕ) (actual : List ℕ) → size t ≤ suc less → Holds (uses t) actual → IsTrue (fits_expr (fits less program) program actual (Some e)))
@@ -188,7 +188,7 @@ module _ (program : Code) (of : Program) (heads : HasHeads program of) where
   right-held : (f g : ℕ → Bool) (scope : List ℕ) → Holds (λ y. f y || g y) scope → Holds g scope
   right-held f g scope held y h = held y (or_right (f y) (g y) h)
 
-  -- a part in front, and one behind it
+  -- a part before, and one after it
   first-part : (n : ℕ) (xs ys : List Expr) (e : Expr) → Stands program.expressions n (xs ++ ys ++ e ∷ []) → Stands program.expressions n xs
   first-part n xs ys e stands =
       Stands-left program.expressions n xs ys (Stands-left program.expressions n (xs ++ ys) (e ∷ []) stands)
@@ -198,7 +198,7 @@ module _ (program : Code) (of : Program) (heads : HasHeads program of) where
   second-part n m xs ys e stands long =
       Stands-right program.expressions n m xs ys (Stands-left program.expressions n (xs ++ ys) (e ∷ []) stands) long
 
-  -- ** The induction
+  -- ---- the induction
 
   mutual
     pub laid-term : (may : ℕ → Bool) (scope : List ℕ) (n : ℕ) (t : Term) → IsTrue (is_flat_term t) → IsTrue (fits_term of may t)

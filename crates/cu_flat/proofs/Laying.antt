@@ -1,4 +1,4 @@
--- Terms that are laid out behind what there was, form by form.
+-- Terms that are laid out after what there was, form by form.
 use Rattle.std.proofs.Common.{◌≡◌, ℕ, ◌+◌, ◌-◌, Bool, true, false, cond, ◌||◌, ◌&&◌, List, [], ◌∷◌, ◌++◌, Result, Ok, Err, IfOk, IsTrue, filter, length, nat_eq, refl, ap, sym, subst, ◌∙◌, append-nil, append_assoc, arith, length-append}
 use Rattle.std.specs.List.{list_all}
 use Rattle.std.proofs.lemmas.Bool.{and_from, and_parts, eq-eqb, or_left, or_right}
@@ -17,7 +17,7 @@ use Rattle.cu_flat.specs.declared.arena.Laid.{Laid}
 use Rattle.cu_calculus.specs.declared.Mode.{Mode}
 use Rattle.cu_flat.proofs.Lengths.{length-branch_layouts, length-layout, length-layouts}
 
--- a term whose expression was written behind its parts
+-- a term whose expression was written after its parts
 pub laid-over : (r : Result Laid AllocError) (scope : List ℕ) (whole t : Term) (old mid new inside : List Expr) (e own : Expr) (us : List ℕ)
     → whole ≡ t → mid ≡ old ++ inside → length inside ≡ size t - 1
     → IfOk r (λ laid. laid.used.items ≡ us) → IfOk r (λ laid. IsPushed e mid new laid.place)
@@ -59,7 +59,7 @@ laid-pair r scope inner whole t a b old mid last new pa pb ua us e is first ther
     both-places : (e : ExprId → ExprId → Expr) (a b c d : ExprId) → a ≡ b → c ≡ d → e a c ≡ e b d
     both-places e a b c d p q = rw (p, q) refl
 
--- ** Where variables are bound
+-- ---- where variables are bound
 
 thrice : (p q : ℕ → Bool) (xs : List ℕ) → filter p (filter q (filter p xs)) ≡ filter (λ y. p y && q y) xs
 thrice p q [] = refl
@@ -109,7 +109,7 @@ pub laid-with : (scope other : List ℕ) (t : Term) (old new : List Expr) (e : E
     → IsLaid other t old new e used → IsLaid scope t old new e used
 laid-with scope other t old new e used is laid = subst (λ (xs : List ℕ). IsLaid xs t old new e used) is laid
 
--- ** The other forms
+-- ---- the other forms
 
 -- a head over its arguments
 pub laid-headed : (r : Result Laid AllocError) (scope : List ℕ) (whole : Term) (ts : Terms) (old mid new : List Expr) (at : List ExprId) (us : List ℕ)

@@ -10,7 +10,7 @@ use Rattle.cu_calculus.specs.Valid.{all_variables, variables_of}
 use Rattle.cu_calculus.proofs.Lists.{get_behind, get_front}
 use Rattle.cu_flat.specs.Layout.{binding, body_layout, body_size, branch_layouts, branch_sizes, branches, kept_of, layout, layouts, place, places, size, sizes}
 
--- two parts and an expression behind them
+-- two parts and an expression after them
 two-parts : (xs ys : List Expr) (e : Expr) (m n : ℕ) → length xs ≡ m → length ys ≡ n → length (xs ++ ys ++ e ∷ []) ≡ m + n + 1
 two-parts xs ys e m n first second =
     omega (arith, length-append xs ys, length-append (xs ++ ys) (e ∷ []), first, second)
@@ -75,7 +75,7 @@ length-body n (calculus.Rules (rule ∷ [])) = length-layout n (all_variables ru
 length-body n (calculus.Rules (rule ∷ other ∷ rules)) = refl
 length-body n (calculus.External operation) = refl
 
--- ** Parts of a list
+-- ---- parts of a list
 
 -- a part of a list stands from the place n on
 pub record Stands (es : List Expr) (n : ℕ) (part : List Expr) : Type 0 where

@@ -18,7 +18,7 @@ behind-other p x (y ∷ xs) fails = by (p y) refl (behind-other p x xs fails)
     by true is others = first (nat_eq y x) is refl
     by false is others = others
 
--- what is left behind x of what passes
+-- what is left after x of the variables that pass a test
 pub behind-filter : (p : ℕ → Bool) (x : ℕ) (xs : List ℕ) → behind x (filter p (x ∷ xs)) ≡ filter p xs
 behind-filter p x xs = by (p x) refl
   where
@@ -26,7 +26,7 @@ behind-filter p x xs = by (p x) refl
     by true is = rw (eq-eqb x x refl) refl
     by false is = behind-other p x xs is
 
--- it is shorter where x passes
+-- what is left after x is shorter exactly where x passes
 pub behind-shorter : (p : ℕ → Bool) (x : ℕ) (xs : List ℕ) → ltb (length (filter p xs)) (length (filter p (x ∷ xs))) ≡ p x
 behind-shorter p x xs = by (p x)
   where

@@ -1,4 +1,4 @@
--- In the code of a program each expression stands behind its parts.
+-- In the code of a program each expression stands after its parts.
 use Rattle.std.proofs.Common.{◌≡◌, ℕ, ◌+◌, ◌-◌, ◌≤◌, true, List, [], ◌∷◌, ◌++◌, IsTrue, length, nat_lt, refl, subst, arith, length-append}
 use Rattle.std.proofs.lemmas.Bool.{and_from, and_parts, lt-ltb}
 use Rattle.cu_calculus.specs.Code as code
@@ -12,7 +12,7 @@ use Rattle.cu_flat.specs.Layout.{binding, body_layout, body_size, branch_layouts
 use Rattle.cu_flat.specs.Order.{are_below, bodies_of, parts_of, stand_behind_parts}
 use Rattle.cu_flat.proofs.Lengths.{length-body, length-branch_layouts, length-layout, length-layouts, size-some}
 
--- expressions behind others
+-- expressions after others
 behind-append : (n m : ℕ) (xs ys : List Expr) → n + length xs ≡ m → IsTrue (stand_behind_parts n xs) → IsTrue (stand_behind_parts m ys)
     → IsTrue (stand_behind_parts n (xs ++ ys))
 behind-append n m [] ys is first second = subst (λ (k : ℕ). IsTrue (stand_behind_parts k ys)) (omega (arith, is)) second
@@ -21,7 +21,7 @@ behind-append n m (x ∷ xs) ys is first second =
     and_from (are_below n (parts_of x)) (stand_behind_parts (n + 1) (xs ++ ys)) parts.0
     (behind-append (n + 1) m xs ys (omega (arith, is)) parts.1 second)
 
--- an expression behind others, among which its parts are
+-- an expression after others, among which its parts are
 behind-own : (n m : ℕ) (xs : List Expr) (e : Expr) → n + length xs ≡ m → IsTrue (stand_behind_parts n xs) → IsTrue (are_below m (parts_of e))
     → IsTrue (stand_behind_parts n (xs ++ e ∷ []))
 behind-own n m xs e is first below = behind-append n m xs (e ∷ []) is first (and_from (are_below m (parts_of e)) true below refl)

@@ -1,4 +1,4 @@
--- Terms and branches that are laid out one behind the other: what was laid out, and what is left.
+-- Terms and branches that are laid out one after the other: what was laid out, and what is left.
 use Rattle.std.proofs.Common.{◌≡◌, ℕ, ◌+◌, Bool, true, false, ◌||◌, ◌&&◌, List, [], ◌∷◌, ◌++◌, IsTrue, filter, length, refl, ap, sym, subst, ◌∙◌, append-nil, append_assoc, map}
 use Rattle.std.proofs.lemmas.Bool.{and_parts}
 use Rattle.cu_calculus.specs.declared.ExprId.{ExprId}
@@ -32,7 +32,8 @@ pub filter-none : (xs : List ℕ) → [] ≡ filter (λ x. false) xs
 filter-none [] = refl
 filter-none (x ∷ xs) = filter-none xs
 
--- What was laid out of some terms, and those that are left: they are flat, and all together come to what all terms come to.
+-- What was laid out of some terms, and those that are left: they are flat, and all together come to
+-- what all terms come to.
 pub record TermsLeft (scope : List ℕ) (ts rest : Terms) (old new : List Expr) (at : List ExprId) (used : List ℕ) : Type 0 where
   pub flat : IsTrue (are_flat_terms rest)
   pub found : ℕ → Bool

@@ -17,7 +17,7 @@ use Rattle.cu_flat.specs.Layout.{beside, binding, branches_use, some_uses, uses}
 abbrev pub Holds : (ℕ → Bool) → List ℕ → Type 0
 Holds test scope = (y : ℕ) → IsTrue (test y) → IsTrue (holds y scope)
 
--- ** Lists of variables
+-- ---- lists of variables
 
 holds-append : (y : ℕ) (xs ys : List ℕ) → holds y (xs ++ ys) ≡ (holds y xs || holds y ys)
 holds-append y xs ys = list_any-append (nat_eq y) xs ys
@@ -72,7 +72,7 @@ kept-held test [] actual held = refl
 kept-held test (x ∷ scope) actual held =
     all-next (λ y. holds y actual) (test x) x (filter test scope) (held x) (kept-held test scope actual held)
 
--- ** No variable twice
+-- ---- no variable twice
 
 and_false : (b : Bool) → (b && false) ≡ false
 and_false true = refl
@@ -111,14 +111,14 @@ pub linear-binding : (scope xs : List ℕ) → IsTrue (is_linear scope) → IsTr
 linear-binding scope xs around bound =
     linear-append (filter (beside xs) scope) xs (linear-kept (beside xs) scope around) bound (all-filter (beside xs) scope)
 
--- ** What terms use
+-- ---- what terms use
 
 -- either of two ways
 or_either : {A : Type 0} (a b : Bool) → (IsTrue a → A) → (IsTrue b → A) → IsTrue (a || b) → A
 or_either true b first second h = first refl
 or_either false b first second h = second h
 
--- a variable that may stand behind a binding, beside what is bound there, may stand in front of it
+-- a variable that may stand after a binding, beside what is bound there, may stand before it
 also-beside : (x : ℕ) (may : ℕ → Bool) (y : ℕ) → IsTrue (beside (x ∷ []) y) → IsTrue (also x may y) → IsTrue (may y)
 also-beside x may y other h =
     or_either (nat_eq x y) (may y) (λ same. absurd (true≢false (sym same ∙ nat_eq_comm x y ∙ or_false_left (nat_eq y x) (beside-not (x ∷ []) y other))))

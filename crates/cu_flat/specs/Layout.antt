@@ -1,5 +1,5 @@
--- The code of a flat program. Each expression stands behind its parts, which stand in the order in
--- which they are written, and the expressions of each body stand behind those of the bodies before
+-- The code of a flat program. Each expression stands after its parts, which stand in the order in
+-- which they are written, and the expressions of each body stand after those of the bodies before
 -- it.
 use Rattle.std.specs.Prelude.{ℕ, ◌+◌, ◌-◌, Bool, false, not, ◌&&◌, ◌||◌, List, [], ◌∷◌, ◌++◌, filter, nat_eq}
 use Rattle.cu_calculus.specs.declared.ExprId.{ExprId}
@@ -12,12 +12,12 @@ use Rattle.cu_calculus.specs.Term as term
 use Rattle.cu_calculus.specs.Term.{Alternatives, Pattern, Term, Terms}
 use Rattle.cu_calculus.specs.Valid.{all_variables, holds, variables_of}
 
--- variables other than these
+-- whether a variable is none of these
 abbrev pub beside : List ℕ → ℕ → Bool
 beside xs y = not (holds y xs)
 
--- the variables that are free in a term, in one of some terms, and in the branches of a case
--- distinction beside their patterns' own
+-- whether a variable is free in a term, in one of several terms, or in the branches of a case
+-- distinction beside their patterns' own variables
 abbrev mutual
   pub uses : Term → ℕ → Bool
   uses (term.Variable x) y = nat_eq x y
@@ -30,25 +30,27 @@ abbrev mutual
   uses (term.Or a b) y = uses a y || uses b y
   uses (term.Case mode a alternatives) y = uses a y || branches_use alternatives y
 
+  -- whether a variable is free in one of several terms
   pub some_uses : Terms → ℕ → Bool
   some_uses term.NoTerm y = false
   some_uses (term.MoreTerms t ts) y = uses t y || some_uses ts y
 
+  -- whether a variable is free in the branches of a case distinction, beside their patterns' own
   pub branches_use : Alternatives → ℕ → Bool
   branches_use term.NoAlternative y = false
   branches_use (term.MoreAlternatives p t alternatives) y =
       (beside (variables_of p) y && uses t y) || branches_use alternatives y
 
--- A scope is the list of its variables in the order of their binding. Where variables are bound,
--- they hide others of their names.
+-- The scope in which further variables are bound. A scope is the list of its variables in the order
+-- of their binding, and bound variables hide others of their names.
 abbrev pub binding : List ℕ → List ℕ → List ℕ
 binding xs scope = filter (beside xs) scope ++ xs
 
--- what a case distinction keeps of its scope: what its branches use
+-- the variables of its scope that a case distinction keeps: those that its branches use
 abbrev pub kept_of : List ℕ → Alternatives → List ℕ
 kept_of scope alternatives = filter (branches_use alternatives) scope
 
--- how many expressions a term has, itself and its parts
+-- how many expressions a term has: itself and its parts
 abbrev mutual
   pub size : Term → ℕ
   size (term.Variable x) = 1
@@ -61,25 +63,27 @@ abbrev mutual
   size (term.Or a b) = size a + size b + 1
   size (term.Case mode a alternatives) = size a + branch_sizes alternatives + 1
 
+  -- how many expressions several terms have
   pub sizes : Terms → ℕ
   sizes term.NoTerm = 0
   sizes (term.MoreTerms t ts) = size t + sizes ts
 
+  -- how many expressions the terms of alternatives have
   pub branch_sizes : Alternatives → ℕ
   branch_sizes term.NoAlternative = 0
   branch_sizes (term.MoreAlternatives p t alternatives) = size t + branch_sizes alternatives
 
--- where a term stands whose expressions begin at n: it is the last of them
+-- the index of a term whose expressions begin at n: it is the last of them
 abbrev pub place : ℕ → Term → ExprId
 place n t = record { 0 = n + (size t - 1) }
 
--- where terms stand, one behind the other
+-- the indices of terms that stand one after the other from n on
 abbrev pub places : ℕ → Terms → List ExprId
 places n term.NoTerm = []
 places n (term.MoreTerms t ts) = place n t ∷ places (n + size t) ts
 
--- The pattern of a branch: in a flat program a literal, or a constructor over variables. Others
--- don't count.
+-- The pattern of a branch: in a flat program a literal, or a constructor over variables. Other
+-- patterns don't occur there.
 abbrev pub shallow_of : Pattern → Shallow
 shallow_of (term.Exactly l) = code.Exactly l
 shallow_of (term.Built c ps) = code.Built c (all_variables ps)
@@ -92,7 +96,7 @@ branches n term.NoAlternative = []
 branches n (term.MoreAlternatives p t alternatives) =
     record { pattern = shallow_of p; body = place n t } ∷ branches (n + size t) alternatives
 
--- the expressions of a term in a scope, of which the first gets the number n
+-- the expressions of a term in a scope, of which the first has the number n
 abbrev mutual
   pub layout : ℕ → List ℕ → Term → List Expr
   layout n scope (term.Variable x) = code.Variable x ∷ []
@@ -115,36 +119,41 @@ abbrev mutual
       ++ code.Case mode (kept_of scope alternatives) (place n a)
       (branches (n + size a) alternatives) ∷ []
 
+  -- the expressions of several terms in a scope, one after the other from the number n on
   pub layouts : ℕ → List ℕ → Terms → List Expr
   layouts n scope term.NoTerm = []
   layouts n scope (term.MoreTerms t ts) = layout n scope t ++ layouts (n + size t) scope ts
 
+  -- the expressions of the branches' bodies in a scope, one after the other from the number n on
   pub branch_layouts : ℕ → List ℕ → Alternatives → List Expr
   branch_layouts n scope term.NoAlternative = []
   branch_layouts n scope (term.MoreAlternatives p t alternatives) =
       layout n (binding (variables_of p) scope) t ++ branch_layouts (n + size t) scope alternatives
 
--- The body of a function in a flat program, whose expressions begin at n: its one rule, whose
--- parameters are variables, or what is built in. Other bodies don't count.
+-- How many expressions the body of a function has in a flat program: those of its one rule, whose
+-- parameters are variables, or none where an operation is built in. Other bodies don't occur there.
 abbrev pub body_size : Body → ℕ
 body_size (calculus.Rules (rule ∷ [])) = size rule.body
 body_size _ = 0
 
+-- the expressions of a function's body, of which the first has the number n
 abbrev pub body_layout : ℕ → Body → List Expr
 body_layout n (calculus.Rules (rule ∷ [])) = layout n (all_variables rule.params) rule.body
 body_layout n _ = []
 
+-- the body of a function in the code, whose expressions begin at n
 abbrev pub body_at : ℕ → Body → code.Body
 body_at n (calculus.Rules (rule ∷ [])) = code.Rule (all_variables rule.params) (place n rule.body)
 body_at n (calculus.Rules _) = code.External prim.Failed
 body_at n (calculus.External operation) = code.External operation
 
--- the functions, and the expressions of their bodies, which begin at n
+-- the functions of the code, where the expressions of their bodies begin at n
 abbrev pub functions_from : ℕ → List Function → List code.Function
 functions_from n [] = []
 functions_from n (f ∷ fs) =
     record { arity = f.arity; body = body_at n f.body } ∷ functions_from (n + body_size f.body) fs
 
+-- the expressions of the bodies of functions, one after the other from the number n on
 abbrev pub expressions_from : ℕ → List Function → List Expr
 expressions_from n [] = []
 expressions_from n (f ∷ fs) = body_layout n f.body ++ expressions_from (n + body_size f.body) fs

@@ -1,4 +1,4 @@
-//! Terms of flat programs, laid out as expressions: each behind its parts.
+//! Terms of flat programs, laid out as expressions: each after its parts.
 ghost use Rattle.std.specs.Prelude.{◌≡◌, ℕ, Bool, ◌||◌, [], ◌++◌, IfOk, OnOk, IsTrue, filter, map};
 ghost use Rattle.cu_calculus.specs.Code as code;
 ghost use Rattle.cu_calculus.specs.Flat.{are_flat_alternatives, are_flat_terms, is_flat_term, is_shallow};
@@ -15,23 +15,23 @@ use crate::{Entry, Expr, ExprId, Mode, Pattern};
 use cu_kernel::Term;
 use std::alloc::{AllocError, Global};
 
-/// Expressions that were laid out.
+/// The expressions that were laid out so far.
 #[derive(Drop)]
 pub(crate) struct Arena {
     pub(crate) alloc: Global,
     pub(crate) entries: Vec<Entry>,
 }
 
-/// A term that was laid out.
+/// What is known of a term that was laid out.
 #[derive(Drop)]
 pub(crate) struct Laid {
-    /// Where it stands.
+    /// The index of the term's expression.
     pub(crate) place: ExprId,
-    /// Which variables of its scope it uses, in the scope's order.
+    /// The variables of its scope that the term uses, in the scope's order.
     pub(crate) used: Vec<u32>,
 }
 
-/// Terms that were laid out, one behind the other.
+/// What is known of several terms that were laid out, one after the other.
 #[derive(Drop)]
 pub(crate) struct LaidTerms {
     pub(crate) places: Vec<ExprId>,
@@ -46,7 +46,7 @@ pub(crate) struct LaidBranches {
     pub(crate) used: Vec<u32>,
 }
 
-/// The pattern of a branch.
+/// The pattern of a branch, as flat code has it.
 #[tactic(auto, using(cu_kernel::specs::TermsOf::patterns_of_variants))]
 fn shallow(alloc: Global, pattern: &cu_kernel::Pattern) -> Result<Pattern, AllocError>
     requires { IsTrue (is_shallow (terms.pattern_of pattern.now)) }
@@ -74,7 +74,7 @@ fn bound_by(pattern: &Pattern) -> &[u32]
 }
 
 impl Arena {
-    /// Writes an expression behind the others, with the variables that it
+    /// Writes an expression after the others, with the variables that it
     /// keeps.
     fn write(&mut self, expr: Expr, kept: Vec<u32>) -> Result<ExprId, AllocError>
         ensures { IfOk result (λ e. IsPushed (expr_meaning kept.items expr)
@@ -85,8 +85,8 @@ impl Arena {
         Ok(place)
     }
 
-    /// Writes an expression that keeps nothing, of a term that uses these
-    /// variables.
+    /// Writes an expression that keeps no variables, for a term that uses
+    /// these.
     fn push(&mut self, expr: Expr, used: Vec<u32>) -> Result<Laid, AllocError>
         ensures used { IfOk result (λ laid. laid.used.items ≡ used.items) }
         ensures pushed { IfOk result (λ laid. IsPushed (expr_meaning [] expr)
@@ -197,8 +197,8 @@ impl Arena {
         }
     }
 
-    /// Lays out a term where variables are bound, and says what it uses
-    /// beside them.
+    /// Lays out a term where variables are bound, and says which variables of
+    /// the scope around it uses beside these.
     #[cycle(terms)]
     fn push_under(&mut self, scope: &[u32], bound: &[u32], term: &Term) -> Result<Laid, AllocError>
         requires { IsTrue (is_flat_term (term_of term.now)) }
@@ -214,7 +214,7 @@ impl Arena {
         })
     }
 
-    /// Lays out terms in a scope, one behind the other.
+    /// Lays out terms in a scope, one after the other.
     #[cycle(terms)]
     fn push_terms(&mut self, scope: &[u32], terms: &[Term]) -> Result<LaidTerms, AllocError>
         requires { IsTrue (are_flat_terms (terms_of terms.now)) }

@@ -1,7 +1,7 @@
 //! Expressions of flat code.
 use crate::{ConId, Head, Lit, Mode};
 
-/// The place of an expression among a program's expressions.
+/// The index of an expression among a program's expressions.
 pub use cu_calculus::ExprId;
 
 /// The pattern of a branch.
@@ -13,7 +13,7 @@ pub enum Pattern {
     Con(ConId, Vec<u32>),
 }
 
-/// An expression of flat code. Its parts are named by their places.
+/// An expression of flat code. It names its parts by their indices.
 #[derive(Drop)]
 pub enum Expr {
     /// A variable.
@@ -24,11 +24,12 @@ pub enum Expr {
     Whole(Head, Vec<ExprId>),
     /// A head with fewer arguments than it takes.
     Part(Head, Vec<ExprId>),
-    /// The function that the first expression gives, on the second.
+    /// The application of the first expression's value, a function, to the
+    /// second.
     Apply(ExprId, ExprId),
     /// The second expression, where the variable stands for the first.
     Let(u32, ExprId, ExprId),
-    /// The expression, where the variable is free.
+    /// The expression, in which the variable is free: a logic variable.
     Free(u32, ExprId),
     /// A choice between two expressions.
     Or(ExprId, ExprId),
@@ -37,29 +38,30 @@ pub enum Expr {
     Case(Mode, ExprId, Vec<(Pattern, ExprId)>),
 }
 
-/// What a function does.
+/// The body of a function: its rule, or the operation that is built in.
 #[derive(Drop)]
 pub enum FlatBody {
-    /// Its rule: parameters, which are different variables, and a body.
+    /// The rule of the function: parameters, which are different variables, and
+    /// a right side.
     Rule(Vec<u32>, ExprId),
-    /// What is built in.
+    /// The operation that is built in.
     External(crate::Prim),
 }
 
 /// A function of flat code.
 #[derive(Drop)]
 pub struct FlatFunction {
-    /// The number of parameters.
+    /// How many parameters the function has.
     pub arity: u32,
-    /// What it does.
+    /// The function's rule, or the operation that is built in.
     pub body: FlatBody,
 }
 
-/// A constructor of the program's.
+/// A constructor of flat code.
 #[derive(Clone, Copy, Debug, PartialEq, Eq)]
 pub struct FlatConstructor {
-    /// The place of its type among the program's types.
+    /// The index of the constructor's type among the program's types.
     pub of_type: usize,
-    /// How many arguments it takes.
+    /// How many arguments the constructor takes.
     pub arity: u32,
 }

@@ -8,8 +8,8 @@ ghost use Rattle.cu_calculus.specs.WellFormed.{is_well_formed};
 ghost use Rattle.cu_flat.specs.Layout.{laid_out};
 ghost use Rattle.cu_flat.specs.Order.{stand_behind_parts};
 
-/// The code of a valid flat program is well-formed, and is that program's. In
-/// the code of any program each expression stands behind its parts.
+/// The code of a valid flat program is well-formed, and is the code of that
+/// program. In the code of any program each expression stands after its parts.
 pub fn flat_programs_have_code()
     ensures well_formed { (program : Program) → IsValid program → IsTrue (is_flat program)
         → IsTrue (is_well_formed (laid_out program)) }

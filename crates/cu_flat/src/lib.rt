@@ -1,6 +1,6 @@
 //! Flat programs: the code that the machine runs. A function has one rule, and
 //! all expressions stand in one list, where each names its parts by their
-//! places.
+//! indices.
 #![tactic(auto)]
 
 ghost use Rattle.std.specs.Prelude.{◌≡◌, ◌<◌, option_map, length, IsSome, IsTrue, Some};
@@ -29,9 +29,9 @@ pub struct Entry {
 }
 
 /// A flat program. Contracts see its code, which is well-formed: numbers are in
-/// range, calls are whole, variables are in scope, case distinctions keep what
-/// their branches use, and the built-in entities are there, with the rule of
-/// `&&`. So it is the code of a valid program.
+/// range, heads have as many arguments as they take, variables are in scope,
+/// case distinctions keep what their branches use, and the built-in entities
+/// are there, with the rule of `&&`. So it is the code of a valid program.
 #[derive(Drop)]
 pub struct FlatProgram {
     functions: Vec<FlatFunction>,
@@ -89,7 +89,7 @@ impl FlatProgram {
         self.entries.len()
     }
 
-    /// What a function does, where there is such a function.
+    /// The body of a function, where there is such a function.
     pub fn body(&self, f: FunId) -> Option<&FlatBody>
         ensures { option_map (λ body. body_meaning body.now) result ≡ body_of self.now f }
     {
@@ -122,7 +122,7 @@ impl FlatProgram {
         }
     }
 
-    /// The built-in entities.
+    /// The built-in entities of the program.
     pub fn special(&self) -> &Special
         ensures special { result.now ≡ self.now.special }
         ensures well_formed { IsTrue (is_well_formed self.now) }
@@ -148,8 +148,8 @@ impl FlatProgram {
     }
 
     /// The variables that a case distinction keeps, in the order of their
-    /// binding; none where there is no such expression or it is of another
-    /// form.
+    /// binding. An expression of another form keeps none, and so does a number
+    /// that names no expression.
     pub fn kept(&self, e: ExprId) -> &[u32]
         ensures { result.now ≡ kept_by self.now e }
     {

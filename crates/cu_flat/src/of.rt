@@ -19,10 +19,10 @@ use cu_kernel::{Body, Constructor, DataType, Function, Program, Rule};
 use std::alloc::{AllocError, Global};
 
 impl FlatProgram {
-    /// The code of a flat program, in time in proportion to its terms times
-    /// the variables in their scopes. Its expressions stand as the layout
-    /// says: parts before the whole, and the bodies one behind the other. The
-    /// one error is want of memory.
+    /// The code of a flat program, in time in proportion to its terms times the
+    /// variables in their scopes. The expressions stand as the layout says:
+    /// parts before the whole, and the bodies one after the other. The one
+    /// error is an allocation failure.
     #[tactic(auto, unfolding(cu_kernel::specs::Kernel::program_of))]
     pub fn of(alloc: Global, program: &Program) -> Result<FlatProgram, AllocError>
         requires { IsTrue (is_flat (program_of program.now)) }
@@ -40,7 +40,7 @@ impl FlatProgram {
 }
 
 impl Arena {
-    /// Lays out a rule.
+    /// Lays out the rule of a function.
     fn push_rule(&mut self, rule: &Rule) -> Result<FlatBody, AllocError>
         requires { IsTrue (is_flat_body (Rules (kernel.rule_meaning rule.now ∷ []))) }
         ensures { IfOk result (λ made. IsBodyLaid (Rules (kernel.rule_meaning rule.now ∷ []))
@@ -51,7 +51,7 @@ impl Arena {
         Ok(FlatBody::Rule(params, laid.place))
     }
 
-    /// Lays out what a function computes.
+    /// Lays out the body of a function.
     fn push_body(&mut self, body: &Body) -> Result<FlatBody, AllocError>
         requires { IsTrue (is_flat_body (kernel.body_meaning body.now)) }
         ensures { IfOk result (λ made. IsBodyLaid (kernel.body_meaning body.now)
@@ -66,7 +66,7 @@ impl Arena {
         }
     }
 
-    /// Lays out functions, one behind the other.
+    /// Lays out functions, one after the other.
     fn push_functions(&mut self, functions: &[Function]) -> Result<Vec<FlatFunction>, AllocError>
         requires { IsTrue (list_all (λ f. is_flat_body f.body)
             (map plain_function (map kernel.function_meaning functions.now))) }
@@ -87,7 +87,7 @@ impl Arena {
     }
 }
 
-/// Pushes the constructors of the type at a place.
+/// Pushes the constructors of the type with an index.
 fn push_constructors(
     made: &mut Vec<FlatConstructor>,
     place: usize,
@@ -108,7 +108,7 @@ fn push_constructors(
     Ok(())
 }
 
-/// The constructors of all types, in order.
+/// The constructors of all types, in the order of the types.
 fn constructors(alloc: Global, types: &[DataType]) -> Result<Vec<FlatConstructor>, AllocError>
     requires { IsTrue (list_all (λ c. is_arity c.arity)
         (constructors_from 0 (map kernel.type_meaning types.now))) }

@@ -24,7 +24,7 @@ pub(crate) fn in_scope(alloc: Global, scope: &[u32], x: u32) -> Result<Vec<u32>,
     scope.iter().copied().filter(|y| x == *y).collect(alloc)
 }
 
-/// Those of the first variables that are none of the second.
+/// The variables of the first list that aren't in the second.
 pub(crate) fn beside(
     alloc: Global,
     variables: &[u32],
@@ -49,7 +49,7 @@ pub(crate) fn binding(alloc: Global, bound: &[u32], scope: &[u32]) -> Result<Vec
     Ok(inner)
 }
 
-/// What is left of variables behind the first one, where that is x; else all
+/// What is left of variables after the first one, where that is x; else all
 /// of them.
 fn behind(x: u32, variables: &[u32]) -> &[u32]
     ensures { result.now ≡ behind x variables.now }
@@ -60,7 +60,7 @@ fn behind(x: u32, variables: &[u32]) -> &[u32]
     }
 }
 
-/// Whether these are fewer than those.
+/// Whether the first list is shorter than the second.
 fn are_fewer(some: &[u32], all: &[u32]) -> bool
     ensures { result ≡ nat_lt (length some.now) (length all.now) }
 {
@@ -103,7 +103,7 @@ pub(crate) fn merged(
     Ok(found)
 }
 
-/// The variable that a pattern is.
+/// The variable that a pattern is, where it is one.
 #[tactic(auto, using(cu_kernel::specs::TermsOf::patterns_of_variants))]
 fn variable_of(pattern: &Pattern) -> u32
     requires { IsTrue (are_variables (MorePatterns (pattern_of pattern.now) NoPattern)) }
@@ -117,7 +117,7 @@ fn variable_of(pattern: &Pattern) -> u32
     }
 }
 
-/// The variables that patterns are.
+/// The variables that patterns are, where all are variables.
 pub(crate) fn variables(alloc: Global, patterns: &[Pattern]) -> Result<Vec<u32>, AllocError>
     requires { IsTrue (are_variables (patterns_of patterns.now)) }
     ensures { IfOk result (λ found. found.items ≡ all_variables (patterns_of patterns.now)) }

@@ -31,7 +31,8 @@ element_written old comma new behind x xs rest e f =
     ∙ sym (append_assoc c (x ++ further xs) rest)
     ∙ ap (λ (t : List ℕ). t ++ rest) (sym (elements_more behind x xs)))
 
--- a head of two parts behind a comma was written, and what opens; then what is inside, what closes and the rest are left
+-- a head of two parts after a comma was written, and what opens; then what is inside, what closes
+-- and the rest are left
 pub head_written : (old first second third comma word name entity a b inside found opens closes rest now : List ℕ)
     → name ≡ entity → first ≡ old ++ comma → second ≡ first ++ (word ++ (name ++ (codes " " ++ (a ++ (codes " " ++ b)))))
     → third ≡ second ++ opens → found ≡ inside → now ≡ closes ++ rest

@@ -17,7 +17,8 @@ texts_listed program depth arity [] = refl
 texts_listed program depth arity (t ∷ ts) =
     ap (λ (xs : List (List ℕ)). type_text program (expanded_within depth program) (type_variables arity) (type_of t) ∷ xs) (texts_listed program depth arity ts)
 
--- the types of a constructor's arguments, in which any synonyms that there are may be inside one another
+-- the types of a constructor's arguments, in which any synonyms that there are may be inside one
+-- another
 pub fields_listed : (program : Lowered) (arity : ℕ) (ys : List declared.Synonym) (ts items : List TypeTerm)
     → map synonym_meaning ys ≡ program.kernel.synonyms → ts ≡ items
     → separated (texts_in program (record { depth = length ys; variables = type_variables arity }) ts)

@@ -1,4 +1,4 @@
--- The functions of a module, from a place on.
+-- The functions of a module, from an index on.
 use Rattle.std.proofs.Common.{◌≡◌, ℕ, zero, suc, ◌+◌, ◌<◌, ◌≤◌, List, [], ◌∷◌, ◌++◌, Bool, true, false, Option, None, Some, append_assoc, codes, drop, length, map, refl, reverse, sym, ap, ◌∙◌, arith}
 use Rattle.std.proofs.lemmas.Option.{slice_get-map, slice_get_past}
 use Rattle.std.specs.Fmt.{decimal}
@@ -159,7 +159,7 @@ line_read program f public =
     ++ (decimal (arity program (head.Fun f)) ++ (codes " " ++ (visibility_text public ++ (codes " (" ++ text)))))))
     (sym (append_assoc (inferred_type_text program (type_in program.interface f)) (codes ")") (codes " (" ++ (body_text program f ++ codes ")"))))
 
--- what is left behind the type of a function
+-- what is left after the type of a function
 pub lines_behind_type : (program : Lowered) (m : ℕ) (old first second third : List Line) (closes opens : Line) (f : FunId)
     → line_part program m closes ≡ codes ")" → line_part program m opens ≡ codes ") (" → first ≡ old ++ closes ∷ []
     → second ≡ first ++ line.Body f ∷ [] → third ≡ second ++ opens ∷ []

@@ -10,7 +10,7 @@ none_from {B = B} f xs ys n is few =
     let short : length xs ≤ n = omega arith in
     sym (ap (λ (zs : List B). drop n zs) (sym is) ∙ drop_all n (map f xs) (rw (mapped_length f xs) short))
 
--- a front of a text is one of the same text
+-- a prefix of a text is one of the same text
 pub front_of_same : {A E : Type 0} → (r : Result A E) (before after : Option (List ℕ)) (whole text : List ℕ)
     → OnErr r (AddsFront before after whole) → whole ≡ text → OnErr r (AddsFront before after text)
 front_of_same r before after whole text front same =

@@ -113,7 +113,7 @@ found_at program settings before more s i is count =
     ∙ middle before x more
     ∙ ap (λ (xs : List Setting). Some (setting_of program xs s)) same
 
--- the scope at a place comes to what it is behind those before it
+-- the scope at a place comes to what it is after those before it
 pub setting_found : (program : Lowered) (ss : List Scope) (i : ℕ) (s : Scope) → slice_get ss i ≡ Some s
     → slice_get (settings_of program ss) i ≡ Some (setting_of program (take i (settings_of program ss)) s)
 setting_found program ss i s is =
@@ -214,7 +214,7 @@ argument_read program ss ts outer place x t before there is =
     ap (λ (s : Option Setting). get_or (arguments_in program ts s) x []) found
     ∙ text_of_argument program (setting_at settings outer) ts x t is
 
--- there is no scope before that one
+-- the text of an argument whose scope isn't there
 pub no_scope_before : (program : Lowered) (settings : List Setting) (ts : List TypeTerm) (outer place x : ℕ) → place ≤ outer
     → get_or (arguments_in program ts (slice_get (take place settings) outer)) x [] ≡ []
 no_scope_before program settings ts outer place x le =

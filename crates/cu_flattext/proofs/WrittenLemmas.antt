@@ -33,7 +33,7 @@ take-append-add n (x ∷ xs) ys =
     let e : length (x ∷ xs) + n ≡ suc (length xs + n) = omega arith
     in ap (λ k. take k (x ∷ xs ++ ys)) e ∙ ap (λ zs. x ∷ zs) (take-append-add n xs ys)
 
--- a front of the rest makes a front of the whole
+-- a prefix of the rest makes a prefix of the whole
 pub front : (a b c : Option (List ℕ)) (whole rest : List ℕ) → Continues a b whole rest → AddsFront b c rest → AddsFront a c whole
 front a b c whole rest h k =
     rw h.joined (
@@ -42,21 +42,21 @@ front a b c whole rest h k =
       rw take-append-add (Adds-append a b c h.done (take k.0 rest) h.told k.2),
     )
 
--- a front of the first part of the rest makes a front of the whole
+-- a prefix of the first part of the rest makes a prefix of the whole
 pub front_part : (a b c : Option (List ℕ)) (whole xs rest : List ℕ) → Continues a b whole (xs ++ rest) → AddsFront b c xs → AddsFront a c whole
 front_part a b c whole xs rest h k =
     front a b c whole (xs ++ rest) h
     (k.0, rw length-append (omega (arith, k.1)), rw (take-append-le k.0 xs rest k.1) k.2)
 
--- a front of the first part is a front of the whole
+-- a prefix of the first part is a prefix of the whole
 pub part_front : (a b : Option (List ℕ)) (xs rest : List ℕ) → AddsFront a b xs → AddsFront a b (xs ++ rest)
 part_front a b xs rest h = front_part a a b (xs ++ rest) xs rest (begins a (xs ++ rest)) h
 
--- nothing is a front of anything
+-- nothing is a prefix of anything
 pub nothing_front : (a : Option (List ℕ)) (whole : List ℕ) → AddsFront a a whole
 nothing_front a whole = (0, omega arith, Adds-nothing a)
 
--- the whole is a front of itself
+-- the whole is a prefix of itself
 pub whole_front : (a b : Option (List ℕ)) (whole : List ℕ) → Adds a b whole → AddsFront a b whole
 whole_front a b whole h = (length whole, omega arith, rw (take_all (length whole) whole (omega arith)) h)
 
@@ -68,7 +68,7 @@ pub OnErr-map : {T E P Q : Type 0} (r : Result T E) → (P → Q) → OnErr r P 
 OnErr-map (Ok x) f p = tt
 OnErr-map (Err e) f p = f p
 
--- what was added until it breaks off is a front of the whole
+-- what was added until it breaks off is a prefix of the whole
 pub breaks_off : (a b : Option (List ℕ)) (whole rest : List ℕ) → Continues a b whole rest → AddsFront a b whole
 breaks_off a b whole rest h = front a b b whole rest h (nothing_front b rest)
 

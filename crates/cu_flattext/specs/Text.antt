@@ -1,4 +1,5 @@
--- The text of a module.
+-- The text of a module in FlatCurry (Hanus and others): its imports, types, functions and
+-- operators.
 use Rattle.std.specs.Prelude.{ℕ, ◌+◌, Bool, List, [], ◌∷◌, ◌++◌, Option, None, Some, codes, decimal, drop, filter, if◌then◌else◌, length, map, nat_eq, slice_get}
 use Rattle.cu_calculus.specs.Code.{Code}
 use Rattle.cu_calculus.specs.FlatProgram as flat
@@ -20,11 +21,12 @@ use Rattle.cu_flattext.specs.TypeTexts.{data_type_text, inferred_type_text, numb
 
 -- ---- functions
 
--- what is built in: `External "M.f"`
+-- what stands for the rule of a function that is built in: `External "M.f"`
 abbrev pub external_text : Entity → List ℕ
 external_text e = codes "External " ++ quoted (e.owner ++ (codes "." ++ e.name))
 
--- A flat function has one rule, over parameters with the numbers from 1 on, or is built in.
+-- The rule of a flat function, over parameters with the numbers from 1 on, or what stands for it
+-- where the function is built in.
 abbrev pub rule_text : Lowered → Entity → calculus.Body → List ℕ
 rule_text program e (calculus.External operation) = external_text e
 rule_text program e (calculus.Rules (rule ∷ [])) =
@@ -34,7 +36,7 @@ rule_text program e (calculus.Rules (rule ∷ [])) =
     (all_numbered parameters 1 no_numbers) rule.body)))
 rule_text program e (calculus.Rules _) = []
 
--- A function, with the type that was inferred for the function of its number.
+-- The line of a function, with the type that was inferred for it.
 abbrev pub function_text : Lowered → FunId → Bool → calculus.Function → List ℕ
 function_text program id public f =
     let e = function_entity program id in
@@ -43,7 +45,7 @@ function_text program id public f =
     ++ (codes " " ++ (in_parentheses (inferred_type_text program (type_in program.interface id))
     ++ (codes " " ++ in_parentheses (rule_text program e f.body)))))))))
 
--- the functions of a module, of those from the place k on with their marks
+-- the lines of those functions from the index k on that are a module's, by their marks
 abbrev pub function_texts : Lowered → ℕ → ℕ → List calculus.Function → List Mark → List (List ℕ)
 function_texts program m k (f ∷ fs) (mark ∷ marks) =
     let others = function_texts program m (k + 1) fs marks in
@@ -54,21 +56,21 @@ function_texts program m k _ _ = []
 
 -- ---- types
 
--- The first types are built in and have no line.
+-- The data types that have lines. Those that every program begins with are built in and have none.
 abbrev pub declared_types : Kernel → List DataType
 declared_types kernel = drop (length first_outlines) kernel.types
 
--- the data types of a module, of some
+-- the lines of those of these data types that are a module's
 abbrev pub data_type_texts : Lowered → ℕ → List DataType → List (List ℕ)
 data_type_texts program m ts =
     map (data_type_text program) (filter (λ (t : DataType). nat_eq t.module m) ts)
 
--- the synonyms of a module, of some
+-- the lines of those of these synonyms that are a module's
 abbrev pub synonym_texts : Lowered → ℕ → List Synonym → List (List ℕ)
 synonym_texts program m ss =
     map (synonym_text program) (filter (λ (s : Synonym). nat_eq s.module m) ss)
 
--- the data types of a module, and its synonyms behind them
+-- the lines of the data types of a module, and of its synonyms after them
 abbrev pub type_texts : Lowered → ℕ → List (List ℕ)
 type_texts program m =
     data_type_texts program m (declared_types program.kernel)
@@ -76,11 +78,13 @@ type_texts program m =
 
 -- ---- operators
 
+-- on which side an operator associates
 abbrev pub side_text : Side → List ℕ
 side_text to.Left = codes "InfixlOp"
 side_text to.Right = codes "InfixrOp"
 side_text to.Neither = codes "InfixOp"
 
+-- the line of an operator
 abbrev pub operator_text : Lowered → ℕ → Operator → List ℕ
 operator_text program m o =
     codes "Op " ++ (entity_text (entity_of program m o.name)
@@ -88,25 +92,29 @@ operator_text program m o =
 
 -- ---- modules
 
--- each on a new line
+-- a text on a new line
 abbrev pub on_a_line : List ℕ → List ℕ
 on_a_line text = codes "\n" ++ text
 
+-- a list whose elements stand on lines of their own
 abbrev pub lines_text : List (List ℕ) → List ℕ
 lines_text texts = list_text (map on_a_line texts)
 
+-- an imported module
 abbrev pub import_text : Lowered → NameId → List ℕ
 import_text program name = quoted (text_of program.names name)
 
+-- the names of the modules that a module imports
 abbrev pub imports_of : Option Module → List NameId
 imports_of None = []
 imports_of (Some m) = m.imports
 
+-- the operators of a module
 abbrev pub operators_of : Option Module → List Operator
 operators_of None = []
 operators_of (Some m) = m.operators
 
--- the module at a place among the program's modules
+-- the text of the module with an index among the program's modules
 abbrev pub module_text : Lowered → ℕ → List ℕ
 module_text program m =
     let found = slice_get program.kernel.modules m in
@@ -118,12 +126,13 @@ module_text program m =
     ++ (codes " " ++ (lines_text (map (operator_text program m) (operators_of found))
     ++ codes "\n")))))))))
 
--- the place of the first module of a name, or how many modules there are
+-- the index of the first module of a name, or how many modules there are
 abbrev pub place_of : NameId → List Module → ℕ
 place_of name [] = 0
 place_of name (m ∷ ms) = if nat_eq m.name.0 name.0 then 0 else 1 + place_of name ms
 
--- a program with its declarations, the types of its functions, and its flat code
+-- the lowered program of a kernel program, by its names, the types of its functions, and its flat
+-- code
 abbrev pub lowered : List (List ℕ) → Kernel → List TypeExpr → Code → Lowered
 lowered names kernel interface code =
     record { names = names; kernel = kernel; interface = interface; flat = flat.program_of code }

@@ -16,7 +16,7 @@ use Rattle.cu_kernel.specs.declared.type_term.TypeName.TheVariants as named
 use Rattle.cu_names.specs.declared.names.NameId.{NameId}
 use Rattle.cu_flattext.specs.Naming.{Lowered}
 
--- the types that are built in come first, here but for Int without their names
+-- a type that is built in; these come first, here without their names but for Int
 abbrev pub built_in : NameId → DataType
 built_in name = record { name = name; «module» = 0; arity = 0; public = true; constructors = [] }
 
@@ -120,6 +120,7 @@ names =
     codes "Prelude" ∷ codes "M" ∷ codes "f" ∷ codes "T" ∷ codes "C" ∷ codes "N" ∷ codes "L"
     ∷ codes "Int" ∷ codes "g" ∷ []
 
+-- the example as a lowered program
 abbrev pub worked : Lowered
 worked = record {
   names = names;
@@ -128,6 +129,7 @@ worked = record {
   flat = record { functions = flat_f ∷ flat_g ∷ []; constructors = []; special = special };
 }
 
+-- the text of the example's module
 abbrev pub worked_text : List ℕ
 worked_text =
     codes "Prog \"M\" [\"Prelude\"] [\nType (\"M\",\"T\") Public [0] "

@@ -4,16 +4,17 @@ use Rattle.cu_io.specs.Rose.{Rose}
 use Rattle.cu_flattext.specs.declared.fault.PrintFault.{PrintFault}
 use Rattle.cu_flattext.specs.declared.fault.PrintFault.TheVariants.{NoMemory, Write}
 
--- after the output held `before`, it holds this text too, where the sink tells
+-- What the sink took is what it had taken before, and then this text. Where the sink doesn't tell
+-- what it took (None), nothing is said.
 abbrev pub Adds : Option (List ℕ) → Option (List ℕ) → List ℕ → Type 0
 Adds before after text = after ≡ option_map (λ told. told ++ text) before
 
--- a front of this text was added
+-- The sink took a prefix of this text beside what it had taken before.
 abbrev pub AddsFront : Option (List ℕ) → Option (List ℕ) → List ℕ → Type 0
 AddsFront before after text = (n : ℕ) × (n ≤ length text) × Adds before after (take n text)
 
--- the output's count of faults rose where it failed, and stands otherwise, also where memory ran
--- out
+-- The output's count of faults rose where the output failed. Otherwise it stands, also where memory
+-- ran out.
 abbrev pub HasCause : {A : Type 0} → Result A PrintFault → ℕ → ℕ → Type 0
 HasCause (Ok x) old new = new ≡ old
 HasCause (Err Write) old new = Rose old new

@@ -1,4 +1,4 @@
-//! Heads and patterns in expressions.
+//! The heads and patterns of expressions, as they are written.
 ghost use Rattle.std.specs.Prelude.{◌≡◌, ◌+◌, ◌++◌, IfOk, OnOk};
 ghost use Rattle.cu_calculus.specs.declared.Head.TheVariants as head;
 ghost use Rattle.cu_calculus.specs.FlatProgram.{pattern_of};
@@ -13,7 +13,7 @@ use crate::wording::Wording;
 use cu_flat::{ConId, FunId, Head, Mode, Pattern};
 use std::alloc::AllocError;
 
-/// The word for a mode.
+/// The word for a flexible or a rigid case distinction.
 pub(crate) fn mode_word(mode: Mode) -> &'static str
     ensures { result.now ≡ mode_text mode }
 {
@@ -45,7 +45,7 @@ fn part_kind(head: Head) -> &'static str
     }
 }
 
-/// How many arguments a head lacks where it has so many.
+/// How many arguments a head lacks where it has `count` of them.
 pub(crate) fn missing(wording: &Wording, head: Head, count: usize) -> u64
     ensures { result ≡ missing (lowered_of wording.now) head count }
 {
@@ -65,7 +65,7 @@ pub(crate) fn push_kind(page: &mut Page, head: Head, missing: u64) -> Result<(),
     page.push_str(")")
 }
 
-/// Writes the name of the set function of a function of so many parameters.
+/// Writes the name of the set function of a function with so many parameters.
 fn push_set(page: &mut Page, arity: u32) -> Result<(), AllocError>
     ensures { OnOk result (page.new.text.items ≡ page.old.text.items ++ set_text arity) }
 {
@@ -74,7 +74,7 @@ fn push_set(page: &mut Page, arity: u32) -> Result<(), AllocError>
     page.push_str("\")")
 }
 
-/// Writes the kind and the name of the application.
+/// Writes the kind and the name of the call that applies a functional value.
 pub(crate) fn push_apply(page: &mut Page) -> Result<(), AllocError>
     ensures { OnOk result (page.new.text.items ≡ page.old.text.items ++ apply_text) }
 {
@@ -93,7 +93,7 @@ pub(crate) fn push_head(page: &mut Page, wording: &Wording, head: Head) -> Resul
     }
 }
 
-/// Writes a function without arguments.
+/// Writes the call of a function without arguments.
 pub(crate) fn push_function(page: &mut Page, wording: &Wording, f: FunId) -> Result<(), AllocError>
     ensures { OnOk result (page.new.text.items
         ≡ page.old.text.items ++ function_alone (lowered_of wording.now) f) }
@@ -105,14 +105,15 @@ pub(crate) fn push_function(page: &mut Page, wording: &Wording, f: FunId) -> Res
     page.push_str(" []")
 }
 
-/// A sum; one that no `u64` holds counts as want of memory.
+/// The sum of two numbers. One that no `u64` holds counts as an allocation
+/// failure.
 fn sum(a: u64, b: u64) -> Result<u64, AllocError>
     ensures { IfOk result (λ sum. sum ≡ a + b) }
 {
     a.checked_add(b).ok_or(AllocError)
 }
 
-/// Writes so many numbers, from one on, as a list.
+/// Writes so many numbers, from `first` on, as a list.
 pub(crate) fn push_numbers(page: &mut Page, first: u64, count: u64) -> Result<(), AllocError>
     ensures { OnOk result (page.new.text.items
         ≡ page.old.text.items ++ list_text (numbers_from first count)) }
@@ -130,7 +131,7 @@ pub(crate) fn push_numbers(page: &mut Page, first: u64, count: u64) -> Result<()
 }
 
 /// Writes the pattern of a constructor over so many variables, which have the
-/// numbers from one on.
+/// numbers from `first` on.
 fn push_constructor_pattern(
     page: &mut Page,
     wording: &Wording,
@@ -147,8 +148,8 @@ fn push_constructor_pattern(
     push_numbers(page, first, count)
 }
 
-/// Writes the pattern of a branch, whose variables have the numbers from one
-/// on.
+/// Writes the pattern of a branch, whose variables have the numbers from
+/// `first` on.
 #[tactic(auto, using(cu_calculus::proofs::FlatFitting::any_variables))]
 pub(crate) fn push_pattern(
     page: &mut Page,

@@ -28,7 +28,7 @@ fn name_leads(name: TypeName, goal: SynonymId, known: &[bool]) -> bool
     }
 }
 
-/// Leaves types to be looked at.
+/// Pushes types that are still to be looked at.
 fn push_types<'t>(
     left: &mut Vec<&'t TypeTerm>,
     types: &'t [TypeTerm],
@@ -45,8 +45,8 @@ fn push_types<'t>(
     Ok(())
 }
 
-/// Whether the name at the head of a type leads to the goal. Leaves the parts
-/// of the type to be looked at.
+/// Whether the name at the head of a type leads to the goal. Pushes the parts
+/// of the type, which are still to be looked at.
 #[tactic(auto, using(cu_kernel::specs::TypesOf::types_of_variants))]
 fn look<'t>(
     left: &mut Vec<&'t TypeTerm>,
@@ -75,7 +75,7 @@ fn look<'t>(
 
 /// Whether some synonym in a type is the goal, or is known to lead there. The
 /// types that are left to be looked at stand in a list, so that no type is too
-/// deep; more than 2^64 count as want of memory.
+/// deep; more than 2^64 count as an allocation failure.
 fn type_leads(
     alloc: Global,
     t: &TypeTerm,

@@ -16,7 +16,7 @@ struct Looked<'p> {
     depth: usize,
 }
 
-/// What is left to be written of an expression, the last task first.
+/// The tasks that are left while an expression is written, as a stack.
 #[derive(Drop)]
 pub(crate) struct Expressions<'p> {
     pub(crate) wording: Wording<'p>,
@@ -38,7 +38,7 @@ impl<'p> Expressions<'p> {
     ghost use Rattle.cu_flattext.specs.Inside.Tasks.{Leaves, Restores, Scopes, Writes, left_of, left_with, left_with_arguments, left_with_branch, left_with_part, left_with_term, looked_term};
     ghost use Rattle.cu_flattext.specs.declared.task.Task.TheVariants as task;
 
-    /// Nothing is left to be written.
+    /// The state in which no task is left.
     pub(crate) fn none(alloc: Global, wording: Wording<'p>) -> Expressions<'p>
         ensures tasks { result.tasks.items ≡ [] }
         ensures numbers { numbers_of result.numbers ≡ no_numbers }
@@ -53,8 +53,9 @@ impl<'p> Expressions<'p> {
         }
     }
 
-    /// Leaves to do the expression of a rule, whose parameters have the numbers
-    /// from 1 on. No expression nests deeper than there are expressions.
+    /// The state in which the expression of a rule is to be written, whose
+    /// parameters have the numbers from 1 on. No expression nests deeper than
+    /// there are expressions.
     pub(crate) fn of_rule(
         alloc: Global,
         wording: Wording<'p>,
@@ -71,7 +72,7 @@ impl<'p> Expressions<'p> {
         Ok(made)
     }
 
-    /// Writes a task, and puts what it leaves to do before the others.
+    /// Writes what a task begins with, and pushes the tasks that it leaves.
     pub(crate) fn step(&mut self, task: Task<'p>, page: &mut Page) -> Result<(), AllocError>
         ensures { OnOk result (Writes page.old.text.items (left_with task.entry self.old)
             page.new.text.items (left_of self.new)) }
@@ -90,8 +91,8 @@ impl<'p> Expressions<'p> {
         }
     }
 
-    /// The form of an expression, and how deep its parts nest; none where the
-    /// expression isn't there or nests deeper.
+    /// The form of an expression, and how deep its parts may nest; none where
+    /// the expression isn't there or nests deeper.
     fn look(&self, e: ExprId, depth: usize) -> Option<Looked<'p>>
         ensures { term_within depth self.now.wording.flat.now e
             ≡ looked_term self.now.wording.flat.now result }
@@ -122,7 +123,7 @@ impl<'p> Expressions<'p> {
         }
     }
 
-    /// Writes what stands for an expression that there isn't.
+    /// Writes the text for an expression that there isn't.
     fn nothing(&mut self, page: &mut Page) -> Result<(), AllocError>
         ensures { OnOk result (Writes page.old.text.items (left_with_term no_term self.old)
             page.new.text.items (left_of self.new)) }
@@ -143,7 +144,7 @@ impl<'p> Expressions<'p> {
         page.push_str(") []")
     }
 
-    /// Writes an expression of each form.
+    /// Writes an expression, by its form.
     fn form(&mut self, expr: &'p Expr, depth: usize, page: &mut Page) -> Result<(), AllocError>
         ensures { OnOk result (Writes
             page.old.text.items
@@ -186,7 +187,7 @@ impl<'p> Expressions<'p> {
         page.push_str(")")
     }
 
-    /// Writes an application of what isn't known yet.
+    /// Writes an application of a functional value.
     fn application(
         &mut self,
         function: ExprId,
@@ -210,7 +211,7 @@ impl<'p> Expressions<'p> {
         Ok(())
     }
 
-    /// Gives a variable the next number, and answers the one that it had.
+    /// Gives a variable the next number, and answers the number that it had.
     fn bind(&mut self, x: u32) -> Result<u64, AllocError>
         ensures before { IfOk result (λ before. before ≡ numbers_of self.old.numbers x) }
         ensures numbers { OnOk result (numbers_of self.new.numbers
@@ -224,8 +225,8 @@ impl<'p> Expressions<'p> {
         Ok(before)
     }
 
-    /// Leaves to do what is in the scope of a variable, which gets the number
-    /// back then that it had.
+    /// Pushes the tasks for what is in the scope of a variable, which gets its
+    /// old number back then.
     fn leave(&mut self, x: u32, before: u64, body: ExprId, depth: usize) -> Result<(), AllocError>
         ensures tasks { OnOk result (Leaves x before body depth self.old self.new) }
         ensures numbers { OnOk result (numbers_of self.new.numbers ≡ numbers_of self.old.numbers) }
@@ -238,7 +239,7 @@ impl<'p> Expressions<'p> {
         Ok(())
     }
 
-    /// Binds a variable, and leaves to do what is in its scope.
+    /// Binds a variable, and pushes the tasks for what is in its scope.
     fn scope(&mut self, x: u32, body: ExprId, depth: usize) -> Result<(), AllocError>
         ensures tasks { OnOk result (Scopes x body depth self.old self.new) }
         ensures numbers { OnOk result (numbers_of self.new.numbers
@@ -380,7 +381,7 @@ impl<'p> Expressions<'p> {
         self.counted_part(head, es.len(), es, depth, page)
     }
 
-    /// Writes a head with so many of its arguments.
+    /// Writes the partial application of a head to so many arguments.
     fn counted_part(
         &mut self,
         head: Head,
@@ -443,7 +444,7 @@ impl<'p> Expressions<'p> {
         }
     }
 
-    /// Writes expressions, each behind a comma.
+    /// Writes expressions, each after a comma.
     fn further(&mut self, es: &'p [ExprId], depth: usize, page: &mut Page) -> Result<(), AllocError>
         ensures { OnOk result (Writes page.old.text.items
             (left_with (task.Further es.entry depth) self.old)
@@ -481,7 +482,7 @@ impl<'p> Expressions<'p> {
         }
     }
 
-    /// Writes branches, each behind a comma.
+    /// Writes branches, each after a comma.
     fn further_branches(
         &mut self,
         branches: &'p [(Pattern, ExprId)],
@@ -525,7 +526,7 @@ impl<'p> Expressions<'p> {
         Ok(())
     }
 
-    /// Gives the variables of a pattern the next numbers, until the tasks that
+    /// Gives the variables of a pattern the next numbers, up to the tasks that
     /// there are.
     #[tactic(auto, using(cu_calculus::proofs::FlatFitting::any_variables))]
     fn bind_pattern(&mut self, pattern: &Pattern) -> Result<(), AllocError>
@@ -543,7 +544,7 @@ impl<'p> Expressions<'p> {
         }
     }
 
-    /// Gives variables the next numbers, until the tasks that there are.
+    /// Gives variables the next numbers, up to the tasks that there are.
     fn bind_all(&mut self, variables: &[u32]) -> Result<(), AllocError>
         ensures numbers { OnOk result (numbers_of self.new.numbers
             ≡ all_numbered variables.now self.old.next (numbers_of self.old.numbers)) }

@@ -1,4 +1,4 @@
-//! Writing inferred types.
+//! The writing of inferred types.
 ghost use Rattle.std.specs.Prelude.{◌≡◌, option_map, slice_get};
 
 use crate::page::Page;
@@ -10,23 +10,23 @@ use cu_types::{Interface, Node, SharedType, TypeHead};
 use std::alloc::{AllocError, Global};
 
 /// A part of the text of an inferred type that is still to be written. Types
-/// stand at places of the table.
+/// are named by their indices in the table.
 #[derive(Clone, Copy)]
 pub(crate) enum InferredTask<'p> {
-    /// A type.
+    /// The text of a type.
     Type(usize),
-    /// Types, with whether one stands before them.
+    /// The texts of types, with whether an element stands before them.
     Types(&'p [usize], bool),
-    /// A text.
+    /// A text as it is.
     Text(&'static str),
 }
 
-/// What is left to be written of an inferred type, the last task first.
+/// The tasks that are left while an inferred type is written, as a stack.
 #[derive(Drop)]
 pub(crate) struct InferredType<'p> {
     pub(crate) wording: Wording<'p>,
     pub(crate) table: TypeTable<'p>,
-    /// How many type variables there are, with the numbers from 0 on.
+    /// How many type variables the type has, with the numbers from 0 on.
     pub(crate) count: usize,
     pub(crate) tasks: Vec<InferredTask<'p>>,
 }
@@ -44,7 +44,7 @@ impl<'p> InferredType<'p> {
     ghost use Rattle.cu_flattext.specs.TypeTexts.{constructed_text, inferred_type_text};
     ghost use Rattle.cu_flattext.specs.declared.inferred.InferredTask.TheVariants as task;
 
-    /// Nothing is left to be written.
+    /// The state in which no task is left.
     pub(crate) fn none(alloc: Global, wording: Wording<'p>) -> InferredType<'p>
         ensures { result.tasks.items ≡ [] }
     {
@@ -56,8 +56,8 @@ impl<'p> InferredType<'p> {
         }
     }
 
-    /// Leaves to do the type of a function; a type variable where none is
-    /// known.
+    /// The state in which the type of a function is to be written; a type
+    /// variable where none is known.
     pub(crate) fn of_function(
         alloc: Global,
         wording: Wording<'p>,
@@ -73,7 +73,7 @@ impl<'p> InferredType<'p> {
         }
     }
 
-    /// Leaves to do a type that was inferred.
+    /// The state in which a type that was inferred is to be written.
     fn of(
         alloc: Global,
         wording: Wording<'p>,
@@ -94,7 +94,7 @@ impl<'p> InferredType<'p> {
         })
     }
 
-    /// Leaves to do a type variable.
+    /// The state in which a type variable is to be written.
     fn unknown(alloc: Global, wording: Wording<'p>) -> Result<InferredType<'p>, AllocError>
         ensures { IfOk result (λ made. inferred_left made
             ≡ inferred_type_text (lowered_of wording.entry) (type.Variable 0)) }
@@ -109,7 +109,7 @@ impl<'p> InferredType<'p> {
         })
     }
 
-    /// Writes a task, and puts what it leaves to do before the others.
+    /// Writes what a task begins with, and pushes the tasks that it leaves.
     pub(crate) fn step(&mut self, task: InferredTask<'p>, page: &mut Page) -> Result<(), AllocError>
         ensures { OnOk result (Writes page.old.text.items (inferred_left_with task.entry self.old)
             page.new.text.items (inferred_left self.new)) }
@@ -121,7 +121,7 @@ impl<'p> InferredType<'p> {
         }
     }
 
-    /// Writes the type at a place; a type variable where there is none.
+    /// Writes the type with an index; a type variable where there is none.
     fn form(&mut self, place: usize, page: &mut Page) -> Result<(), AllocError>
         ensures { OnOk result (Writes page.old.text.items
             (inferred_left_behind (text_at self.old place) self.old)
@@ -133,7 +133,7 @@ impl<'p> InferredType<'p> {
         }
     }
 
-    /// Writes a type of each form.
+    /// Writes a type, by its form.
     fn node(&mut self, node: &'p Node, page: &mut Page) -> Result<(), AllocError>
         ensures { OnOk result (Writes page.old.text.items
             (inferred_left_behind (text_of_type self.old
@@ -178,8 +178,8 @@ impl<'p> InferredType<'p> {
         self.functions(arguments[0], arguments[1], page)
     }
 
-    /// Writes the type of the functions from the type at one place to the type
-    /// at another.
+    /// Writes the type of functions from the type with one index to the type
+    /// with another.
     fn functions(
         &mut self,
         argument: usize,

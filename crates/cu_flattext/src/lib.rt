@@ -1,5 +1,5 @@
-//! The text of FlatCurry: a module of a flat program in the notation that
-//! other Curry systems read.
+//! The text of FlatCurry (Hanus and others): a module of a flat program in the
+//! notation that other Curry systems read.
 #![tactic(auto)]
 
 mod calls;

@@ -1,4 +1,4 @@
-//! What stands in a line of a module's text.
+//! What stands in the lines of a module's text.
 ghost use Rattle.std.specs.Prelude.{◌≡◌, ◌++◌, OnOk, codes, decimal};
 ghost use Rattle.cu_flattext.specs.Inside.Stands.{entity_meaning, lowered_of};
 ghost use Rattle.cu_flattext.specs.Naming.{entity_text};
@@ -11,7 +11,7 @@ use crate::wording::Wording;
 use cu_kernel::{Operator, Side};
 use std::alloc::AllocError;
 
-/// The word for a side.
+/// The word for the side on which an operator associates.
 fn side_word(side: Side) -> &'static str
     ensures { result.now ≡ side_text side }
 {
@@ -64,7 +64,7 @@ pub(crate) fn push_counted(
     page.push_visibility(public)
 }
 
-/// Writes the declaration of an operator of the module at a place.
+/// Writes the line of an operator of the module with an index.
 pub(crate) fn push_operator(
     page: &mut Page,
     wording: &Wording,

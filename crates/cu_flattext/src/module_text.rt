@@ -1,4 +1,4 @@
-//! Writing the lines of a module.
+//! The writing of a module's lines.
 ghost use Rattle.std.specs.Prelude.{◌≡◌, option_map, slice_get};
 ghost use Rattle.cu_kernel.specs.KernelOf.{mark_meaning};
 
@@ -16,12 +16,12 @@ use cu_kernel::{Constructor, DataType, Mark, Operator, Program, Synonym};
 use cu_names::NameId;
 use std::alloc::{AllocError, Global};
 
-/// What is left to be written of a module, the last line first.
+/// The parts of a module's text that are left while it is written, as a stack.
 #[derive(Drop)]
 pub(crate) struct ModuleText<'p> {
     pub(crate) alloc: Global,
     pub(crate) wording: Wording<'p>,
-    /// The module's place among the program's modules.
+    /// The index of the module among the program's modules.
     pub(crate) module: u32,
     pub(crate) lines: Vec<Line<'p>>,
 }
@@ -40,8 +40,8 @@ impl<'p> ModuleText<'p> {
     ghost use Rattle.cu_flattext.specs.TypeTexts.{as_written, constructor_text, data_type_text, expanded, synonym_text, type_text, type_variables};
     ghost use Rattle.cu_flattext.specs.declared.line.Line.TheVariants as line;
 
-    /// Writes a part, puts what it leaves to do before the others, and answers
-    /// what is to be written before these.
+    /// Writes what a part begins with, pushes the parts that it leaves, and
+    /// answers what is to be written before these.
     pub(crate) fn step(&mut self, part: Line<'p>, page: &mut Page) -> Result<Work<'p>, AllocError>
         ensures { IfOk result (λ work. Writes page.old.text.items
             (lines_left_with part.entry self.old)
@@ -120,7 +120,7 @@ impl<'p> ModuleText<'p> {
         }
     }
 
-    /// Writes data types, and the program's synonyms behind them.
+    /// Writes data types, and the program's synonyms after them.
     #[tactic(auto, using(crate::proofs::ElementLemmas::element_steps))]
     fn data_types(
         &mut self,
@@ -297,7 +297,7 @@ impl<'p> ModuleText<'p> {
         Ok(Work::Types(types))
     }
 
-    /// Writes functions from a place on.
+    /// Writes those functions from an index on that are the module's.
     fn functions(&mut self, k: usize, behind: bool, page: &mut Page) -> Result<Work<'p>, AllocError>
         ensures { IfOk result (λ work. Writes page.old.text.items
             (lines_left_with (line.Functions k behind) self.old)
@@ -344,7 +344,7 @@ impl<'p> ModuleText<'p> {
         Ok(Work::Inferred(inferred))
     }
 
-    /// Writes what a function does; nothing where there is no such function.
+    /// Writes the rule of a function; nothing where there is no such function.
     fn function_body(&mut self, f: FunId, page: &mut Page) -> Result<Work<'p>, AllocError>
         ensures { IfOk result (λ work. Writes page.old.text.items
             (lines_left_with (line.Body f) self.old)
@@ -356,7 +356,8 @@ impl<'p> ModuleText<'p> {
         }
     }
 
-    /// Writes what a function does.
+    /// Writes the rule of a function, or what stands for it where the function
+    /// is built in.
     #[tactic(auto, using(cu_calculus::proofs::FlatFitting::any_variables))]
     fn body(
         &mut self,
@@ -400,7 +401,7 @@ impl<'p> ModuleText<'p> {
     }
 }
 
-/// The mark of the function at a place.
+/// The mark of the function with a number.
 fn mark_at(kernel: &Program, k: usize) -> Option<&Mark>
     ensures { option_map (λ mark. mark_meaning mark.now) result ≡ slice_get kernel.now.marks k }
 {

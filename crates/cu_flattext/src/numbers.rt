@@ -17,7 +17,7 @@ impl VariableNumbers {
     ghost use Rattle.cu_flattext.specs.ExpressionTexts.{no_numbers, numbered};
     ghost use Rattle.cu_flattext.specs.Inside.Stands.{numbers_of};
 
-    /// Nothing is bound.
+    /// The numbers before any variable is bound.
     pub(crate) fn new(alloc: Global) -> VariableNumbers
         ensures { numbers_of result ≡ no_numbers }
     {
@@ -36,7 +36,7 @@ impl VariableNumbers {
         }
     }
 
-    /// Gives a variable a number, and answers the one that it had.
+    /// Gives a variable a number, and answers the number that it had.
     pub(crate) fn set(&mut self, x: u32, number: u64) -> Result<u64, AllocError>
         ensures before { IfOk result (λ before. before ≡ numbers_of self.old x) }
         ensures after { OnOk result (numbers_of self.new

@@ -1,4 +1,4 @@
-//! The piece of the text that is being made.
+//! The piece of a text that is being made.
 ghost use Rattle.std.specs.Prelude.{◌≡◌, ◌++◌, [], IfOk, OnOk, decimal};
 ghost use Rattle.std.specs.List.{flat_map};
 ghost use Rattle.cu_flattext.specs.ExpressionTexts.{literal_text};
@@ -10,7 +10,7 @@ use cu_flat::Lit;
 use itoa::Buffer;
 use std::alloc::{AllocError, Global};
 
-/// An entity: the name of the module that declares it, and its own.
+/// An entity: the name of the module that declares it, and its own name.
 #[derive(Clone, Copy)]
 pub(crate) struct Entity<'p> {
     pub(crate) owner: &'p str,
@@ -20,7 +20,7 @@ pub(crate) struct Entity<'p> {
 /// The length in bytes from which on a piece is given to the output.
 pub(crate) const PIECE: usize = 4096;
 
-/// A piece of the text.
+/// A piece of a text, before it is given to the output.
 #[derive(Drop)]
 pub(crate) struct Page {
     pub(crate) text: Vec<u8>,
@@ -43,7 +43,7 @@ impl Page {
         self.text.extend_from_slice(text.as_bytes())
     }
 
-    /// Writes a comma where an element stands before.
+    /// Writes a comma, where an element stands before the next one.
     pub(crate) fn push_comma(&mut self, behind: bool) -> Result<(), AllocError>
         ensures { OnOk result (self.new.text.items ≡ self.old.text.items ++ comma_text behind) }
     {

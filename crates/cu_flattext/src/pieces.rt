@@ -26,7 +26,8 @@ impl Page {
         }
     }
 
-    /// The same where the piece is long.
+    /// Gives the piece to the output, and begins a new one, where the piece is
+    /// long.
     pub(crate) fn flush_long<S: Sink>(&mut self, sink: &mut S) -> Result<(), PrintFault>
         ensures whole { OnOk result (Continues (S.written sink.old) (S.written sink.new)
             self.old.text.items self.new.text.items) }

@@ -1,4 +1,4 @@
-//! Printing a module.
+//! The printing of a module.
 ghost use Rattle.std.specs.Prelude.{◌≡◌, ◌++◌, IfOk, OnErr, OnOk, map, slice_get};
 ghost use Rattle.cu_kernel.specs.KernelOf.{module_meaning, type_meaning};
 ghost use Rattle.cu_flattext.specs.Inside.LineTasks.{all_left, lines_left, module_lines};
@@ -22,7 +22,7 @@ use cu_names::{NameId, Names};
 use cu_types::Interface;
 use std::alloc::{AllocError, Global};
 
-/// How many types are built in. They have no lines.
+/// How many types are built in. These have no lines.
 const BUILT_IN: usize = 18;
 
 /// Writes the FlatCurry text of a module. The kernel program is the one that
@@ -65,7 +65,7 @@ struct Begun<'p> {
     writer: Writer<'p>,
 }
 
-/// Writes what is left.
+/// Writes what is left of a text.
 fn finish<S: Sink>(begun: Begun<'_>, sink: &mut S) -> Result<(), PrintFault>
     ensures whole { OnOk result (Adds (S.written sink.old) (S.written sink.new)
         (begun.entry.page.text.items ++ all_left begun.entry.writer)) }
@@ -92,7 +92,7 @@ fn begin(alloc: Global, wording: Wording<'_>, name: NameId) -> Result<Begun<'_>,
     begin_at(alloc, wording, module)
 }
 
-/// Begins the text of the module at a place.
+/// Begins the text of the module with an index.
 fn begin_at(alloc: Global, wording: Wording<'_>, place: u32) -> Result<Begun<'_>, AllocError>
     ensures { IfOk result (λ begun. begun.page.text.items ++ all_left begun.writer
         ≡ module_text (lowered_of wording.entry) place) }
@@ -111,8 +111,8 @@ fn begin_at(alloc: Global, wording: Wording<'_>, place: u32) -> Result<Begun<'_>
     Ok(Begun { page, writer })
 }
 
-/// The lines of the module at a place: the imports, the types, the functions
-/// and the operators.
+/// The parts of the text of the module with an index: its imports, types,
+/// functions and operators.
 fn lines_of(alloc: Global, wording: Wording<'_>, place: u32) -> Result<ModuleText<'_>, AllocError>
     ensures { IfOk result (λ made. lines_left made
         ≡ module_lines (lowered_of wording.entry) place) }
@@ -134,7 +134,7 @@ fn lines_of(alloc: Global, wording: Wording<'_>, place: u32) -> Result<ModuleTex
     })
 }
 
-/// What the module at a place imports.
+/// The names of the modules that the module with an index imports.
 fn imports(kernel: &Program, place: u32) -> &[NameId]
     ensures { result.now ≡ imports_of (slice_get kernel.now.modules place) }
 {
@@ -144,7 +144,7 @@ fn imports(kernel: &Program, place: u32) -> &[NameId]
     }
 }
 
-/// The operators of the module at a place.
+/// The operators of the module with an index.
 fn operators(kernel: &Program, place: u32) -> &[Operator]
     ensures { result.now ≡ operators_of (slice_get kernel.now.modules place) }
 {
@@ -154,7 +154,7 @@ fn operators(kernel: &Program, place: u32) -> &[Operator]
     }
 }
 
-/// The data types but those that are built in.
+/// The data types but for those that are built in.
 fn declared_types(kernel: &Program) -> &[DataType]
     ensures { map type_meaning result.now ≡ declared_types kernel.now }
 {
@@ -165,7 +165,7 @@ fn declared_types(kernel: &Program) -> &[DataType]
     &types[BUILT_IN..]
 }
 
-/// The place of the first module of a name, or how many modules there are.
+/// The index of the first module of a name, or how many modules there are.
 fn place_of(modules: &[ModuleInfo], name: NameId) -> usize
     ensures { result ≡ place_of name (map module_meaning modules.now) }
 {

@@ -30,7 +30,7 @@ impl<'p> TypeTable<'p> {
         TypeTable { types: &[] }
     }
 
-    /// The type at a place.
+    /// The type with an index.
     pub(crate) fn get(self, place: usize) -> Option<&'p Node>
         ensures { option_map (λ node. node.now) result ≡ slice_get self.entry.types.now place }
     {

@@ -1,4 +1,4 @@
-//! Writing types.
+//! The writing of types.
 ghost use Rattle.std.specs.Prelude.{◌≡◌, ◌++◌, [], IfOk, List, OnOk, Some, length, map, option_map, slice_get, slice_index_or, ℕ};
 ghost use Rattle.cu_kernel.specs.KernelOf.{synonym_meaning};
 ghost use Rattle.cu_kernel.specs.TypesOf.{type_of};
@@ -13,15 +13,15 @@ use crate::wording::Wording;
 use cu_kernel::{Program, Synonym, SynonymId, TypeName, TypeTerm};
 use std::alloc::{AllocError, Global};
 
-/// What a synonym stands for, and how many synonyms may be expanded inside one
-/// another there.
+/// The type that a synonym stands for, and how many synonyms may be expanded
+/// inside one another there.
 #[derive(Clone, Copy)]
 pub(crate) struct Expansion<'p> {
     pub(crate) body: &'p TypeTerm,
     pub(crate) depth: usize,
 }
 
-/// What is left to be written of types, the last task first.
+/// The tasks that are left while types are written, as a stack.
 #[derive(Drop)]
 pub(crate) struct Types<'p> {
     pub(crate) alloc: Global,
@@ -41,7 +41,7 @@ impl<'p> Types<'p> {
     ghost use Rattle.cu_flattext.specs.TypeTexts.{constructed_text};
     ghost use Rattle.cu_flattext.specs.declared.type_task.TypeTask.TheVariants as task;
 
-    /// Nothing is left to be written.
+    /// The state in which no task is left.
     pub(crate) fn none(alloc: Global, wording: Wording<'p>) -> Types<'p>
         ensures tasks { result.tasks.items ≡ [] }
         ensures scopes { result.scopes.items ≡ [] }
@@ -56,7 +56,7 @@ impl<'p> Types<'p> {
     }
 
     /// Enters a scope, which is left before the tasks that there are. Answers
-    /// its place.
+    /// the scope's index.
     fn enter(&mut self, scope: Scope<'p>) -> Result<usize, AllocError>
         ensures enters { IfOk result (λ place. Enters (lowered_of self.old.wording)
             scope.entry self.old self.new place) }
@@ -68,8 +68,9 @@ impl<'p> Types<'p> {
         Ok(place)
     }
 
-    /// Leaves to do a type of a declaration with so many parameters, in which
-    /// so many synonyms may be expanded inside one another.
+    /// The state in which a type of a declaration with so many parameters is to
+    /// be written, in which so many synonyms may be expanded inside one
+    /// another.
     pub(crate) fn declared(
         alloc: Global,
         wording: Wording<'p>,
@@ -86,7 +87,8 @@ impl<'p> Types<'p> {
         Ok(types)
     }
 
-    /// Leaves to do types of a declaration, with commas between them.
+    /// The state in which types of a declaration are to be written, with commas
+    /// between them.
     pub(crate) fn all_declared(
         alloc: Global,
         wording: Wording<'p>,
@@ -103,7 +105,7 @@ impl<'p> Types<'p> {
         Ok(types)
     }
 
-    /// Writes a task, and puts what it leaves to do before the others.
+    /// Writes what a task begins with, and pushes the tasks that it leaves.
     pub(crate) fn step(&mut self, task: TypeTask<'p>, page: &mut Page) -> Result<(), AllocError>
         ensures { OnOk result (Writes page.old.text.items (types_left_with task.entry self.old)
             page.new.text.items (types_left self.new)) }
@@ -127,7 +129,7 @@ impl<'p> Types<'p> {
         let _ = self.scopes.pop();
     }
 
-    /// Writes a type of each form.
+    /// Writes a type, by its form.
     #[tactic(auto, using(cu_kernel::specs::TypesOf::types_of_variants))]
     fn form(&mut self, t: &'p TypeTerm, scope: usize, page: &mut Page) -> Result<(), AllocError>
         ensures { OnOk result (Writes page.old.text.items
@@ -141,7 +143,7 @@ impl<'p> Types<'p> {
         }
     }
 
-    /// The scope at a place.
+    /// The scope with an index.
     fn scope(&self, place: usize) -> Option<Scope<'p>>
         ensures { result ≡ slice_get self.now.scopes.items place }
     {
@@ -183,8 +185,8 @@ impl<'p> Types<'p> {
         }
     }
 
-    /// Leaves to do an argument, which stands in a scope before the one that
-    /// has it.
+    /// Pushes the task for an argument, which stands in a scope before the one
+    /// that has it.
     fn argument(
         &mut self,
         ts: &'p [TypeTerm],
@@ -230,7 +232,7 @@ impl<'p> Types<'p> {
         Ok(())
     }
 
-    /// Writes a data type or a synonym with its arguments.
+    /// Writes a named type with its arguments.
     fn named(
         &mut self,
         name: TypeName,
@@ -249,7 +251,7 @@ impl<'p> Types<'p> {
         }
     }
 
-    /// Writes a name with its arguments.
+    /// Writes a data type with its arguments, or a synonym as it is written.
     fn constructed(
         &mut self,
         name: TypeName,
@@ -270,7 +272,7 @@ impl<'p> Types<'p> {
         Ok(())
     }
 
-    /// Writes a synonym with its arguments: what it stands for where it can be
+    /// Writes a synonym with its arguments: its expansion, where it can be
     /// expanded.
     fn synonym(
         &mut self,
@@ -290,7 +292,7 @@ impl<'p> Types<'p> {
         }
     }
 
-    /// What a synonym on so many arguments stands for, where it can be
+    /// The expansion of a synonym on so many arguments, where it can be
     /// expanded.
     fn expansion(
         &self,
@@ -310,8 +312,8 @@ impl<'p> Types<'p> {
         }
     }
 
-    /// Leaves to do what a synonym stands for, on arguments that stand in the
-    /// scope at a place.
+    /// Pushes the task for the expansion of a synonym, on arguments that stand
+    /// in the scope with an index.
     fn expand(
         &mut self,
         expansion: Expansion<'p>,
@@ -346,7 +348,7 @@ impl<'p> Types<'p> {
         }
     }
 
-    /// Writes types, each behind a comma.
+    /// Writes types, each after a comma.
     fn further(
         &mut self,
         ts: &'p [TypeTerm],
@@ -381,7 +383,7 @@ pub(crate) fn push_parameter(page: &mut Page, x: u32, count: usize) -> Result<()
     page.push_number(x as u64)
 }
 
-/// What a synonym on so many arguments stands for, where it can be expanded
+/// The expansion of a synonym on so many arguments, where it can be expanded
 /// and so many may be inside one another.
 fn expansion_within<'p>(
     alloc: Global,
@@ -406,7 +408,8 @@ fn expansion_within<'p>(
     }
 }
 
-/// What a synonym on so many arguments stands for, where it can be expanded.
+/// The type that a synonym on so many arguments stands for, where it can be
+/// expanded.
 fn expandable(
     alloc: Global,
     kernel: &Program,
@@ -428,7 +431,7 @@ fn expandable(
     }
 }
 
-/// The synonym at a place.
+/// The synonym of a number.
 fn synonym_at(kernel: &Program, s: SynonymId) -> Option<&Synonym>
     ensures { option_map (λ found. synonym_meaning found.now) result
         ≡ slice_get kernel.now.synonyms s.0 }
@@ -455,7 +458,7 @@ fn is_expanded(
     Ok(!leads)
 }
 
-/// The type at a place of some types.
+/// The type with an index among these.
 fn type_at(ts: &[TypeTerm], place: usize) -> Option<&TypeTerm>
     ensures { option_map (λ t. t.now) result ≡ slice_get ts.now place }
 {

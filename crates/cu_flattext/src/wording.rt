@@ -29,7 +29,7 @@ fn text(names: &Names, id: NameId) -> &str
     }
 }
 
-/// What the program hasn't got.
+/// What stands for an entity that the program hasn't got.
 const NO_ENTITY: Entity<'static> = Entity {
     owner: "",
     name: "",
@@ -50,7 +50,7 @@ impl Wording<'_> {
         text(self.names, id)
     }
 
-    /// The name of the module at a place among the program's modules.
+    /// The name of the module with an index among the program's modules.
     pub(crate) fn module_name(&self, module_place: u32) -> &str
         ensures { result.now ≡ module_name (lowered_of self.now) module_place }
     {
@@ -60,7 +60,7 @@ impl Wording<'_> {
         }
     }
 
-    /// An entity of the module at a place.
+    /// The entity of the module with an index, by its name.
     pub(crate) fn entity(&self, module_place: u32, name: NameId) -> Entity<'_>
         ensures { entity_meaning result ≡ entity_of (lowered_of self.now) module_place name }
     {
@@ -70,7 +70,8 @@ impl Wording<'_> {
         }
     }
 
-    /// A data type or a synonym.
+    /// The entity of the data type or the synonym that a name in a type stands
+    /// for.
     pub(crate) fn named_type(&self, name: TypeName) -> Entity<'_>
         ensures { entity_meaning result ≡ type_entity (lowered_of self.now) name }
     {
@@ -86,7 +87,7 @@ impl Wording<'_> {
         }
     }
 
-    /// A constructor, which is of its type's module.
+    /// The entity of a constructor, which is of its type's module.
     pub(crate) fn constructor(&self, c: ConId) -> Entity<'_>
         ensures { entity_meaning result ≡ constructor_entity (lowered_of self.now) c }
     {
@@ -99,7 +100,7 @@ impl Wording<'_> {
         }
     }
 
-    /// A function.
+    /// The entity of a function.
     pub(crate) fn function(&self, f: FunId) -> Entity<'_>
         ensures { entity_meaning result ≡ function_entity (lowered_of self.now) f }
     {

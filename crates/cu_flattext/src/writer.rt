@@ -1,4 +1,4 @@
-//! Writing a module, a piece of its text at a time.
+//! The writing of a module, a piece of its text at a time.
 ghost use Rattle.std.specs.Prelude.{◌≡◌, ◌++◌, IfOk, OnErr, OnOk};
 ghost use Rattle.cu_flattext.specs.Inside.LineTasks.{all_left};
 ghost use Rattle.cu_flattext.specs.Written.{Adds, AddsFront, HasCause};
@@ -13,8 +13,9 @@ use crate::types::Types;
 use cu_io::Sink;
 use std::alloc::AllocError;
 
-/// What is left to be written: expressions, then types, then inferred types,
-/// then lines. Lines are only gone on with where there is nothing of the others.
+/// What is left to be written: tasks for expressions, then for types, then for
+/// inferred types, and then lines. The next line is begun where no task is
+/// left.
 #[derive(Drop)]
 pub(crate) struct Writer<'p> {
     pub(crate) expressions: Expressions<'p>,
@@ -41,7 +42,8 @@ impl<'p> Writer<'p> {
         Ok(true)
     }
 
-    /// The same where no expression is left.
+    /// Writes a task for types, inferred types or lines, where no expression is
+    /// left. Answers whether there was one.
     fn step_type(&mut self, page: &mut Page) -> Result<bool, AllocError>
         requires { self.old.expressions.tasks.items ≡ [] }
         ensures writes { OnOk result (Writes page.old.text.items (all_left self.old)
@@ -55,7 +57,8 @@ impl<'p> Writer<'p> {
         Ok(true)
     }
 
-    /// The same where neither expressions nor types of declarations are left.
+    /// Writes a task for inferred types or lines, where neither expressions nor
+    /// types of declarations are left. Answers whether there was one.
     fn step_inferred(&mut self, page: &mut Page) -> Result<bool, AllocError>
         requires expressions { self.old.expressions.tasks.items ≡ [] }
         requires types { self.old.types.tasks.items ≡ [] }
@@ -70,7 +73,8 @@ impl<'p> Writer<'p> {
         Ok(true)
     }
 
-    /// The same where neither expressions nor types are left.
+    /// Writes a part of a line, where neither expressions nor types are left.
+    /// Answers whether there was one.
     fn step_line(&mut self, page: &mut Page) -> Result<bool, AllocError>
         requires expressions { self.old.expressions.tasks.items ≡ [] }
         requires types { self.old.types.tasks.items ≡ [] }
@@ -103,8 +107,8 @@ impl<'p> Writer<'p> {
     }
 }
 
-/// Writes all that is left. More tasks than a `u64` counts are taken for want
-/// of memory.
+/// Writes all that is left. More tasks than a `u64` counts count as an
+/// allocation failure.
 pub(crate) fn write_all<S: Sink>(
     writer: &mut Writer<'_>,
     page: &mut Page,

@@ -48,11 +48,11 @@ pattern_form w binder p = definitions.pattern w.around binder (pattern_meaning w
 unfoldable pub expression_form : Setting → Scope → Expression → LocalTerm
 expression_form w local e = table.term w.around local (expression_meaning w.names e)
 
--- what an expression refers to, if it is a name alone
+-- what an expression refers to, if it is a name and nothing else
 unfoldable pub name_alone_form : Setting → Scope → Expression → Option Referent
 name_alone_form w local e = around.name_alone w.around local (expression_meaning w.names e)
 
--- the number that an expression is as it is written
+-- the number that an expression is, if it is written as one
 unfoldable pub number_alone_form : List (List ℕ) → Expression → Option ℤ
 number_alone_form names e = table.number_alone (expression_meaning names e)
 
@@ -94,7 +94,7 @@ selections_form w p = blocks.selections w.around (pattern_meaning w.names p)
 unfoldable pub lets_form : Setting → Scope → List Declaration → List Bound
 lets_form w local ds = table.lets w.around local None (declarations_meaning w.names ds)
 
--- a term inside a block with these free variables, and these definitions
+-- a term inside a block that leaves these variables free and has these definitions
 unfoldable pub block_term : Setting → List Name → List Bound → LocalTerm → LocalTerm
 block_term w free bounds t =
     with_free w.around free (with_lets w.around (ordered w.around.numbers.depends bounds) t)
@@ -103,7 +103,7 @@ block_term w free bounds t =
 abbrev pub inside : Setting → Scope → List Declaration → Scope
 inside w local ds = block_brings w.names ds ++ local
 
--- a term inside a block of declarations
+-- a term inside a block of these declarations
 abbrev pub block_form : Setting → Scope → List Declaration → LocalTerm → LocalTerm
 block_form w local ds t =
     block_term w (free_form w.names ds) (lets_form w (inside w local ds) ds) t
@@ -116,7 +116,7 @@ let_form w local ds e = block_form w local ds (expression_form w (inside w local
 unfoldable pub right_form : Setting → Scope → RightSide → LocalTerm
 right_form w local right = table.right_term w.around local (right_meaning w.names right)
 
--- the expression of the first condition that is True
+-- the expression of the first condition that is True, by guards
 unfoldable pub guards_form : Setting → Scope → List Guard → LocalTerm
 guards_form w local guards = table.guarded w.around local (guards_meaning w.names guards)
 
@@ -127,7 +127,7 @@ body_form w local (body.Guarded guards) = guards_form w local guards.items
 abbrev pub guard_form : Setting → Scope → Guard → LocalTerm × LocalTerm
 guard_form w local g = (expression_form w local g.condition, expression_form w local g.expression)
 
--- what is in scope behind a pattern
+-- what is in scope after a pattern
 abbrev pub behind : Setting → Scope → Pattern → Scope
 behind w local p = variable_entries (pattern_binds w.names p) ++ local
 

@@ -70,7 +70,7 @@ selectors_of w p =
 
 -- ---- functions of qualifiers
 
--- the qualifiers of a comprehension, and its element
+-- the qualifiers of a comprehension, and none of another expression
 abbrev pub qualifiers_in : syntax.Expression → syntax.Qualifiers
 qualifiers_in (syntax.Comprehension at element qualifiers) = qualifiers
 qualifiers_in _ = syntax.NoQualifier
@@ -79,13 +79,13 @@ abbrev pub element_in : syntax.Expression → syntax.Expression
 element_in (syntax.Comprehension at element qualifiers) = element
 element_in e = e
 
--- the qualifiers behind the first so many
+-- the qualifiers after the first n
 abbrev pub behind_first : ℕ → syntax.Qualifiers → syntax.Qualifiers
 behind_first zero qs = qs
 behind_first (suc n) syntax.NoQualifier = syntax.NoQualifier
 behind_first (suc n) (syntax.MoreQualifiers q qs) = behind_first n qs
 
--- the function of the qualifier that is the last of so many
+-- the function of a qualifier of a comprehension, which is the last of the first `count`
 unfoldable pub generator_form : Setting → Scope → Position → Pattern → Expression → ℕ
     → LocalFunction
 generator_form w local at p whole count =

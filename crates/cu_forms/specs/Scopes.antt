@@ -39,17 +39,17 @@ entries_in-Inside entries around =
 
 pub ruleset scope_variants = (entries_in-Outermost, entries_in-Inside)
 
--- what a text means among some names, if it is that of one of them
+-- the local name that a text means among these, if it is that of one of them
 abbrev pub meaning_in : NameId → List Entry → Option Local
 meaning_in text [] = None
 meaning_in text (e ∷ entries) =
     if nat_eq e.text.0 text.0 then Some e.means else meaning_in text entries
 
--- a table has the names
+-- A table has the text of a local name.
 abbrev pub EntryIsKnown : List (List ℕ) → Entry → Type 0
 EntryIsKnown names e = IsKnown names e.text
 
--- A scope with these local names, under a table in which each text stands once.
+-- The code's scope has these local names, under a table in which each text stands once.
 pub record Sees (w : Setting) (local : definitions.Scope) (s : Scope) : Type 0 where
   pub differ : AllDiffer w.names
   pub known : All (EntryIsKnown w.names) (entries_in s)

@@ -47,8 +47,8 @@ pub(crate) fn add_selections<A: Surroundings>(
     Ok(())
 }
 
-/// A variable of the pattern at a place: the call, on its whole value, of the
-/// function that selects the variable.
+/// A variable of the pattern at a place: the call, on the pattern's whole
+/// value, of the function that selects the variable.
 fn selection<A: Surroundings>(
     alloc: Global,
     around: &A,
@@ -69,8 +69,8 @@ fn selection<A: Surroundings>(
     })
 }
 
-/// A term inside the declarations of a block: its free variables, and inside
-/// these its definitions, each behind those on which it depends.
+/// A term inside the declarations of a block: inside its free variables, and
+/// inside its definitions, each after those on which it depends.
 pub(crate) fn block<A: Surroundings>(
     alloc: Global,
     around: &A,
@@ -113,7 +113,7 @@ fn ordered<A: Surroundings>(
     Ok(ordered)
 }
 
-/// The index of the first definition that depends on none of them.
+/// The index of the first definition that depends on none of these definitions.
 fn independent<A: Surroundings>(around: &A, left: &[Bound]) -> Option<usize>
     ensures within { IfSome result (λ i. i < length left.now) }
     ensures first { (w : Setting) → A.tells around.now w
@@ -129,7 +129,7 @@ fn independent<A: Surroundings>(around: &A, left: &[Bound]) -> Option<usize>
     None
 }
 
-/// Whether the definition of a variable depends on none of these.
+/// Whether the definition of a variable depends on none of these definitions.
 fn depends_on_none<A: Surroundings>(around: &A, left: &[Bound], variable: Binder) -> bool
     ensures { (w : Setting) → A.tells around.now w
         → result ≡ depends_on_none w.around.numbers.depends (binder_meaning variable)
@@ -143,7 +143,7 @@ fn depends_on_none<A: Surroundings>(around: &A, left: &[Bound], variable: Binder
     true
 }
 
-/// The definitions of other variables than this one.
+/// Those of the definitions that are of other variables than this one.
 fn others(alloc: Global, bounds: Vec<Bound>, variable: Binder) -> Result<Vec<Bound>, AllocError>
     ensures { IfOk result (λ found. bounds_meaning found.items
         ≡ filter (is_of_other (binder_meaning variable)) (bounds_meaning bounds.items)) }
@@ -158,7 +158,7 @@ fn others(alloc: Global, bounds: Vec<Bound>, variable: Binder) -> Result<Vec<Bou
     Ok(found)
 }
 
-/// Adds definitions.
+/// Adds definitions after others.
 fn append(bounds: &mut Vec<Bound>, more: Vec<Bound>) -> Result<(), AllocError>
     ensures { OnOk result (bounds.new.items ≡ bounds.old.items ++ more.items) }
 {
@@ -168,7 +168,7 @@ fn append(bounds: &mut Vec<Bound>, more: Vec<Bound>) -> Result<(), AllocError>
     Ok(())
 }
 
-/// A term behind definitions.
+/// A term inside definitions, of which the first is outermost.
 fn with_lets<A: Surroundings>(
     alloc: Global,
     around: &A,
@@ -187,7 +187,7 @@ fn with_lets<A: Surroundings>(
     Ok(inner)
 }
 
-/// A term behind a definition.
+/// A term inside a definition.
 fn behind<A: Surroundings>(
     alloc: Global,
     around: &A,
@@ -203,7 +203,7 @@ fn behind<A: Surroundings>(
     Ok(LocalTerm::Let(around.variable(bound.variable), definition, term))
 }
 
-/// A term where variables are free.
+/// A term inside free variables.
 fn with_free<A: Surroundings>(
     alloc: Global,
     around: &A,

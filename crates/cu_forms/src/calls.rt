@@ -10,7 +10,7 @@ use cu_kernel::{FunId, Head, Lit, LocalHead, LocalTerm, Mode};
 use cu_translation::{BuiltIn, Referent, Surroundings};
 use std::alloc::{AllocError, Global};
 
-/// What is refused, as a term without a value.
+/// The term for what is refused, which has no value.
 #[tactic(auto, using(cu_kernel::specs::LocalTermsOf::local_terms_of_variants))]
 pub(crate) fn no_term(alloc: Global) -> Result<LocalTerm, AllocError>
     ensures { IfOk result (λ t. local_term_of t ≡ definitions.no_term) }
@@ -19,7 +19,7 @@ pub(crate) fn no_term(alloc: Global) -> Result<LocalTerm, AllocError>
     Ok(LocalTerm::Case(Mode::Rigid, subject, Vec::new(alloc)))
 }
 
-/// A term on arguments, from the left.
+/// A term applied to arguments, from the left.
 pub(crate) fn applied(
     alloc: Global,
     function: LocalTerm,
@@ -35,7 +35,7 @@ pub(crate) fn applied(
     Ok(term)
 }
 
-/// A term on an argument.
+/// A term applied to one argument.
 #[tactic(auto, using(cu_kernel::specs::LocalTermsOf::local_terms_of_variants))]
 fn application(
     alloc: Global,
@@ -50,8 +50,9 @@ fn application(
     Ok(LocalTerm::Apply(function, argument))
 }
 
-/// A head that takes so many arguments, on some: a part of a call where they
-/// are fewer, and else a whole call, which is applied to those that are left.
+/// A head that takes so many arguments, applied to some: a partial application
+/// where there are fewer, and else a whole call, which is applied to those that
+/// are left.
 pub(crate) fn call(
     alloc: Global,
     head: LocalHead,
@@ -68,7 +69,7 @@ pub(crate) fn call(
     applied(alloc, LocalTerm::Whole(head, parts.0), parts.1)
 }
 
-/// The first terms, so many of them, and the others.
+/// The first terms of a list, so many of them, and the other terms.
 fn split(
     alloc: Global,
     terms: Vec<LocalTerm>,
@@ -99,8 +100,8 @@ fn function_named(referent: Option<Referent>) -> Option<FunId>
     }
 }
 
-/// The set function of the function that the first argument names, on the
-/// others.
+/// The call of the set function of the function that the first argument names,
+/// on the other arguments.
 fn set_call(
     alloc: Global,
     count: usize,
@@ -127,8 +128,8 @@ fn set_call(
     )
 }
 
-/// What a name refers to, on arguments, where the first of these may be a name
-/// alone.
+/// What a name refers to, applied to arguments, of which the first may be a
+/// name and nothing else.
 #[tactic(auto, using(cu_kernel::specs::LocalTermsOf::local_terms_of_variants))]
 pub(crate) fn referred(
     alloc: Global,
@@ -148,7 +149,7 @@ pub(crate) fn referred(
     }
 }
 
-/// What the Prelude has, on arguments.
+/// What the Prelude has under a name, applied to arguments.
 pub(crate) fn built_in<A: Surroundings>(
     alloc: Global,
     around: &A,

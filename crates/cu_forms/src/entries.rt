@@ -15,7 +15,7 @@ use cu_syntax::{Declaration, DeclarationNode, Name, Pattern};
 use cu_translation::Entry;
 use std::alloc::{AllocError, Global};
 
-/// The variables of a pattern.
+/// What the variables of a pattern bring into scope.
 pub(crate) fn pattern_entries(alloc: Global, p: Pattern<'_>) -> Result<Vec<Entry>, AllocError>
     ensures { (t : Text) → PatternIsOf t.owner t.names p.entry
         → IfOk result (λ found. AreEntries t
@@ -25,7 +25,7 @@ pub(crate) fn pattern_entries(alloc: Global, p: Pattern<'_>) -> Result<Vec<Entry
     variable_entries(alloc, names.as_slice())
 }
 
-/// The variables of several patterns.
+/// What the variables of several patterns bring into scope.
 pub(crate) fn parameter_entries(alloc: Global, ps: &[Pattern<'_>]) -> Result<Vec<Entry>, AllocError>
     ensures { (t : Text) → All (PatternIsOf t.owner t.names) ps.now
         → IfOk result (λ found. AreEntries t
@@ -66,7 +66,7 @@ fn add_names(found: &mut Vec<Name>, names: &[Name]) -> Result<(), AllocError>
     Ok(())
 }
 
-/// Names before those in scope already.
+/// The names of a list, and after them those in scope already.
 pub(crate) fn joined(first: Vec<Entry>, others: &[Entry]) -> Result<Vec<Entry>, AllocError>
     ensures { IfOk result (λ all. all.items ≡ first.items ++ others.now) }
 {

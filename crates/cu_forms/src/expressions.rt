@@ -37,12 +37,12 @@ use cu_syntax::{
 use cu_translation::{Binder, BuiltIn, Entry, Position, Referent, Surroundings};
 use std::alloc::{AllocError, Global};
 
-/// What an expression stands for. One whose operators have no grouped tree is
-/// refused elsewhere.
+/// The term that an expression stands for. An expression whose operators have
+/// no grouped tree is refused elsewhere.
 ///
 /// # Errors
 ///
-/// Want of memory.
+/// An allocation failure.
 #[cycle(terms)]
 pub fn term<A: Surroundings>(
     alloc: Global,
@@ -102,7 +102,7 @@ pub fn term<A: Surroundings>(
     }
 }
 
-/// What several expressions stand for.
+/// The terms that several expressions stand for.
 #[cycle(terms)]
 fn terms<A: Surroundings>(
     alloc: Global,
@@ -122,7 +122,8 @@ fn terms<A: Surroundings>(
     Ok(found)
 }
 
-/// An expression on arguments: a call, where it is a name alone.
+/// The term of an expression on arguments: a call, where the expression is a
+/// name and nothing else.
 #[cycle(terms)]
 fn application<A: Surroundings>(
     alloc: Global,
@@ -148,7 +149,8 @@ fn application<A: Surroundings>(
     }
 }
 
-/// What the first of some expressions refers to, if it is a name alone.
+/// What the first of some expressions refers to, if it is a name and nothing
+/// else.
 fn first_alone<A: Surroundings>(
     alloc: Global,
     around: &A,
@@ -165,7 +167,7 @@ fn first_alone<A: Surroundings>(
     }
 }
 
-/// An expression with operators, grouped.
+/// The term of an expression with operators, which are grouped.
 #[cycle(terms)]
 fn operators<A: Surroundings>(
     alloc: Global,
@@ -206,7 +208,7 @@ fn operands<A: Surroundings>(
     Ok(found)
 }
 
-/// An operand or an operator.
+/// An operand or an operator, with what it stands for.
 #[cycle(terms)]
 fn part<A: Surroundings>(
     alloc: Global,
@@ -228,8 +230,8 @@ fn part<A: Surroundings>(
     }
 }
 
-/// An operand with what it refers to, if it is a name alone, and its number, if
-/// it is one as it is written.
+/// An operand with what it refers to, if it is a name and nothing else, and its
+/// number, if it is written as one.
 #[cycle(terms)]
 fn operand<A: Surroundings>(
     alloc: Global,
@@ -247,7 +249,7 @@ fn operand<A: Surroundings>(
     Ok(Operand { term, name, number })
 }
 
-/// Alternatives of a case distinction.
+/// The alternatives of a case distinction: patterns with terms.
 #[cycle(terms)]
 fn alternatives<A: Surroundings>(
     alloc: Global,
@@ -267,7 +269,8 @@ fn alternatives<A: Surroundings>(
     Ok(rows)
 }
 
-/// A pattern, and the right-hand side in which its variables stand.
+/// A pattern, and the term of the right-hand side in which its variables are in
+/// scope.
 #[cycle(terms)]
 fn alternative<A: Surroundings>(
     alloc: Global,
@@ -286,7 +289,7 @@ fn alternative<A: Surroundings>(
     Ok((matched, right))
 }
 
-/// Local declarations, and the expression in which they hold.
+/// The term of local declarations, and of the expression in which they hold.
 #[cycle(terms)]
 fn let_in<A: Surroundings>(
     alloc: Global,
@@ -323,7 +326,7 @@ fn in_block<A: Surroundings>(
     block(alloc, around, free.as_slice(), bounds, inner)
 }
 
-/// The first number, the second and the last.
+/// The term of an enumeration, by its first number, its second and its last.
 #[cycle(terms)]
 fn enumeration<A: Surroundings>(
     alloc: Global,
@@ -341,7 +344,7 @@ fn enumeration<A: Surroundings>(
     numbered(alloc, around, first, second, last)
 }
 
-/// What an expression stands for, if it is there.
+/// The term that an expression stands for, if the expression is there.
 #[cycle(terms)]
 fn maybe<A: Surroundings>(
     alloc: Global,
@@ -363,12 +366,12 @@ fn maybe<A: Surroundings>(
     }
 }
 
-/// What stands behind `=` or `->`: the block behind `where` is around the
+/// The term of what follows `=` or `->`. The block after `where` is around the
 /// guards.
 ///
 /// # Errors
 ///
-/// Want of memory.
+/// An allocation failure.
 #[cycle(terms)]
 pub fn right_side<A: Surroundings>(
     alloc: Global,
@@ -389,7 +392,7 @@ pub fn right_side<A: Surroundings>(
     in_block(alloc, around, ds, bounds, found)
 }
 
-/// An expression, or guards.
+/// The term of an expression, or of guards.
 #[cycle(terms)]
 fn body<A: Surroundings>(
     alloc: Global,
@@ -410,7 +413,7 @@ fn body<A: Surroundings>(
     }
 }
 
-/// Conditions, and the expressions behind them.
+/// The terms of conditions and of the expressions after them.
 #[cycle(terms)]
 fn guards<A: Surroundings>(
     alloc: Global,
@@ -429,7 +432,7 @@ fn guards<A: Surroundings>(
     Ok(rows)
 }
 
-/// A condition, and the expression behind it.
+/// The terms of a condition and of the expression after it.
 #[cycle(terms)]
 fn guard<A: Surroundings>(
     alloc: Global,
@@ -466,7 +469,8 @@ fn lets<A: Surroundings>(
     Ok(found)
 }
 
-/// Adds what a declaration defines. Gives the function whose rules may follow.
+/// Adds the local variables that a declaration defines. Gives the function
+/// whose rules may go on.
 #[cycle(terms)]
 fn define<A: Surroundings>(
     alloc: Global,
@@ -509,7 +513,7 @@ fn define<A: Surroundings>(
     }
 }
 
-/// Whether a rule in a block is a function's: one without parameters that
+/// Whether a rule in a block is that of a function. One without parameters that
 /// follows no rule of its name is that of a variable.
 fn is_of_function(begun: Option<Begun>, name: Name, parameters: &[Pattern<'_>]) -> bool
     ensures { result ≡ is_function_rule begun name.text parameters.now }
@@ -520,8 +524,8 @@ fn is_of_function(begun: Option<Begun>, name: Name, parameters: &[Pattern<'_>]) 
     true
 }
 
-/// Qualifiers around the element. What stands behind a pattern with its list is
-/// in a local function.
+/// The term of a comprehension: its qualifiers around its element. What follows
+/// a qualifier with a list is in a local function.
 #[cycle(terms)]
 pub(crate) fn comprehension<A: Surroundings>(
     alloc: Global,
@@ -596,7 +600,8 @@ fn local_block<A: Surroundings>(
     })
 }
 
-/// A qualifier with a list, before what stands in its local function.
+/// The term of a qualifier with a list: the call that applies the qualifier's
+/// local function to each element.
 #[cycle(terms)]
 fn generated<A: Surroundings>(
     alloc: Global,

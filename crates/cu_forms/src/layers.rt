@@ -11,7 +11,8 @@ use cu_syntax::Name;
 use cu_translation::Surroundings;
 use std::alloc::{AllocError, Global};
 
-/// A qualifier with what it stands for, which is around those behind it.
+/// A qualifier with what it stands for, which is around the qualifiers after
+/// it.
 #[derive(Drop)]
 pub(crate) enum Layer {
     Condition(LocalTerm),

@@ -14,7 +14,7 @@ use cu_syntax::Literal;
 use cu_translation::{BuiltIn, Referent, Surroundings};
 use std::alloc::{AllocError, Global};
 
-/// The list of terms.
+/// The term of the list of these terms.
 pub(crate) fn list<A: Surroundings>(
     alloc: Global,
     around: &A,
@@ -32,7 +32,7 @@ pub(crate) fn list<A: Surroundings>(
     Ok(list)
 }
 
-/// A term before a list.
+/// The term of a list with this first element.
 fn cons<A: Surroundings>(
     alloc: Global,
     around: &A,
@@ -46,7 +46,7 @@ fn cons<A: Surroundings>(
     built_in(alloc, around, BuiltIn::Cons, vec![in alloc; element, list]?)
 }
 
-/// The tuple of terms.
+/// The term of the tuple of these terms.
 pub(crate) fn tuple<A: Surroundings>(
     alloc: Global,
     around: &A,
@@ -60,7 +60,7 @@ pub(crate) fn tuple<A: Surroundings>(
     built_in(alloc, around, what, terms)
 }
 
-/// A literal; a string is the list of its characters.
+/// The term of a literal. A string is the list of its characters.
 #[tactic(auto, using(cu_kernel::specs::LocalTermsOf::local_terms_of_variants))]
 pub(crate) fn literal<A: Surroundings>(
     alloc: Global,
@@ -86,7 +86,7 @@ pub(crate) fn number(value: Int) -> LocalTerm
     LocalTerm::Lit(Lit::Int(value))
 }
 
-/// Characters as terms.
+/// The terms of characters.
 #[tactic(auto, using(cu_kernel::specs::LocalTermsOf::local_terms_of_variants))]
 fn characters(alloc: Global, text: &[char]) -> Result<Vec<LocalTerm>, AllocError>
     ensures { IfOk result (λ found. map local_term_of found.items
@@ -99,7 +99,8 @@ fn characters(alloc: Global, text: &[char]) -> Result<Vec<LocalTerm>, AllocError
     Ok(terms)
 }
 
-/// The constructor that a name refers to.
+/// The constructor that a name refers to, or the first constructor where it
+/// refers to none.
 pub(crate) fn constructor_of(referent: Referent) -> ConId
     ensures { result ≡ definitions.constructor_of (referent_meaning referent) }
 {
@@ -118,7 +119,7 @@ pub(crate) fn constant<A: Surroundings>(alloc: Global, around: &A, what: BuiltIn
     Pattern::Con(constructor_of(around.prelude(what)), Vec::new(alloc))
 }
 
-/// A choice between two terms by a condition.
+/// The term of a choice between two terms by a condition.
 pub(crate) fn if_then_else<A: Surroundings>(
     alloc: Global,
     around: &A,
@@ -137,8 +138,8 @@ pub(crate) fn if_then_else<A: Surroundings>(
     Ok(LocalTerm::Case(Mode::Rigid, condition, rows))
 }
 
-/// The expression of the first condition that is True, and `failed` where there
-/// is none.
+/// The term of guards: the expression of the first condition that is True, and
+/// `failed` where there is none.
 pub(crate) fn guarded<A: Surroundings>(
     alloc: Global,
     around: &A,

@@ -39,12 +39,12 @@ pub struct RuleText<'t> {
     pub right: RightSide<'t>,
 }
 
-/// A rule of a function: its patterns, and the right-hand side in which their
-/// variables stand.
+/// The rule of a function: its patterns, and the term of the right-hand side in
+/// which their variables are in scope.
 ///
 /// # Errors
 ///
-/// Want of memory.
+/// An allocation failure.
 pub fn rule<A: Surroundings>(
     alloc: Global,
     around: &A,
@@ -86,7 +86,7 @@ fn new_function<A: Surroundings>(
     })
 }
 
-/// A place of the text's module.
+/// A place, in the module of the text.
 fn in_module<A: Surroundings>(around: &A, place: Place) -> Place
     ensures { (w : Setting) → A.tells around.now w
         → result ≡ place_at w.around.names (position_of place) }
@@ -98,7 +98,8 @@ fn in_module<A: Surroundings>(around: &A, place: Place) -> Place
     }
 }
 
-/// A number of parameters. More than 32 bits count are want of memory.
+/// A number of parameters in 32 bits. A larger one counts as an allocation
+/// failure.
 fn counted(count: usize) -> Result<u32, AllocError>
     ensures { IfOk result (λ n. n ≡ count) }
 {
@@ -112,7 +113,7 @@ fn counted(count: usize) -> Result<u32, AllocError>
 ///
 /// # Errors
 ///
-/// Want of memory, also for more parameters than 32 bits count.
+/// An allocation failure, also for more parameters than 32 bits count.
 pub fn lambda_function<A: Surroundings>(
     alloc: Global,
     around: &A,
@@ -139,7 +140,7 @@ pub fn lambda_function<A: Surroundings>(
 ///
 /// # Errors
 ///
-/// Want of memory, also for more parameters than 32 bits count.
+/// An allocation failure, also for more parameters than 32 bits count.
 pub fn block_function<A: Surroundings>(
     alloc: Global,
     around: &A,
@@ -188,12 +189,12 @@ fn rules<A: Surroundings>(
 }
 
 /// The function of a qualifier with a list, by the place of the qualifier's
-/// first token and its pattern. It has the rest of the comprehension behind the
-/// qualifier, which is the last of so many.
+/// first token and its pattern. Its result is the rest of the comprehension
+/// after the qualifier, which is the last of the first `count`.
 ///
 /// # Errors
 ///
-/// Want of memory.
+/// An allocation failure.
 pub fn generator_function<A: Surroundings>(
     alloc: Global,
     around: &A,
@@ -215,7 +216,7 @@ pub fn generator_function<A: Surroundings>(
     generator(alloc, around, place, p, rest)
 }
 
-/// The rest of a comprehension behind so many of its qualifiers.
+/// The term of the rest of a comprehension after so many of its qualifiers.
 fn rest_of<A: Surroundings>(
     alloc: Global,
     around: &A,
@@ -234,7 +235,7 @@ fn rest_of<A: Surroundings>(
     comprehension(alloc, around, scope, whole, &[])
 }
 
-/// The qualifiers behind so many.
+/// The qualifiers after the first `count`.
 fn behind<'q, 't>(qualifiers: &'q [Qualifier<'t>], count: usize) -> &'q [Qualifier<'t>]
     ensures { result.now ≡ drop count qualifiers.now }
 {
@@ -245,8 +246,8 @@ fn behind<'q, 't>(qualifiers: &'q [Qualifier<'t>], count: usize) -> &'q [Qualifi
 }
 
 /// The function of a qualifier with a list, given the rest of the
-/// comprehension. It takes the pattern's variable, and else the value that is to
-/// match the pattern.
+/// comprehension. Its parameter is the pattern's variable, if the pattern is
+/// one, and else the whole value that is matched with the pattern.
 fn generator<A: Surroundings>(
     alloc: Global,
     around: &A,
@@ -280,8 +281,8 @@ fn is_variable(alloc: Global, p: Pattern<'_>) -> Result<bool, AllocError>
     Ok(false)
 }
 
-/// A term where the whole value of the pattern at a place matches it, and else
-/// the empty list.
+/// A term for where the whole value of the pattern at a place matches it, and
+/// the empty list where it doesn't.
 fn if_matched<A: Surroundings>(
     alloc: Global,
     around: &A,
@@ -304,7 +305,7 @@ fn if_matched<A: Surroundings>(
 ///
 /// # Errors
 ///
-/// Want of memory.
+/// An allocation failure.
 pub fn selectors<A: Surroundings>(
     alloc: Global,
     around: &A,
@@ -344,7 +345,7 @@ fn selector<A: Surroundings>(
 ///
 /// # Errors
 ///
-/// Want of memory.
+/// An allocation failure.
 pub fn goal_rule<A: Surroundings>(
     alloc: Global,
     around: &A,
@@ -362,7 +363,7 @@ pub fn goal_rule<A: Surroundings>(
     Ok(LocalRule { params, body })
 }
 
-/// Variables as parameters.
+/// The patterns of variables that are parameters.
 fn parameters<A: Surroundings>(
     alloc: Global,
     around: &A,
@@ -378,7 +379,7 @@ fn parameters<A: Surroundings>(
     Ok(found)
 }
 
-/// A variable as a parameter.
+/// The pattern of a variable that is a parameter.
 fn parameter<A: Surroundings>(around: &A, name: Name) -> KernelPattern
     ensures { (w : Setting) → A.tells around.now w → pattern_of result ≡ parameter_of w name }
 {

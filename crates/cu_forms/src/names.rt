@@ -41,8 +41,8 @@ fn referent_of_local<A: Surroundings>(around: &A, local: Local) -> Referent
     }
 }
 
-/// The fixity of an operator where it stands; one that is a local name has no
-/// declaration.
+/// The fixity of an operator where it stands. An operator that is a local name
+/// has no declaration.
 pub fn fixity_at<A: Surroundings>(around: &A, scope: &Scope<'_>, name: Name) -> Fixity
     ensures { (w : Setting) (local : definitions.Scope) → A.tells around.now w
         → Sees w local scope.now → NameIsOf w.owner w.names name
@@ -54,11 +54,11 @@ pub fn fixity_at<A: Surroundings>(around: &A, scope: &Scope<'_>, name: Name) -> 
     }
 }
 
-/// What an expression refers to, if it is a name alone.
+/// What an expression refers to, if it is a name and nothing else.
 ///
 /// # Errors
 ///
-/// Want of memory.
+/// An allocation failure.
 pub fn name_alone<A: Surroundings>(
     alloc: Global,
     around: &A,

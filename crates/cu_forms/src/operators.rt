@@ -35,8 +35,8 @@ use cu_syntax::{Expression, ExpressionNode, Items, Literal};
 use cu_translation::{BuiltIn, Referent, Surroundings};
 use std::alloc::{AllocError, Global};
 
-/// An operand with what it refers to, if it is a name alone, and its number, if
-/// it is one as it is written.
+/// The term of an operand, with what it refers to, if it is a name and nothing
+/// else, and its number, if it is written as one.
 #[derive(Drop)]
 pub(crate) struct Operand {
     pub(crate) term: LocalTerm,
@@ -44,7 +44,7 @@ pub(crate) struct Operand {
     pub(crate) number: Option<Int>,
 }
 
-/// A part of an expression with operators.
+/// A part of an expression with operators, with what it stands for.
 #[derive(Drop)]
 pub(crate) enum OperandItem {
     Operand(Operand),
@@ -53,7 +53,7 @@ pub(crate) enum OperandItem {
     Operator(Referent),
 }
 
-/// The number that an expression is as it is written.
+/// The number that an expression is, if it is written as one.
 pub(crate) fn number_alone(alloc: Global, e: Expression<'_>) -> Result<Option<Int>, AllocError>
     ensures { (names : List (List ℕ)) → IfOk result (λ n. n ≡ number_alone_form names e.entry) }
 {
@@ -63,7 +63,7 @@ pub(crate) fn number_alone(alloc: Global, e: Expression<'_>) -> Result<Option<In
     }
 }
 
-/// The number that a literal is.
+/// The number that a literal is, if it is one.
 fn number_in(found: Literal<'_>) -> Option<Int>
     ensures { result ≡ number_of (literal_meaning found.entry) }
 {
@@ -78,7 +78,7 @@ fn number_in(found: Literal<'_>) -> Option<Int>
 ///
 /// # Errors
 ///
-/// Want of memory.
+/// An allocation failure.
 pub fn tree_of<'t, A: Surroundings>(
     alloc: Global,
     around: &A,
@@ -116,7 +116,7 @@ pub fn tree_of<'t, A: Surroundings>(
     in_tree_order(alloc, written.as_slice(), pieces.as_slice())
 }
 
-/// The operands and the operators as they are written.
+/// The operands and the operators of an expression, as they are written.
 fn written_parts<'t>(
     alloc: Global,
     items: &Items<'t>,
@@ -148,7 +148,7 @@ fn push_operand<'t>(
     Ok(())
 }
 
-/// What grouping sees of parts.
+/// What grouping sees of parts of an expression.
 fn pieces<A: Surroundings>(
     alloc: Global,
     around: &A,
@@ -167,7 +167,7 @@ fn pieces<A: Surroundings>(
     Ok(found)
 }
 
-/// What grouping sees of a part.
+/// What grouping sees of a part of an expression.
 fn piece<A: Surroundings>(around: &A, scope: &Scope<'_>, part: Part<Expression<'_>>) -> Piece
     ensures { (w : Setting) (local : definitions.Scope) → A.tells around.now w
         → Sees w local scope.now → PartIsOf ExpressionIsOf w.owner w.names part.entry
@@ -180,7 +180,7 @@ fn piece<A: Surroundings>(around: &A, scope: &Scope<'_>, part: Part<Expression<'
     }
 }
 
-/// The term that parts in the order of their tree are.
+/// The term that parts make which stand in the order of their tree.
 pub(crate) fn grouped<A: Surroundings>(
     alloc: Global,
     around: &A,
@@ -210,7 +210,7 @@ fn top(alloc: Global, stack: Vec<Operand>) -> Result<LocalTerm, AllocError>
     }
 }
 
-/// Takes the operands of a part from those behind it, and adds what they make
+/// Takes the operands of a part off the stack, and puts on it what they make
 /// together.
 fn place<A: Surroundings>(
     alloc: Global,
@@ -233,7 +233,7 @@ fn place<A: Surroundings>(
     }
 }
 
-/// An operand that is no name alone, and no number.
+/// The operand of a term that is neither a name alone nor a number.
 fn plain(term: LocalTerm) -> Operand
     ensures { operand_meaning result ≡ terms.plain (local_term_of term) }
 {
@@ -244,7 +244,7 @@ fn plain(term: LocalTerm) -> Operand
     }
 }
 
-/// Puts a minus before the first operand behind it.
+/// Negates the operand on top of the stack.
 fn negate<A: Surroundings>(
     alloc: Global,
     around: &A,
@@ -262,9 +262,9 @@ fn negate<A: Surroundings>(
     Ok(())
 }
 
-/// The negation of an operand: of a number as it is written the negative
-/// number, and else a call of `negate`. A negative number that is no integer of
-/// the language counts as want of memory: no literal has it.
+/// The negation of an operand: the negative of a number that is written as one,
+/// and else a call of `negate`. A negative number that is no integer of the
+/// language counts as an allocation failure: no literal has it.
 fn negated<A: Surroundings>(
     alloc: Global,
     around: &A,
@@ -293,7 +293,8 @@ fn negative(value: Int) -> Result<LocalTerm, AllocError>
     }
 }
 
-/// Puts an operator between the first two operands behind it.
+/// Takes two operands off the stack, and puts on it the operator applied to
+/// them.
 fn operate(alloc: Global, referent: Referent, stack: &mut Vec<Operand>) -> Result<(), AllocError>
     ensures { (names : Names) → OnOk result (map operand_meaning (reverse stack.new.items)
         ≡ operated names (Infix (referent_meaning referent))

@@ -21,17 +21,17 @@ use cu_syntax::{PatItems, Pattern, PatternNode};
 use cu_translation::{Binder, BuiltIn, Position, Surroundings};
 use std::alloc::{AllocError, Global};
 
-/// Which variables those of a pattern are.
+/// Which variables the variables of a pattern become.
 #[derive(Clone, Copy, Debug, PartialEq, Eq)]
 pub enum Binders {
-    /// Those at their own places.
+    /// The variables at their own places.
     Own,
-    /// Those of the function that selects the variable at this place.
+    /// The variables of the function that selects the variable at this place.
     Selecting(Position),
 }
 
 impl Binders {
-    /// The variable of what stands at a place.
+    /// The variable of the name or wildcard that stands at a place.
     fn at(self, place: Place) -> Binder
         ensures { binder_meaning result ≡ binders_meaning self (position_of place) }
     {
@@ -43,7 +43,7 @@ impl Binders {
     }
 }
 
-/// The number of the variable of what stands at a place.
+/// The number of the variable of the name or wildcard that stands at a place.
 fn variable<A: Surroundings>(around: &A, binders: Binders, place: Place) -> u32
     ensures { (w : Setting) → A.tells around.now w
         → result ≡ w.around.numbers.variable (binders_meaning binders (position_of place)) }
@@ -51,12 +51,12 @@ fn variable<A: Surroundings>(around: &A, binders: Binders, place: Place) -> u32
     around.variable(binders.at(place))
 }
 
-/// What a pattern stands for. One whose operators have no grouped tree is
-/// refused elsewhere.
+/// The pattern of programs that a pattern stands for. A pattern whose operators
+/// have no grouped tree is refused elsewhere.
 ///
 /// # Errors
 ///
-/// Want of memory.
+/// An allocation failure.
 #[cycle(patterns)]
 pub fn pattern<A: Surroundings>(
     alloc: Global,
@@ -96,11 +96,11 @@ pub fn pattern<A: Surroundings>(
     }
 }
 
-/// What several patterns stand for.
+/// The patterns of programs that several patterns stand for.
 ///
 /// # Errors
 ///
-/// Want of memory.
+/// An allocation failure.
 #[cycle(patterns)]
 pub fn patterns<A: Surroundings>(
     alloc: Global,
@@ -119,7 +119,8 @@ pub fn patterns<A: Surroundings>(
     Ok(found)
 }
 
-/// Patterns with constructors between them, grouped.
+/// The pattern of patterns with constructor operators between them, which are
+/// grouped.
 #[cycle(patterns)]
 fn operators<A: Surroundings>(
     alloc: Global,
@@ -159,7 +160,7 @@ fn parts<A: Surroundings>(
     Ok(found)
 }
 
-/// An operand or an operator.
+/// An operand or an operator, with what it stands for.
 #[cycle(patterns)]
 fn part<A: Surroundings>(
     alloc: Global,

@@ -26,7 +26,7 @@ use cu_syntax::{Literal, PatItems, Pattern};
 use cu_translation::{BuiltIn, Referent, Surroundings};
 use std::alloc::{AllocError, Global};
 
-/// A part of a pattern with operators.
+/// A part of a pattern with operators, with what it stands for.
 #[derive(Drop)]
 pub(crate) enum PatternItem {
     Operand(KernelPattern),
@@ -35,7 +35,7 @@ pub(crate) enum PatternItem {
     Operator(Referent),
 }
 
-/// What is refused, as a pattern.
+/// The pattern for what is refused.
 #[tactic(auto, using(cu_kernel::specs::TermsOf::patterns_of_variants))]
 pub(crate) fn no_pattern() -> KernelPattern
     ensures { pattern_of result ≡ definitions.no_pattern }
@@ -43,7 +43,7 @@ pub(crate) fn no_pattern() -> KernelPattern
     KernelPattern::Lit(Lit::Int(0))
 }
 
-/// A number as a pattern.
+/// The pattern of a number.
 #[tactic(auto, using(cu_kernel::specs::TermsOf::patterns_of_variants))]
 fn number_pattern(value: Int) -> KernelPattern
     ensures { pattern_of result ≡ number_form value }
@@ -51,8 +51,8 @@ fn number_pattern(value: Int) -> KernelPattern
     KernelPattern::Lit(Lit::Int(value))
 }
 
-/// The negative of a number, as a pattern. One that is no integer of the
-/// language counts as want of memory: no literal has it.
+/// The pattern of the negative of a number. A number that is no integer of the
+/// language counts as an allocation failure: no literal has it.
 pub(crate) fn negative(value: Int) -> Result<KernelPattern, AllocError>
     ensures { IfOk result (λ p. pattern_of p ≡ number_form (neg_ℤ value)) }
 {
@@ -62,7 +62,7 @@ pub(crate) fn negative(value: Int) -> Result<KernelPattern, AllocError>
     }
 }
 
-/// A literal; a string is the list of its characters.
+/// The pattern of a literal. A string is the list of its characters.
 #[tactic(auto, using(cu_kernel::specs::TermsOf::patterns_of_variants))]
 pub(crate) fn literal_pattern<A: Surroundings>(
     alloc: Global,
@@ -82,7 +82,7 @@ pub(crate) fn literal_pattern<A: Surroundings>(
     }
 }
 
-/// Characters as patterns.
+/// The patterns of characters.
 fn character_patterns(alloc: Global, text: &[char]) -> Result<Vec<KernelPattern>, AllocError>
     ensures { IfOk result (λ found. map pattern_of found.items
         ≡ map definitions.character_pattern text.now) }
@@ -94,7 +94,7 @@ fn character_patterns(alloc: Global, text: &[char]) -> Result<Vec<KernelPattern>
     Ok(patterns)
 }
 
-/// The list of patterns.
+/// The pattern of the list of these patterns.
 pub(crate) fn list_pattern<A: Surroundings>(
     alloc: Global,
     around: &A,
@@ -112,7 +112,7 @@ pub(crate) fn list_pattern<A: Surroundings>(
     Ok(list)
 }
 
-/// A pattern before a list.
+/// The pattern of a list with this first element.
 fn cons<A: Surroundings>(
     alloc: Global,
     around: &A,
@@ -153,7 +153,7 @@ pub(crate) fn ordered_parts<'t, A: Surroundings>(
     in_tree_order(alloc, written.as_slice(), pieces.as_slice())
 }
 
-/// The operands and the operators as they are written.
+/// The operands and the operators of a pattern, as they are written.
 fn written_parts<'t>(
     alloc: Global,
     items: &PatItems<'t>,
@@ -168,7 +168,7 @@ fn written_parts<'t>(
     Ok(parts)
 }
 
-/// What grouping sees of parts.
+/// What grouping sees of parts of a pattern.
 fn pieces<A: Surroundings>(
     alloc: Global,
     around: &A,
@@ -197,7 +197,7 @@ fn piece<A: Surroundings>(around: &A, part: Part<Pattern<'_>>) -> Piece
     }
 }
 
-/// The pattern that parts in the order of their tree are.
+/// The pattern that parts make which stand in the order of their tree.
 pub(crate) fn grouped_pattern(
     alloc: Global,
     items: Vec<PatternItem>,
@@ -223,8 +223,8 @@ fn top(stack: Vec<KernelPattern>) -> KernelPattern
     }
 }
 
-/// Takes the operands of a part from the patterns behind it, and adds what they
-/// make together.
+/// Takes the operands of a part off the stack, and puts on it what they make
+/// together.
 fn place(alloc: Global, item: PatternItem, stack: &mut Vec<KernelPattern>) -> Result<(), AllocError>
     ensures { OnOk result (map pattern_of (reverse stack.new.items)
         ≡ placed (item_meaning item) (map pattern_of (reverse stack.old.items))) }
@@ -244,7 +244,8 @@ fn place(alloc: Global, item: PatternItem, stack: &mut Vec<KernelPattern>) -> Re
     }
 }
 
-/// Puts a constructor between the first two patterns behind it.
+/// Takes two patterns off the stack, and puts on it the constructor applied to
+/// them.
 fn operate(
     alloc: Global,
     referent: Referent,

@@ -21,7 +21,7 @@ pub enum Scope<'s> {
 }
 
 impl<'s> Scope<'s> {
-    /// These names alone.
+    /// The scope of these names alone.
     #[tactic(auto, using(crate::specs::Scopes::scope_variants))]
     pub fn outermost(entries: &'s [Entry]) -> Scope<'s>
         ensures { entries_in result ≡ entries.now }
@@ -29,7 +29,7 @@ impl<'s> Scope<'s> {
         Scope::Outermost(entries)
     }
 
-    /// These names, and behind them those of a scope.
+    /// The scope of these names, and around them those of another scope.
     #[tactic(auto, using(crate::specs::Scopes::scope_variants))]
     pub fn inside(entries: &'s [Entry], around: &'s Scope<'s>) -> Scope<'s>
         ensures { entries_in result ≡ entries.now ++ entries_in around.now }
@@ -37,7 +37,7 @@ impl<'s> Scope<'s> {
         Scope::Inside(entries, around)
     }
 
-    /// What a name means, if it is local; one with a qualifier isn't.
+    /// What a name means, if it is a local name. A name with a qualifier isn't.
     pub fn local_named(&self, name: Name) -> Option<Local>
         ensures { (w : Setting) (local : definitions.Scope) → Sees w local self.now
             → NameIsOf w.owner w.names name
@@ -64,7 +64,7 @@ impl<'s> Scope<'s> {
     }
 }
 
-/// What a text means among some names, if it is that of one of them.
+/// What a text means among these local names, if it is that of one of them.
 fn meaning_in(entries: &[Entry], text: NameId) -> Option<Local>
     ensures { result ≡ meaning_in text entries.now }
 {

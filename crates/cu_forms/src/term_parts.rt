@@ -20,14 +20,15 @@ use cu_syntax::CaseWord;
 use cu_translation::{BuiltIn, Position, Referent, Surroundings};
 use std::alloc::{AllocError, Global};
 
-/// What a name refers to, without arguments.
+/// The term of what a name refers to, without arguments.
 pub(crate) fn alone(alloc: Global, means: Referent) -> Result<LocalTerm, AllocError>
     ensures { IfOk result (λ t. local_term_of t ≡ terms.referred (referent_meaning means) []) }
 {
     referred(alloc, means, None, Vec::new(alloc))
 }
 
-/// An operator on its first operand, which may be a name alone.
+/// The term of an operator on its first operand, which may be a name and
+/// nothing else.
 pub(crate) fn left_section(
     alloc: Global,
     means: Referent,
@@ -42,7 +43,7 @@ pub(crate) fn left_section(
     referred(alloc, means, name, arguments)
 }
 
-/// An operator on its second operand.
+/// The term of an operator on its second operand.
 pub(crate) fn right_section<A: Surroundings>(
     alloc: Global,
     around: &A,
@@ -58,7 +59,8 @@ pub(crate) fn right_section<A: Surroundings>(
     built_in(alloc, around, BuiltIn::Flip, arguments)
 }
 
-/// Whether a case distinction waits for a variable.
+/// Whether a case distinction waits for a variable (`case`), or binds it
+/// (`fcase`).
 fn mode(word: CaseWord) -> Mode
     ensures { result ≡ table.mode word }
 {
@@ -68,7 +70,7 @@ fn mode(word: CaseWord) -> Mode
     }
 }
 
-/// A case distinction.
+/// The term of a case distinction.
 pub(crate) fn distinguished(
     alloc: Global,
     word: CaseWord,
@@ -83,7 +85,8 @@ pub(crate) fn distinguished(
     Ok(LocalTerm::Case(mode(word), subject, rows))
 }
 
-/// The local function whose first token stands at a place, without arguments.
+/// The term of the local function whose first token stands at a place, without
+/// arguments.
 #[tactic(auto, using(cu_kernel::specs::LocalTermsOf::local_terms_of_variants))]
 pub(crate) fn local_function<A: Surroundings>(alloc: Global, around: &A, place: Place) -> LocalTerm
     ensures { (w : Setting) → A.tells around.now w
@@ -93,8 +96,8 @@ pub(crate) fn local_function<A: Surroundings>(alloc: Global, around: &A, place: 
     LocalTerm::Part(LocalHead::Local(function), Vec::new(alloc))
 }
 
-/// The local function whose first token stands at a place, on each element of a
-/// list.
+/// The term that applies the local function whose first token stands at a place
+/// to each element of a list, and joins the results.
 pub(crate) fn mapped<A: Surroundings>(
     alloc: Global,
     around: &A,
@@ -110,7 +113,7 @@ pub(crate) fn mapped<A: Surroundings>(
     built_in(alloc, around, BuiltIn::ConcatMap, arguments)
 }
 
-/// The list of one term.
+/// The term of the list of one term.
 pub(crate) fn single<A: Surroundings>(
     alloc: Global,
     around: &A,
@@ -124,8 +127,8 @@ pub(crate) fn single<A: Surroundings>(
     list(alloc, around, elements)
 }
 
-/// Numbers from the first, by the step to the second, if it is there, and up to
-/// the last, if it is there.
+/// The term of the numbers from the first, by the step to the second, if it is
+/// there, and up to the last, if it is there.
 pub(crate) fn numbered<A: Surroundings>(
     alloc: Global,
     around: &A,

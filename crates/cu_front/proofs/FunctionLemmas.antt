@@ -97,7 +97,7 @@ module_told table modules k owner found told differ known named is tells =
     subst (Tells table (IsRefusedFor (text_of table owner) (is_clash found) result)) (sym is)
     (functions_told table owner found result known (subst (λ (o : NameId). answers.Tells o found result) same tells))
 
--- the same of a module by its place
+-- what an answer tells of a module, by its place
 pub module_refused : (table : List (List ℕ)) (modules : List Module) (k : ℕ) (m : Module) (owner : NameId) (found : DesugarFault) (told : StageFault)
     → AllDiffer table → All (HasModule table) modules → k < length modules → m ≡ get_or modules k m → owner ≡ m.name
     → told ≡ fault_of_functions owner found
@@ -110,7 +110,7 @@ module_refused table modules k m owner found told differ have below at owned is 
     (module_told table ms k m.name found told differ (module_has table modules k m below at have).known named
     (is ∙ ap (λ (o : NameId). fault_of_functions o found) owned) tells)
 
--- the same of a goal
+-- what an answer tells of a goal
 pub goal_told : (table : List (List ℕ)) (modules : List Named) (k : ℕ) (goal : Goal) (owner : NameId) (found : DesugarFault) (told : StageFault)
     → AllDiffer table → slice_get table owner.0 ≡ Some goal_name → told ≡ fault_of_functions owner found
     → answers.Tells (id_of table goal_name) found (goal_translated table modules k goal)

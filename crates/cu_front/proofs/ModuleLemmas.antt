@@ -121,7 +121,7 @@ other_is_told table modules k owner clash (stage.Refused refusal) named kind is 
     }
 other_is_told table modules k owner clash stage.NoMemory named kind is = tt
 
--- want of memory says nothing
+-- an allocation failure says nothing
 pub kept_tells : (table : List (List ℕ)) (P : Refusal → Type 0) (told : StageFault) → IfErr (kept told) (Tells table P)
 kept_tells table P (stage.Refused refusal) = tt
 kept_tells table P stage.NoMemory = tt
@@ -145,7 +145,7 @@ from_append found k (x ∷ xs) ys =
     ∙ both_told x.name (found k) (first_from found (k + 1) xs) (first_from found (k + 1 + length xs) ys)
     ∙ ap (λ (n : ℕ). option_or (refused_or x.name (found k) (first_from found (k + 1) xs)) (first_from found n ys)) same
 
--- of one module more
+-- the first fault in so many modules and one more
 one_more : (found : ℕ → Option Fault) (modules : List Named) (n : ℕ) → n < length modules
     → first_from found 0 (take (suc n) modules)
     ≡ option_or (first_from found 0 (take n modules)) (refused_or (module_at modules n).name (found n) None)

@@ -1,4 +1,4 @@
--- Tables behind the text of a goal.
+-- Tables after the text of a goal.
 use Rattle.std.proofs.Common.{◌≡◌, ◌∙◌, ◌<◌, ℕ, Bool, true, false, List, [], Option, None, Some, IfErr, IfOk, Ok, Result, cond, length, nat_lt, position, refl, slice_get, sym, ap, subst}
 use Rattle.std.proofs.lemmas.Bool.{ltb-true}
 use Rattle.std.proofs.lemmas.Option.{slice_get-get_or}

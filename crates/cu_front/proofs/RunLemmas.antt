@@ -42,7 +42,7 @@ pub ok_same : {A : Type 0} (P : A → Type 0) (result : Result A StageFault) (fo
 ok_same P (Ok a) found is holds = subst P (sym is) holds
 ok_same P (Err e) found is holds = tt
 
--- want of memory says nothing
+-- an allocation failure says nothing
 pub memory_told : {A : Type 0} (names : List (List ℕ)) (P : Refusal → Type 0) (result : Result A StageFault)
     → IfErr result (λ fault. fault ≡ stage.NoMemory) → IfErr result (Tells names P)
 memory_told names P (Ok a) is = tt
@@ -79,7 +79,7 @@ clash_told names program f c fault result is leave levels clashes told =
     (CannotRun names program) result
     (λ refusal e. subst (CannotRun names program) (sym e) (clash f levels (leave program f c has))) told
 
--- the same of a group without its declared types
+-- a group of functions that doesn't keep to its declared types, told of its first function
 pub signature_told : (names : List (List ℕ)) (program : Kernel) (f : FunId) (fault : TypeFault) (result : StageFault)
     → fault ≡ typing.Signature f → HasLevels program → IsTypeFault program fault
     → Tells names (λ refusal. refusal ≡ Signature (function_text names program f)) result

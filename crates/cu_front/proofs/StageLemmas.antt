@@ -1,4 +1,4 @@
--- Faults of names and of goals, and the programs behind them.
+-- Faults of names and of goals, and the programs after them.
 use Rattle.std.proofs.Common.{◌≡◌, ◌∙◌, ◌-◌, ◌<◌, ℕ, suc, Bool, List, [], Option, None, Some, IfErr, IfOk, Result, Ok, Err, arith, length, refl, sym, ap, subst}
 use Rattle.cu_declared.specs.declared.fault.TypeArity.{TypeArity}
 use Rattle.cu_declared.specs.declared.fault.TypeArity.TheVariants as arity
@@ -232,7 +232,7 @@ pub whole_of : (names : List (List ℕ)) (modules : List Named) (k : ℕ) (text 
 whole_of names modules k text goal (Ok outcome) right is = whole_is names modules k text goal outcome right is
 whole_of names modules k text goal (Err fault) right is = tt
 
--- ---- behind the modules
+-- ---- after the modules
 
 abbrev pub GoalsFollow : Type 0
 GoalsFollow = (table : List (List ℕ)) (modules : List Named) (root k : ℕ) (goal : Goal) → length modules ≡ suc k

@@ -103,7 +103,7 @@ walk_counts names (order.TooManyModules id) result old new is same = count_if _ 
 walk_counts names order.Fetch result old new is same = subst (λ r. FaultCount r old new) (sym is) same
 walk_counts names order.NoMemory result old new is same = subst (λ r. FaultCount r old new) (sym is) same
 
--- ---- the stages behind the walk
+-- ---- the stages after the walk
 
 stage_by : (names : List (List ℕ)) (P : Refusal → Type 0) (fault : StageFault) → Tells names P fault → TellsRefusal names P (answer_of fault)
 stage_by names P (stage.Refused refusal) told = told.0

@@ -10,26 +10,27 @@ use Rattle.cu_front.specs.declared.fault.CompileFault.TheVariants as answer
 use Rattle.cu_front.specs.Refusal.{Refusal}
 use Rattle.cu_front.specs.RefusalMeaning.{RefusalIsKnown, refusal_meaning}
 
--- A refusal that an answer tells has this property. A fault of the library and want of memory say
--- nothing.
+-- A refusal that an answer tells has the property P. A fault of the library and an allocation
+-- failure say nothing.
 abbrev pub TellsRefusal : List (List ℕ) → (Refusal → Type 0) → CompileFault → Type 0
 TellsRefusal names P (answer.Refused refusal) = P (refusal_meaning names refusal)
 TellsRefusal names P answer.Fetch = Unit {0}
 TellsRefusal names P answer.NoMemory = Unit {0}
 
--- the table has the names of the refusal that an answer tells
+-- The table has the names of the refusal that an answer tells.
 abbrev pub AnswerIsKnown : List (List ℕ) → CompileFault → Type 0
 AnswerIsKnown names (answer.Refused refusal) = RefusalIsKnown names refusal
 AnswerIsKnown names answer.Fetch = Unit {0}
 AnswerIsKnown names answer.NoMemory = Unit {0}
 
--- The library's count rose where the answer is a fault of it, and stands still otherwise.
+-- The library's count of faults rose where the answer is a fault of the library. Otherwise it
+-- stands.
 abbrev pub FaultCount : CompileFault → ℕ → ℕ → Type 0
 FaultCount answer.Fetch old new = Rose old new
 FaultCount _ old new = new ≡ old
 
--- A program has a goal: a function with a rule, that takes as many arguments as the goal has
--- variables, of which the table has the names.
+-- The program has a goal: a function with a rule, which takes as many arguments as the goal has
+-- variables, and whose variables' names the table has.
 pub record HasGoal (names : List (List ℕ)) (program : Kernel) (code : Code) : Type 0 where
   pub goal : Goal
   pub is : program.goal ≡ Some goal

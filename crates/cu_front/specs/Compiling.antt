@@ -24,13 +24,13 @@ use Rattle.cu_front.specs.Programs.{CanRun, CannotRun, IsLifted}
 use Rattle.cu_front.specs.Refusal.{InNames, Refusal, Walked, goal_name, in_functions, in_types}
 use Rattle.cu_front.specs.Translated.{modules_program, translation_refusal}
 
--- the texts of modules that are held under their names
+-- a folder of modules: the text of the module of a name, where the folder has one
 abbrev pub Held : Type 0
 Held = List ℕ → Option (List ℕ)
 
 -- ---- modules
 
--- the modules that a root reaches are refused
+-- The modules that a root reaches are refused, for this reason.
 pub data ModulesRefused (held : Held) (root : List ℕ) : Refusal → Type 0 where
   walk : (refusal : modules_walk.Refusal) → Walk held root (Err refusal)
       → ModulesRefused held root (Walked refusal)
@@ -51,8 +51,8 @@ pub data ModulesRefused (held : Held) (root : List ℕ) : Refusal → Type 0 whe
       → IsLifted table (modules_program table modules) names program
       → CannotRun names program refusal → ModulesRefused held root refusal
 
--- modules that a root reaches, and the program that they come to, with its table of names and its
--- types
+-- The root reaches these modules, none of which is refused. They come to this program, with its
+-- table of names, the types of its functions, and its flat program.
 pub record ModulesCompile (held : Held) (root : List ℕ) (modules : List Named)
     (names : List (List ℕ)) (program : Kernel) (interface : List TypeExpr)
     (flat : calculus.Program) : Type 0 where
@@ -65,13 +65,14 @@ pub record ModulesCompile (held : Held) (root : List ℕ) (modules : List Named)
   pub lifted : IsLifted table (modules_program table modules) names program
   pub can_run : CanRun program interface flat
 
--- the program that the modules that a root reaches come to, with its table of names and its types
+-- The modules that the root reaches come to this program, with its table of names, the types of its
+-- functions, and its flat program.
 pub record ModuleCompiles (held : Held) (root : List ℕ) (names : List (List ℕ))
     (program : Kernel) (interface : List TypeExpr) (flat : calculus.Program) : Type 0 where
   pub modules : List Named
   pub compile : ModulesCompile held root modules names program interface flat
 
--- the modules that a root reaches, of which nothing is refused
+-- The root reaches these modules, of which nothing is refused.
 pub record AreModules (held : Held) (root : List ℕ) (modules : List Named) : Type 0 where
   pub names : List (List ℕ)
   pub program : Kernel
@@ -81,16 +82,16 @@ pub record AreModules (held : Held) (root : List ℕ) (modules : List Named) : T
 
 -- ---- goals
 
--- the number of the root among modules
+-- the number of the root among the modules
 abbrev pub root_in : List Named → List ℕ → ℕ
 root_in modules root = position_or_len (has_name root) modules
 
--- the program of modules and a goal in one of them
+-- the program before lifting of modules and of a goal in the module of number k
 unfoldable pub whole_program : List (List ℕ) → List Named → ℕ → Goal → LocalKernel
 whole_program table modules k goal =
     joined (modules_program table modules) (goal_part table modules k goal)
 
--- a goal in the module of a number is refused
+-- A goal in the module of number k is refused, for this reason.
 pub data GoalRefused (modules : List Named) (k : ℕ) (text : List ℕ) : Refusal → Type 0 where
   unread : (fault : TextFault) → GoalIsRead text (Err fault)
       → GoalRefused modules k text (Walked (InText goal_name fault))
@@ -112,7 +113,8 @@ pub data GoalRefused (modules : List Named) (k : ℕ) (text : List ℕ) : Refusa
       → IsLifted table (whole_program table modules k goal) names program
       → CannotRun names program refusal → GoalRefused modules k text refusal
 
--- a goal of which nothing is refused, and the program of the modules and the goal
+-- Nothing is refused of a goal in the module of number k, and the modules and the goal come to this
+-- program, with its table of names and its flat program.
 pub record IsGoal (modules : List Named) (k : ℕ) (text : List ℕ) (names : List (List ℕ))
     (program : Kernel) (flat : calculus.Program) : Type 0 where
   pub goal : Goal
@@ -129,7 +131,8 @@ pub record IsGoal (modules : List Named) (k : ℕ) (text : List ℕ) (names : Li
 
 -- ---- both
 
--- a goal in a module is refused, by the modules or by the goal itself
+-- A goal in a module is refused, for this reason: one of the modules that the root reaches, or one
+-- of the goal itself.
 pub data Refuses (held : Held) (root text : List ℕ) : Refusal → Type 0 where
   by_modules : (refusal : Refusal) → ModulesRefused held root refusal
       → Refuses held root text refusal
@@ -137,7 +140,7 @@ pub data Refuses (held : Held) (root text : List ℕ) : Refusal → Type 0 where
       → GoalRefused modules (root_in modules root) text refusal
       → Refuses held root text refusal
 
--- the program that a goal in a module comes to, with its table of names
+-- A goal in a module comes to this program, with its table of names and its flat program.
 pub record Compiles (held : Held) (root text : List ℕ) (names : List (List ℕ))
     (program : Kernel) (flat : calculus.Program) : Type 0 where
   pub modules : List Named

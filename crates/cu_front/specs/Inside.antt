@@ -1,3 +1,8 @@
+-- What private contracts and invariants of loops say. No public contract speaks of it.
+
+-- What the translation of modules and a goal comes to.
 pub mod Outcomes
+-- What the stages after the walk come to.
 pub mod Stages
+-- What the answer of inference says.
 pub mod Typings

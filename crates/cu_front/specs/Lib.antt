@@ -1,13 +1,26 @@
 -- In the order in which to read them.
+
+-- Why modules or a goal are refused.
 pub mod Refusal
+-- The line of a refused run.
 pub mod RefusalLine
+-- The refusals that those of the code stand for.
 pub mod RefusalMeaning
+-- What the text of a goal is read as.
 pub mod GoalTexts
+-- What the faults of stages tell.
 pub mod StageFaults
+-- The names that a table has to have for modules and a goal.
 pub mod Names
+-- The program before lifting that modules are translated to.
 pub mod Translated
+-- Lifted programs, and why one can't be run.
 pub mod Programs
+-- What modules and a goal come to: a refusal or a program.
 pub mod Compiling
+-- Why the lifting of a program can't be run.
 pub mod Runnable
+-- What the answers of `compile` tell.
 pub mod CompileAnswers
+-- What private contracts and invariants of loops say.
 pub mod Inside

@@ -8,10 +8,11 @@ use Rattle.cu_translation.specs.Numbered.{Declared, all_constructors, all_functi
 use Rattle.cu_uses.specs.Binders.{texts}
 use Rattle.cu_front.specs.Refusal.{goal_name}
 
+-- the names of what is declared
 abbrev pub declared_names : List Declared → List (List ℕ)
 declared_names ds = map (λ (d : Declared). d.name) ds
 
--- the names of modules, and of what they declare
+-- the names of modules, and of all that they declare
 abbrev pub names_of : List Named → List (List ℕ)
 names_of modules =
     map (λ (m : Named). m.name) modules ++
@@ -19,12 +20,13 @@ names_of modules =
     (declared_names (all_constructors modules) ++
     (declared_names (all_functions modules) ++ declared_names (all_synonyms modules))))
 
--- Each text stands once in the table, and these names are among them.
+-- The table has each text once, and the names of modules and of what they declare among them.
 pub record IsTable (modules : List Named) (table : List (List ℕ)) : Type 0 where
   pub differ : AllDiffer table
   pub has : All (Contains table) (names_of modules)
 
--- A table that has the names of modules, the name of goals, and those of this goal's free variables.
+-- The table has the names of modules, the name of goals, and the names of this goal's free
+-- variables.
 pub record IsGoalTable (modules : List Named) (goal : Goal) (table : List (List ℕ)) : Type 0 where
   pub of_modules : IsTable modules table
   pub name : Contains table goal_name

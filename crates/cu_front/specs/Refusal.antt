@@ -8,37 +8,39 @@ use Rattle.cu_translation.specs.FaultOrder as functions
 use Rattle.cu_uses.specs.Faults as uses
 use Rattle.cu_declared.specs.TypeFaults as types
 
+-- why modules or a goal are refused
 pub data Refusal : Type 0 where
-  -- a fault of the walk over imports, or of the tokens, layout or syntax of a module or the goal
+  -- A fault of the walk over imports, or of the tokens, layout or syntax of a module or the goal.
   Walked : walk.Refusal → Refusal
-  -- a fault of the names in the text of a module
+  -- A fault of the names in the text of a module or the goal.
   InNames : List ℕ → uses.Fault → Refusal
-  -- a type's name with a wrong number of arguments, in the text of a module
+  -- A type's name with a wrong number of arguments, in the text of a module or the goal.
   TypeArity : List ℕ → Position → Refusal
-  -- the synonym of this name leads to itself
+  -- The synonym of this name leads to itself.
   SynonymCycle : List ℕ → Refusal
-  -- a fault of the functions in the text of a module
+  -- A fault of the functions in the text of a module or the goal.
   InFunctions : List ℕ → functions.Fault → Refusal
-  -- the first function that stands on a recursion through set functions
+  -- A recursion through set functions: the first function that stands on one.
   SetRecursion : List ℕ → Refusal
-  -- the first function of the first dependency group that can't be typed, where the equations of
-  -- the group have no solution
+  -- The first function of the first dependency group that can't be typed, where the equations of
+  -- the group have no solution.
   TypeClash : List ℕ → Refusal
-  -- the first function of the first dependency group that can't be typed, where the equations of
-  -- the group have solutions, but none that keeps to the declared types
+  -- The first function of the first dependency group that can't be typed, where the equations of
+  -- the group have solutions, but none that keeps to the declared types.
   Signature : List ℕ → Refusal
-  -- the first function whose definitional tree is too big
+  -- The first function whose definitional tree is too big.
   TreeTooBig : List ℕ → Refusal
-  -- the type of the goal, or of a variable of it, holds functions
+  -- The type of the goal, or of a variable of it, holds functions.
   GoalFunctional : Refusal
 
--- A goal's text stands for that of a module of this name.
+-- the name of the module for which a goal's text stands
 abbrev pub goal_name : List ℕ
 goal_name = codes "goal"
 
 -- ---- types
 
--- A synonym's cycle is told by the synonym's name alone.
+-- The refusal for a fault of types at a position in the text of a module. A synonym's cycle is told
+-- by the synonym's name alone.
 abbrev pub in_types_at : List ℕ → types.Wrong → Position → Refusal
 in_types_at owner types.TypeArity at = TypeArity owner at
 in_types_at owner (types.SynonymCycle name) at = SynonymCycle name
@@ -49,7 +51,8 @@ in_types owner fault = in_types_at owner fault.wrong fault.at
 
 -- ---- functions
 
--- A rule too many is told by its line alone, as an item that is too long.
+-- The refusal for a fault of functions at a position in the text of a module. A rule too many is
+-- told by its line alone, as an item that is too long.
 abbrev pub in_functions_at : List ℕ → functions.Wrong → Position → Refusal
 in_functions_at owner functions.TooLong at =
     Walked (walk.InText owner (texts.Syntax (parsing.TooLong at.line)))

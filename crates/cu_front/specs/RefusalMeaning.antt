@@ -1,4 +1,4 @@
--- What the refusals of the code stand for, under a table of names.
+-- The refusals that those of the code stand for, under a table of names.
 use Rattle.std.specs.Prelude.{ℕ, List, ◌++◌, Option, None, Some, IfSome, codes}
 use Rattle.std.specs.List.{All}
 use Rattle.cu_lex.specs.Reading.{position_of}
@@ -20,28 +20,34 @@ use Rattle.cu_front.specs.Refusal.{Walked}
 use Rattle.cu_front.specs.declared.refusal.Refusal as code
 use Rattle.cu_front.specs.declared.refusal.Refusal.TheVariants as told
 
+-- the refusal for a fault of the tokens at a place
 abbrev pub of_tokens_at : List (List ℕ) → Place → tokens.Fault → Refusal
 of_tokens_at names place fault = Walked (in_text_at names place (texts.Tokens fault))
 
+-- the refusal for a fault of the tokens of a module
 abbrev pub of_tokens : List (List ℕ) → NameId → tokens.Fault → Refusal
 of_tokens names id fault = Walked (in_text names id (texts.Tokens fault))
 
+-- the refusal for a fault of the syntax of a module
 abbrev pub of_syntax : List (List ℕ) → NameId → parsing.Fault → Refusal
 of_syntax names id fault = Walked (in_text names id (texts.Syntax fault))
 
+-- the refusal for a fault of a name at a place
 abbrev pub of_names : List (List ℕ) → names.Wrong → Place → NameId → Refusal
 of_names names wrong place id =
     InNames (text_of names place.«module») (fault_at names wrong place id)
 
+-- the refusal for a fault of functions at a place
 abbrev pub of_functions : List (List ℕ) → functions.Wrong → Place → Refusal
 of_functions names wrong place =
     InFunctions (text_of names place.«module») (functions.fault wrong (position_of place))
 
--- a function by its name, behind that of its module
+-- the text of a function: its own name, after that of its module where this is told
 abbrev pub function_named : List (List ℕ) → Option NameId → NameId → List ℕ
 function_named names None f = text_of names f
 function_named names (Some m) f = text_of names m ++ (codes "." ++ text_of names f)
 
+-- the refusal that a refusal of the code stands for
 abbrev pub refusal_meaning : List (List ℕ) → code.Refusal → Refusal
 refusal_meaning names (told.NotUtf8 id offset) = of_tokens names id (tokens.NotUtf8 offset)
 refusal_meaning names (told.BadToken place) =
@@ -78,13 +84,15 @@ refusal_meaning names (told.TreeTooBig m f) = TreeTooBig (function_named names m
 
 -- ---- names of a table
 
+-- The table has the name of a place's module.
 abbrev pub PlaceIsKnown : List (List ℕ) → Place → Type 0
 PlaceIsKnown names place = IsKnown names place.«module»
 
+-- The table has the name of a function, and that of its module where this is told.
 abbrev pub FunctionIsKnown : List (List ℕ) → Option NameId → NameId → Type 0
 FunctionIsKnown names m f = IfSome m (IsKnown names) × IsKnown names f
 
--- the table has the names of a refusal
+-- The table has all names of a refusal.
 abbrev pub RefusalIsKnown : List (List ℕ) → code.Refusal → Type 0
 RefusalIsKnown names (told.NotUtf8 id offset) = IsKnown names id
 RefusalIsKnown names (told.BadToken place) = PlaceIsKnown names place

@@ -5,7 +5,7 @@ ghost use Rattle.cu_front.specs.declared.fault.StageFault.TheVariants.{NoMemory}
 use crate::refusal::Refusal;
 use std::alloc::AllocError;
 
-/// Why a stage ends early: its text or program is refused, or there is no
+/// Why a stage ends early: a text or a program is refused, or there is no
 /// memory left.
 #[derive(Debug, Drop)]
 pub(crate) enum StageFault {

@@ -25,7 +25,7 @@ use std::alloc::Global;
 /// # Errors
 ///
 /// The first fault of its tokens, of its layout or of its syntax, told of a
-/// module of this name; want of memory.
+/// module of this name; an allocation failure.
 pub(crate) fn read_goal(
     alloc: Global,
     names: &mut Names,

@@ -83,8 +83,8 @@ fn alone(alloc: Global, names: &mut Names, modules: &[Module]) -> Result<Compile
 /// # Errors
 ///
 /// The first fault of the names in the modules, or else of their types, or else
-/// of their functions; want of memory. That there is a module is tested here once
-/// more.
+/// of their functions; an allocation failure. That there is a module is tested
+/// here once more.
 fn translated(alloc: Global, names: &Names, modules: &[Module]) -> Result<LocalProgram, StageFault>
     requires built_in { HasBuiltIn names.now }
     requires known { All (HasModule names.now) modules.now }

@@ -9,14 +9,14 @@ use crate::fault::StageFault;
 use crate::refusal::Refusal;
 use cu_kernel::LocalProgram;
 
-/// A program before lifting, or why there is none.
+/// A program before lifting, or why a text is refused.
 #[derive(Drop)]
 pub(crate) enum Outcome {
     Program(LocalProgram),
     Refused(Refusal),
 }
 
-/// A refusal that is told later.
+/// The outcome that keeps a refusal, which is told later.
 pub(crate) fn kept(fault: StageFault) -> Result<Outcome, StageFault>
     ensures { result ≡ meant.kept fault }
 {
@@ -26,7 +26,7 @@ pub(crate) fn kept(fault: StageFault) -> Result<Outcome, StageFault>
     }
 }
 
-/// A program and the next part behind it, or why the part is refused.
+/// The program with the next part after it, or why the part is refused.
 fn with_part(mut program: LocalProgram, next: Outcome) -> Result<Outcome, StageFault>
     requires { Follow (Program program) next }
     ensures whole { IfOk result (λ found. found ≡ meant.behind (Program program) next) }
@@ -41,7 +41,8 @@ fn with_part(mut program: LocalProgram, next: Outcome) -> Result<Outcome, StageF
     }
 }
 
-/// A program and the next part behind it, or the refusal that is found first.
+/// The outcome for a program and the next part after it: both joined, or the
+/// refusal that is found first.
 pub(crate) fn behind(before: Outcome, next: Outcome) -> Result<Outcome, StageFault>
     requires { Follow before next }
     ensures whole { IfOk result (λ found. found ≡ meant.behind before next) }

@@ -58,22 +58,22 @@ pub(crate) struct Rooted<'a> {
     pub(crate) root: u32,
 }
 
-/// Programs before lifting.
+/// The programs before lifting of modules, and of these and a goal.
 #[derive(Drop)]
 pub(crate) struct Programs {
-    /// That of the modules.
+    /// The program of the modules.
     pub(crate) modules: LocalProgram,
-    /// That of the modules and the goal, or why the goal is refused.
+    /// The program of the modules and the goal, or why the goal is refused.
     pub(crate) whole: Outcome,
 }
 
-/// The programs of modules, each of which stands behind those that it imports,
+/// The programs of modules, each of which stands after those that it imports,
 /// and of these and a goal in one of them.
 ///
 /// # Errors
 ///
 /// The first fault of the names in the modules, or else of their types, or else
-/// of their functions; want of memory.
+/// of their functions; an allocation failure.
 pub(crate) fn programs_of(
     alloc: Global,
     rooted: Rooted<'_>,
@@ -117,8 +117,8 @@ pub(crate) fn programs_of(
 ///
 /// # Errors
 ///
-/// The first fault of the names in the modules, or else of their types; want of
-/// memory.
+/// The first fault of the names in the modules, or else of their types; an
+/// allocation failure.
 pub(crate) fn with_types(
     alloc: Global,
     names: &Names,
@@ -142,8 +142,8 @@ pub(crate) fn with_types(
 ///
 /// # Errors
 ///
-/// The first fault of the names of the first module that has one; want of
-/// memory.
+/// The first fault of the names of the first module that has one; an allocation
+/// failure.
 fn scoped(alloc: Global, names: &Names, modules: &[Module]) -> Result<Scopes, StageFault>
     requires built_in { HasBuiltIn names.now }
     requires known { All (HasModule names.now) modules.now }
@@ -163,8 +163,8 @@ fn scoped(alloc: Global, names: &Names, modules: &[Module]) -> Result<Scopes, St
 ///
 /// # Errors
 ///
-/// The first fault of the types of the first module that has one; want of
-/// memory.
+/// The first fault of the types of the first module that has one; an allocation
+/// failure.
 fn test_types(
     alloc: Global,
     names: &Names,
@@ -184,11 +184,12 @@ fn test_types(
     }
 }
 
-/// The same as [`goal_outcome`] of a goal that may be unread.
+/// The program of modules and of a goal in one of them, or why the goal is
+/// refused, also where its text can't be read.
 ///
 /// # Errors
 ///
-/// As those of [`goal_outcome`].
+/// The first fault of the functions of the modules; an allocation failure.
 fn read_outcome(
     alloc: Global,
     rooted: Rooted<'_>,
@@ -225,7 +226,7 @@ fn read_outcome(
 ///
 /// # Errors
 ///
-/// The first fault of the functions of the modules; want of memory.
+/// The first fault of the functions of the modules; an allocation failure.
 fn goal_outcome(
     alloc: Global,
     rooted: Rooted<'_>,
@@ -274,8 +275,8 @@ fn goal_outcome(
     }
 }
 
-/// Reads the variables of a goal: a table that has the names of its tokens has
-/// these too.
+/// Reads the variables of a goal, and tells that a table that has the names of
+/// the goal's tokens has the names of these too.
 fn know_variables(alloc: Global, goal: &GoalText) -> Result<(), AllocError>
     ensures { (owner : NameId) (names : List (List ℕ)) → GoalIsOf owner names goal.now
         → OnOk result (All (Contains names) (texts (goal_meaning names goal.now).free)) }
@@ -289,7 +290,7 @@ fn know_variables(alloc: Global, goal: &GoalText) -> Result<(), AllocError>
 ///
 /// # Errors
 ///
-/// The first fault of the functions of the modules; want of memory.
+/// The first fault of the functions of the modules; an allocation failure.
 fn with_goal(
     alloc: Global,
     modules: Modules<'_>,
@@ -317,7 +318,7 @@ fn with_goal(
 ///
 /// # Errors
 ///
-/// Want of memory.
+/// An allocation failure.
 fn goal_part(
     alloc: Global,
     modules: Modules<'_>,

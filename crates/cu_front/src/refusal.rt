@@ -28,13 +28,14 @@ pub enum Refusal {
     NotUtf8(NameId, usize),
     BadToken(Place),
     LiteralRange(Place),
-    /// A text of more than 16,777,216 bytes.
+    /// A text of more than 16,777,216 bytes, by its module.
     SourceTooBig(NameId),
-    /// The line of an item that has no tree.
+    /// An item that has no tree, by its module and its line.
     Syntax(NameId, u32),
     FixityClash(Place),
     MissingModule(NameId),
-    /// The names of the cycle, from the module that was met again.
+    /// A cycle of imports, by the names of its modules, from the one that was
+    /// met again.
     ImportCycle(Vec<NameId>),
     HeaderName(NameId),
     NotExported(Place, NameId),
@@ -45,14 +46,16 @@ pub enum Refusal {
     NonLinear(Place),
     RecursiveLocal(Place),
     SetName(Place),
-    /// The first function on a recursion through set functions, behind its
-    /// module where it isn't the goal's.
+    /// A recursion through set functions: the first function that stands on
+    /// one, after its module where it isn't the goal's.
     SetRecursion(Option<NameId>, NameId),
-    /// The first function of the first dependency group that can't be typed, behind
-    /// its module where it isn't the goal's: the group's equations have no solution.
+    /// The first function of the first dependency group that can't be typed,
+    /// after its module where it isn't the goal's. The group's equations have
+    /// no solution.
     TypeClash(Option<NameId>, NameId),
-    /// The same, where the equations have solutions, and none that keeps to the
-    /// declared types.
+    /// The first function of the first dependency group that can't be typed,
+    /// after its module where it isn't the goal's. The group's equations have
+    /// solutions, but none that keeps to the declared types.
     Signature(Option<NameId>, NameId),
     /// A type's name with a wrong number of arguments.
     TypeArity(Place),
@@ -62,18 +65,20 @@ pub enum Refusal {
     GoalFunctional,
     TooManyModules(NameId),
     TooDeep(Place),
-    /// The line of an item of too many tokens, or of a rule too many.
+    /// An item of too many tokens, or a rule too many, by its module and its
+    /// line.
     TooLong(NameId, u32),
-    /// The function, behind its module where it isn't the goal's.
+    /// The first function whose definitional tree is too big, after its module
+    /// where it isn't the goal's.
     TreeTooBig(Option<NameId>, NameId),
 }
 
 impl Refusal {
-    /// Its line, `refused NUMBER NAME DETAIL`.
+    /// The line of the refusal, `refused NUMBER NAME DETAIL`.
     ///
     /// # Errors
     ///
-    /// Want of memory.
+    /// An allocation failure.
     pub fn line(&self, alloc: Global, names: &Names) -> Result<String, AllocError>
         requires known { RefusalIsKnown names.now self.now }
         ensures line { IfOk result (λ line.
@@ -170,7 +175,7 @@ fn of_line(
     refused(alloc, title, detail.as_str())
 }
 
-/// A place, as `MODULE:LINE:COLUMN`.
+/// A place in a module, as `MODULE:LINE:COLUMN`.
 fn place_text(alloc: Global, names: &Names, place: Place) -> Result<String, AllocError>
     requires { PlaceIsKnown names.now place }
     ensures { IfOk result (λ found. string_bytes found
@@ -214,7 +219,8 @@ fn of_use(
     refused(alloc, title, detail.as_str())
 }
 
-/// A function by its name, behind that of its module.
+/// The text of a function: its own name, after that of its module where this is
+/// told.
 fn function_text(
     alloc: Global,
     names: &Names,

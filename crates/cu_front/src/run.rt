@@ -23,13 +23,14 @@ use cu_kernel::Goal;
 use cu_names::{NameId, Names};
 use std::alloc::Global;
 
-/// The program of modules and a goal. That of the modules alone is tried first,
-/// since what is wrong with it comes before the goal.
+/// The program of modules and a goal. The program of the modules alone is tried
+/// first, since what is wrong with it comes before the goal.
 ///
 /// # Errors
 ///
-/// Why the program of the modules can't be run, or else why the goal is refused,
-/// or else why the program of both can't be run; want of memory.
+/// Why the program of the modules can't be run, or else why the goal is
+/// refused, or else why the program of both can't be run; an allocation
+/// failure.
 pub(crate) fn run(
     alloc: Global,
     names: &mut Names,
@@ -58,9 +59,9 @@ pub(crate) fn run(
     }
 }
 
-/// A program, where it has a goal that can be searched. That of a goal always
-/// has one, which is tested here once more: another is answered as want of
-/// memory.
+/// A program, where it has a goal that can be searched. The program of a goal
+/// always has one, which is tested here once more: a program without one is
+/// answered as an allocation failure.
 fn with_goal(names: &Names, found: Compiled) -> Result<Compiled, StageFault>
     ensures same { IfOk result (λ same. same ≡ found) }
     ensures goal { IfOk result (λ found. HasGoal names.now found.program found.flat) }
@@ -82,7 +83,7 @@ fn has_goal(names: &Names, found: &Compiled) -> bool
     }
 }
 
-/// Whether a goal is a function with a rule, which takes the goal's variables.
+/// Whether a goal's function has a rule, and takes the goal's variables.
 fn has_function(flat: &FlatProgram, goal: &Goal) -> bool
     ensures rule { IsTrue result → IsTrue (is_rule (body_of flat.now goal.now.function)) }
     ensures parameters { IsTrue result
@@ -120,7 +121,7 @@ pub(crate) fn are_known(names: &Names, ids: &[NameId]) -> bool
     all_below(ids, count)
 }
 
-/// Whether names are among the first so many.
+/// Whether all names are among the first so many of a table.
 fn all_below(ids: &[NameId], count: usize) -> bool
     ensures { result ≡ list_all (λ id. nat_lt id.0 count) ids.now }
 {

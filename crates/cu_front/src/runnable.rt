@@ -36,21 +36,21 @@ use std::alloc::Global;
 #[derive(Drop)]
 pub struct Compiled {
     pub program: Program,
-    /// The types of its functions.
+    /// The types of the program's functions.
     pub interface: Interface,
-    /// The same program with definitional trees in place of rules.
+    /// The flat program: the program with definitional trees in place of rules.
     pub flat: FlatProgram,
 }
 
 /// The program that another becomes by lifting, where it can be run. The names
-/// of the functions that are new are interned.
+/// of the lifted functions are interned.
 ///
 /// # Errors
 ///
-/// The first function on a recursion through set functions, or else the first of
-/// the first dependency group that can't be typed, or else the first whose
-/// definitional tree is too big, or else that the goal holds functions; want of
-/// memory.
+/// The first function on a recursion through set functions, or else the first
+/// of the first dependency group that can't be typed, or else the first whose
+/// definitional tree is too big, or else that the goal holds functions; an
+/// allocation failure.
 pub(crate) fn runnable(
     alloc: Global,
     names: &mut Names,
@@ -79,8 +79,9 @@ pub(crate) fn runnable(
     }
 }
 
-/// The program that another becomes by lifting. That all parts of it fit is
-/// tested here once more: what doesn't is answered as want of memory.
+/// The program that another becomes by lifting. That all parts of it fit
+/// together is tested here once more: parts that don't are answered as an
+/// allocation failure.
 fn lifted(alloc: Global, names: &mut Names, local: LocalProgram) -> Result<Program, StageFault>
     ensures lifted { IfOk result (IsLifted names.old local names.new) }
     ensures fault { IfErr result (λ fault. fault ≡ NoMemory) }
@@ -103,7 +104,7 @@ fn are_named(names: &Names, local: &LocalProgram) -> bool
     all_below(functions, count)
 }
 
-/// Whether the names of functions are among the first so many.
+/// Whether the names of all functions are among the first so many of a table.
 fn all_below(functions: &[TopFunction], count: usize) -> bool
     ensures { result ≡ list_all (λ f. nat_lt f.name.0 count) functions.now }
 {
@@ -158,8 +159,8 @@ enum Typing {
 ///
 /// # Errors
 ///
-/// The first function of the first dependency group that can't be typed; want of
-/// memory.
+/// The first function of the first dependency group that can't be typed; an
+/// allocation failure.
 fn typed(alloc: Global, names: &Names, program: &Program) -> Result<Typing, StageFault>
     requires levels { HasLevels program.now }
     ensures types { IfOk result (IsTyping program.now) }
@@ -235,8 +236,8 @@ fn of_tree(names: &Names, program: &Program, f: FunId) -> StageFault
     }
 }
 
-/// The name of a function's module, unless the function is the goal's, and its
-/// own.
+/// The name of a function's module, unless the function is the goal's, and the
+/// function's own name.
 fn function_names(names: &Names, program: &Program, f: FunId) -> Option<(Option<NameId>, NameId)>
     ensures text { IfSome result (λ found. function_named names.now found.0 found.1
         ≡ programs.function_text names.now program.now f) }

@@ -102,7 +102,7 @@ fn in_modules(
     let owner = names.intern("goal")?;
     let goal = read_goal(alloc, names, owner, asked.goal.as_bytes());
     // A root is one of the modules that it reaches, which is tested here once
-    // more: where it were none, that would be want of memory.
+    // more: if it were none, that would be an allocation failure.
     let Some(root) = root_in(names, modules, asked.root) else {
         return Err(StageFault::NoMemory);
     };
@@ -139,7 +139,7 @@ fn place_of(modules: &[Module], name: NameId) -> Option<usize>
     modules.iter().position(|module| module.name() == name)
 }
 
-/// The answer for a fault of the stages behind the walk.
+/// The answer for a fault of the stages after the walk.
 pub(crate) fn of_stage(fault: StageFault) -> CompileFault
     ensures { result ≡ answer_of fault }
 {
@@ -150,8 +150,8 @@ pub(crate) fn of_stage(fault: StageFault) -> CompileFault
 }
 
 /// The answer for a fault of the walk over the modules. The table always has
-/// its names, which is tested here once more: others are answered as want of
-/// memory.
+/// its names, which is tested here once more: a fault with other names is
+/// answered as an allocation failure.
 pub(crate) fn of_walk(names: &Names, fault: OrderFault) -> CompileFault
     ensures { IsWalkAnswer names.now fault result }
 {

@@ -20,7 +20,7 @@ use std::alloc::Global;
 /// # Errors
 ///
 /// The first clash of operators of the first module with one, or else the first
-/// other fault of the first module with one; want of memory.
+/// other fault of the first module with one; an allocation failure.
 pub(crate) fn modules_program(
     alloc: Global,
     modules: Modules<'_>,
@@ -49,12 +49,12 @@ pub(crate) fn modules_program(
     }
 }
 
-/// The part that the module of a number is translated to, or its first fault
-/// that is no clash.
+/// The part that the module of a number is translated to, or the module's first
+/// fault that is no clash.
 ///
 /// # Errors
 ///
-/// Its first clash of operators; want of memory.
+/// The module's first clash of operators; an allocation failure.
 fn module_outcome(alloc: Global, modules: Modules<'_>, number: u32) -> Result<Outcome, StageFault>
     requires known { AreKnown modules }
     requires number { number < length modules.modules.now }

@@ -1,4 +1,5 @@
--- Modules that a root reaches, of which nothing is refused, are such as a program of them declares its types as inference asks.
+-- Modules that a root reaches, of which nothing is refused, are such as a program of them declares
+-- its types as inference asks.
 use Rattle.std.specs.Prelude.{◌≡◌, ◌<◌, ◌≤◌, ℕ, suc, List, [], ◌∷◌, codes, length, Option, Some, Ok, if◌then◌else◌, refl}
 use Rattle.std.proofs.Common.{ap, arith, inl, inr, subst, sym, ◌∙◌}
 use Rattle.std.proofs.lemmas.Bool.{and_from}

@@ -185,7 +185,7 @@ module _ (Ok : Lexeme → Type 0) where
   separated_many p s NoTree good = tt
   separated_many p s (MoreTrees tree trees) good = good
 
-  -- what is matched, and right tokens behind it
+  -- what is matched, and right tokens after it
   abbrev Found : Type 0 → List Lexeme → Type 0
   Found T rest = T × Every Ok rest
 

@@ -1,4 +1,4 @@
--- Members of lists, and lists that stand one behind another.
+-- Members of lists, and lists that stand one after another.
 use Rattle.std.proofs.Common.{◌≡◌, ◌∙◌, ◌⊎◌, inl, inr, ◌<◌, ◌≤◌, ◌+◌, ℕ, zero, suc, Bool, true, false, List, [], ◌∷◌, ◌++◌, Some, length, map, refl, sym, ap, subst, arith, if◌then◌else◌}
 use Rattle.std.proofs.lemmas.List.{append-nil, append_assoc, length-append, map-append}
 use Rattle.std.specs.List.{filter, flat_map, slice_get}
@@ -133,7 +133,7 @@ module _ {A B : Type 0} where
   every_flat_map P f [] every = tt
   every_flat_map P f (x ∷ xs) every = every_append P (f x) (flat_map f xs) every.0 (every_flat_map P f xs every.1)
 
--- ---- the lists of numbers up to one, each behind those before it
+-- ---- the lists of numbers up to one, each after those before it
 
 abbrev pub gather : {A : Type 0} → (ℕ → List A) → ℕ → List A
 gather f zero = f zero
@@ -198,7 +198,7 @@ module _ {A : Type 0} (f : ℕ → List A) where
       omega arith
   rise_more j k go h (inr (inr above)) = absurd (omega arith)
 
-  -- those of a later number begin behind those of an earlier one
+  -- the list of a later number begins after the list of an earlier one
   pub starts_rise : (j k : ℕ) → j < k → start_of f j + length (f j) ≤ start_of f k
   starts_rise j zero h = absurd (omega arith)
   starts_rise j (suc k) h = rise_more j k (starts_rise j k) h (compare j k)
@@ -258,7 +258,7 @@ gather_first f zero = refl
 gather_first f (suc n) =
     ap (λ xs. xs ++ f (suc (suc n))) (gather_first f n) ∙ append_assoc (f 0) (gather (λ k. f (suc k)) n) (f (suc (suc n)))
 
--- those of each element of a list
+-- the lists of the elements of a list
 pub gathered : {A B : Type 0} (f : A → List B) (d : A) (x : A) (xs : List A)
     → gather (λ k. f (slice_index_or (x ∷ xs) k d)) (length xs) ≡ flat_map f (x ∷ xs)
 gathered f d x [] = sym (append-nil (f x))

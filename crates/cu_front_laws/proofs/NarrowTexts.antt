@@ -1,4 +1,5 @@
--- Texts whose tuple types are those that there are, and whose declared types have no signs for names.
+-- Texts whose tuple types are those that there are, and whose declared types have no signs for
+-- names.
 use Rattle.std.proofs.Common.{◌≡◌, ◌||◌, ℕ, Bool, true, false, List, [], ◌∷◌}
 use Rattle.std.specs.List.{list_any}
 use Rattle.std.specs.Prelude.{nat_eq}

@@ -13,7 +13,7 @@ use Rattle.cu_lift.specs.SetCycles.{IsSetRecursion}
 use Rattle.cu_types.specs.Laws.{AnswersExclude, FaultsAgree, InterfacesAgree}
 use Rattle.cu_types.specs.TypeFaults.{HasBrokenSignature, HasFunctionalGoal, HasNoSolution}
 
--- of one function one thing is told
+-- what is told of one function is one thing
 same_text : (told : List ℕ → Refusal) (names : List (List ℕ)) (program : Kernel) (f g : FunId) → f ≡ g
     → told (function_text names program f) ≡ told (function_text names program g)
 same_text told names program f g e = ap (λ (h : FunId). told (function_text names program h)) e

@@ -18,9 +18,9 @@ use Rattle.cu_syntax.specs.Parsing.{Part, Split, after, behind, closes, depth_af
 use Rattle.cu_front_laws.proofs.Members.{In}
 use Rattle.cu_front_laws.proofs.PreludeTokens.{at, plain, prelude_tokens}
 
--- ---- layout of the front of a text
+-- ---- layout of a prefix of a text
 
--- the stack behind tokens, and the marks before each
+-- the stack after tokens, and the marks before each
 pub record Ran : Type 0 where
   pub stack : Stack
   pub due : Bool
@@ -36,7 +36,7 @@ run stack due line (t ∷ ts) =
           (run step.stack (is_block_keyword t.what) (Some t.at.line) ts)
     ]
 
--- the marks of the whole begin with those of the front, one list for each of its tokens
+-- the marks of the whole begin with those of the prefix, one list for each of its tokens
 pub record MarksBegin (ts : List Sight) (r : Ran) (m : Marks) : Type 0 where
   pub later : List (List LayoutMark)
   pub before : m.before ≡ r.marks ++ later
@@ -102,7 +102,7 @@ interleaved (t ∷ ts) more (m ∷ marks) later e =
     ap (λ xs. map (emitted_lexeme (Some t)) m ++ t ∷ xs) (interleaved ts more marks later (omega arith))
     ∙ sym (append_assoc (map (emitted_lexeme (Some t)) m) (t ∷ interleaving emitted_lexeme ts marks) (interleaving emitted_lexeme more later))
 
--- ---- parts that end in the front of a block
+-- ---- parts that end in a prefix of a block
 
 -- the parts that end at semicolons outside braces, where this stands before
 unfoldable pub ended : ℕ → List Lexeme → List Lexeme → List (List Lexeme)

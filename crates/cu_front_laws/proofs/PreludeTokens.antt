@@ -74,7 +74,7 @@ at l c kind = record { what = kind; at = record { line = l; column = c } }
 abbrev pub plain : Text → Spelling
 plain word = spelled None (codes word)
 
--- up to the declaration behind that of truth values
+-- up to the declaration after that of truth values
 abbrev pub prelude_tokens : List Lexeme
 prelude_tokens =
     at 2 1 (Keyword keyword.Infixr) ∷ at 2 8 (Int (pos 9)) ∷ at 2 10 (VarOp (plain ".")) ∷ at 3 1 (Keyword keyword.Infixl) ∷

@@ -1,4 +1,5 @@
--- The texts of modules and goals have only tuple types that there are, and no type that modules declare has a sign for a name.
+-- The texts of modules and goals have only tuple types that there are, and no type that modules
+-- declare has a sign for a name.
 use Rattle.std.specs.Prelude.{◌≡◌, ℕ, Bool, true, false, List, [], Option, Result, Ok, IfOk, IfSome, refl}
 use Rattle.std.proofs.Common.{subst}
 use Rattle.std.proofs.lemmas.Bool.{and_parts, both_ways}

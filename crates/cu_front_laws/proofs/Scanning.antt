@@ -282,7 +282,8 @@ number_sound p front next =
 abbrev no_line_end : List ℕ → Bool
 no_line_end w = not (list_any (λ c. c == byte "\n") w)
 
--- whether characters may be a piece: one alone, a word, a comment in a line, or what begins with a brace or a quote
+-- whether characters may be a piece: one alone, a word, a comment in a line, or what begins with a
+-- brace or a quote
 abbrev pub may_be_piece : List ℕ → Bool
 may_be_piece [] = true
 may_be_piece (c ∷ []) = true
@@ -376,7 +377,7 @@ piece_shape front rest =
 
 -- ---- a look no further than what may be a piece
 
--- the longest piece, of the fronts that go on with what was begun
+-- the longest piece, of the prefixes that go on with what was begun
 unfoldable pub scan_after : List Located → List Located → Option (Cut Piece)
 scan_after begun [] = None
 scan_after begun (c ∷ text) =

@@ -1,4 +1,5 @@
--- How many parameters a type has: by the declarations of modules, and by the numbers of types and synonyms.
+-- How many parameters a type has: by the declarations of modules, and by the numbers of types and
+-- synonyms.
 use Rattle.std.proofs.Common.{◌≡◌, ◌∙◌, ◌⊎◌, inl, inr, ◌<◌, ◌+◌, ◌&&◌, ◌||◌, ℕ, zero, suc, Bool, true, false, List, [], ◌∷◌, ◌++◌, Option, None, Some, length, map, refl, sym, ap, subst, arith, if◌then◌else◌, codes}
 use Rattle.std.proofs.lemmas.Bool.{and_parts, both_ways, or_left, or_right}
 use Rattle.std.proofs.lemmas.Bool.Decides.{Decides-eqb}
@@ -112,7 +113,7 @@ item_splits o q x (syntax.DeclarationItem d) = none_splits
 nil_not : {A B : Type 0} (x : A) (xs : List A) → x ∷ xs ≡ [] → B
 nil_not x xs e = absurd cc
 
--- the names behind one that isn't repeated
+-- the names after one that isn't repeated
 once_more : (seen : List (List ℕ)) (name : Name) (names : List Name) → repeated seen (name ∷ names) ≡ []
     → (is_among seen name.text ≡ false) × (repeated (name.text ∷ seen) names ≡ [])
 once_more seen name names e = by (is_among seen name.text) refl e
@@ -164,7 +165,7 @@ split_same {d = d} {d' = d'} {y = y} {y' = y'} ps ds ys s = (sym ps ∙ s.0 ∙ 
     apart (inl h) = inl (sym ds ∙ h)
     apart (inr h) = inr (sym ys ∙ h)
 
--- what is declared behind another type has its number
+-- what is declared after another type has its number
 pub front_number : (o x : List ℕ) (name : Name) (n k : ℕ) (items : List Item) (seen : List (List ℕ))
     → repeated seen (name ∷ flat_map binders.types_by items) ≡ []
     → ((seen : List (List ℕ)) → repeated seen (flat_map binders.types_by items) ≡ [] → number_at (flat_map (parameters_by o) items) o x ≡ Some k)

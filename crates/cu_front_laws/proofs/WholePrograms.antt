@@ -62,7 +62,8 @@ lifted_marks locals program = refl
 
 -- ---- what is known of accepted modules
 
--- Modules of which nothing was refused, the Prelude first. Their tuple types are those that there are, and the Prelude has truth values.
+-- Modules of which nothing was refused, the Prelude first. Their tuple types are those that there
+-- are, and the Prelude has truth values.
 pub record AreAccepted (p : Named) (ms : List Named) : Type 0 where
   pub declared : AreDeclared p ms
   pub scoped : AreScoped [] (p ∷ ms)
@@ -70,7 +71,8 @@ pub record AreAccepted (p : Named) (ms : List Named) : Type 0 where
   pub narrow : (i : ℕ) → i ≤ length ms → Every NarrowItem (module_at (p ∷ ms) i).syntax.items
   pub bool : number_at (all_parameters (p ∷ ms)) prelude_name (codes "Bool") ≡ Some 0
 
--- A program whose marks and functions are those of modules and others, and its types and synonyms those of the modules.
+-- A program whose marks and functions are those of modules and others, and its types and synonyms
+-- those of the modules.
 pub record IsProgram (table : List (List ℕ)) (p : Named) (ms : List Named) (k : Kernel) : Type 0 where
   pub types : k.types ≡ gather (types_at table (p ∷ ms)) (length ms)
   pub synonyms : k.synonyms ≡ gather (synonyms_at table (p ∷ ms)) (length ms)

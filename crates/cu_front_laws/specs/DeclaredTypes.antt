@@ -15,21 +15,21 @@ use Rattle.cu_modules.specs.Walk.{Walk}
 use Rattle.cu_syntax.specs.Syntax.{Goal}
 use Rattle.cu_types.specs.Synonyms.{DeclaresTypes}
 
--- the modules that a root reaches, without a fault of names or types
+-- The root reaches these modules, and they have no fault of names or types.
 pub record HaveRightTypes (held : Held) (root : List ℕ) (modules : List Named) : Type 0 where
   pub walked : Walk held root (Ok modules)
   pub scoped : AreScoped [] modules
   pub right : AreRight modules
 
--- a goal in the module of a number, without a fault of names or types
+-- The text is read as this goal in the module of number k, and it has no fault of names or types.
 pub record HasRightTypes (modules : List Named) (k : ℕ) (text : List ℕ) (goal : Goal) : Type 0
   where
     pub read : GoalIsRead text (Ok goal)
     pub scoped : IsGoalScoped modules k goal
     pub right : IsGoalRight modules k goal
 
--- In a program that is lifted from these modules each name of a type has its number of arguments,
--- and no synonym leads to itself.
+-- In every program that is lifted from modules without a fault of names or types, each name of a
+-- type has its number of arguments, and no synonym leads to itself.
 abbrev pub RightModulesDeclare : Type 0
 RightModulesDeclare =
     (held : Held) (root : List ℕ) (modules : List Named) (table names : List (List ℕ))
@@ -37,7 +37,8 @@ RightModulesDeclare =
     → HaveRightTypes held root modules
     → IsLifted table (modules_program table modules) names program → DeclaresTypes program
 
--- So it is in one that is lifted from these modules and such a goal.
+-- In every program that is lifted from modules and a goal without a fault of names or types, each
+-- name of a type has its number of arguments, and no synonym leads to itself.
 abbrev pub RightGoalsDeclare : Type 0
 RightGoalsDeclare =
     (held : Held) (root : List ℕ) (modules : List Named) (k : ℕ) (text : List ℕ) (goal : Goal)
@@ -45,14 +46,16 @@ RightGoalsDeclare =
     → HaveRightTypes held root modules → HasRightTypes modules k text goal
     → IsLifted table (whole_program table modules k goal) names program → DeclaresTypes program
 
--- So it is in the program that modules come to.
+-- In every program that modules come to, each name of a type has its number of arguments, and no
+-- synonym leads to itself.
 abbrev pub ModulesDeclareTypes : Type 0
 ModulesDeclareTypes =
     (held : Held) (root : List ℕ) (modules : List Named) (names : List (List ℕ)) (program : Kernel)
     (interface : List TypeExpr) (flat : Program)
     → ModulesCompile held root modules names program interface flat → DeclaresTypes program
 
--- And in the program that a goal in a module comes to.
+-- In every program that a goal in a module comes to, each name of a type has its number of
+-- arguments, and no synonym leads to itself.
 abbrev pub GoalsDeclareTypes : Type 0
 GoalsDeclareTypes =
     (held : Held) (root text : List ℕ) (names : List (List ℕ)) (program : Kernel) (flat : Program)

@@ -8,10 +8,10 @@ ghost use Rattle.cu_front_laws.specs.DeclaredTypes.{
 };
 
 /// What `declared_types` and `declared_types_goal` accept meets the usual
-/// condition of type inference: in the program that modules come to, and in that
-/// of modules and a goal, each name of a type has as many arguments as the type
-/// has parameters, and no synonym leads to itself. So it is in each program that
-/// inference is asked about, also in one that is refused then.
+/// condition of type inference: in the program that modules come to, and in
+/// that of modules and a goal, each name of a type has as many arguments as the
+/// type has parameters, and no synonym leads to itself. This holds of each
+/// program that inference is asked about, also of one that is refused later.
 pub fn accepted_types_are_declared()
     ensures right_modules { RightModulesDeclare }
     ensures right_goals { RightGoalsDeclare }

@@ -1,4 +1,4 @@
--- Graphs in which other nodes stand at some places.
+-- Graphs in which other nodes stand in the place of some.
 use Rattle.std.proofs.Common.{◌≡◌, ◌≢◌, ℕ, zero, suc, ◌+◌, ◌-◌, ◌<◌, ◌≤◌, Bool, true, false, ◌||◌, List, [], ◌∷◌, ◌++◌, length, get_or, set, drop, nat_eq, Some, Result, Ok, Err, OnOk, slice_get, refl, ap, sym, ◌∙◌, arith, eqb-true}
 use Rattle.std.proofs.lemmas.Bool.{eqb-false}
 use Rattle.std.specs.List.{list_any, position}
@@ -9,7 +9,7 @@ use Rattle.cu_machine.specs.Graph.{Graph, Node, node_at, put, stuck}
 use Rattle.cu_machine.specs.declared.Kind.{Kind}
 use Rattle.cu_frozen.specs.Layers.{Layer, layer_of, Amends, Holds, Leaves, over, written}
 
--- ** Nodes at some places
+-- ---- nodes at some places
 
 pub length-written : (graph : Graph) (ids : List ℕ) (nodes : List Node) → length (written graph ids nodes) ≡ length graph
 length-written graph [] nodes = refl
@@ -29,7 +29,7 @@ written_elsewhere graph (x ∷ ids) (node ∷ nodes) id absent =
     let both = or_neither (nat_eq id x) (list_any (nat_eq id) ids) absent in
     get_or-set_other (written graph ids nodes) x id node stuck (eqb-false id x both.0) ∙ written_elsewhere graph ids nodes id both.1
 
--- ** The first of these places that is a given one
+-- ---- the first of these places that is a given one
 
 record IsFirst (id : ℕ) (ids : List ℕ) (i : ℕ) : Type 0 where
   within : i < length ids
@@ -77,7 +77,7 @@ change_new graph (x ∷ ids) (old ∷ nodes) id node paired absent =
     ap (λ rest. put rest x old) (change_new graph ids nodes id node (omega arith) both.1)
     ∙ set_comm (written graph ids nodes) id x node old (eqb-false id x both.0)
 
--- ** What one layer shows
+-- ---- what one layer shows
 
 pub shows_added : (layer : Layer) (id : ℕ) → layer.base ≤ id → id < layer.base + length layer.added
     → Holds layer id layer.added (id - layer.base)
@@ -103,7 +103,7 @@ shows_below layer id there absent = λ below fits.
     let inside : id < length front = omega (arith, length-written below layer.changed layer.changes) in
     get_or_append_left front layer.added stuck id inside ∙ written_elsewhere below layer.changed layer.changes id absent
 
--- ** One layer more
+-- ---- one layer more
 
 pub puts_added : (layer : Layer) (added : List Node) (id : ℕ) (node : Node) → layer.base ≤ id → added ≡ set layer.added (id - layer.base) node
     → Amends layer (layer_of layer.base layer.changed layer.changes added) (λ graph. put graph id node)
@@ -151,7 +151,7 @@ puts_new (Ok x) old new id node there paired absent base added changed changes =
     new_place old new id node there paired absent base added changed changes
 puts_new (Err e) old new id node there paired absent base added changed changes = tt
 
--- ** One change after another
+-- ---- one change after another
 
 pub amends_both : (old middle new : Layer) (first second : Graph → Graph) → Amends old middle first → Amends middle new second
     → Amends old new (λ graph. second (first graph))

@@ -9,7 +9,7 @@ pub length-over : (layer : Layer) (graph : Graph) → length graph ≡ layer.bas
 length-over layer graph fits =
     omega (arith, length-append (written graph layer.changed layer.changes) layer.added, length-written graph layer.changed layer.changes)
 
--- ** No layer, one layer more, and a front
+-- ---- no layer, one layer more, and a prefix
 
 pub none_laid : (graph : Graph) → laid graph [] ≡ graph
 unfolding laid
@@ -40,7 +40,7 @@ unfolding laid AreLaid
 last_fits graph [] layer are = are.0
 last_fits graph (first ∷ layers) layer are = last_fits (over first graph) layers layer are.1
 
--- ** A layer among others
+-- ---- a layer among others
 
 -- where a layer stands among others
 pub record Stands (layers : List Layer) (k : ℕ) (layer : Layer) : Type 0 where
@@ -114,7 +114,7 @@ none_reached layers left id none reaches =
     let at_start : left ≡ 0 = omega arith in
     none_there layers id (subst (λ k. Reaches layers k id) at_start reaches)
 
--- ** Layers that are kept in a list of other things
+-- ---- layers that are kept in a list of other things
 
 module _ {X : Type 0} (f : X → Layer) where
   pub stands_in : (items : List X) (k : ℕ) (x : X) (layer : Layer) → AreLaid [] (map f items) → k < length items → get_or items k x ≡ x → f x ≡ layer
@@ -156,7 +156,7 @@ module _ {X : Type 0} (f : X → Layer) where
   popped_fewer items front layers (Some x) is means =
       omega (arith, ap length (sym means ∙ ap (map f) is ∙ map_push f front x), length-append (map f front) (f x ∷ []))
 
--- ** Two layers joined
+-- ---- two layers joined
 
 pub joins : (last segment joined : Layer) (graph whole : Graph) → Amends last segment (λ g. g) → length graph ≡ last.base → whole ≡ over last graph
     → length whole ≡ joined.base → joined.base ≡ segment.base + length segment.added
@@ -173,12 +173,12 @@ pub joined_graph : (last segment older newer : Layer) (graph whole : Graph) → 
 joined_graph last segment older newer graph whole copied amended fits is =
     amended.graph graph (fits ∙ sym copied.base) ∙ ap (over older) (copied.graph graph fits ∙ sym is)
 
--- ** A graph with a layer on top
+-- ---- a graph with a layer on top
 
 pub size_of : (top : Layer) (below whole : Graph) → length below ≡ top.base → over top below ≡ whole → length whole ≡ top.base + length top.added
 size_of top below whole fits is = ap length (sym is) ∙ length-over top below fits
 
--- ** As many graphs as asked for
+-- ---- as many graphs as asked for
 
 pub forked : (stores new : List Graph) (last whole : Graph) (made count : ℕ) → stores ≡ replicate made whole → new ≡ stores ++ last ∷ [] → last ≡ whole
     → made + 1 ≡ count → map (λ graph. graph) new ≡ replicate count whole

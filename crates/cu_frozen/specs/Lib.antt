@@ -1,1 +1,2 @@
+-- What was written over a graph.
 pub mod Layers

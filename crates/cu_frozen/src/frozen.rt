@@ -1,4 +1,4 @@
-//! Segments that are shared.
+//! Frozen segments of a graph, which its forks share.
 ghost use Rattle.std.specs.Prelude.{◌≡◌, ◌<◌, [], IfOk, IfSome, IsNone, OnOk, length};
 ghost use Rattle.std.specs.Arc.{arc_value};
 ghost use Rattle.cu_frozen.specs.Layers.{Amends, Shows, laid, over};
@@ -38,7 +38,7 @@ fn owned(shared: Arc<Segment>) -> Result<Segment, AllocError>
 }
 
 impl Frozen {
-    /// No segments.
+    /// The graph without segments.
     pub(crate) fn new(alloc: Global) -> Frozen
         ensures { result ≡ [] }
     {
@@ -47,7 +47,7 @@ impl Frozen {
         }
     }
 
-    /// Where the node at a place stands.
+    /// Where the node with this number stands.
     pub(crate) fn spot(&self, id: u32) -> Spot<'_>
         requires { id < length (laid [] self.now) }
         ensures { Shows result.nodes.now result.place (laid [] self.now) id }
@@ -63,7 +63,7 @@ impl Frozen {
         unreachable!()
     }
 
-    /// The same segments once more.
+    /// The segments, shared with another owner.
     pub(crate) fn shared(&self, alloc: Global) -> Result<Frozen, AllocError>
         ensures { IfOk result (λ other. other ≡ self.now) }
     {
@@ -74,8 +74,8 @@ impl Frozen {
         Ok(Frozen { segments })
     }
 
-    /// These segments and a new one. Those that aren't much larger than what
-    /// comes behind them are joined with it.
+    /// These segments and a new one. The last ones that aren't much larger than
+    /// what comes after them are joined with it.
     pub(crate) fn with(self, alloc: Global, newest: Segment) -> Result<Frozen, AllocError>
         requires { length (laid [] self) ≡ newest.base }
         ensures { IfOk result (λ frozen. laid [] frozen ≡ over newest (laid [] self)) }

@@ -1,4 +1,4 @@
-//! Graphs whose forks share what was there.
+//! Graphs whose forks share the nodes that there were before the fork.
 #![tactic(auto)]
 
 mod frozen;

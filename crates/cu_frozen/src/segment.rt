@@ -1,4 +1,4 @@
-//! What was written over a graph.
+//! Segments: what was written over a graph.
 ghost use Rattle.std.specs.Prelude.{◌≡◌, ◌<◌, ◌+◌, ◌-◌, ◌^◌, [], ◌∷◌, ◌++◌, IfOk, IfSome, IsNone, OnErr, OnOk, false, length, nat_eq};
 ghost use Rattle.std.specs.List.{list_any};
 ghost use Rattle.cu_machine.specs.Graph.{put};
@@ -9,24 +9,25 @@ use indexmap::IndexSet;
 use std::alloc::{AllocError, Global};
 use std::marker::Model;
 
-/// A node in a list.
+/// Where a node stands: a list of nodes and an index in it.
 #[derive(Clone, Copy)]
 pub(crate) struct Spot<'a> {
     pub(crate) nodes: &'a NodeVec,
     pub(crate) place: usize,
 }
 
-/// What was written over a graph: an overlay of nodes that were changed, and
-/// the nodes behind them.
+/// A segment: what was written over a graph, as an overlay of nodes that were
+/// changed, and the nodes after those of the graph.
 #[derive(Drop)]
 pub(crate) struct Segment {
     alloc: Global,
     /// How many nodes the graph below has.
     base: u32,
-    /// The places of the nodes that were changed, and what stands there now.
+    /// The indices of the nodes that were changed, and the nodes that stand
+    /// there now.
     changed: IndexSet<u32>,
     changes: NodeVec,
-    /// The nodes behind those of the graph below.
+    /// The nodes after those of the graph below.
     added: NodeVec,
 }
 
@@ -41,7 +42,8 @@ impl Model for Segment {
 }
 
 impl Segment {
-    /// Nothing yet, over a graph of so many nodes. It takes no memory.
+    /// The segment in which nothing is written, over a graph of so many nodes.
+    /// It takes no memory.
     pub(crate) fn new(alloc: Global, base: u32) -> Segment
         ensures { result ≡ layer_of base [] [] [] }
     {
@@ -61,14 +63,15 @@ impl Segment {
         self.base + self.added.len() as u32
     }
 
-    /// How many nodes were written.
+    /// How many nodes were written in the segment.
     pub(crate) fn size(&self) -> usize
         ensures { result ≡ length self.now.changed + length self.now.added }
     {
         self.changed.len() + self.added.len()
     }
 
-    /// Where the node at a place stands, if it was written here.
+    /// Where the node with this number stands, if it was written in this
+    /// segment.
     pub(crate) fn spot(&self, id: u32) -> Option<Spot<'_>>
         requires { id < self.now.base + length self.now.added }
         ensures here { IfSome result (λ spot. Holds self.now id spot.nodes.now spot.place) }
@@ -172,7 +175,7 @@ impl Segment {
         Ok(())
     }
 
-    /// A segment of its own that comes to the same.
+    /// A segment of its own that changes a graph as this one does.
     pub(crate) fn copied(&self) -> Result<Segment, AllocError>
         ensures { IfOk result (λ copy. Amends self.now copy (λ graph. graph)) }
     {

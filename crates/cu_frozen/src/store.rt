@@ -1,4 +1,4 @@
-//! A graph whose forks share what was there.
+//! A graph whose forks share the nodes that there were before the fork.
 ghost use Rattle.std.specs.Prelude.{◌≡◌, ◌<◌, [], IfOk, length};
 ghost use Rattle.cu_frozen.specs.Layers.{Shows, laid};
 
@@ -41,7 +41,7 @@ impl FrozenStore {
         }
     }
 
-    /// Where the node at a place stands.
+    /// Where the node with this number stands.
     fn spot(&self, id: u32) -> Spot<'_>
         requires { id < length self.now }
         ensures { Shows result.nodes.now result.place self.now id }
@@ -52,7 +52,7 @@ impl FrozenStore {
         }
     }
 
-    /// All of its nodes, frozen.
+    /// The nodes of the graph, as frozen segments.
     fn freeze(self) -> Result<Frozen, AllocError>
         ensures { IfOk result (λ frozen. laid [] frozen ≡ self) }
     {

@@ -1,4 +1,4 @@
--- Nodes in flat arrays, where arguments are written behind those that are there.
+-- Nodes in flat arrays, where arguments are written after those that are there.
 use Rattle.std.proofs.Common.{◌≡◌, ℕ, suc, ◌+◌, ◌≤◌, List, [], ◌∷◌, ◌++◌, length, take, drop, set, Result, Ok, Err, OnErr, get_or, refl, ap, sym, subst, ◌∙◌, arith}
 use Rattle.std.proofs.lemmas.List.{drop-append-le, take-append-le, length-drop, length-append, map_push, map-set}
 use Rattle.std.proofs.lemmas.List.Elements.{All-push}

@@ -1,1 +1,2 @@
+-- Nodes in flat arrays.
 pub mod FlatArrays

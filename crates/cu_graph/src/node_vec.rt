@@ -19,7 +19,7 @@ struct Entry {
 /// arguments begin, the other one the arguments of all nodes. Nodes are named
 /// by their indices.
 ///
-/// A node that is put in the place of another has its arguments written behind
+/// A node that is put in the place of another has its arguments written after
 /// those of all nodes, and the old ones become stale. Before that, `put` drops
 /// the stale arguments if they outnumber both the nodes and the arguments in
 /// use. So a `put` begins to write with no more stale arguments than there are
@@ -46,7 +46,7 @@ impl Model for NodeVec {
     ghost invariant = { λ v. AreWithin v.args.items v.entries.items };
 }
 
-/// Writes a node's arguments behind those of all nodes.
+/// Writes a node's arguments after those of all nodes.
 fn append(all: &mut Vec<u32>, kind: Kind, args: &[u32]) -> Result<Entry, AllocError>
     ensures node { IfOk result (λ entry. node_of all.new.items entry
         ≡ record { kind = kind; args = args.now }) }
@@ -67,7 +67,7 @@ fn append(all: &mut Vec<u32>, kind: Kind, args: &[u32]) -> Result<Entry, AllocEr
 }
 
 impl NodeVec {
-    /// No nodes. It takes no memory yet.
+    /// The list without nodes. It takes no memory yet.
     pub fn new(alloc: Global) -> NodeVec
         ensures { result ≡ [] }
     {
@@ -111,7 +111,7 @@ impl NodeVec {
         &self.args[entry.start..entry.start + entry.arity as usize]
     }
 
-    /// Adds a node behind the others. An `Err` changes nothing; a node of more
+    /// Adds a node after the others. An `Err` changes nothing; a node of more
     /// than 4,294,967,295 arguments gives one too.
     pub fn push(&mut self, kind: Kind, args: &[u32]) -> Result<(), AllocError>
         ensures ok { OnOk result (self.new
@@ -137,7 +137,7 @@ impl NodeVec {
         self.write(index, kind, args)
     }
 
-    /// The same nodes once more: a copy of each array as it is.
+    /// A copy of the list: of each array as it is.
     pub fn copied(&self) -> Result<NodeVec, AllocError>
         ensures { IfOk result (λ copy. copy ≡ self.now) }
     {
@@ -151,7 +151,7 @@ impl NodeVec {
         })
     }
 
-    /// Whether so many arguments are stale that it pays to copy the rest.
+    /// Whether so many arguments are stale that it pays to copy the others.
     fn is_sparse(&self) -> bool {
         self.stale > self.entries.len() && self.stale > self.args.len() / 2
     }
@@ -164,7 +164,7 @@ impl NodeVec {
         Ok(())
     }
 
-    /// The same nodes, with no stale arguments.
+    /// A copy of the list without stale arguments.
     fn compacted(&self) -> Result<NodeVec, AllocError>
         ensures { IfOk result (λ copy. copy ≡ self.now) }
     {
@@ -175,8 +175,8 @@ impl NodeVec {
         Ok(copy)
     }
 
-    /// Writes another node in the place of one, and its arguments behind those
-    /// of all nodes. The old ones become stale.
+    /// Writes another node in the place of one, and its arguments after those
+    /// of all nodes. The old arguments become stale.
     fn write(&mut self, index: usize, kind: Kind, args: &[u32]) -> Result<(), AllocError>
         requires { index < length self.old }
         ensures ok { OnOk result (self.new

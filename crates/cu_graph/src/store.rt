@@ -5,10 +5,10 @@ ghost use Rattle.cu_machine.specs.Graph.{Node, node_at};
 use cu_machine::Kind;
 use std::alloc::{AllocError, Global};
 
-/// A graph that is kept as a list of nodes. Nodes are named by their places,
+/// A graph that is kept as a list of nodes. Nodes are named by their indices,
 /// and none is ever taken away.
 pub trait Store: Sized + Send + Drop {
-    /// The nodes, however they are kept.
+    /// The nodes of the graph, however they are kept.
     ghost content: { Self → List Node };
 
     /// A graph without nodes.
@@ -29,13 +29,14 @@ pub trait Store: Sized + Send + Drop {
         requires { id < length (content self.now) }
         ensures { result ≡ length (node_at (content self.now) id).args };
 
-    /// The place of a node's argument, counted from 0.
+    /// The index of the node that is a node's argument; arguments are counted
+    /// from 0.
     fn arg(&self, id: u32, i: u32) -> u32
         requires node { id < length (content self.now) }
         requires argument { i < length (node_at (content self.now) id).args }
         ensures { result ≡ slice_index (node_at (content self.now) id).args i };
 
-    /// Adds a node, and answers its place. An `Err` changes nothing; a node of
+    /// Adds a node, and answers its index. An `Err` changes nothing; a node of
     /// more than 4,294,967,295 arguments gives one too.
     fn push(&mut self, kind: Kind, args: &[u32]) -> Result<u32, AllocError>
         requires { length (content self.old) < 2 ^ 32 - 1 }

@@ -2,7 +2,7 @@
 -- Prelude's div and mod).
 use Rattle.std.specs.Prelude.{◌-◌, ◌^◌, Bool, not, ◌&&◌, ◌||◌, Option, None, Some, if◌then◌else◌, ℤ, pos, negsuc, ◌+ℤ◌, ◌-ℤ◌, int_le, int_lt, int_div, int_rem}
 
--- 128 bits with a sign
+-- whether a number is an integer of the language: 128 bits hold it with its sign
 abbrev pub is_integer : ℤ → Bool
 is_integer n = int_le (negsuc (2 ^ 127 - 1)) n && int_le n (pos (2 ^ 127 - 1))
 
@@ -13,8 +13,8 @@ checked n = if is_integer n then Some n else None
 abbrev pub is_negative : ℤ → Bool
 is_negative n = int_lt n (pos 0)
 
--- Division towards zero leaves a rest of the other sign than the divisor's. There the quotient is
--- one less, and the rest is the divisor more.
+-- Whether division towards zero leaves a rest whose sign isn't the divisor's. Rounded towards minus
+-- infinity, the quotient is then one less, and the rest is greater by the divisor.
 abbrev pub is_uneven : ℤ → ℤ → Bool
 is_uneven m n = let rest = int_rem m n in (is_negative rest && not (is_negative n))
     || (int_lt (pos 0) rest && is_negative n)

@@ -3,15 +3,15 @@ use Rattle.std.specs.Prelude.{ℕ, ◌+◌, ◌-◌, ◌^◌, ◌==◌, min, Boo
 use Rattle.std.specs.List.{list_any}
 use Rattle.cu_io.specs.declared.calls.Calls.{Calls}
 
--- one more, up to the last number of 64 bits
+-- a number and one more, at most the last number of 64 bits
 abbrev pub one_more : ℕ → ℕ
 one_more n = min (n + 1) (2 ^ 64 - 1)
 
--- before the first call
+-- the calls of an object that wasn't called yet: the next is number 0, and none has failed
 abbrev pub no_calls : Calls
 no_calls = record { next = 0; faults = 0 }
 
--- what stands after a call: the next number is one more, and where the call failed so is the count
+-- the calls after one more: the next number is one more, and where the call failed so is the count
 -- of faults
 abbrev pub counted : Calls → Bool → Calls
 counted calls failed = record {

@@ -8,8 +8,8 @@ use Rattle.cu_io.specs.Rose.{Rose}
 abbrev pub most_bytes : ℕ
 most_bytes = 16777217
 
--- The answer for what is held in a place: a text is its front, and Absent says that nothing is
--- there.
+-- The answer of a library that holds this text, or none, in a place: Text has the first
+-- `most_bytes` bytes of it, and Absent says that nothing is there. Failed says nothing of it.
 abbrev pub Fetches : Option (List ℕ) → Fetched → Type 0
 Fetches (Some text) (Text bytes) = bytes.items ≡ take most_bytes text
 Fetches None (Text bytes) = ⊥
@@ -17,7 +17,7 @@ Fetches (Some text) Absent = ⊥
 Fetches None Absent = Unit {0}
 Fetches held Failed = Unit {0}
 
--- The count rose where the answer is Failed, and stands still otherwise.
+-- The library's count of faults rose where the answer is Failed, and is as before otherwise.
 abbrev pub FetchCount : Fetched → ℕ → ℕ → Type 0
 FetchCount (Text bytes) old new = new ≡ old
 FetchCount Absent old new = new ≡ old

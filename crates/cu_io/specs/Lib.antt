@@ -1,10 +1,22 @@
-pub mod Calls
-pub mod Fetches
+-- In the order in which to read them.
+
+-- What a library holds.
 pub mod Holdings
-pub mod Input
-pub mod Output
-pub mod Outside
-pub mod Puts
-pub mod Reads
+-- Counts of faults.
 pub mod Rose
+-- What a library answers.
+pub mod Fetches
+-- What a sink answers.
+pub mod Puts
+-- What a source answers.
+pub mod Reads
+-- What adapters to the outside answer.
+pub mod Outside
+-- Calls of an object in memory.
+pub mod Calls
+-- A source in memory.
+pub mod Input
+-- A sink in memory.
+pub mod Output
+-- A library in memory.
 pub mod Shelf

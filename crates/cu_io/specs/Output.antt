@@ -20,8 +20,8 @@ count_at failing call = option_map (λ (f : ℕ × ℕ). f.1) (find (λ (f : ℕ
 abbrev pub put_fails : Output → List ℕ → Bool
 put_fails s piece = is_some (count_at s.failing s.calls.next) || nat_lt s.room (length piece)
 
--- how many bytes go out of a piece in a room: all or none, and where the call is to fail as many as
--- it takes
+-- how many bytes of a piece go out into a room: all or none, and where the call is to fail as many
+-- as it takes, the piece has and the room holds
 abbrev pub gone_of : Option ℕ → List ℕ → ℕ → ℕ
 gone_of None piece room = if nat_lt room (length piece) then 0 else length piece
 gone_of (Some count) piece room = min count (min (length piece) room)

@@ -7,26 +7,27 @@ use Rattle.cu_io.specs.declared.library.Fetched.TheVariants.{Absent, Failed, Tex
 use Rattle.cu_io.specs.declared.sink.Put.{Put}
 use Rattle.cu_io.specs.declared.sink.Put.TheVariants as put
 
--- The text is at most so many bytes long.
+-- The text of an answer, if it has one, is at most so many bytes long.
 abbrev pub IsTextWithin : ℕ → Fetched → Type 0
 IsTextWithin most (Text bytes) = length bytes.items ≤ most
 IsTextWithin most Absent = Unit {0}
 IsTextWithin most Failed = Unit {0}
 
--- How many bytes went out of more than none, by what a write said. An error and taking none are
--- faults.
+-- How many bytes a write put out, by what it said. None stands for a fault: an error, or that it
+-- took no byte.
 abbrev pub gone : {E : Type 0} → Result ℕ E → Option ℕ
 gone (Ok zero) = None
 gone (Ok (suc count)) = Some (suc count)
 gone (Err error) = None
 
--- What a writer is known to hold grew by the piece, or where it failed by a front of it.
+-- What a writer is known to hold grew by the piece where the answer is Done, and by a prefix of the
+-- piece where it is Failed.
 abbrev pub Writes : Put → List ℕ → Option (List ℕ) → Option (List ℕ) → Type 0
 Writes put.Done piece before after = Appends before after piece
 Writes put.Failed piece before after = (n : ℕ) × (n ≤ length piece)
     × Appends before after (take n piece)
 
--- So many bytes moved from the front of what a reader is known to have left to the end of a text.
+-- So many bytes moved from the start of what a reader is known to have left to the end of a text.
 abbrev pub Moves : ℕ → Option (List ℕ) → Option (List ℕ) → List ℕ → List ℕ → Type 0
 Moves count before after old new = (bytes : List ℕ) × (length bytes ≡ count) × (new ≡ old ++ bytes)
     × Consumes before after bytes

@@ -4,7 +4,8 @@ use Rattle.cu_io.specs.declared.source.Took.{Took}
 use Rattle.cu_io.specs.declared.source.Took.TheVariants.{Bytes, Failed}
 use Rattle.cu_io.specs.Rose.{Rose}
 
--- So many bytes left the front of the input for the front of the room, and none only at its end.
+-- So many bytes left the start of the input for the start of the room. None did exactly where the
+-- input has ended.
 pub record Takes (n : ℕ) (before after left : List ℕ) : Type 0 where
   pub moved : after ≡ take n left ++ drop n before
   pub within : n ≤ length left
@@ -24,7 +25,7 @@ abbrev pub ReadsLeft : Took → ℕ → ℕ → Type 0
 ReadsLeft (Bytes n) old new = (old ≤ 2 ^ 63) × (new ≤ old) × (0 < n → new < old)
 ReadsLeft Failed old new = (old ≤ 2 ^ 63) × (new ≤ old)
 
--- The count rose where the answer is Failed, and stands still otherwise.
+-- The source's count of faults rose where the answer is Failed, and is as before otherwise.
 abbrev pub ReadCount : Took → ℕ → ℕ → Type 0
 ReadCount (Bytes n) old new = new ≡ old
 ReadCount Failed old new = Rose old new

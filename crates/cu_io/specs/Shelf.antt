@@ -43,7 +43,7 @@ newest_module modules dir name = option_map (λ held. held.text) (find (is_modul
 abbrev pub newest_file : List FileText → List ℕ → Option (List ℕ)
 newest_file files path = option_map (λ held. held.text) (find (is_file path) files)
 
--- In each place the newest text is held.
+-- What a library in memory holds: in each place the text that was added last.
 abbrev pub shelf_holdings : Shelf → Holdings
 shelf_holdings s = record { module_at = newest_module s.modules; file_at = newest_file s.files }
 
@@ -63,7 +63,8 @@ fails_next s = is_listed s.failing s.calls.next
 abbrev pub after_call : Shelf → Shelf
 after_call s = record s { calls = counted s.calls (fails_next s) }
 
--- The answer is the front of the text where there is one, and Absent where there is none.
+-- The answer for the text that is held, if there is one: its first `most_bytes` bytes, or Absent
+-- where there is none.
 abbrev pub Copies : Option (List ℕ) → Fetched → Type 0
 Copies (Some text) (Text bytes) = bytes.items ≡ take most_bytes text
 Copies None Absent = Unit {0}

@@ -12,7 +12,7 @@ impl Calls {
     ghost use Rattle.std.specs.Prelude.{◌≡◌};
     ghost use Rattle.cu_io.specs.Calls.{counted, no_calls};
 
-    /// Before the first call.
+    /// No calls yet, and no faults.
     pub fn new() -> Calls
         ensures { result ≡ no_calls }
     {

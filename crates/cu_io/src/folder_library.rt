@@ -45,7 +45,7 @@ fn take_read(said: io::Result<usize>, room: &[u8], text: &mut Vec<u8>) -> io::Re
     Ok(count)
 }
 
-/// The front of a file, `most` bytes at most.
+/// The first bytes of a file, `most` at most.
 fn read_front<F: Read>(alloc: Global, file: &mut F, most: usize) -> io::Result<Vec<u8>>
     ensures within { IfOk result (λ text. length text.items ≤ most) }
     ensures told { IfOk result (λ text. IfSome (F.remaining file.old) (λ bytes.
@@ -94,8 +94,8 @@ fn unopened(error: io::Error) -> io::Result<Option<Vec<u8>>>
     Err(error)
 }
 
-/// What a file holds, by what opening it said: the front of a file that was
-/// opened, nothing where it isn't there, and else the error.
+/// What a file holds, by what opening it said: the first bytes of a file that
+/// was opened, nothing where it isn't there, and else the error.
 fn held<F: Read + Drop>(alloc: Global, opened: io::Result<F>) -> io::Result<Option<Vec<u8>>>
     ensures text { IfOk opened (λ file. IfOk result (λ held. MatchOption held ⊥ (λ text.
         (length text.items ≤ most_bytes)
@@ -111,8 +111,8 @@ fn held<F: Read + Drop>(alloc: Global, opened: io::Result<F>) -> io::Result<Opti
 
 /// Files as a library: the module `A.B` under a directory `D` is the file
 /// `D/A/B.curry`. It doesn't tell what is held. A clause sees its count of
-/// faults, which every error raises but want of memory and that a file isn't
-/// there.
+/// faults, which every error raises but an allocation failure and that a file
+/// isn't there.
 #[derive(Drop)]
 pub struct FolderLibrary<R> {
     files: R,
@@ -135,7 +135,9 @@ impl<R: Files> FolderLibrary<R> {
         FolderLibrary { files, faults: 0 }
     }
 
-    /// The answer to what was read.
+    /// The library's answer by what was read of a file: its text, or that it
+    /// isn't there, or a failure, which is counted. Where memory ran out it is
+    /// an allocation failure, which isn't counted.
     fn answer(&mut self, read: io::Result<Option<Vec<u8>>>) -> Result<Fetched, AllocError>
         ensures text { IfOk read (λ held. IfSome held (λ text. result ≡ Ok (Fetched.Text text))) }
         ensures absent { read ≡ Ok None → result ≡ Ok Fetched.Absent }

@@ -13,7 +13,7 @@ pub(crate) const MOST_BYTES: usize = 16_777_217;
 pub enum Fetched {
     /// The text, at most its first 16,777,217 bytes.
     Text(Vec<u8>),
-    /// Nothing is held there.
+    /// Nothing is held in the place that was asked for.
     Absent,
     /// The outside failed; the library's count of faults rose.
     Failed,

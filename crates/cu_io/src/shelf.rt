@@ -102,7 +102,8 @@ fn front(text: &[u8], most: usize) -> &[u8]
     &text[..most.min(text.len())]
 }
 
-/// The front of a text, or `Absent` where there is none.
+/// The first bytes of a text that is held, as many as a library gives, or
+/// `Absent` where there is none.
 fn copied(alloc: Global, held: Option<&[u8]>) -> Result<Fetched, AllocError>
     ensures { IfOk result (Copies (option_copied held.entry)) }
 {

@@ -7,7 +7,7 @@ ghost use Rattle.cu_io.specs.Puts.{PutCount, Puts};
 pub enum Put {
     /// The whole piece went out.
     Done,
-    /// The outside failed, after a front of the piece at most; the sink's
+    /// The outside failed, after a prefix of the piece at most; the sink's
     /// count of faults rose.
     Failed,
 }

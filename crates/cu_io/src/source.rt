@@ -27,7 +27,7 @@ pub trait Source {
     fn faults(&self) -> u64
         ensures { result ≡ fault_count self.now };
 
-    /// Takes bytes from the front of the input into the front of `room`, which
+    /// Takes bytes from the start of the input into the start of `room`, which
     /// stays as it was where the read fails.
     fn read(&mut self, room: &mut [u8]) -> Took
         requires { 0 < length room.old }

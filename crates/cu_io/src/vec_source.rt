@@ -65,8 +65,7 @@ impl VecSource {
         self.failing.contains(&self.calls.next) || (self.reads == 0 && self.at < self.bytes.len())
     }
 
-    /// Takes bytes into the front of the room, as many as there are and as
-    /// fit.
+    /// Takes bytes into the start of the room, as many as are left and fit.
     fn take(&mut self, room: &mut [u8]) -> usize
         requires { read_fails self.old ≡ false }
         ensures count { result ≡ min (length self.old.left) (length room.old) }

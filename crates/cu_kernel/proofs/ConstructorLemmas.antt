@@ -1,4 +1,4 @@
--- Constructors by their numbers: those of one type stand behind those of the types before it.
+-- Constructors by their numbers: those of one type stand after those of the types before it.
 use Rattle.std.proofs.Common.{◌≡◌, ℕ, zero, suc, ◌+◌, ◌-◌, ◌<◌, ◌≤◌, List, [], ◌∷◌, ◌++◌, Option, Some, arith, drop, get_or, length, map, option_map, slice_get, refl, sym, ap, ◌∙◌}
 use Rattle.std.proofs.lemmas.List.{length-map}
 use Rattle.std.proofs.lemmas.Option.{slice_get-map, slice_get_read}

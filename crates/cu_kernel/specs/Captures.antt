@@ -1,6 +1,7 @@
 -- Free and captured variables, as lambda lifting has them (Johnsson, "Lambda lifting", 1985): a
 -- local function captures the variables that its rules use and don't bind, and those captured by
--- the local functions that its rules use. They are the least sets of which this holds.
+-- the local functions that its rules use. The captured variables are the least sets of which this
+-- holds.
 use Rattle.std.specs.Prelude.{◌≡◌, ◌↔◌, ℕ, Bool, true, false, not, ◌&&◌, ◌||◌, List, [], ◌∷◌, Some, IsTrue, nat_eq, nat_lt, slice_get}
 use Rattle.std.specs.List.{list_all, list_any}
 use Rattle.cu_calculus.specs.Valid.{all_variables, holds, variables_of}
@@ -25,27 +26,31 @@ abbrev mutual
   uses counts v (local.Case mode a alternatives) =
       uses counts v a || alternatives_use counts v alternatives
 
+  -- whether one of several terms uses a variable where nothing around binds it
   pub any_use : (LocalHead → Bool) → ℕ → LocalTerms → Bool
   any_use counts v local.NoTerm = false
   any_use counts v (local.MoreTerms t ts) = uses counts v t || any_use counts v ts
 
+  -- whether alternatives use a variable that neither their patterns nor anything around binds
   pub alternatives_use : (LocalHead → Bool) → ℕ → LocalAlternatives → Bool
   alternatives_use counts v local.NoAlternative = false
   alternatives_use counts v (local.MoreAlternatives p t alternatives) =
       (not (holds v (variables_of p)) && uses counts v t) || alternatives_use counts v alternatives
 
--- the variable itself alone
+-- whether a head counts as a use: none does, so that only the variable itself is one
 abbrev pub no_head : LocalHead → Bool
 no_head h = false
 
--- the local function with a number
+-- whether a head is the local function with this number
 abbrev pub is_local : ℕ → LocalHead → Bool
 is_local k (head.Local j) = nat_eq j k
 is_local k (head.Global h) = false
 
+-- whether a rule uses a variable that it doesn't bind
 abbrev pub rule_uses : (LocalHead → Bool) → ℕ → LocalRule → Bool
 rule_uses counts v rule = not (holds v (all_variables rule.params)) && uses counts v rule.body
 
+-- whether one of several rules uses a variable that it doesn't bind
 abbrev pub rules_use : (LocalHead → Bool) → ℕ → List LocalRule → Bool
 rules_use counts v rules = list_any (rule_uses counts v) rules
 

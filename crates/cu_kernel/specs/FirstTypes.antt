@@ -5,27 +5,28 @@ use Rattle.std.specs.Prelude.{ℕ, Bool, true, false, ◌&&◌, List, [], ◌∷
 use Rattle.cu_calculus.specs.declared.builtin.Special.{Special}
 use Rattle.cu_kernel.specs.Kernel.{Constructor, DataType}
 
--- The Prelude's place among the modules: all others import it, so that it stands before them.
+-- The Prelude's number among the modules: all others import it, so that it comes before them.
 abbrev pub prelude : ℕ
 prelude = 0
 
--- how many parameters a type has, and how many fields each of its constructors
+-- what a type is like: how many parameters it has, and how many fields each of its constructors has
 pub record Outline : Type 0 where
   pub parameters : ℕ
   pub fields : List ℕ
 
--- `[]` and `:`
+-- the type of lists, with `[]` and `:`
 abbrev pub list_outline : Outline
 list_outline = record { parameters = 1; fields = 0 ∷ 2 ∷ [] }
 
--- the type of tuples of so many components; unit is that of none
+-- the type of tuples of n components; unit is that of none
 abbrev pub tuple_outline : ℕ → Outline
 tuple_outline n = record { parameters = n; fields = n ∷ [] }
 
--- Int and Char, whose values are literals
+-- Int or Char, whose values are literals
 abbrev pub literal_outline : Outline
 literal_outline = record { parameters = 0; fields = [] }
 
+-- the outlines of the types that every program begins with
 abbrev pub first_outlines : List Outline
 first_outlines =
     list_outline
@@ -38,30 +39,30 @@ first_outlines =
     ∷ literal_outline
     ∷ []
 
--- the constructors are as many, with so many fields each
+-- whether there are as many constructors as numbers, each with so many fields
 abbrev pub have_fields : List ℕ → List Constructor → Bool
 have_fields [] [] = true
 have_fields (n ∷ ns) (c ∷ cs) = nat_eq (length c.fields) n && have_fields ns cs
 have_fields [] (c ∷ cs) = false
 have_fields (n ∷ ns) [] = false
 
--- a type of the Prelude with this outline
+-- whether a type is declared in the Prelude and has this outline
 abbrev pub is_like : Outline → DataType → Bool
 is_like outline t =
     nat_eq t.module prelude && nat_eq t.arity outline.parameters
     && have_fields outline.fields t.constructors
 
--- the types begin with some of these outlines
+-- whether the program's types begin with types of these outlines
 abbrev pub begin_with : List Outline → List DataType → Bool
 begin_with [] types = true
 begin_with (o ∷ os) [] = false
 begin_with (o ∷ os) (t ∷ ts) = is_like o t && begin_with os ts
 
--- `[]` and `:` are the first two constructors
+-- whether `[]` and `:` are the first two constructors
 abbrev pub has_list_constructors : Special → Bool
 has_list_constructors special = nat_eq special.nil.0 0 && nat_eq special.cons.0 1
 
--- the types begin with the built-in ones, of which the built-in entities have the list's
--- constructors
+-- whether the types begin with those that every program begins with, and the built-in entities name
+-- the constructors of lists
 abbrev pub has_first_types : Special → List DataType → Bool
 has_first_types special types = begin_with first_outlines types && has_list_constructors special

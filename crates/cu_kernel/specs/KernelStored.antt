@@ -1,4 +1,4 @@
--- How programs are told apart: by their parts.
+-- How kernel programs are told apart: by their parts.
 use Rattle.std.specs.Prelude.{ℕ, Bool, List, Option, refl}
 use Rattle.std.specs.Coded.{Coded, code_by, coded_ℕ, coded_bool, coded_list, coded_option, coded×}
 use Rattle.cu_calculus.specs.Program as calculus

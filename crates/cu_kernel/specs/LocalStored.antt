@@ -1,5 +1,5 @@
--- How programs before lifting are told apart: each term has a tree of numbers of its own, the rest
--- goes by its parts.
+-- How programs before lifting are told apart: a term by a tree of numbers of its own, all else by
+-- its parts.
 use Rattle.std.specs.Prelude.{◌≡◌, ℕ, List, Option, refl}
 use Rattle.std.specs.Coded.{Coded, code_by, coded_ℕ, coded_list, coded_option, coded×, coded⊎}
 use Rattle.std.proofs.Common.{◌⊎◌, inl, inr}

@@ -1,4 +1,4 @@
--- The term before lifting that a boxed one stands for.
+-- The term before lifting that the code's boxed term stands for.
 use Rattle.std.specs.Prelude.{◌≡◌, ℕ, List, [], ◌∷◌, map, refl}
 use Rattle.std.specs.declared.alloc.Global.{Global}
 use Rattle.std.specs.declared.boxed.Box.{Box}
@@ -25,7 +25,7 @@ local_alternative_list [] = local.NoAlternative
 local_alternative_list (a ∷ rest) =
     local.MoreAlternatives (pattern_of a.0) a.1 (local_alternative_list rest)
 
--- one layer of a term, whose parts stand for terms
+-- the term that one layer of the code stands for, where its parts stand for terms
 abbrev one_local_term : LocalTerm-F local.LocalTerm → local.LocalTerm
 one_local_term (layer.Var x) = local.Variable x
 one_local_term (layer.Lit l) = local.Literal l
@@ -38,15 +38,16 @@ one_local_term (layer.Or a b) = local.Or a.value b.value
 one_local_term (layer.Case mode t alternatives) =
     local.Case mode t.value (local_alternative_list alternatives.items)
 
+-- the term before lifting that a boxed term stands for
 pub local_term_of : LocalTerm → local.LocalTerm
 local_term_of = fold-LocalTerm local.LocalTerm one_local_term
 
--- the terms of a list
+-- the terms that a list of boxed terms stands for
 abbrev pub local_terms_of : List LocalTerm → local.LocalTerms
 local_terms_of [] = local.NoTerm
 local_terms_of (t ∷ ts) = local.MoreTerms (local_term_of t) (local_terms_of ts)
 
--- the alternatives of a list
+-- the alternatives that a list of patterns and boxed terms stands for
 abbrev pub local_alternatives_of : List (Pattern × LocalTerm) → local.LocalAlternatives
 local_alternatives_of [] = local.NoAlternative
 local_alternatives_of (a ∷ rest) =

@@ -1,4 +1,4 @@
--- The test that a scope stands for: which variables it allows.
+-- The variables that a scope of the code allows in a term, as a test.
 use Rattle.std.specs.Prelude.{◌≡◌, ℕ, Bool, true, List}
 use Rattle.std.proofs.Common.{sym, ap, ◌∙◌}
 use denote.Ref.{Bor}
@@ -9,10 +9,11 @@ use Rattle.cu_kernel.specs.declared.scope.Scope.TheOpen.{Scope-F}
 use Rattle.cu_kernel.specs.declared.scope.Scope.TheVariants as scope
 use Rattle.cu_kernel.specs.declared.scope.Scope.{Scope}
 
+-- whether a variable is one of these
 abbrev pub held_by : List ℕ → ℕ → Bool
 held_by xs y = holds y xs
 
--- one layer of a scope, around which a test stands
+-- the test of one layer of a scope, where the scope around it stands for a test
 abbrev one_scope : Scope-F (ℕ → Bool) → ℕ → Bool
 one_scope layer.All = λ x. true
 one_scope (layer.Parameters xs) = held_by xs.now
@@ -20,6 +21,7 @@ one_scope (layer.With x around) = also x around.now
 one_scope (layer.WithAll xs around) = also_all xs.now around.now
 one_scope (layer.Without x around) = but x around.now
 
+-- whether a scope of the code allows a variable
 pub allowed : Scope → ℕ → Bool
 allowed = fold-Scope (ℕ → Bool) one_scope
 

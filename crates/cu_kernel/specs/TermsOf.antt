@@ -1,4 +1,4 @@
--- The pattern and the term that boxed ones stand for.
+-- The pattern and the term that the code's boxed ones stand for.
 use Rattle.std.specs.Prelude.{◌≡◌, ℕ, List, [], ◌∷◌, map, refl}
 use Rattle.std.proofs.Common.{sym, ap, ◌∙◌}
 use Rattle.std.specs.declared.alloc.Global.{Global}
@@ -24,17 +24,18 @@ abbrev pattern_list : List clean.Pattern → clean.Patterns
 pattern_list [] = clean.NoPattern
 pattern_list (p ∷ ps) = clean.MorePatterns p (pattern_list ps)
 
--- one layer of a pattern, whose parts stand for patterns
+-- the pattern that one layer of the code stands for, where its parts stand for patterns
 abbrev one_pattern : Pattern-F clean.Pattern → clean.Pattern
 one_pattern (pattern_layer.Var x) = clean.Any x
 one_pattern (pattern_layer.Lit l) = clean.Exactly l
 one_pattern (pattern_layer.Con c ps) = clean.Built c (pattern_list ps.items)
 one_pattern (pattern_layer.Alias x p) = clean.Named x p.value
 
+-- the pattern that a boxed pattern stands for
 pub pattern_of : Pattern → clean.Pattern
 pattern_of = fold-Pattern clean.Pattern one_pattern
 
--- the patterns of a list
+-- the patterns that a list of boxed patterns stands for
 abbrev pub patterns_of : List Pattern → clean.Patterns
 patterns_of [] = clean.NoPattern
 patterns_of (p ∷ ps) = clean.MorePatterns (pattern_of p) (patterns_of ps)
@@ -81,7 +82,7 @@ abbrev alternative_list : List (Pattern × clean.Term) → clean.Alternatives
 alternative_list [] = clean.NoAlternative
 alternative_list (a ∷ rest) = clean.MoreAlternatives (pattern_of a.0) a.1 (alternative_list rest)
 
--- one layer of a term, whose parts stand for terms
+-- the term that one layer of the code stands for, where its parts stand for terms
 abbrev one_term : Term-F clean.Term → clean.Term
 one_term (term_layer.Var x) = clean.Variable x
 one_term (term_layer.Lit l) = clean.Literal l
@@ -94,15 +95,16 @@ one_term (term_layer.Or a b) = clean.Or a.value b.value
 one_term (term_layer.Case mode t alternatives) =
     clean.Case mode t.value (alternative_list alternatives.items)
 
+-- the term that a boxed term stands for
 pub term_of : Term → clean.Term
 term_of = fold-Term clean.Term one_term
 
--- the terms of a list
+-- the terms that a list of boxed terms stands for
 abbrev pub terms_of : List Term → clean.Terms
 terms_of [] = clean.NoTerm
 terms_of (t ∷ ts) = clean.MoreTerms (term_of t) (terms_of ts)
 
--- the alternatives of a list
+-- the alternatives that a list of patterns and boxed terms stands for
 abbrev pub alternatives_of : List (Pattern × Term) → clean.Alternatives
 alternatives_of [] = clean.NoAlternative
 alternatives_of (a ∷ rest) =

@@ -1,4 +1,4 @@
--- How type expressions are told apart: each has a tree of numbers of its own.
+-- How type expressions are told apart: each by a tree of numbers of its own.
 use Rattle.std.specs.Prelude.{◌≡◌}
 use Rattle.std.specs.Coded.{Coded}
 use base.Stored.{Gv, gcons, gnil, gnum}

@@ -1,4 +1,4 @@
--- The type expression that a boxed type stands for.
+-- The type expression that the code's boxed type stands for.
 use Rattle.std.specs.Prelude.{◌≡◌, ℕ, List, [], ◌∷◌, map, refl}
 use Rattle.std.proofs.Common.{sym, ap, ◌∙◌}
 use Rattle.std.specs.declared.alloc.Global.{Global}
@@ -13,20 +13,22 @@ use Rattle.cu_kernel.specs.declared.type_term.TypeTerm.TheOpen as layer
 use Rattle.cu_kernel.specs.declared.type_term.TypeTerm.TheOpen.{TypeTerm-F}
 use Rattle.cu_kernel.specs.declared.type_term.TypeTerm.TheVariants as boxed
 
+-- the types of a list
 abbrev pub type_list : List TypeExpr → TypeExprs
 type_list [] = type.NoType
 type_list (t ∷ ts) = type.MoreTypes t (type_list ts)
 
--- one layer of a type, whose parts stand for type expressions
+-- the type that one layer of the code stands for, where its parts stand for types
 abbrev type_layer : TypeTerm-F TypeExpr → TypeExpr
 type_layer (layer.Var x) = type.Variable x
 type_layer (layer.Arrow a b) = type.Arrow a.value b.value
 type_layer (layer.Named name ts) = type.Named name (type_list ts.items)
 
+-- the type that a boxed type stands for
 pub type_of : TypeTerm → TypeExpr
 type_of = fold-TypeTerm TypeExpr type_layer
 
--- the types of a list
+-- the types that a list of boxed types stands for
 abbrev pub types_of : List TypeTerm → TypeExprs
 types_of [] = type.NoType
 types_of (t ∷ ts) = type.MoreTypes (type_of t) (types_of ts)

@@ -8,9 +8,9 @@ use crate::{ConId, Constructor, DataType, TypeId};
 /// A constructor of a program, and its type.
 #[derive(Clone, Copy)]
 pub struct Placed<'a> {
-    /// Its type.
+    /// The type that declares the constructor.
     pub of_type: TypeId,
-    /// What is declared of it.
+    /// The constructor's declaration.
     pub constructor: &'a Constructor,
 }
 

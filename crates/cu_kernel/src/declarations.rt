@@ -5,52 +5,52 @@ use cu_names::{NameId, Place};
 /// A constructor of a data type.
 #[derive(Drop)]
 pub struct Constructor {
-    /// Its name, without its module's.
+    /// The constructor's name, without its module's.
     pub name: NameId,
-    /// Whether its module exports it.
+    /// Whether the constructor's module exports it.
     pub public: bool,
-    /// The types of its arguments, fewer than 2^32 - 1.
+    /// The types of the constructor's arguments, fewer than 2^32 - 1.
     pub fields: Vec<TypeTerm>,
 }
 
 /// A data type.
 #[derive(Drop)]
 pub struct DataType {
-    /// Its name, without its module's.
+    /// The type's name, without its module's.
     pub name: NameId,
-    /// Its module, by the place among the program's modules.
+    /// The number of the type's module among the program's modules.
     pub module: u32,
-    /// How many parameters it has.
+    /// How many parameters the type has.
     pub arity: u32,
-    /// Whether its module exports it.
+    /// Whether the type's module exports it.
     pub public: bool,
-    /// Its constructors, in the order of their declaration.
+    /// The type's constructors, in the order of their declaration.
     pub constructors: Vec<Constructor>,
 }
 
 /// A type synonym.
 #[derive(Drop)]
 pub struct Synonym {
-    /// Its name, without its module's.
+    /// The synonym's name, without its module's.
     pub name: NameId,
-    /// Its module, by the place among the program's modules.
+    /// The number of the synonym's module among the program's modules.
     pub module: u32,
-    /// Whether its module exports it.
+    /// Whether the synonym's module exports it.
     pub public: bool,
-    /// How many parameters it has.
+    /// How many parameters the synonym has.
     pub arity: u32,
-    /// The type that it stands for.
+    /// The type that the synonym stands for.
     pub body: TypeTerm,
 }
 
-/// To which side operators of one level are grouped.
+/// On which side operators of one precedence associate.
 #[derive(Clone, Copy, Debug, PartialEq, Eq)]
 pub enum Side {
-    /// To the left, as `infixl`.
+    /// Operators of this fixity associate to the left, as `infixl` declares.
     Left,
-    /// To the right, as `infixr`.
+    /// Operators of this fixity associate to the right, as `infixr` declares.
     Right,
-    /// To neither, as `infix`.
+    /// Operators of this fixity don't associate, as `infix` declares.
     Neither,
 }
 
@@ -59,44 +59,44 @@ pub enum Side {
 pub struct Operator {
     /// The operator.
     pub name: NameId,
-    /// Its side.
+    /// To which side the operator associates.
     pub side: Side,
-    /// Its level: a higher one binds tighter.
+    /// The operator's precedence: a higher one binds tighter.
     pub level: u32,
 }
 
 /// A module.
 #[derive(Drop)]
 pub struct ModuleInfo {
-    /// Its name.
+    /// The module's name.
     pub name: NameId,
-    /// The names of the modules that it imports, in order.
+    /// The names of the modules that the module imports, in order.
     pub imports: Vec<NameId>,
-    /// Its fixity declarations, in order.
+    /// The module's fixity declarations, in order.
     pub operators: Vec<Operator>,
 }
 
-/// What is known of a function beside its rules.
+/// A function's mark: what is known of it beside its rules.
 #[derive(Drop)]
 pub struct Mark {
-    /// Its module, by the place among the program's modules.
+    /// The number of the function's module among the program's modules.
     pub module: u32,
-    /// Whether its module exports it.
+    /// Whether the function's module exports it.
     pub public: bool,
-    /// Its declared type, if it has one.
+    /// The function's declared type, if it has one.
     pub declared: Option<TypeTerm>,
-    /// How many of its parameters, the first ones, are variables that it
+    /// How many of the function's first parameters are variables that it
     /// captured as a local function.
     pub captured: u32,
-    /// Where it is declared.
+    /// Where the function is declared.
     pub place: Place,
 }
 
 /// A goal: a function, whose parameters are the goal's free variables.
 #[derive(Drop)]
 pub struct Goal {
-    /// The function.
+    /// The function whose parameters are the goal's free variables.
     pub function: FunId,
-    /// The names of its parameters, in order.
+    /// The names of the goal's free variables, in the order of the parameters.
     pub names: Vec<NameId>,
 }

@@ -14,9 +14,9 @@ use crate::{
 /// Which type variables may stand in a type.
 #[derive(Clone, Copy)]
 enum TypeVariables {
-    /// All of them.
+    /// All type variables may stand in the type.
     All,
-    /// The parameters of a declared type, of which there are so many.
+    /// Only the parameters of a declared type may, of which there are so many.
     Below(u32),
 }
 
@@ -41,8 +41,8 @@ fn is_type_name(parts: &ProgramParts, name: TypeName) -> bool
     }
 }
 
-/// Whether the names of a type are the program's, and its variables may
-/// stand there.
+/// Whether the names of a type are the program's, and its variables may stand
+/// in it.
 #[cycle(types)]
 #[tactic(auto, using(crate::specs::TypesOf::types_of_variants))]
 fn type_fits(parts: &ProgramParts, variables: TypeVariables, t: &TypeTerm) -> bool
@@ -58,7 +58,7 @@ fn type_fits(parts: &ProgramParts, variables: TypeVariables, t: &TypeTerm) -> bo
     }
 }
 
-/// Whether all of these types fit.
+/// Whether all of these types fit the program.
 #[cycle(types)]
 fn types_fit(parts: &ProgramParts, variables: TypeVariables, types: &[TypeTerm]) -> bool
     ensures { result ≡ fit_types (kernel_of parts.now) (passes variables) (types_of types.now) }
@@ -78,7 +78,7 @@ fn is_module(parts: &ProgramParts, place: u32) -> bool
     (place as usize) < parts.modules.len()
 }
 
-/// Whether the types of a constructor's arguments fit.
+/// Whether the types of a constructor's arguments fit the program.
 #[tactic(auto, using(crate::proofs::TypeLemmas::listed_types))]
 fn constructor_fits(parts: &ProgramParts, arity: u32, constructor: &Constructor) -> bool
     ensures { result ≡ fits_constructor (kernel_of parts.now) arity
@@ -91,7 +91,7 @@ fn constructor_fits(parts: &ProgramParts, arity: u32, constructor: &Constructor)
     )
 }
 
-/// Whether all of these constructors fit.
+/// Whether the argument types of all of these constructors fit the program.
 fn constructors_fit(parts: &ProgramParts, arity: u32, constructors: &[Constructor]) -> bool
     ensures { result ≡ list_all (fits_constructor (kernel_of parts.now) arity)
         (map constructor_meaning constructors.now) }
@@ -104,7 +104,7 @@ fn constructors_fit(parts: &ProgramParts, arity: u32, constructors: &[Constructo
     true
 }
 
-/// Whether a data type fits.
+/// Whether a data type names only types and modules of the program.
 fn data_type_fits(parts: &ProgramParts, data_type: &DataType) -> bool
     ensures { result ≡ fits_data_type (kernel_of parts.now) (type_meaning data_type.now) }
 {
@@ -112,7 +112,7 @@ fn data_type_fits(parts: &ProgramParts, data_type: &DataType) -> bool
         && constructors_fit(parts, data_type.arity, data_type.constructors.as_slice())
 }
 
-/// Whether all of these data types fit.
+/// Whether all of these data types name only types and modules of the program.
 fn data_types_fit(parts: &ProgramParts, types: &[DataType]) -> bool
     ensures { result ≡ list_all (fits_data_type (kernel_of parts.now))
         (map type_meaning types.now) }
@@ -125,7 +125,7 @@ fn data_types_fit(parts: &ProgramParts, types: &[DataType]) -> bool
     true
 }
 
-/// Whether a synonym fits.
+/// Whether a synonym names only types and modules of the program.
 fn synonym_fits(parts: &ProgramParts, synonym: &Synonym) -> bool
     ensures { result ≡ fits_synonym (kernel_of parts.now) (synonym_meaning synonym.now) }
 {
@@ -133,7 +133,7 @@ fn synonym_fits(parts: &ProgramParts, synonym: &Synonym) -> bool
         && type_fits(parts, TypeVariables::Below(synonym.arity), &synonym.body)
 }
 
-/// Whether all of these synonyms fit.
+/// Whether all of these synonyms name only types and modules of the program.
 fn synonyms_fit(parts: &ProgramParts, synonyms: &[Synonym]) -> bool
     ensures { result ≡ list_all (fits_synonym (kernel_of parts.now))
         (map synonym_meaning synonyms.now) }
@@ -146,7 +146,8 @@ fn synonyms_fit(parts: &ProgramParts, synonyms: &[Synonym]) -> bool
     true
 }
 
-/// Whether the type that a function declares fits, where it declares one.
+/// Whether the type that a function declares, if any, names only types of the
+/// program.
 fn signature_fits(parts: &ProgramParts, declared: &Option<TypeTerm>) -> bool
     ensures { result ≡ fits_signature (kernel_of parts.now) (option_map type_of declared.now) }
 {
@@ -156,7 +157,9 @@ fn signature_fits(parts: &ProgramParts, declared: &Option<TypeTerm>) -> bool
     }
 }
 
-/// Whether a mark fits its function.
+/// Whether a mark fits its function: its module and declared type are the
+/// program's, and it counts no more captured variables than there are
+/// parameters.
 fn mark_fits(parts: &ProgramParts, mark: &Mark, function: &Function) -> bool
     ensures { result ≡ fits_mark (kernel_of parts.now) (mark_meaning mark.now)
         (function_meaning function.now) }
@@ -166,7 +169,7 @@ fn mark_fits(parts: &ProgramParts, mark: &Mark, function: &Function) -> bool
         && signature_fits(parts, &mark.declared)
 }
 
-/// Whether each function has its mark.
+/// Whether each function has its mark, and the mark fits it.
 fn marks_fit(parts: &ProgramParts, marks: &[Mark], functions: &[Function]) -> bool
     ensures { result ≡ fit_marks (kernel_of parts.now) (map mark_meaning marks.now)
         (map function_meaning functions.now) }
@@ -212,7 +215,8 @@ fn takes_names(parts: &ProgramParts, goal: &Goal) -> bool
     }
 }
 
-/// Whether all that stands beside the rules fits.
+/// Whether what the program declares beside its rules names only its modules,
+/// types and functions.
 pub(crate) fn declarations_fit(parts: &ProgramParts) -> bool
     ensures { result ≡ fit_declarations (kernel_of parts.now) }
 {

@@ -9,13 +9,13 @@ ghost use Rattle.cu_kernel.specs.KernelOf.{constructor_meaning, kernel_of, type_
 use crate::{ConId, Constructor, DataType, FunId, Function, Head, Program, ProgramParts, Special};
 use std::alloc::{AllocError, Global};
 
-/// A constructor: its type's place among the program's types, and how many
+/// A constructor: the index of its type among the program's types, and how many
 /// arguments it takes.
 #[derive(Clone, Copy)]
 pub struct Shape {
-    /// The type's place, counted from 0.
+    /// The index of the constructor's type, counted from 0.
     pub of_type: usize,
-    /// The number of arguments.
+    /// How many arguments the constructor takes.
     pub arity: usize,
 }
 
@@ -24,13 +24,13 @@ pub struct Shape {
 pub struct Heads<'a> {
     /// The functions, in order.
     pub functions: &'a [Function],
-    /// The constructors: those of the first type first.
+    /// The constructors of all types, in the order of the types.
     pub constructors: Vec<Shape>,
     /// The built-in entities.
     pub special: &'a Special,
 }
 
-/// The constructors of a type, after those of the types before it.
+/// Pushes the constructors of a type after those of the types before it.
 fn push_shapes(
     shapes: &mut Vec<Shape>,
     place: usize,
@@ -116,7 +116,7 @@ impl<'a> Heads<'a> {
         }
     }
 
-    /// Whether a head is the program's and takes exactly so many arguments.
+    /// Whether a head is the program's and takes exactly this many arguments.
     pub fn takes(&self, head: Head, count: usize) -> bool
         ensures { result ≡ takes (arity_in (heads_program self.now) head) count }
     {
@@ -126,7 +126,7 @@ impl<'a> Heads<'a> {
         }
     }
 
-    /// Whether a head is the program's and takes more arguments than so many.
+    /// Whether a head is the program's and takes more arguments than this.
     pub fn takes_more(&self, head: Head, count: usize) -> bool
         ensures { result ≡ takes_more (arity_in (heads_program self.now) head) count }
     {
@@ -136,8 +136,8 @@ impl<'a> Heads<'a> {
         }
     }
 
-    /// Whether a head may stand in the program: a set function only where
-    /// the program has the constructor of its values.
+    /// Whether a head may stand in the program. A set function may only where
+    /// the program has the constructor of the values of set functions.
     #[tactic(auto, unfolding(crate::specs::Heads::heads_program))]
     pub fn allows(&self, head: Head) -> bool
         ensures { result ≡ is_allowed (heads_program self.now) head }
@@ -152,7 +152,7 @@ impl<'a> Heads<'a> {
         }
     }
 
-    /// A constructor, where it is the program's.
+    /// The constructor of this number, where the program has one.
     pub fn constructor(&self, c: ConId) -> Option<Shape>
         ensures { option_map shape_meaning result ≡ constructor_of (heads_program self.now) c }
     {

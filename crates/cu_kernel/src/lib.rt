@@ -1,6 +1,6 @@
 //! Kernel programs: what modules are translated to. A program has its types,
-//! its functions with their rules, and what type inference and the printing
-//! of FlatCurry need beside them.
+//! its functions with their rules, and what type inference and the printing of
+//! FlatCurry need of them.
 #![tactic(auto)]
 
 mod constructors;

@@ -5,10 +5,10 @@ use cu_names::{NameId, Place};
 /// What stands at the head of an application before lifting.
 #[derive(Clone, Copy, Debug, PartialEq, Eq)]
 pub enum LocalHead {
-    /// A head of the program. Functions are numbered by their places among
-    /// the top-level functions of all modules.
+    /// A head of the program. A function's number is its index among the
+    /// top-level functions of all modules.
     Global(Head),
-    /// A local function of the same top-level function, by its place among
+    /// A local function of the same top-level function, by its index among
     /// these.
     Local(u32),
 }
@@ -36,11 +36,11 @@ pub enum LocalTerm {
     Whole(LocalHead, Vec<LocalTerm>),
     /// A head with fewer arguments than it takes.
     Part(LocalHead, Vec<LocalTerm>),
-    /// The function that the first term gives, on the second.
+    /// The application of the first term's value, a function, to the second.
     Apply(Box<LocalTerm>, Box<LocalTerm>),
     /// The second term, where the variable stands for the first.
     Let(u32, Box<LocalTerm>, Box<LocalTerm>),
-    /// The term, where the variable is free.
+    /// The term, in which the variable is free: a logic variable.
     Free(u32, Box<LocalTerm>),
     /// A choice between two terms.
     Or(Box<LocalTerm>, Box<LocalTerm>),
@@ -60,23 +60,23 @@ pub struct LocalRule {
 /// What a top-level function computes, before lifting.
 #[derive(Drop)]
 pub enum LocalBody {
-    /// Its rules, in order.
+    /// The rules of the function, in order.
     Rules(Vec<LocalRule>),
-    /// What is built in.
+    /// An operation that is built in.
     External(Prim),
 }
 
 /// A local function. It has no name yet: lifting names the local functions
-/// of a top-level function in the order of their places.
+/// of a top-level function in the order of their indices.
 #[derive(Drop)]
 pub struct LocalFunction {
-    /// The place of its first token.
+    /// The place of the local function's first token.
     pub place: Place,
-    /// Its declared type, if it has one.
+    /// The local function's declared type, if it has one.
     pub declared: Option<TypeTerm>,
-    /// How many parameters it has, without captured variables.
+    /// How many parameters the local function has, without captured variables.
     pub arity: u32,
-    /// Its rules, in order.
+    /// The rules of the local function, in order.
     pub rules: Vec<LocalRule>,
 }
 
@@ -84,12 +84,12 @@ pub struct LocalFunction {
 /// nested.
 #[derive(Drop)]
 pub struct TopFunction {
-    /// Its name, without its module's.
+    /// The function's name, without its module's.
     pub name: NameId,
-    /// How many parameters it has.
+    /// How many parameters the function has.
     pub arity: u32,
-    /// What it computes.
+    /// What the function computes.
     pub body: LocalBody,
-    /// Its local functions; a term names one by its place here.
+    /// The local functions; a term names one by its index here.
     pub locals: Vec<LocalFunction>,
 }

@@ -8,18 +8,19 @@ use crate::{DataType, Goal, Mark, ModuleInfo, Special, Synonym, TopFunction};
 use std::alloc::AllocError;
 use std::marker::Model;
 
-/// How many types, constructors and so on there are.
+/// How many data types, constructors, top-level functions, synonyms and modules
+/// there are.
 #[derive(Clone, Copy, Debug, PartialEq, Eq)]
 pub struct Counts {
-    /// Data types.
+    /// The number of data types.
     pub types: usize,
-    /// Constructors of these.
+    /// The number of constructors of the data types.
     pub constructors: usize,
-    /// Top-level functions.
+    /// The number of top-level functions.
     pub functions: usize,
-    /// Type synonyms.
+    /// The number of type synonyms.
     pub synonyms: usize,
-    /// Modules.
+    /// The number of modules.
     pub modules: usize,
 }
 
@@ -83,7 +84,7 @@ impl Model for LocalProgram {
     ghost invariant = { λ p. IsPart (local_kernel_of p.parts) };
 }
 
-/// Moves all elements of the second list behind those of the first, where
+/// Moves all elements of the second list after those of the first, where
 /// there is room for them.
 fn move_behind<T: Drop>(front: &mut Vec<T>, back: Vec<T>)
     requires { vec_len front.old + vec_len back ≤ vec_capacity front.old }
@@ -115,7 +116,8 @@ impl LocalParts {
     ghost use Rattle.cu_kernel.specs.LocalKernel.{joined};
     ghost use Rattle.cu_kernel.specs.LocalKernelOf.{local_kernel_of};
 
-    /// Appends the next parts; without memory these parts stay as they were.
+    /// Appends the parts of the next module. Where memory fails, these parts
+    /// stay as they were.
     fn append(&mut self, next: LocalParts) -> Result<(), AllocError>
         ensures whole { OnOk result (local_kernel_of self.new
             ≡ joined (local_kernel_of self.old) (local_kernel_of next)) }
@@ -150,7 +152,7 @@ impl LocalParts {
 }
 
 impl LocalProgram {
-    /// The program of these parts, of which all is right that can be told of
+    /// The program of these parts, which are right as far as can be told of
     /// them alone.
     pub fn new(parts: LocalParts) -> LocalProgram
         requires { IsPart (local_kernel_of parts) }
@@ -159,7 +161,7 @@ impl LocalProgram {
         LocalProgram { parts }
     }
 
-    /// Its parts, to be read.
+    /// The program's parts, to be read.
     pub fn parts(&self) -> &LocalParts
         ensures parts { local_kernel_of result.now ≡ self.now }
         ensures right { IsPart self.now }
@@ -167,7 +169,7 @@ impl LocalProgram {
         &self.parts
     }
 
-    /// Its parts, to be taken.
+    /// The program's parts, to be taken.
     pub fn into_parts(self) -> LocalParts
         ensures parts { local_kernel_of result ≡ self }
         ensures right { IsPart self }
@@ -175,10 +177,11 @@ impl LocalProgram {
         self.parts
     }
 
-    /// Appends the parts of the next module, whose numbers follow. Its goal,
-    /// where it has one, and its built-in entities are those of the whole; but
-    /// the constructor of the values of set functions stays once a part has
-    /// it. The one error is want of memory, and the program is then as it was.
+    /// Appends the parts of the next module, whose numbers follow these. The
+    /// whole has the next part's goal, where that has one, and its built-in
+    /// entities; but the constructor of the values of set functions stays once
+    /// a part has it. The one error is an allocation failure, and the program
+    /// is then as it was.
     pub fn join(&mut self, next: LocalProgram) -> Result<(), AllocError>
         requires { Follows self.old next }
         ensures whole { OnOk result (self.new ≡ joined self.old next) }

@@ -36,7 +36,8 @@ pub(crate) fn pattern_fits(heads: &Heads, pattern: &Pattern) -> bool
     }
 }
 
-/// Whether all of these patterns fit.
+/// Whether the constructors of all of these patterns are the program's and have
+/// all their arguments.
 #[cycle(patterns)]
 pub(crate) fn patterns_fit(heads: &Heads, patterns: &[Pattern]) -> bool
     ensures { result ≡ fit_patterns (heads_program heads.now) (patterns_of patterns.now) }

@@ -2,7 +2,7 @@
 ghost use Rattle.std.specs.Prelude.{◌≡◌};
 ghost use Rattle.cu_kernel.specs.Scope.{allowed};
 
-/// The variables that may stand at a place of a rule. A scope names the one
+/// The variables that may stand at a point of a rule. A scope names the one
 /// around it, so nothing is copied where a binder is entered.
 #[derive(Drop)]
 pub(crate) enum Scope<'a> {
@@ -10,16 +10,16 @@ pub(crate) enum Scope<'a> {
     All,
     /// The variables of the rule's parameters.
     Parameters(&'a [u32]),
-    /// One more variable than around.
+    /// One variable beside those of the scope around.
     With(u32, &'a Scope<'a>),
-    /// The variables of a pattern beside those around.
+    /// The variables of a pattern beside those of the scope around.
     WithAll(&'a [u32], &'a Scope<'a>),
-    /// All variables around but one.
+    /// All variables of the scope around but one.
     Without(u32, &'a Scope<'a>),
 }
 
 impl Scope<'_> {
-    /// Whether a variable may stand here.
+    /// Whether a variable may stand in this scope.
     #[tactic(auto, using(crate::specs::Scope::allowed_variants))]
     pub(crate) fn allows(&self, x: u32) -> bool
         ensures { result ≡ allowed self.now x }

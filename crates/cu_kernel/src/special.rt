@@ -1,4 +1,5 @@
-//! Whether the built-in entities are there as they have to be.
+//! Whether the built-in entities of a program are there, with their arities and
+//! rules.
 ghost use Rattle.std.specs.Prelude.{◌≡◌, map};
 ghost use Rattle.cu_calculus.specs.Program.{function_of};
 ghost use Rattle.cu_kernel.specs.Heads.{heads_program};
@@ -155,7 +156,7 @@ fn is_flex(mode: Mode) -> bool
     }
 }
 
-/// Whether a rule is `x && y` by that case distinction.
+/// Whether a rule is `x && y = fcase x of { False -> False; True -> y }`.
 fn is_case_rule(special: &Special, rule: &Rule) -> bool
     ensures { result ≡ is_case_rule special.now (rule_meaning rule.now) }
 {
@@ -169,7 +170,8 @@ fn is_case_rule(special: &Special, rule: &Rule) -> bool
     }
 }
 
-/// Whether a body is that of `&&`: its two rules, or its case distinction.
+/// Whether a body is that of `&&`: its two rules, or one rule with its case
+/// distinction.
 fn is_conjunction(special: &Special, body: &Body) -> bool
     ensures { result ≡ is_conjunction special.now (body_meaning body.now) }
 {
@@ -189,8 +191,8 @@ fn are_conjunction_rules(special: &Special, rules: &[Rule]) -> bool
     }
 }
 
-/// Whether the constructor of a set function's values takes one argument,
-/// where there is one.
+/// Whether the constructor of the values of set functions, where there is one,
+/// takes one argument.
 fn has_values(heads: &Heads, values: Option<ConId>) -> bool
     ensures { result ≡ has_values (heads_program heads.now) values }
 {
@@ -221,7 +223,8 @@ fn is_both(special: &Special, function: &Function) -> bool
     function.arity == 2 && is_conjunction(special, &function.body)
 }
 
-/// Whether the built-in entities are there as they have to be.
+/// Whether the built-in entities of a program are there, with their arities and
+/// rules.
 pub(crate) fn has_special(heads: &Heads) -> bool
     ensures { result ≡ has_special (heads_program heads.now) }
 {

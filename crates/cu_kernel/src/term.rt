@@ -15,8 +15,8 @@ pub enum Pattern {
     Alias(u32, Box<Pattern>),
 }
 
-/// A term: what a rule's right side is made of. Terms are as deep as they
-/// were written, and are walked by recursion.
+/// A term: what a rule's right side is made of. A term is as deep as it was
+/// written, and is walked by recursion.
 #[derive(Drop)]
 pub enum Term {
     /// A variable.
@@ -27,11 +27,11 @@ pub enum Term {
     Whole(Head, Vec<Term>),
     /// A head with fewer arguments than it takes.
     Part(Head, Vec<Term>),
-    /// The function that the first term gives, on the second.
+    /// The application of the first term's value, a function, to the second.
     Apply(Box<Term>, Box<Term>),
     /// The second term, where the variable stands for the first.
     Let(u32, Box<Term>, Box<Term>),
-    /// The term, where the variable is free.
+    /// The term, in which the variable is free: a logic variable.
     Free(u32, Box<Term>),
     /// A choice between two terms.
     Or(Box<Term>, Box<Term>),
@@ -44,26 +44,26 @@ pub enum Term {
 pub struct Rule {
     /// A pattern for each parameter.
     pub params: Vec<Pattern>,
-    /// The right side.
+    /// The right side of the rule.
     pub body: Term,
 }
 
 /// What a function computes.
 #[derive(Drop)]
 pub enum Body {
-    /// Its rules, in order.
+    /// The rules of the function, in order.
     Rules(Vec<Rule>),
-    /// What is built in.
+    /// An operation that is built in.
     External(Prim),
 }
 
 /// A function of a program.
 #[derive(Drop)]
 pub struct Function {
-    /// Its name, without its module's.
+    /// The function's name, without its module's.
     pub name: NameId,
-    /// How many parameters it has, below 2^32 - 1.
+    /// How many parameters the function has, below 2^32 - 1.
     pub arity: u32,
-    /// What it computes.
+    /// What the function computes.
     pub body: Body,
 }

@@ -15,7 +15,7 @@ use crate::scope::Scope;
 use crate::{Pattern, Rule, Term};
 use std::alloc::{AllocError, Global};
 
-/// Whether a term fits in a scope.
+/// Whether a term fits the program and uses only variables of a scope.
 #[cycle(terms)]
 #[tactic(auto, using(crate::specs::TermsOf::terms_of_variants, crate::specs::Scope::allowed_variants, crate::proofs::ListCounts::counts))]
 fn term_fits(alloc: Global, heads: &Heads, term: &Term, scope: &Scope) -> Result<bool, AllocError>
@@ -55,7 +55,7 @@ fn term_fits(alloc: Global, heads: &Heads, term: &Term, scope: &Scope) -> Result
     }
 }
 
-/// Whether two terms fit in a scope.
+/// Whether two terms fit the program and use only variables of a scope.
 #[cycle(terms)]
 fn both_fit(
     alloc: Global,
@@ -74,7 +74,8 @@ fn both_fit(
     term_fits(alloc, heads, second, scope)
 }
 
-/// Whether all of these terms fit in a scope.
+/// Whether all of these terms fit the program and use only variables of a
+/// scope.
 #[cycle(terms)]
 fn terms_fit(
     alloc: Global,
@@ -93,7 +94,8 @@ fn terms_fit(
     Ok(true)
 }
 
-/// Whether all of these alternatives fit in a scope.
+/// Whether all of these alternatives fit the program and use only variables of
+/// a scope.
 #[cycle(terms)]
 fn alternatives_fit(
     alloc: Global,
@@ -126,7 +128,7 @@ fn alternatives_fit(
     Ok(true)
 }
 
-/// Whether a rule fits a function of so many parameters.
+/// Whether a rule has a pattern for each of so many parameters and is valid.
 #[tactic(auto, using(crate::specs::Scope::allowed_variants, crate::proofs::ListCounts::counts))]
 fn rule_fits(alloc: Global, heads: &Heads, arity: u32, rule: &Rule) -> Result<bool, AllocError>
     ensures { IfOk result (λ fits. fits
@@ -149,7 +151,8 @@ fn rule_fits(alloc: Global, heads: &Heads, arity: u32, rule: &Rule) -> Result<bo
     )
 }
 
-/// Whether all of these rules fit a function of so many parameters.
+/// Whether all of these rules have a pattern for each of so many parameters and
+/// are valid.
 pub(crate) fn rules_fit(
     alloc: Global,
     heads: &Heads,
@@ -172,7 +175,7 @@ impl Heads<'_> {
     /// heads are the program's, those with all their arguments have as many
     /// as they take, partial applications have fewer, the patterns of its
     /// alternatives are linear, and no `Let` binds its variable in its own
-    /// definition. The one error is want of memory.
+    /// definition. The one error is an allocation failure.
     #[tactic(auto, using(crate::specs::Scope::allowed_variants))]
     pub fn fits(&self, term: &Term) -> Result<bool, AllocError>
         ensures { IfOk result (λ fits. fits

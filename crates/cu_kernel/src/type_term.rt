@@ -4,18 +4,18 @@ ghost use Rattle.cu_kernel.specs.TypesOf.{type_of};
 
 use std::marker::Model;
 
-/// A data type, by its place among the program's types.
+/// A data type, by its index among the program's types.
 #[derive(Clone, Copy, Debug, PartialEq, Eq)]
 pub struct TypeId(pub usize);
 
-/// A type synonym, by its place among the program's synonyms.
+/// A type synonym, by its index among the program's synonyms.
 #[derive(Clone, Copy, Debug, PartialEq, Eq)]
 pub struct SynonymId(pub usize);
 
-/// What a type's name stands for.
+/// What a name in a type stands for.
 #[derive(Clone, Copy, Debug, PartialEq, Eq)]
 pub enum TypeName {
-    /// A data type; lists, tuples, `Int` and `Char` are such types.
+    /// A data type. Lists, tuples, `Int` and `Char` are data types too.
     Data(TypeId),
     /// A synonym.
     Synonym(SynonymId),
@@ -27,7 +27,7 @@ pub enum TypeTerm {
     /// A type variable, by its number. The parameters of a declared type have
     /// the numbers from 0.
     Var(u32),
-    /// The functions from one type to another.
+    /// The type of functions from one type to another.
     Arrow(Box<TypeTerm>, Box<TypeTerm>),
     /// A named type with its arguments.
     Named(TypeName, Vec<TypeTerm>),

@@ -16,7 +16,7 @@ use crate::terms::rules_fit;
 use crate::{Body, Function, Prim, ProgramParts};
 use std::alloc::{AllocError, Global};
 
-/// An arity is below this number.
+/// The bound below which arities are.
 const ARITY_END: u32 = u32::MAX;
 
 /// How many arguments a built-in operation takes.
@@ -31,7 +31,7 @@ fn external_arity(operation: Prim) -> u32
     }
 }
 
-/// Whether a function's arity can be held, and its body fits it.
+/// Whether a function's arity is below the bound, and its body has this arity.
 fn function_fits(alloc: Global, heads: &Heads, function: &Function) -> Result<bool, AllocError>
     ensures { IfOk result (λ fits. fits
         ≡ fits_function (heads_program heads.now)
@@ -46,7 +46,8 @@ fn function_fits(alloc: Global, heads: &Heads, function: &Function) -> Result<bo
     }
 }
 
-/// Whether all of these functions fit.
+/// Whether all of these functions have arities below the bound, and bodies of
+/// these arities.
 fn functions_fit(alloc: Global, heads: &Heads, functions: &[Function]) -> Result<bool, AllocError>
     ensures { IfOk result (λ fit. fit
         ≡ list_all (fits_function (heads_program heads.now))
@@ -60,7 +61,7 @@ fn functions_fit(alloc: Global, heads: &Heads, functions: &[Function]) -> Result
     Ok(true)
 }
 
-/// Whether the arities of all constructors can be held.
+/// Whether the arities of all constructors are below the bound.
 #[tactic(auto, unfolding(crate::specs::Heads::heads_program))]
 fn has_arities(heads: &Heads) -> bool
     ensures { result ≡ has_arities (heads_program heads.now) }

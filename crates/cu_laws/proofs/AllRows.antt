@@ -92,7 +92,7 @@ module _ (program : Code) (claims : List Claim) (graph after : Graph) (id : ℕ)
   row_sound (row.with_partial a b is partial after_is) = failing_sound program claims graph after id (kind.Prim prim.Unify) (a ∷ b ∷ []) later is refl after_is good
   row_sound (row.set_of_partial f args is partial after_is) = sticking_sound program claims graph after id (kind.SetCall f) args later is refl after_is good
 
--- the same with the row as an argument among others
+-- every row of the step table is sound, with the row as an argument among others
 pub sound_row : (program : Code) (claims : List Claim) (graph after : Graph) (id : ℕ) (later : Assignment) → is_well_formed program ≡ true → NodesFit program graph
     → Steps program graph id after → Good program claims after later → Sound program claims graph later
 sound_row program claims graph after id later well fit step good = row_sound program claims graph after id later well fit good step

@@ -1,4 +1,5 @@
--- What an operation has, its answer has that stands in its place; and without an answer it has nothing.
+-- What an operation has, its answer has that stands in its place; and without an answer it has
+-- nothing.
 use Rattle.std.proofs.Common.{◌≡◌, ℕ, inl, inr, Bool, true, false, ◌&&◌, ◌||◌, if◌then◌else◌, List, [], ◌∷◌, Option, None, Some, refl, ap, ap₂, sym, ◌∙◌, subst, map, option_map, true≢false, ℤ, pos, negsuc}
 use Rattle.std.specs.List.{list_all}
 use Rattle.std.specs.Ordering.{int_eq}
@@ -50,7 +51,7 @@ use Rattle.cu_laws.proofs.Raising.{there_unless_stuck}
 use Rattle.cu_laws.proofs.Rising.{answers_rise, total_above}
 use Rattle.cu_laws.proofs.Truth.{true_head}
 
--- ** Operations on known heads
+-- ---- operations on known heads
 
 -- a head without arguments may have at most the value that it is
 pub constant_may : (program : Code) (claims : List Claim) (assigned : Assignment) (k : Kind) (v most : Value) → made k value.NoValue ≡ Some most → Below v most
@@ -75,7 +76,7 @@ module _ (program : Code) (claims : List Claim) (graph : Graph) (id : ℕ) (oper
       worth_of (Worth program claims (kind.Prim operation) (map assigned args)) (assigned id) known
       (loose_at program claims graph assigned id (kind.Prim operation) args loose is refl)
 
-  -- and so it answers on values that are above them
+  -- the operation answers on values that are above those of its arguments
   pub answers_above : (us : Values) → AllBelow (values_at assigned args) us
       → (w : Value) × (answered (program_of program) operation us ≡ Some w) × Below (assigned id) w
   answers_above us up =
@@ -98,7 +99,7 @@ module _ (program : Code) (claims : List Claim) (graph : Graph) (id : ℕ) (oper
   pub unanswered : (us : Values) → AllBelow (values_at assigned args) us → answered (program_of program) operation us ≡ None → ⊥
   unanswered us up none = let found = answers_above us up in let some = found.1 in cc
 
--- ** Literals as arguments
+-- ---- literals as arguments
 
 first_kind : (k l : Kind) (ks ls : List Kind) → k ∷ ks ≡ l ∷ ls → k ≡ l
 first_kind k l ks ls same = cc
@@ -118,7 +119,7 @@ literals_most program claims graph assigned loose (arg ∷ args) (l ∷ ls) kind
     (head_most program claims graph assigned arg (kind.Lit l) (head_at graph arg).args (value.Literal l) loose (node_by_kind (head_at graph arg) (kind.Lit l) here) refl)
     (literals_most program claims graph assigned loose args ls others)
 
--- ** Operations on literals alone
+-- ---- operations on literals alone
 
 -- what an operation on literals answers
 record ByLiterals (program : Program) (operation : Primitive) (us : Values) (w : Value) : Type 0 where
@@ -217,7 +218,7 @@ pub pair_most : (a b x y : Value) → Below a x → Below b y
     → AllBelow (value.MoreValues a (value.MoreValues b value.NoValue)) (value.MoreValues x (value.MoreValues y value.NoValue))
 pair_most a b x y p q = below.more a x (value.MoreValues b value.NoValue) (value.MoreValues y value.NoValue) p (below.more b y value.NoValue value.NoValue q below.none)
 
--- ** Other heads
+-- ---- other heads
 
 bound_made : (k : Kind) (us : Values) → is_bound k ≡ true → (most : Value) × (made k us ≡ Some most)
 bound_made (kind.Cons c) us bound = (value.Constructed c us, refl)
@@ -295,7 +296,7 @@ module _ (program : Code) (claims : List Claim) (graph : Graph) (id : ℕ) (assi
       on_literals_kept after prim.Chr args (Int (pos c) ∷ []) (kind.Lit (Char c)) (value.Literal (Char c)) past is kinds
       (ap (λ (b : Bool). if b then Some (value.Literal (Char c)) else None) scalar) after_is refl
 
-  -- ** Operations without an answer
+  -- ---- operations without an answer
 
   pub literals_answer : (operation : Primitive) (args : List ℕ) (ls : List Lit) → node_at graph id ≡ node (kind.Prim operation) args
       → kinds_of graph args ≡ map kind.Lit ls → is_on_literals operation ≡ true → on_literals (program_of program) operation ls ≡ None → ⊥
@@ -324,7 +325,7 @@ module _ (program : Code) (claims : List Claim) (graph : Graph) (id : ℕ) (assi
       let kinds = literal_kinds program claims graph assigned loose args by.literals_are ready by.is in
       true≢false (sym (operands_answer (program_of program) operation by.literals_are found.0 by.answers) ∙ ap (are_operands operation) (sym kinds) ∙ other)
 
-  -- ** Comparisons
+  -- ---- comparisons
 
   compared_kept : (after : Graph) (a b : ℕ) (x y : Value) (answer : Bool) → NothingPast graph assigned → node_at graph id ≡ node (kind.Prim prim.Equal) (a ∷ b ∷ [])
       → Below (assigned a) x → Below (assigned b) y → Compares x y answer → after ≡ telling program graph id answer → Kept program claims graph after assigned
@@ -382,7 +383,7 @@ module _ (program : Code) (claims : List Claim) (graph : Graph) (id : ℕ) (assi
       (ap (option_map (truth_of (program_of program)))
       (compared_none (head_at graph a).kind (head_at graph b).kind (values_at assigned (head_at graph a).args) (values_at assigned (head_at graph b).args) x.0 y.0 x.1 y.1 partial))
 
-  -- ** Conjunctions
+  -- ---- conjunctions
 
   pub both_true_kept : (after : Graph) (a b : ℕ) → is_well_formed program ≡ true → NodesFit program graph → NothingPast graph assigned
       → node_at graph id ≡ node (kind.Prim prim.And) (a ∷ b ∷ []) → (is_true program.special (head_at graph a).kind && is_true program.special (head_at graph b).kind) ≡ true
@@ -403,7 +404,7 @@ module _ (program : Code) (claims : List Claim) (graph : Graph) (id : ℕ) (assi
       true≢false (sym (and_from (is_true program.special (head_at graph a).kind) (is_true program.special (head_at graph b).kind)
       (sym (truth_same program (head_at graph a).kind) ∙ one.0) (sym (truth_same program (head_at graph b).kind) ∙ two.0)) ∙ other)
 
-  -- ** Equations
+  -- ---- equations
 
   -- the two sides of an equation have one total value
   pub sides_equal : (a b : ℕ) → node_at graph id ≡ node (kind.Prim prim.Unify) (a ∷ b ∷ [])

@@ -53,7 +53,7 @@ use Rattle.cu_laws.proofs.Readings.{goals_total, read_off, valid_reading}
 use Rattle.cu_laws.proofs.Rising.{all_total_above, values_rise}
 use Rattle.cu_laws.proofs.Truth.{under_bottom}
 
--- ** Calls on values
+-- ---- calls on values
 
 -- variables one after another have the values of an environment
 variables_give : (program : Program) (claims : List Claim) (env : Environment) (x : ℕ) (vs : Values)
@@ -87,7 +87,7 @@ applied_concludes program claims f vs v whole known most = (whole, known, by mos
         from_zero : (k : ℕ) → 0 + k ≡ k
         from_zero k = omega arith
 
--- ** The start
+-- ---- the start
 
 record RuleThere (o : Option code.Body) : Type 0 where
   params : List ℕ
@@ -131,7 +131,7 @@ start_concludes program claims goal n assigned vs v rule well arity good vs_are 
     lower (inl none) = inl (under_bottom v (subst (λ (x : Value). Below v x) none low))
     lower (inr found) = inr (found.0, found.1, below_trans v (assigned n) found.0 low found.2)
 
--- ** Answers
+-- ---- answers
 
 abbrev pub number_of : Graph → ℕ → List ℕ → ℕ → ℕ
 number_of graph root goals = ordinal (variables_of_all (spelled_all graph root goals))
@@ -167,7 +167,7 @@ begins program goal well rule =
       start_is = ap (λ (o : Option ℕ). start_on program goal (elim o [ Some k ↦ k | None ↦ 0 ])) arity;
     }
 
--- ** Programs without set functions
+-- ---- programs without set functions
 
 pub answer_follows : (program : Code) (limits : SearchLimits) (goal : FunId) (depth : ℕ) (state : State) (reading : Reading) → is_well_formed program ≡ true
     → code_is_without_sets program ≡ true → is_rule (body_of program goal) ≡ true → Among state (level program limits (start_of program goal) depth)

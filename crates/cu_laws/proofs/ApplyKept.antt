@@ -30,7 +30,8 @@ use Rattle.cu_laws.proofs.Known.{is_known, worth_of}
 use Rattle.cu_laws.proofs.Raising.{there_unless_stuck}
 use Rattle.cu_laws.proofs.Rising.{above_partial, applied_to_rises}
 
--- what a partial application on one argument more gives: a head that still lacks some, or a whole call
+-- what a partial application on one argument more gives: a head that still lacks some, or a whole
+-- call
 pub data Applies (program : Program) (claims : List Claim) (h : Head) (all : Values) (v : Value) : Type 0 where
   is_partial_still : takes_more (arity_in program h) (count all) ≡ true → v ≡ value.Partial h all → Applies program claims h all v
   is_whole : takes (arity_in program h) (count all) ≡ true → Applied program claims h all v → Applies program claims h all v
@@ -118,7 +119,7 @@ whole_kept program claims graph after id function argument h args assigned loose
           loosened program claims assigned (kind_of_whole program h) all_args (assigned id) (whole_may program claims assigned h all_args (assigned id) found.worth app found.low)
     ])
 
--- ** Other heads
+-- ---- other heads
 
 -- only partial applications are applied
 partial_applied : (program : Program) (claims : List Claim) (w u v : Value) → AppliedTo program claims w u v → (h : Head) × (us : Values) × (w ≡ value.Partial h us)

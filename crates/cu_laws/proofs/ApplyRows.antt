@@ -1,4 +1,5 @@
--- An application is worth what the partial application or the whole call is that stands in its place.
+-- An application is worth what the partial application or the whole call is that stands in its
+-- place.
 use Rattle.std.proofs.Common.{◌≡◌, ℕ, suc, ◌<◌, true, List, [], ◌∷◌, ◌++◌, Some, refl, ap, ap₂, sym, ◌∙◌, subst, length, lt-ltb, eq-eqb}
 use Rattle.cu_calculus.specs.declared.Head.{Head}
 use Rattle.cu_calculus.specs.Below.{Below}

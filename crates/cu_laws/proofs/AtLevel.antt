@@ -171,7 +171,7 @@ module _ (program : Code) (levels : List ℕ) (level : ℕ) where
   built_allowed (suc n) low variables scope next e fit all =
       expr_allowed n (built_allowed n (omega arith)) variables scope next e (expr_of program e) (omega arith) fit refl all
 
-  -- ** Graphs
+  -- ---- graphs
 
   pub set_allowed : (graph : Graph) (id : ℕ) (n : Node) → NodesAllowed graph → NodeAllowed n → NodesAllowed (put graph id n)
   set_allowed [] id n all new = tt
@@ -198,7 +198,7 @@ module _ (program : Code) (levels : List ℕ) (level : ℕ) where
   free_allowed zero = tt
   free_allowed (suc n) = (tt, free_allowed n)
 
-  -- ** Pairs
+  -- ---- pairs
 
   pair_nodes_allowed : (each : Kind) (pairs : List (ℕ × ℕ)) → AllAllowed levels level (named_by program each) → NodesAllowed (pair_nodes each pairs)
   pair_nodes_allowed each [] one = tt
@@ -237,7 +237,7 @@ module _ (program : Code) (levels : List ℕ) (level : ℕ) where
   bound_allowed graph v (code.Exactly l) all = set_allowed graph v (alone (kind.Lit l)) all tt
   bound_allowed graph v (code.Built c xs) all = imitating_allowed graph v c (length xs) all
 
-  -- ** Functions and branches
+  -- ---- functions and branches
 
   allows_more : (low : ℕ) (mention : Mention) → low ≤ level → Allows levels low mention → Allows levels level mention
   allows_more low (Plain f) up may = omega arith
@@ -285,7 +285,7 @@ module _ (program : Code) (levels : List ℕ) (level : ℕ) where
         (built_allowed (length program.expressions) bound (at.kept ++ bound_by branch.pattern) inside (length graph) branch.body fitting.body
         (alternatives_at branches found.place branch found.is arms))
 
-    -- ** Rows
+    -- ---- rows
 
     by_put : (graph after : Graph) (id : ℕ) (n : Node) → NodesAllowed graph → NodeAllowed n → after ≡ put graph id n → NodesAllowed after
     by_put graph after id n all new is = subst NodesAllowed (sym is) (set_allowed graph id n all new)

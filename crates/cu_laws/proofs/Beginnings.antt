@@ -41,7 +41,7 @@ use Rattle.cu_laws.proofs.Raising.{other_place, raise, raise_of, raise_rises, ri
 use Rattle.cu_laws.proofs.Rising.{applied_rises, ground_total, may_rise}
 use Rattle.cu_laws.proofs.TermForms.{more_form, none_form, whole_form}
 
--- ** Variables one after another
+-- ---- variables one after another
 
 -- what they give is below what they stand for
 variables_below : (program : Program) (claims : List Claim) (env : Environment) (x : ℕ) (vs us : Values) → ((k : ℕ) → env (x + k) ≡ slice_index_or (list_of vs) k value.Bottom)
@@ -80,7 +80,7 @@ numbers_same high low from (suc n) same =
     ap₂ value.MoreValues (same from (omega arith)) (numbers_same high low (from + 1) n (λ x below. same x (omega arith)))
 
 module _ (program : Code) (claims : List Claim) where
-  -- ** One node more
+  -- ---- one node more
 
   push_one : (assigned : Assignment) (next : ℕ) (nodes : List Node) (n : Node) (v : Value) → IsTrue (is_of (program_of program) v)
       → (first : Pushed program claims assigned next nodes) → MayHave NoValue program claims first.higher n.kind n.args v
@@ -109,7 +109,7 @@ module _ (program : Code) (claims : List Claim) where
         λ x below. others x (λ is. let no : ⊥ = omega arith in no),
       )
 
-  -- ** Ground data, cell by cell
+  -- ---- ground data, cell by cell
 
   record PushedValue (assigned : Assignment) (next : ℕ) (v : Value) : Type 0 where
     pushes : Pushed program claims assigned next (pushed (push_value next v))
@@ -156,7 +156,7 @@ module _ (program : Code) (claims : List Claim) where
           there = ap₂ value.MoreValues (rest.pushes.same (place_of next one) first.inside ∙ first.there) rest.there;
         }
 
-  -- ** Free variables
+  -- ---- free variables
 
   record PushedFree (assigned : Assignment) (next n : ℕ) (vs : Values) : Type 0 where
     pushes : Pushed program claims assigned next (free_nodes n)
@@ -181,7 +181,7 @@ module _ (program : Code) (claims : List Claim) where
         there = ap₂ value.MoreValues (rest.pushes.same next (omega arith) ∙ ap low (sym place) ∙ first.1) rest.there;
       }
 
-  -- ** Graphs of new nodes alone
+  -- ---- graphs of new nodes alone
 
   abbrev nothing : Assignment
   nothing x = value.Bottom
@@ -217,7 +217,7 @@ module _ (program : Code) (claims : List Claim) where
     value_is = value_is;
   }
 
-  -- ** Calls
+  -- ---- calls
 
   -- the call's node may have what the function concludes
   call_may : (high : Assignment) (f : FunId) (ids : List ℕ) (arguments : Values) (v : Value) → values_at high ids ≡ arguments

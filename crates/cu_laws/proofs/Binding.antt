@@ -19,7 +19,7 @@ use Rattle.cu_laws.specs.Good.{Assignment, Good, MayHave, NoValue, RisesTo}
 use Rattle.cu_laws.proofs.Heads.{made, made_is_most, made_may, made_of, values_at}
 use Rattle.cu_laws.proofs.Raising.{GoodApart, other_place, raise, raise_good, raise_rises, same_place}
 
--- ** Raising in a successor
+-- ---- raising in a successor
 
 abbrev pub nowhere : ℕ → Bool
 nowhere x = false
@@ -28,7 +28,8 @@ pub good_everywhere : (program : Code) (claims : List Claim) (graph : Graph) (as
     → GoodApart nowhere program claims graph assigned
 good_everywhere program claims graph assigned good = record { of_program = good.of_program; each = λ x below among. good.each x below }
 
--- an assignment that is good everywhere and at least as great, in which a place has a value and others what they had
+-- an assignment that is good everywhere and at least as great, in which a place has a value and
+-- others what they had
 pub record Filled (program : Code) (claims : List Claim) (graph : Graph) (assigned : Assignment) (place : ℕ) (v : Value) : Type 0 where
   pub higher : Assignment
   pub good : GoodApart nowhere program claims graph higher
@@ -59,9 +60,10 @@ filled_head program claims graph assigned place k args v good here is whole made
     (made_of program assigned k args v good.of_program whole made_is)
     (subst (λ (n : Node). MayHave NoValue program claims assigned n.kind n.args v) (sym is) (made_may program claims assigned k args v made_is))
 
--- ** Graphs in which a free variable was bound
+-- ---- graphs in which a free variable was bound
 
--- a graph in which other nodes stand at the place of a free variable and at a further place, and nodes behind
+-- a graph in which other nodes stand at the place of a free variable and at a further place, and
+-- nodes at the end
 pub record Bound (graph : Graph) (v id : ℕ) (after : Graph) (new : Node) : Type 0 where
   pub args : List ℕ
   pub free : node_at graph v ≡ node kind.Free args
@@ -89,7 +91,7 @@ before_binding program claims graph v id after new assigned bound good total = r
         let longer = bound.longer in
         subst (λ (n : Node). MayHave NoValue program claims assigned n.kind n.args (assigned x)) (bound.same x below (not_same v x differ) other) (good.each x (omega arith) refl)
 
--- ** New free variables
+-- ---- new free variables
 
 pub length_free : (n : ℕ) → length (free_nodes n) ≡ n
 length_free zero = refl
@@ -120,7 +122,7 @@ all_total_data assigned from (suc n) each =
     shift : (i : ℕ) → from + suc i ≡ (from + 1) + i
     shift i = omega arith
 
--- ** A variable bound to a constructor over new variables
+-- ---- a variable bound to a constructor over new variables
 
 pub length_imitating : (graph : Graph) (v : ℕ) (c : ConId) (n : ℕ) → length (imitating graph v c n) ≡ length graph + n
 length_imitating graph v c n =

@@ -35,7 +35,7 @@ use Rattle.cu_laws.proofs.Rising.{all_total_above, values_rise}
 use Rattle.cu_laws.proofs.Sides.{CanRise, free_can_rise, made_can_rise, sides_sound}
 use Rattle.cu_laws.proofs.Truth.{telling_low}
 
--- ** Places that differ
+-- ---- places that differ
 
 -- places of which one has a kind that passes a test and the other has not
 pub apart_by : (graph : Graph) (x y : ℕ) (test : Kind → Bool) → test (node_at graph x).kind ≡ true → test (node_at graph y).kind ≡ false → x ≢ y
@@ -48,7 +48,7 @@ is_operation _ = false
 kind_tells : (graph : Graph) (x : ℕ) (k : Kind) (args : List ℕ) (test : Kind → Bool) → node_at graph x ≡ node k args → test (node_at graph x).kind ≡ test k
 kind_tells graph x k args test is = ap (λ (n : Node). test n.kind) is
 
--- ** Bound to another name
+-- ---- bound to another name
 
 -- a graph in which a free variable names another node, and the equation holds
 bound_to_name : (program : Code) (graph : Graph) (v other id : ℕ) (args : List ℕ) → node_at graph v ≡ node kind.Free args → v ≢ id
@@ -110,7 +110,7 @@ two_variables_sound program claims graph after id a b us vs later is head_a head
       subst (λ (x : Value). Below x (truth_of P true)) (sym (fill.kept id (λ e. v_id (sym e)))) (name_low program claims graph v other id later here good_next),
     ))
 
--- ** A free variable beside another node
+-- ---- a free variable beside another node
 
 -- two sides of which one is a free variable, in either order
 either_order : (program : Code) (claims : List Claim) (graph : Graph) (id a b v other : ℕ) (k : Kind) (args : List ℕ) (w : Value) (later assigned : Assignment)
@@ -201,7 +201,7 @@ pub bound_to_constant_sound : (program : Code) (claims : List Claim) (graph afte
 bound_to_constant_sound program claims graph after id a b v other c later fit is sides after_is good =
     bound_to_head program claims graph after id a b v other (kind.Cons c) [] (value.Constructed c value.NoValue) later fit is sides (λ assigned. refl) refl refl refl after_is good
 
--- ** Imitation
+-- ---- imitation
 
 imitation_end : (program : Code) (claims : List Claim) (graph : Graph) (id a b v other : ℕ) (c : ConId) (args fresh : List ℕ) (later higher : Assignment)
     → NodesFit program graph → node_at graph id ≡ node (kind.Prim prim.Unify) (a ∷ b ∷ []) → FreeBeside graph a b v other (kind.Cons c) args

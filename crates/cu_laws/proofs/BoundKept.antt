@@ -48,7 +48,7 @@ use Rattle.cu_laws.proofs.LooseNodes.{AnyValue, head_above, loose_at, loosened}
 use Rattle.cu_laws.proofs.Raising.{there_unless_stuck}
 use Rattle.cu_laws.proofs.Rising.{total_above}
 
--- ** Another name of what it equals
+-- ---- another name of what it equals
 
 module _ (program : Code) (claims : List Claim) (graph : Graph) (id : ℕ) (assigned : Assignment) (loose : Loose program claims graph assigned)
     (past : NothingPast graph assigned) (known : is_known (assigned id) ≡ true) where
@@ -135,7 +135,7 @@ module _ (program : Code) (claims : List Claim) (graph : Graph) (id : ℕ) (assi
         ]
       ]
 
--- ** Values one after another
+-- ---- values one after another
 
 -- an assignment with further values from a place on
 abbrev filling : Assignment → ℕ → List Value → Assignment
@@ -194,7 +194,7 @@ fill_values assigned from (u ∷ us) =
     (λ x behind. ap (λ (t : Bool). if t then u else filling assigned (from + 1) us x) (not_eq from x (λ same. let no : ⊥ = omega (arith, same, behind) in no)))
     ∙ fill_values assigned (from + 1) us)
 
--- ** What patterns match
+-- ---- what patterns match
 
 exactly_is : (l : Lit) (u : Value) (bindings : Bindings) → matched (pattern_of (code.Exactly l)) u ≡ Some bindings → u ≡ value.Literal l
 exactly_is l (value.Literal m) bindings is = by (same_literal l m) refl is
@@ -227,7 +227,7 @@ matched_as_list (x ∷ xs) (value.MoreValues u us) bindings is = by (all_matched
     by None rest e = let no : ⊥ = cc in absurd no
     by (Some b) rest e = let found = rest b refl in (u ∷ found.0, ap (value.MoreValues u) found.1, ap suc found.2)
 
--- ** Narrowing
+-- ---- narrowing
 
 abbrev is_fitting : Program → Value → Bool
 is_fitting program u = is_total_data u && is_of program u

@@ -40,7 +40,7 @@ use Rattle.cu_laws.specs.Good.{Assignment, AtMost, Distinguished, Good, MayHave,
 use Rattle.cu_laws.proofs.Heads.{values_at}
 use Rattle.cu_laws.proofs.Raising.{by_test}
 
--- ** Heads with all their arguments
+-- ---- heads with all their arguments
 
 pub body_there : (program : Code) (f : FunId) (body : code.Body) → body_of program f ≡ Some body
     → (function : code.Function) × (slice_get program.functions f.0 ≡ Some function) × (function.body ≡ body)
@@ -87,7 +87,7 @@ alternatives_same program n variables mode kept s branches low fit =
     (λ inner x fit_x. within_any program inner n (length program.expressions) x low fit_x) fit in
     cc
 
--- ** Scopes
+-- ---- scopes
 
 -- the variable that was bound last
 pub last_place : (scope : Scope) (x id y : ℕ) → place_in (scope ++ (x, id) ∷ []) y ≡ (if nat_eq y x then Some id else place_in scope y)
@@ -107,7 +107,7 @@ env_of_last assigned scope x id y =
     (if b then assigned id else env_in assigned scope y)) (λ same. below_itself (assigned id)) (λ other. below_itself (env_in assigned scope y))))
 
 module _ (program : Code) (claims : List Claim) (assigned : Assignment) (all : (id : ℕ) → IsTrue (is_of (program_of program) (assigned id))) where
-  -- ** Nodes that are pushed
+  -- ---- nodes that are pushed
 
   -- nodes from a place on have values that they may have
   abbrev pub AllMay : ℕ → List Node → Type 0
@@ -132,7 +132,7 @@ module _ (program : Code) (claims : List Claim) (assigned : Assignment) (all : (
   pushed_may next built may =
       let both = all_may_split next built.parts (on_top built.top) may in (both.0, top_may (next + length built.parts) built.top both.1)
 
-  -- ** Expressions
+  -- ---- expressions
 
   abbrev pub BuiltIsWorth : ℕ → Type 0
   BuiltIsWorth n = (variables : List ℕ) (scope : Scope) (next : ℕ) (e : ExprId) (v : Value) → fits n program variables e ≡ true
@@ -333,7 +333,7 @@ module _ (program : Code) (claims : List Claim) (assigned : Assignment) (all : (
   built_worth (suc n) low variables scope next e v fit may top =
       expr_worth n (built_worth n (omega arith)) (omega arith) variables scope next e (expr_of program e) v refl fit may top
 
-  -- ** Written graphs
+  -- ---- written graphs
 
   pub all_may_from : (nodes : List Node) (place : ℕ)
       → ((i : ℕ) → i < length nodes → MayHave NoValue program claims assigned (get_or nodes i stuck).kind (get_or nodes i stuck).args (assigned (place + i)))

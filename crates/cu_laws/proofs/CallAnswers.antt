@@ -46,7 +46,7 @@ use Rattle.cu_laws.proofs.SearchAnswers.{all_built_of}
 use Rattle.cu_laws.proofs.SetRow.{values_low}
 use Rattle.cu_laws.proofs.Truth.{under_bottom}
 
--- ** Good assignments of the first state
+-- ---- good assignments of the first state
 
 -- what a function gives on values that say less it gives, or more, on the others
 at_most_above : (program : Code) (claims : List Claim) (f : FunId) (us vs : Values) (u v : Value) → AllBelow us vs → Below v u
@@ -91,7 +91,7 @@ call_concludes program claims f arguments assigned v arity built good small =
         (subst (λ (n : Node). MayHave NoValue program claims assigned n.kind n.args (assigned i)) (get_or_append_left nodes (call ∷ []) stuck i below)
         (good.each i (omega arith)))
 
--- ** Levels of an inner search
+-- ---- levels of an inner search
 
 call_allowed : (program : Code) (levels : List ℕ) (f : FunId) (arguments : Values) → are_built program arguments ≡ true
     → NodesAllowed program levels (level_of levels f) (graph_of (call_on program f arguments))

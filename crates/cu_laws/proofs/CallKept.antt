@@ -82,7 +82,7 @@ call_kept program claims graph after id f args params body assigned well claimed
     (both_of_env assigned [] params args rule.linear) found.2 in
     kept_by_writing program claims graph after id (zip params args) params body assigned well claimed here rule.body_fits loose past after_is given
 
--- ** Choices
+-- ---- choices
 
 -- a row that keeps every value
 pub record SomeRow (program : Code) (claims : List Claim) (graph : Graph) (id : ℕ) (assigned : Assignment) : Type 0 where

@@ -1,4 +1,5 @@
--- From a state back to the one that it follows, also where searches for all values run: where one ended, its claim is added.
+-- From a state back to the one that it follows, also where searches for all values run: where one
+-- ended, its claim is added.
 use Rattle.std.proofs.Common.{◌≡◌, ℕ, zero, suc, ◌+◌, ◌-◌, inl, inr, true, ◌&&◌, List, [], ◌∷◌, ◌++◌, Option, None, Some, refl, ap, sym, ◌∙◌, subst, length, map, eqb-true, true≢false, arith, append-nil, slice_get}
 use Rattle.std.specs.Prelude.{flat_map}
 use Rattle.std.specs.List.{list_all, list_any}
@@ -41,7 +42,7 @@ use Rattle.cu_laws.proofs.SetRow.{delivered_sound}
 use Rattle.cu_laws.proofs.TracedStates.{goes_on, after_level_is, next_traced, was_blocked}
 use Rattle.cu_machine.specs.Spell.{spelled}
 
--- ** Claims that are added
+-- ---- claims that are added
 
 pub record Carried (program : Code) (limits : Limits) (P : FunId → Type 0) (claims : List Claim) (graph : Graph) (later : Assignment) : Type 0 where
   pub further : List Claim
@@ -105,7 +106,7 @@ came_both program limits P one two three first second = record {
       };
 }
 
--- ** A search that ended
+-- ---- a search that ended
 
 mutual
   pub built_ground : (program : Code) (v : Value) → is_built program v ≡ true → is_ground v ≡ true
@@ -174,7 +175,7 @@ pub one_passes : (P : FunId → Type 0) (claim : Claim) → P claim.function →
 one_passes P claim passes zero other at = let same : claim ≡ other = cc in subst (λ (c : Claim). P c.function) same passes
 one_passes P claim passes (suc k) other at = let no : ⊥ = cc in absurd no
 
--- ** One step
+-- ---- one step
 
 came_at : (program : Code) (limits : Limits) (P : FunId → Type 0) (before only state : State) → Among state (only ∷ []) → CameFrom program limits P before only → CameFrom program limits P before state
 came_at program limits P before only state (inl same) came = subst (λ (s : State). CameFrom program limits P before s) same came
@@ -232,7 +233,7 @@ next_came program limits P (Branch graph root goals (Running id found (MoreState
       })
     ]
 
--- ** Runs and levels
+-- ---- runs and levels
 
 -- What is kept of each state: by it every set function that is called there passes.
 pub record Keeps (program : Code) (limits : Limits) (P : FunId → Type 0) (Keep : State → Type 0) : Type 0 where

@@ -1,4 +1,5 @@
--- What a case distinction on a literal or a constructor has, the branch gives that is taken; and without such a branch it has nothing.
+-- What a case distinction on a literal or a constructor has, the branch gives that is taken; and
+-- without such a branch it has nothing.
 use Rattle.std.proofs.Common.{◌≡◌, ℕ, ◌<◌, Bool, true, false, if◌then◌else◌, List, [], ◌∷◌, ◌++◌, Option, None, Some, IsTrue, refl, ap, sym, ◌∙◌, subst, length, map, zip, zero, suc, slice_get, true≢false}
 use Rattle.std.specs.List.{list_all}
 use Rattle.std.proofs.lemmas.Bool.{and_parts}
@@ -54,7 +55,8 @@ use Rattle.cu_laws.proofs.Scopes.{any_match, both_of_env}
 one_expression : (o : Option code.Expr) (a b : code.Expr) → o ≡ Some a → o ≡ Some b → a ≡ b
 one_expression o a b is are = some_is a b (sym is ∙ are)
 
--- What a case distinction gives on u where its scrutinee has at most that: a branch takes u, and gives at least what the node has.
+-- What a case distinction gives on u where its scrutinee has at most that: a branch takes u, and
+-- gives at least what the node has.
 pub record Branches (program : Code) (claims : List Claim) (id : ℕ) (branches : List Branch) (kept values : List ℕ) (u : Value) (assigned : Assignment) : Type 0 where
   pub term : Term
   pub bindings : Bindings
@@ -93,7 +95,7 @@ pub branches_give : (program : Code) (claims : List Claim) (graph : Graph) (id :
 branches_give program claims graph id mode scrutinee scope branches k args u assigned loose known at head_is made_is =
     branches_on program claims graph id mode scrutinee scope branches u assigned loose known at (head_most program claims graph assigned scrutinee k args u loose head_is made_is)
 
--- ** The branch that is taken
+-- ---- the branch that is taken
 
 pub taken_kept : (program : Code) (claims : List Claim) (graph after : Graph) (id : ℕ) (mode : Mode) (scrutinee : ℕ) (scope : Scope) (branches : List Branch) (k : Kind)
     (args : List ℕ) (branch : Branch) (choice : ℕ) (inner_args : List ℕ) (u : Value) (assigned : Assignment)
@@ -177,7 +179,7 @@ constructor_kept program claims graph after id mode scrutinee scope branches c a
     taken_kept program claims graph after id mode scrutinee scope branches (kind.Cons c) args branch found.place args u assigned well claimed loose past known at head_is refl
     found.is met matches after_is
 
--- ** Without a branch
+-- ---- without a branch
 
 -- no branch passes a test that finds none
 no_branch : (test : Shallow → Bool) (branches : List Branch) (k : ℕ) (branch : Branch) → branch_for test branches ≡ None → slice_get branches k ≡ Some branch

@@ -1,4 +1,5 @@
--- A case distinction on a literal or a constructor is worth what the branch is that is written over it.
+-- A case distinction on a literal or a constructor is worth what the branch is that is written over
+-- it.
 use Rattle.std.proofs.Common.{◌≡◌, ℕ, zero, suc, ◌+◌, ◌<◌, Bool, true, false, ◌&&◌, List, [], ◌∷◌, ◌++◌, Option, None, Some, refl, ap, sym, ◌∙◌, subst, if◌then◌else◌, length, map, zip, eqb-true, slice_get, inr, true≢false}
 use Rattle.std.specs.List.{list_all}
 use Rattle.std.proofs.lemmas.Bool.{and_from, and_parts}
@@ -48,7 +49,7 @@ use Rattle.cu_laws.proofs.Lifting.{lifted}
 use Rattle.cu_laws.proofs.Raising.{there_unless_stuck}
 use Rattle.cu_laws.proofs.Scopes.{any_match, env_of_both, env_of_zip, kept_rise}
 
--- ** Branches and alternatives
+-- ---- branches and alternatives
 
 pub record At (test : Shallow → Bool) (branches : List Branch) (branch : Branch) : Type 0 where
   pub place : ℕ
@@ -102,7 +103,7 @@ takes_branch program t branches k branch u differ at met =
     (chooses_flat program (alternatives_of plain_term branches) u k (demand_of (pattern_of branch.pattern)) (plain_flat branches)
     (differ_kept plain_term branches ∙ differ) met (demand_at plain_term branches k branch at))
 
--- ** Branches that fit
+-- ---- branches that fit
 
 pub record BranchFits (program : Code) (kept : List ℕ) (branches : List Branch) (branch : Branch) : Type 0 where
   pub linear : is_linear kept ≡ true
@@ -128,7 +129,7 @@ pub pattern_linear : (program : Code) (p : Shallow) → fits_pattern program p �
 pattern_linear program (code.Exactly l) fit = refl
 pattern_linear program (code.Built c xs) fit = (and_parts (takes (arity_of program (head.Con c)) (length xs)) (is_linear xs) fit).1
 
--- ** The branch that is taken
+-- ---- the branch that is taken
 
 pub taken_sound : (program : Code) (claims : List Claim) (graph after : Graph) (id : ℕ) (mode : Mode) (scrutinee : ℕ) (scope : Scope) (branches : List Branch) (k : Kind)
     (args : List ℕ) (branch : Branch) (choice : ℕ) (inner_args : List ℕ) (u : Value) (later : Assignment)
@@ -187,7 +188,7 @@ taken_sound program claims graph after id mode scrutinee scope branches k args b
     sound_as program claims graph id case_kind (scrutinee ∷ at.values) later higher at.node_is lift.good lift.rises
     (inr (later id, worth, subst (λ (x : Value). Below x (later id)) (sym lift.kept) (below_itself (later id))))
 
--- ** Literals and constructors
+-- ---- literals and constructors
 
 pub literal_pattern : (l : Lit) (p : Shallow) → takes_literal l p ≡ true → p ≡ code.Exactly l
 literal_pattern l (code.Exactly m) is = ap code.Exactly (sym (literal_is l m is))

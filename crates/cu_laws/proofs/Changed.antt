@@ -13,7 +13,7 @@ use Rattle.cu_machine.proofs.Frames.{at_old, at_same, length_written}
 use Rattle.cu_laws.specs.Good.{Assignment, Good, MayHave, NoValue, RisesTo}
 use Rattle.cu_laws.proofs.Raising.{GoodApart, by_test, is_ind, rises_itself}
 
--- a graph in which another node stands at a place, and further nodes behind
+-- a graph in which another node stands at a place, and further nodes at the end
 pub record Changed (graph : Graph) (id : ℕ) (after : Graph) (new : Node) : Type 0 where
   pub here : id < length graph
   pub longer : length graph ≤ length after
@@ -75,7 +75,7 @@ sound_as program claims graph id k args later earlier is apart up may = (earlier
           (λ other e. apart.each x below other) refl;
     }
 
--- ** Rows that end in failure
+-- ---- rows that end in failure
 
 abbrev pub is_free : Kind → Bool
 is_free kind.Free = true

@@ -18,9 +18,10 @@ use Rattle.cu_machine.proofs.DoneLaws.{head_of_done, then_first, then_second, wi
 use Rattle.cu_machine.proofs.NeedPlaces.{before_done, first_at, places_closed, rest_at_at, table_at, unless_done_at, waiting_not_at}
 use Rattle.cu_machine.proofs.Rows.{head_closed}
 
--- ** The call that is needed
+-- ---- the call that is needed
 
--- nothing is needed of these values throughout, within a bound, and none of them has a free variable
+-- nothing is needed of these values throughout, within a bound, and none of them has a free
+-- variable
 pub record Ready (truth : ConId) (graph : Graph) (bound : ℕ) (args : List ℕ) : Type 0 where
   pub depth : ℕ
   pub within : depth ≤ bound
@@ -76,7 +77,7 @@ module _ (truth : ConId) (graph : Graph) (f : FunId) (args : List ℕ) (i : ℕ)
       (head_at graph x).kind (head_at graph x).args parts)
       same
 
--- ** Values of which nothing is needed
+-- ---- values of which nothing is needed
 
 all_done : (truth : ConId) (graph : Graph) (depth : ℕ) (part : ℕ → Value) (args : List ℕ)
     → ((x : ℕ) → need_within depth truth graph Throughout x ≡ Done → is_total (part x) ≡ true) → first (map (need_within depth truth graph Throughout) args) ≡ Done
@@ -108,7 +109,7 @@ done_total truth graph (suc depth) (suc more) id up same =
     total_head truth graph depth (spelled_within more graph) head k args (head_of_done truth graph part head k args (then_first _ _ same))
     (λ x done. done_total truth graph depth more x (omega arith) done) (then_second _ _ same)
 
--- ** Values without variables
+-- ---- values without variables
 
 joined_none : (xs ys : List ℕ) → joined xs ys ≡ [] → (xs ≡ []) × (ys ≡ [])
 joined_none [] ys same = (refl, none_kept ys same)

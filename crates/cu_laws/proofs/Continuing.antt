@@ -1,4 +1,5 @@
--- From an assignment for a graph to one for a graph that follows, in which one node differs and further ones stand behind.
+-- From an assignment for a graph to one for a graph that follows, in which one node differs and
+-- further ones stand at the end.
 use Rattle.std.proofs.Common.{◌≡◌, ℕ, ◌<◌, ◌≤◌, ◌⊎◌, inl, inr, List, IsTrue, refl, sym, subst, length, arith, length-set}
 use Rattle.std.proofs.lemmas.Bool.{cases_lt}
 use Rattle.cu_calculus.specs.Below as below
@@ -18,7 +19,7 @@ use Rattle.cu_laws.proofs.Changed.{Changed, changed_by_put}
 use Rattle.cu_laws.proofs.LooseNodes.{AnyValue, loosened}
 use Rattle.cu_laws.proofs.Rising.{may_rise}
 
--- ** Graphs that follow
+-- ---- graphs that follow
 
 pub same_rises : (graph : Graph) (assigned later : Assignment) → NothingPast graph assigned → ((x : ℕ) → x < length graph → later x ≡ assigned x)
     → RisesTo assigned later
@@ -48,7 +49,7 @@ continues_where program claims graph after assigned later loose past all behind 
         (may_rise AnyValue program claims assigned later (node_at graph x).kind (node_at graph x).args (assigned x) (same_rises graph assigned later past same)
         (loose.each x there)))
 
--- the same where one node differs and further ones stand behind
+-- an assignment for a graph that follows, where one node differs and further ones stand at the end
 pub continues : (program : Code) (claims : List Claim) (graph after : Graph) (id : ℕ) (new : Node) (assigned later : Assignment) → Changed graph id after new
     → Loose program claims graph assigned → NothingPast graph assigned → ((x : ℕ) → IsTrue (is_of (program_of program) (later x)))
     → NothingPast after later → ((x : ℕ) → x < length graph → later x ≡ assigned x)

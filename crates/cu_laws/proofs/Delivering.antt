@@ -1,4 +1,5 @@
--- A set function's call whose search ended has at most the list of what was found, over claims that agree with searches.
+-- A set function's call whose search ended has at most the list of what was found, over claims that
+-- agree with searches.
 use Rattle.std.proofs.Common.{◌≡◌, ℕ, zero, suc, ◌+◌, ◌<◌, inl, inr, true, ◌&&◌, List, [], ◌∷◌, Option, None, Some, refl, sym, ◌∙◌, subst, length, map, slice_get, true≢false, arith}
 use Rattle.std.specs.List.{list_all}
 use Rattle.std.proofs.lemmas.Bool.{and_from, and_parts}
@@ -48,7 +49,7 @@ use Rattle.cu_laws.proofs.Rising.{all_total_above, all_ground_total}
 use Rattle.cu_laws.proofs.SearchAnswers.{built_of}
 use Rattle.cu_laws.proofs.SetRow.{delivered_by, delivered_is}
 
--- ** What spells ground data has at most that
+-- ---- what spells ground data has at most that
 
 all_at_most : (assigned : Assignment) (part : ℕ → Value) (args : List ℕ) → ((y : ℕ) → is_ground (part y) ≡ true → Below (assigned y) (part y))
     → are_ground (values_of (map part args)) ≡ true → AllBelow (values_at assigned args) (values_of (map part args))
@@ -80,7 +81,7 @@ module _ (program : Code) (claims : List Claim) (graph : Graph) (assigned : Assi
       all_total_above (values_at assigned args) (spelled_values graph args) (all_at_most assigned (spelled graph) args (at_most_spelled (length graph)) spells)
       (all_ground_total (values_at assigned args) ground)
 
--- ** What a set function's call has
+-- ---- what a set function's call has
 
 -- a claim that gives it
 record ByClaim (program : Program) (claims : List Claim) (f : FunId) (us : Values) (v : Value) : Type 0 where
@@ -142,7 +143,7 @@ at_most_found program claims limits graph id f args c values assigned agree loos
         below_trans (assigned id) given.0 (collected P c values) given.2
         (from_claim given.0 (by_claim P claims (head.Set f) (values_at assigned args) given.0 given.1 f refl))
 
--- ** Values that are pushed cell by cell
+-- ---- values that are pushed cell by cell
 
 module _ (program : Code) (claims : List Claim) where
   record PushedValues (assigned : Assignment) (next : ℕ) (vs : Values) : Type 0 where
@@ -204,7 +205,7 @@ module _ (program : Code) (claims : List Claim) where
               (below_trans v (low (place_of next one)) (high (place_of next one)) first.there (rest.pushes.rises (place_of next one))) rest.there;
         }
 
--- ** A search that ended
+-- ---- a search that ended
 
 listed_built : (program : Code) (nil cons : ConId) (vs : List Value) → takes (arity_of program (head.Con nil)) 0 ≡ true → takes (arity_of program (head.Con cons)) 2 ≡ true
     → list_all (is_built program) vs ≡ true → is_built program (listed nil cons vs) ≡ true

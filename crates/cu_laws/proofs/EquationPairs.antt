@@ -20,7 +20,8 @@ use Rattle.cu_laws.proofs.PairRows.{two}
 use Rattle.cu_laws.proofs.Pairs.{Says}
 use Rattle.cu_laws.proofs.Truth.{no_truth, under_bottom}
 
--- what a node is worth that equates two values: nothing, or at most True where they are one and total data
+-- what a node is worth that equates two values: nothing, or at most True where they are one and
+-- total data
 abbrev pub OneEquates : Program → Value → Value → Value → Type 0
 OneEquates program a b v = (v ≡ value.Bottom) ⊎ ((a ≡ b) × (is_total_data a ≡ true) × Below v (truth_of program true))
 

@@ -1,4 +1,5 @@
--- Equations are worth True where both sides are one value and total data: the rows that bind no variable.
+-- Equations are worth True where both sides are one value and total data: the rows that bind no
+-- variable.
 use Rattle.std.proofs.Common.{◌≡◌, ◌≢◌, ℕ, ◌<◌, inl, inr, true, List, [], ◌∷◌, refl, ap, ap₂, sym, ◌∙◌, subst, length, zip, arith}
 use Rattle.std.proofs.lemmas.Bool.{and_from}
 use Rattle.cu_calculus.specs.declared.ConId.{ConId}

@@ -55,7 +55,7 @@ use Rattle.cu_laws.proofs.Rising.{above_more, applied_rises, applied_to_rises, d
 use Rattle.cu_laws.proofs.TermForms.{apply_form, free_form, let_form, literal_gives, more_form, none_form, or_form, part_form, whole_form}
 use Rattle.cu_laws.proofs.Truth.{under_bottom}
 
--- ** Heads with all their arguments
+-- ---- heads with all their arguments
 
 operation_gives : (program : Program) (claims : List Claim) (h : Head) (us : Values) (v : Value) → Applied program claims h us v → (f : FunId) (function : Function)
     (operation : Primitive) → h ≡ head.Fun f → function_of program f ≡ Some function → function.body ≡ External operation → Answers program operation us v
@@ -146,7 +146,7 @@ bottom_whole program claims assigned (head.Fun f) args = by (body_of program f)
     by (Some (code.External prim.Failed)) = refl
     by (Some (code.External operation)) = inl refl
 
--- ** Branches
+-- ---- branches
 
 pub alternative_is : (t : ExprId → Term) (branches : List Branch) (k : ℕ) (p : Pattern) (s : Term) → alternative_at (alternatives_of t branches) k ≡ Some (p, s)
     → (branch : Branch) × (slice_get branches k ≡ Some branch) × (p ≡ pattern_of branch.pattern) × (s ≡ t branch.body)
@@ -192,7 +192,7 @@ module _ (program : Code) (claims : List Claim) where
     pub past : Past higher (next + length nodes)
     pub may : AllMay program claims higher of_program next nodes
 
-  -- the same for the parts of what is built, where its top may have a value
+  -- An assignment that was extended to the parts of what is built, whose top may have the value v
   pub record Extended (assigned : Assignment) (next : ℕ) (built : Built) (v : Value) : Type 0 where
     pub higher : Assignment
     pub of_program : (id : ℕ) → IsTrue (is_of (program_of program) (higher id))
@@ -202,7 +202,7 @@ module _ (program : Code) (claims : List Claim) where
     pub may : AllMay program claims higher of_program next built.parts
     pub top : TopMay program claims higher of_program built.top v
 
-  -- ** Nodes that stay as they are
+  -- ---- nodes that stay as they are
 
   pub all_may_rise : (low high : Assignment) (of_low : (id : ℕ) → IsTrue (is_of (program_of program) (low id))) (of_high : (id : ℕ) → IsTrue (is_of (program_of program) (high id)))
       (place : ℕ) (nodes : List Node) → RisesTo low high → ((x : ℕ) → x < place + length nodes → high x ≡ low x) → AllMay program claims low of_low place nodes
@@ -220,7 +220,7 @@ module _ (program : Code) (claims : List Claim) where
   all_may_join assigned all place (x ∷ xs) ys may more =
       (may.0, all_may_join assigned all (suc place) xs ys may.1 (subst (λ (n : ℕ). AllMay program claims assigned all n ys) (omega arith) more))
 
-  -- nodes behind nodes
+  -- nodes after nodes
   unfoldable pub pushed_both : (assigned : Assignment) (next : ℕ) (xs ys : List Node) (first : Pushed assigned next xs) → Pushed first.higher (next + length xs) ys
       → Pushed assigned next (xs ++ ys)
   pushed_both assigned next xs ys first second = record {
@@ -243,7 +243,7 @@ module _ (program : Code) (claims : List Claim) where
     may = tt;
   }
 
-  -- ** A top that is pushed
+  -- ---- a top that is pushed
 
   pub record PushedTop (assigned : Assignment) (next : ℕ) (built : Built) (v : Value) : Type 0 where
     pub pushes : Pushed assigned next (pushed built)
@@ -284,7 +284,7 @@ module _ (program : Code) (claims : List Claim) where
         there = subst (λ (x : Value). Below v x) (sym at_place) (below_itself v);
       }
 
-  -- ** Expressions
+  -- ---- expressions
 
   module _ (well : is_well_formed program ≡ true) (claimed : IsTrue (list_all (is_claim_of (program_of program)) claims)) where
     abbrev Has : ℕ → Type 0
@@ -578,7 +578,7 @@ module _ (program : Code) (claims : List Claim) where
             → Extended first.higher (next + 1) built v → Extended assigned next (after (alone kind.Free ∷ []) built) v
         behind_free assigned next built v first e = behind_pushed assigned next (alone kind.Free ∷ []) built v first e
 
-    -- ** Case distinctions
+    -- ---- case distinctions
 
     abbrev kept_parts : Scope → ℕ → List ℕ → BuiltParts
     kept_parts scope next kept = build_parts (λ place x. build_variable (place_in scope x)) next kept
@@ -754,7 +754,7 @@ module _ (program : Code) (claims : List Claim) where
     built_has (suc n) bound variables scope next e v assigned fit all past given =
         expr_has n (built_has n (omega arith)) (omega arith) variables scope next e (expr_of program e) v assigned refl fit all past given
 
--- ** Written graphs
+-- ---- written graphs
 
 all_may_at : (program : Code) (claims : List Claim) (assigned : Assignment) (all : (id : ℕ) → IsTrue (is_of (program_of program) (assigned id))) (place : ℕ) (nodes : List Node)
     (i : ℕ) → AllMay program claims assigned all place nodes → i < length nodes

@@ -28,7 +28,8 @@ use Rattle.cu_laws.proofs.AllRows.{sound_row}
 use Rattle.cu_laws.proofs.Changed.{Sound}
 use Rattle.cu_laws.proofs.Raising.{rises_itself, rises_trans}
 
--- A state that comes from another one: root and goal variables are the same, and good assignments can be carried back.
+-- A state that comes from another one: root and goal variables are the same, and good assignments
+-- can be carried back.
 pub record ComesFrom (program : Code) (claims : List Claim) (before state : State) : Type 0 where
   pub roots : root_of state ≡ root_of before
   pub goals : goals_of state ≡ goals_of before
@@ -48,7 +49,7 @@ comes_from_both program claims one two three first second = record {
       (found.0, found.1, rises_trans later middle.0 found.0 middle.2 found.2);
 }
 
--- ** One step of a state in which no search runs
+-- ---- one step of a state in which no search runs
 
 among_map : (graphs : List Graph) (f : Graph → State) (state : State) → Among state (map f graphs) → (graph : Graph) × Among graph graphs × (state ≡ f graph)
 among_map [] f state m = absurd m
@@ -103,7 +104,7 @@ module _ (program : Code) (claims : List Claim) (limits : Limits) (well : is_wel
       next_by_from graph root goals (need_all program.special.truth graph root) states state valid refl
       (unless_if (is_above limits (length graph)) limits (next_by program limits graph root goals (need_all program.special.truth graph root)) states same) m
 
--- ** States without set functions
+-- ---- states without set functions
 
 -- a state of a search, from the state in which it began
 pub record IsOn (program : Code) (claims : List Claim) (start state : State) : Type 0 where

@@ -38,7 +38,7 @@ use Rattle.cu_laws.proofs.SearchAnswers.{all_built_of}
 use Rattle.cu_laws.proofs.SearchesKept.{search_kept}
 use Rattle.cu_laws.proofs.SortedValues.{among_place, answers_from, place_among, sorted_from, sorted_rises}
 
--- ** Ground data are filled with themselves
+-- ---- ground data are filled with themselves
 
 mutual
   ground_filled : (substitution : ℕ → Value) (v : Value) → is_ground v ≡ true → filled substitution v ≡ v

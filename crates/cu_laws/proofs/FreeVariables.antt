@@ -19,7 +19,7 @@ use Rattle.cu_calculus.proofs.FlatFitting.{nat_eq_comm}
 use Rattle.cu_calculus.proofs.Matches.{behind, halves, tested}
 use Rattle.cu_laws.proofs.Raising.{by_test}
 
--- ** The variables that are bound
+-- ---- the variables that are bound
 
 abbrev pub names : Bindings → List ℕ
 names [] = []
@@ -53,7 +53,7 @@ mutual
       ∙ sym (names_both found.one found.two) ∙ ap names (sym found.whole)
   all_matched_names _ _ bindings is = let no : ⊥ = cc in absurd no
 
--- ** Environments that agree where variables may stand
+-- ---- environments that agree where variables may stand
 
 -- at most the values of another environment at the variables that pass a test
 abbrev pub BelowWhere : (ℕ → Bool) → Environment → Environment → Type 0

@@ -1,4 +1,5 @@
--- Nodes that are heads of values: what they are worth at most, and how a node is raised to that of its head.
+-- Nodes that are heads of values: what they are worth at most, and how a node is raised to that of
+-- its head.
 use Rattle.std.proofs.Common.{◌≡◌, ℕ, ◌+◌, ◌<◌, inl, inr, Bool, true, false, ◌&&◌, List, [], ◌∷◌, Option, None, Some, IsTrue, refl, ap, ap₂, sym, ◌∙◌, subst, length, map, nat_eq, arith}
 use Rattle.std.proofs.lemmas.Bool.{and_from, and_parts}
 use Rattle.cu_calculus.specs.declared.ConId.{ConId}
@@ -73,7 +74,7 @@ made_may program claims assigned (kind.Part h) args most is =
     let same : value.Partial h (values_at assigned args) ≡ most = cc in inr (most, sym same, below_itself most)
 made_may program claims assigned _ args most is = let no : ⊥ = cc in absurd no
 
--- ** Values of the program
+-- ---- values of the program
 
 pub count_at : (assigned : Assignment) (args : List ℕ) → count (values_at assigned args) ≡ length args
 count_at assigned [] = refl
@@ -113,7 +114,7 @@ made_of program assigned (kind.Part h) args most all fit is =
     (and_from (shape.is_allowed flat h) (takes_more (arity_in flat h) (count us)) allowed fewer) (all_of flat assigned args all))
 made_of program assigned _ args most all fit is = let no : ⊥ = cc in absurd no
 
--- ** Raising to the head's value
+-- ---- raising to the head's value
 
 pub made_not_stuck : (k : Kind) (us : Values) (most : Value) → made k us ≡ Some most → is_stuck k ≡ false
 made_not_stuck kind.Stuck us most is = let no : ⊥ = cc in absurd no

@@ -1,4 +1,5 @@
--- An answer covers what its state promises: the values of the free variables make an instance of what is read off.
+-- An answer covers what its state promises: the values of the free variables make an instance of
+-- what is read off.
 use Rattle.std.proofs.Common.{◌≡◌, ℕ, zero, suc, ◌+◌, Bool, true, false, ◌&&◌, ◌||◌, if◌then◌else◌, List, [], ◌∷◌, ◌++◌, refl, ap, ap₂, sym, ◌∙◌, subst, length, map, nat_eq, eqb-true, eq-eqb, Option, true≢false, arith}
 use Rattle.std.proofs.lemmas.Bool.{and_from, and_parts}
 use Rattle.cu_calculus.specs.declared.ConId.{ConId}
@@ -36,7 +37,7 @@ use Rattle.cu_laws.proofs.LooseNodes.{head_above, head_most}
 use Rattle.cu_laws.proofs.Readings.{goals_total, values_renumbered}
 use Rattle.cu_laws.proofs.Rising.{ground_total, total_above}
 
--- ** Numbers of variables
+-- ---- numbers of variables
 
 -- ground data for what has none
 abbrev pub default : Value
@@ -97,7 +98,7 @@ tested_built program v = by (is_built program v) refl
 tested_same : (test : Value → Bool) (v : Value) → test v ≡ true → tested test v ≡ v
 tested_same test v passes = ap (λ (b : Bool). if b then v else default) passes
 
--- ** Variables of values
+-- ---- variables of values
 
 -- each place in the one list is in the other
 abbrev HeldBy : List ℕ → List ℕ → Type 0
@@ -116,7 +117,8 @@ held_second xs ys zs each x held = each x (holds_joined xs ys x ∙ ap (λ (b : 
 held_alone : (x : ℕ) → holds (x ∷ []) x ≡ true
 held_alone x = ap (λ (b : Bool). b || false) (eq-eqb x x refl)
 
--- a value whose variables are numbered, and the values of the places for these numbers, are the value with these for the places
+-- a value whose variables are numbered, and the values of the places for these numbers, are the
+-- value with these for the places
 module _ (program : Code) (number : ℕ → ℕ) (f substitution : ℕ → Value) (vars : List ℕ)
     (agree : (x : ℕ) → holds vars x ≡ true → is_built program (f x) ≡ true → substitution (number x) ≡ f x) where
   mutual
@@ -168,7 +170,7 @@ mutual
       let parts = and_parts (is_of (program_of program) v) (are_of (program_of program) vs) of_program in
       and_from (is_built program v) (are_built program vs) (built_from program v grounds.0 parts.0) (all_built_from program vs grounds.1 parts.1)
 
--- ** What needs nothing spells a total value
+-- ---- what needs nothing spells a total value
 
 both_done : (a b : Need) → before a b ≡ Done → (a ≡ Done) × (b ≡ Done)
 both_done Done b same = (refl, same)
@@ -204,7 +206,7 @@ done_total (suc depth) truth graph x done =
     head_total needs (spelled_within depth graph) (head_of graph x) (head_at graph x).kind (head_at graph x).args (done_total depth truth graph)
     (head_of_done truth graph needs (head_of graph x) (head_at graph x).kind (head_at graph x).args (then_first outer rest done)) (then_second outer rest done)
 
--- ** Answers need nothing
+-- ---- answers need nothing
 
 done_by : (program : Code) (limits : Limits) (graph : Graph) (root : ℕ) (goals : List ℕ) (what : Need) (r : Reading)
     → next_by program limits graph root goals what ≡ Answer r → what ≡ Done
@@ -223,7 +225,7 @@ answered_done program limits graph root goals (Running id found level) r same =
     absurd (no_answer_search program limits graph root goals id found level (stepped program limits level) r
     (answer_if (is_above limits (length graph)) limits (searched program limits graph root goals id found level (stepped program limits level)) r same))
 
--- ** What a loose assignment gives places that spell total values
+-- ---- what a loose assignment gives places that spell total values
 
 module _ (program : Code) (claims : List Claim) (graph : Graph) (assigned : Assignment) (loose : Loose program claims graph assigned) where
   args_filled : (part : ℕ → Value) (args : List ℕ) → ((x : ℕ) → is_total (part x) ≡ true → is_total (assigned x) ≡ true → filled assigned (part x) ≡ assigned x)
@@ -257,7 +259,7 @@ module _ (program : Code) (claims : List Claim) (graph : Graph) (assigned : Assi
   filled_within (suc depth) x total known =
       head_filled (spelled_within depth graph) x (head_at graph x).kind (head_at graph x).args (filled_within depth) refl total known
 
-  -- ** Instances
+  -- ---- instances
 
   module _ (number : ℕ → ℕ) (substitution : ℕ → Value) (vars : List ℕ)
       (agree : (x : ℕ) → holds vars x ≡ true → is_built program (assigned x) ≡ true → substitution (number x) ≡ assigned x) where

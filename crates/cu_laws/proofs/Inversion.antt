@@ -25,7 +25,7 @@ use Rattle.cu_calculus.proofs.Comparing.{same_is}
 use Rattle.cu_laws.proofs.Heads.{constructed_is}
 use Rattle.cu_laws.proofs.Rising.{total_above}
 
--- ** Terms
+-- ---- terms
 
 pub variable_gives : (program : Program) (claims : List Claim) (env : Environment) (t : Term) (v : Value) → Gives program claims env t v → (x : ℕ) → t ≡ term.Variable x
     → Below v (env x)
@@ -73,7 +73,7 @@ case_gives program claims env _ v (gives.chosen _ other b t arms bindings u _ p 
     })
 case_gives program claims env _ v _ mode a alternatives is = let no : ⊥ = cc in absurd no
 
--- ** Functions
+-- ---- functions
 
 pub record RuleGives (program : Program) (claims : List Claim) (rules : List Rule) (us : Values) (v : Value) : Type 0 where
   pub place : ℕ
@@ -110,7 +110,7 @@ function_gives program claims _ us v (gives.builtin g other operation _ _ e b an
     absurd no
 function_gives program claims _ us v (gives.collect g claim k c _ _ ground e f' a s low) f function rules is there body_is = let no : ⊥ = cc in absurd no
 
--- ** Patterns
+-- ---- patterns
 
 -- a constructor without arguments
 pub constant_matches : (c : ConId) (u : Value) (bindings : Bindings) → matched (term.Built c term.NoPattern) u ≡ Some bindings
@@ -146,9 +146,10 @@ pair_matches c y a b bindings is = go (matched (term.Built c term.NoPattern) a) 
         some_bindings : (xs ys : Bindings) → Some xs ≡ Some ys → xs ≡ ys
         some_bindings xs ys same = cc
 
--- ** The conjunction `&&`
+-- ---- the conjunction `&&`
 
--- what it gives on two values: False where the first is False, and at most the second where the first is True
+-- what `&&` gives on two values: False where the first is False, and at most the second where the
+-- first is True
 abbrev pub ConjunctionGives : Program → Value → Value → Value → Type 0
 ConjunctionGives program a b v =
     (v ≡ value.Bottom) ⊎ (((a ≡ truth_of program false) × Below v (truth_of program false)) ⊎ ((a ≡ truth_of program true) × Below v b))

@@ -67,7 +67,7 @@ pub worth_of : (IsWorth : Value → Type 0) (v : Value) → is_known v ≡ true 
 worth_of IsWorth v known (inl none) = absurd (known_is_not_bottom v known none)
 worth_of IsWorth v known (inr found) = found
 
--- ** Arguments
+-- ---- arguments
 
 pub known_args : (assigned : Assignment) (args : List ℕ) → are_known (values_of (map assigned args)) ≡ true → list_all (λ x. is_known (assigned x)) args ≡ true
 known_args assigned [] known = refl
@@ -81,7 +81,7 @@ total_args assigned (arg ∷ args) total =
     let parts = and_parts (is_total (assigned arg)) (are_total (values_of (map assigned args))) total in
     and_from (is_total (assigned arg)) (list_all (λ x. is_total (assigned x)) args) parts.0 (total_args assigned args parts.1)
 
--- ** Operations
+-- ---- operations
 
 literals_known : (ls : List Lit) → are_known (literals ls) ≡ true
 literals_known [] = refl
@@ -104,7 +104,7 @@ answers_known program _ _ v (builtin.unified a b _ same total e) =
     let known = total_known a (and_parts (is_total a) (is_data a) total).0 in two_known a b known (ap is_known (sym same) ∙ known)
 answers_known program _ _ v (builtin.conjoined a b _ f g e) = two_known a b (ap is_known f) (ap is_known g)
 
--- ** Heads
+-- ---- heads
 
 pub set_ground : (program : Program) (claims : List Claim) (h : Head) (us : Values) (v : Value) → Applied program claims h us v → (f : FunId) → h ≡ head.Set f
     → are_ground us ≡ true
@@ -117,7 +117,7 @@ pub applied_known : (program : Program) (claims : List Claim) (w u v : Value) �
 applied_known program claims _ u _ (gives.extended h us more _ m fewer) = refl
 applied_known program claims _ u v (gives.completed h us all _ _ m enough app) = refl
 
--- ** Case distinctions
+-- ---- case distinctions
 
 -- a value that meets no demand takes no branch
 look_first : (program : Program) (p : Shallow) (choice : ℕ) (rows : List Row) (u : Value) → met_by u ≡ None

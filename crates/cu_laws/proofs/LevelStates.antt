@@ -44,7 +44,7 @@ use Rattle.cu_laws.proofs.SearchAnswers.{found_claims_of, listed_by_kept}
 use Rattle.cu_laws.proofs.TracedStates.{after_level_is, goes_on, was_blocked}
 
 module _ (program : Code) (levels : List ℕ) (level : ℕ) where
-  -- ** Values that are delivered
+  -- ---- values that are delivered
 
   mutual
     pub value_allowed : (next : ℕ) (v : Value) → is_built program v ≡ true → BuiltAllowed program levels level (push_value next v)
@@ -96,7 +96,7 @@ module _ (program : Code) (levels : List ℕ) (level : ℕ) where
           (push_value (length graph) (value.Constructed c (value.MoreValues (listed program.special.nil program.special.cons (sorted found)) value.NoValue))) all
           (record { parts = nodes_both program levels level (pushed list) [] (pushed_allowed program levels level list inner) tt; top = tt })
 
-  -- ** States
+  -- ---- states
 
   abbrev pub StateAllowed : State → Type 0
   StateAllowed state = NodesAllowed program levels level (graph_of state)
@@ -166,7 +166,7 @@ module _ (program : Code) (levels : List ℕ) (level : ℕ) where
           (subst (λ (n : Node). NodeAllowed program levels level n) is (allowed_at program levels level (graph_of state) id all)).0;
     }
 
--- ** The goal's level
+-- ---- the goal's level
 
 pub start_allowed : (program : Code) (levels : List ℕ) (goal : FunId) → NodesAllowed program levels (level_of levels goal) (graph_of (start_of program goal))
 start_allowed program levels goal = on (elim (function_arity program goal) [ Some n ↦ n | None ↦ 0 ])

@@ -23,7 +23,7 @@ use Rattle.cu_laws.specs.Traced.{IsTraced}
 use Rattle.cu_laws.proofs.SomeNext.{failure_never, traced_on}
 use Rattle.cu_laws.proofs.TracedStates.{next_traced}
 
--- ** Steps on the way
+-- ---- steps on the way
 
 branch_of : (program : Code) (state : State) → IsValid program state → IsValidBranch program (graph_of state) (root_of state) (goals_of state)
 unfolding IsValid
@@ -111,7 +111,7 @@ module _ (program : Code) (claims : List Claim) (limits : Limits) (start : State
       reached_by state (reached_on more program limits) (next program limits state)
       (λ after is. reached_alive more after (only_alive after (alive_on state alive (Go (after ∷ [])) is))) alive
 
-  -- ** Levels
+  -- ---- levels
 
   -- what becomes of a state is what becomes of the one that it is taken on to
   module _ (event : State → Next) (onto : State → State) (same_event : (state : State) → event state ≡ next program limits (onto state))

@@ -1,4 +1,5 @@
--- A listing that ends with no more, and has no line of a branch that waits, lists an answer that keeps what its start promises.
+-- A listing that ends with no more, and has no line of a branch that waits, lists an answer that
+-- keeps what its start promises.
 use Rattle.std.proofs.Common.{◌≡◌, ℕ, zero, suc, ◌+◌, ◌-◌, ◌<◌, ◌≤◌, inl, inr, Bool, true, false, List, [], ◌∷◌, ◌++◌, Option, None, Some, if◌then◌else◌, refl, ap, sym, ◌∙◌, subst, length, map, nat_lt, arith}
 use Rattle.std.specs.Prelude.{flat_map}
 use Rattle.cu_calculus.specs.Code.{Code}
@@ -23,9 +24,9 @@ use Rattle.cu_laws.specs.Promises.{AgreeWithSearches, AnswersPromise, Promises}
 use Rattle.cu_laws.specs.Traced.{IsTraced}
 use Rattle.cu_laws.proofs.LevelsKept.{IsAlive, alive_on, keeps_itself, reached_alive}
 
--- ** One round that doesn't end the listing
+-- ---- one round that doesn't end the listing
 
--- what it lists of an outcome, where so many branches waited before
+-- what a round lists of an outcome, where so many branches waited before
 abbrev Listed : ℕ → ℕ → Round → Next → Type 0
 Listed d waits round (Answer reading) = Among (Answered d reading) round.lines
 Listed d waits round (Waits names) = waits < round.tally.waits
@@ -129,7 +130,7 @@ none_waits : (others : Tally → List State → Listing) (tally : Tally) (follow
 none_waits others tally [] each is = cc
 none_waits others tally (first ∷ following) each is = each tally (first ∷ following) is
 
--- ** All rounds
+-- ---- all rounds
 
 module _ (program : Code) (limits : SearchLimits) where
   abbrev outcomes_of : List State → List Next
@@ -181,7 +182,7 @@ module _ (program : Code) (limits : SearchLimits) where
     abbrev Alive : State → Type 0
     Alive state = IsAlive program claims limits.step start assigned well agree state
 
-    -- these lines have an answer that keeps the promise
+    -- some of these lines is an answer that keeps the promise
     abbrev Lists : List Line → Type 0
     Lists lines = (round : ℕ) × (reading : Reading) × Among (Answered round reading) lines × AnswersPromise program limits.step claims start assigned reading
 

@@ -31,7 +31,7 @@ use Rattle.cu_laws.proofs.Lifting.{lifted}
 use Rattle.cu_laws.proofs.Raising.{GoodApart, rises_itself, rises_trans, there_unless_stuck}
 use Rattle.cu_laws.proofs.Rising.{literals_above, values_rise}
 
--- ** Literals as arguments
+-- ---- literals as arguments
 
 -- a higher assignment, in which places have the values of literals, and another one what it had
 pub record LiftedLiterals (program : Code) (claims : List Claim) (graph : Graph) (id : ℕ) (assigned : Assignment) (args : List ℕ) (ls : List Lit) : Type 0 where
@@ -92,7 +92,7 @@ answer_sound program claims graph after id operation args ls h parts answer late
       subst (λ (x : Value). Below x answer) (sym lift.kept) low,
     ))
 
--- ** Numbers
+-- ---- numbers
 
 some_integer : (m n : ℤ) → Some m ≡ Some n → is_integer n ≡ true → integer m ≡ Some (value.Literal (Int n))
 some_integer m n same fit = ap integer (some_is m n same) ∙ ap (λ (b : Bool). if b then Some (value.Literal (Int n)) else None) fit
@@ -118,7 +118,7 @@ number_sound program claims graph after id operation args m n result later fit i
     answer_sound program claims graph after id operation args (Int m ∷ Int n ∷ []) (kind.Lit (Int result)) [] (value.Literal (Int result)) later fit is kinds
     (number_answers (program_of program) operation m n result result_is whole) after_is refl good
 
--- ** Comparisons of numbers
+-- ---- comparisons of numbers
 
 some_truth : (program : Program) (a b : Bool) → Some a ≡ Some b → Some (truth_of program a) ≡ Some (truth_of program b)
 some_truth program a b same = ap (λ (x : Bool). Some (truth_of program x)) (some_is a b same)
@@ -151,7 +151,7 @@ test_sound program claims graph after id operation args m n answer later fit is 
     answer_sound program claims graph after id operation args (Int m ∷ Int n ∷ []) (truth_kind program answer) [] (truth_of (program_of program) answer) later fit is kinds
     (test_answers (program_of program) operation m n answer answer_is) (after_is ∙ ap (put graph id) (truth_is_node program answer)) (truth_made program answer) good
 
--- ** Characters
+-- ---- characters
 
 pub code_point_sound : (program : Code) (claims : List Claim) (graph after : Graph) (id : ℕ) (args : List ℕ) (c : ℕ) (later : Assignment) → NodesFit program graph
     → node_at graph id ≡ node (kind.Prim prim.Ord) args → kinds_of graph args ≡ kind.Lit (Char c) ∷ [] → after ≡ put graph id (alone (kind.Lit (Int (pos c))))

@@ -14,7 +14,7 @@ pub use Rattle.cu_laws.specs.Good.{AnyValue}
 use Rattle.cu_laws.proofs.Heads.{made, made_is_most, made_not_stuck, values_at}
 use Rattle.cu_laws.proofs.Raising.{follow, is_itself, is_stuck, leads_on, there_unless_stuck}
 
--- ** Stuck nodes
+-- ---- stuck nodes
 
 pub loosened : (program : Code) (claims : List Claim) (assigned : Assignment) (k : Kind) (args : List ℕ) (v : Value) → MayHave NoValue program claims assigned k args v
     → MayHave AnyValue program claims assigned k args v
@@ -35,7 +35,7 @@ loose_at program claims graph assigned x k args loose is other =
     tightened program claims assigned k args (assigned x) other
     (subst (λ (n : Node). MayHave AnyValue program claims assigned n.kind n.args (assigned x)) is (loose.each x (there_unless_stuck graph x k args is other)))
 
--- ** Heads
+-- ---- heads
 
 -- a node that isn't its head has at most its head's value
 pub head_above : (program : Code) (claims : List Claim) (graph : Graph) (assigned : Assignment) → Loose program claims graph assigned → (visits x : ℕ)

@@ -30,7 +30,7 @@ use Rattle.cu_laws.proofs.Extended.{alternative_is}
 use Rattle.cu_laws.proofs.Known.{is_known, worth_of}
 use Rattle.cu_laws.proofs.LooseNodes.{loose_at}
 
--- ** Moves that lead on
+-- ---- moves that lead on
 
 abbrev pub LeadsOn : Move → Type 0
 LeadsOn (Become []) = ⊥
@@ -166,7 +166,7 @@ rewritten_on program graph id kind.Apply (function ∷ argument ∷ []) =
 rewritten_on program graph id (kind.Prim operation) args = inr (operated_on program.special graph id operation args)
 rewritten_on program graph id _ args = inr tt
 
--- ** What has a value leads on
+-- ---- what has a value leads on
 
 never_without_branches : (program : Code) (claims : List Claim) (graph : Graph) (id : ℕ) (mode : Mode) (e scrutinee : ℕ) (values : List ℕ) (assigned : Assignment)
     → Loose program claims graph assigned → is_known (assigned id) ≡ true → node_at graph id ≡ node (kind.Case mode e) (scrutinee ∷ values)

@@ -50,7 +50,7 @@ enough_above : (extent : Extent) (u v : Value) → Below u v → enough extent u
 enough_above Outermost u v low is = known_above u v low is
 enough_above Throughout u v low is = ap is_total (sym (total_above u v low is)) ∙ is
 
--- ** Conjunctions
+-- ---- conjunctions
 
 -- a node is True, and a value is
 abbrev pub is_truth : ConId → Kind → Bool
@@ -122,7 +122,7 @@ true_done truth id other (kind.Cons c) same = if_done id (same_constructor c tru
 true_done truth id other kind.Free same = let no : ⊥ = cc in absurd no
 true_done truth id other _ same = let no : ⊥ = cc in absurd no
 
--- ** Needs
+-- ---- needs
 
 module _ (program : Code) (graph : Graph) (assigned : Assignment) where
   -- what is to be rewritten is known and settled, and nothing is dead

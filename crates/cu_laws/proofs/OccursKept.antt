@@ -1,4 +1,5 @@
--- A free variable that is equated with a constructor in whose arguments it occurs would have a value greater than itself.
+-- A free variable that is equated with a constructor in whose arguments it occurs would have a
+-- value greater than itself.
 use Rattle.std.proofs.Common.{◌≡◌, ℕ, zero, suc, ◌+◌, ◌≤◌, inl, inr, Bool, true, List, [], ◌∷◌, refl, ap, sym, ◌∙◌, length, eqb-true, true≢false, arith}
 use Rattle.std.specs.List.{list_any}
 use Rattle.std.proofs.lemmas.Bool.{and_parts}

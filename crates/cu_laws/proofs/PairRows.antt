@@ -42,7 +42,7 @@ use Rattle.cu_laws.proofs.Raising.{GoodApart, rises_trans, there_unless_stuck}
 use Rattle.cu_laws.proofs.Rising.{answers_rise, at_most_rises, values_rise}
 use Rattle.cu_laws.proofs.Truth.{no_truth, special_of, telling_low, true_head, truth_below, under_bottom}
 
--- ** Two sides
+-- ---- two sides
 
 pub record LiftedPair (program : Code) (claims : List Claim) (graph : Graph) (id : ℕ) (assigned : Assignment) (a b : ℕ) (u v : Value) : Type 0 where
   pub higher : Assignment
@@ -101,7 +101,7 @@ pair_sound program claims graph after new id operation a b k l us vs u v later f
     sound_as program claims graph id (kind.Prim operation) (a ∷ b ∷ []) later lift.higher is lift.good lift.rises
     (subst (λ (x : Value). AtMost (Answers P operation (two (lift.higher a) (lift.higher b))) x) (sym lift.kept) worth)
 
--- the same where it tells the answer
+-- an operation that becomes its answer is sound
 pub pair_told : (program : Code) (claims : List Claim) (graph after : Graph) (id : ℕ) (operation : Primitive) (a b : ℕ) (k l : Kind) (us vs : List ℕ) (u v : Value) (answer : Bool)
     (later : Assignment) → NodesFit program graph → node_at graph id ≡ node (kind.Prim operation) (a ∷ b ∷ []) → head_at graph a ≡ node k us → head_at graph b ≡ node l vs
     → made k (values_at later us) ≡ Some u → made l (values_at later vs) ≡ Some v → after ≡ telling program graph id answer → Good program claims after later
@@ -115,7 +115,7 @@ pair_told program claims graph after id operation a b k l us vs u v answer later
     truth_node_of : Code → Bool → Node
     truth_node_of p b = node (truth_kind p b) []
 
--- ** Comparisons
+-- ---- comparisons
 
 pub compared_literals_sound : (program : Code) (claims : List Claim) (graph after : Graph) (id a b : ℕ) (l m : Lit) (us vs : List ℕ) (later : Assignment)
     → NodesFit program graph → node_at graph id ≡ node (kind.Prim prim.Equal) (a ∷ b ∷ []) → head_at graph a ≡ node (kind.Lit l) us → head_at graph b ≡ node (kind.Lit m) vs
@@ -153,7 +153,7 @@ compared_unlike_sound program claims graph after id a b c d us vs later fit is h
     pair_told program claims graph after id prim.Equal a b (kind.Cons c) (kind.Cons d) us vs u v false later fit is head_a head_b refl refl after_is good
     (builtin.equal u v (truth_of (program_of program) false) false (builtin.different c d (values_at later us) (values_at later vs) differ) refl)
 
--- ** Comparisons in pairs
+-- ---- comparisons in pairs
 
 abbrev pub OneCompares : Program → Value → Value → Value → Type 0
 OneCompares program a b v = (v ≡ value.Bottom) ⊎ ((answer : Bool) × Compares a b answer × Below v (truth_of program answer))
@@ -258,7 +258,7 @@ compared_alike_sound program claims graph after id a b c d us vs later well fit 
       )
     ])
 
--- ** The conjunction `&`
+-- ---- the conjunction `&`
 
 pub both_true_sound : (program : Code) (claims : List Claim) (graph after : Graph) (id a b : ℕ) (later : Assignment) → is_well_formed program ≡ true → NodesFit program graph
     → node_at graph id ≡ node (kind.Prim prim.And) (a ∷ b ∷ [])

@@ -85,7 +85,8 @@ module _ (program : Code) (claims : List Claim) (assigned : Assignment) (all : (
 pub one_follows : (graph after : Graph) → alone_follows graph ≡ alone_follows after → after ≡ graph
 one_follows graph after same = let lists : graph ∷ [] ≡ after ∷ [] = cc in let graphs : graph ≡ after = cc in sym graphs
 
--- The arguments of two like constructors in pairs, written over a node: what stands there is what is said of them all.
+-- The arguments of two like constructors in pairs, written over a node: what stands there is what
+-- is said of them all.
 pub record PairsAfter (program : Code) (claims : List Claim) (graph : Graph) (id : ℕ) (after : Graph) (All : Values → Values → Value → Type 0) (us vs : List ℕ)
     (later : Assignment) : Type 0 where
   pub new : Node

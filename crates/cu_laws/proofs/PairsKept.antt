@@ -1,4 +1,5 @@
--- What equations of constructors have, the equations of their arguments give that are joined in their place.
+-- What equations of constructors have, the equations of their arguments give that are joined in
+-- their place.
 use Rattle.std.proofs.Common.{◌≡◌, ◌≢◌, ℕ, suc, ◌+◌, ◌<◌, inr, true, List, [], ◌∷◌, IsTrue, refl, ap, sym, ◌∙◌, subst, length, zip, arith, length-append}
 use Rattle.std.proofs.lemmas.Bool.{and_from, and_parts}
 use Rattle.cu_calculus.specs.declared.builtin.Primitive.TheVariants as prim
@@ -36,7 +37,7 @@ use Rattle.cu_laws.proofs.Raising.{rises_itself, rises_trans}
 use Rattle.cu_laws.proofs.Rising.{may_rise, total_above}
 use Rattle.cu_laws.proofs.Truth.{special_of}
 
--- ** Chains
+-- ---- chains
 
 -- Values of nodes over pairs, and what the nodes that join them have from the right.
 pub data Chain (program : Code) (claims : List Claim) (each joint : Kind) (assigned : Assignment) : ℕ → ℕ → List (ℕ × ℕ) → List Value → Value → Type 0 where
@@ -168,7 +169,7 @@ module _ (program : Code) (claims : List Claim) (each joint : Kind) where
             (subst (λ (g : Graph). Extends program claims graph id g assigned found.0) (sym after_is) found.1),
       )
 
--- ** Equations
+-- ---- equations
 
 -- an equation whose sides have one value, which is total data, is True
 equation_true : (program : Code) (claims : List Claim) (assigned : Assignment) (a b : ℕ) → assigned a ≡ assigned b → is_total (assigned a) ≡ true → is_data (assigned a) ≡ true
@@ -177,7 +178,7 @@ equation_true program claims assigned a b equal whole plain =
     let truth = truth_of (program_of program) true in
     inr (truth, builtin.unified (assigned a) (assigned b) truth equal (and_from (is_total (assigned a)) (is_data (assigned a)) whole plain) refl, below_itself truth)
 
--- and so is a conjunction of what is True
+-- a conjunction of two sides that are True is True
 conjunction_true : (program : Code) (claims : List Claim) (v : Value) → Below v (truth_of (program_of program) true) → (high : Assignment) (i j : ℕ)
     → Below (truth_of (program_of program) true) (high i) → Below (truth_of (program_of program) true) (high j)
     → MayHave NoValue program claims high (kind.Prim prim.And) (i ∷ j ∷ []) v
@@ -185,7 +186,8 @@ conjunction_true program claims v low high i j up_i up_j =
     let truth = truth_of (program_of program) true in
     inr (truth, builtin.conjoined (high i) (high j) truth (sym (total_above truth (high i) up_i refl)) (sym (total_above truth (high j) up_j refl)) refl, low)
 
--- both sides of each pair have one value, which is total data: each equation and all that joins them is True
+-- both sides of each pair have one value, which is total data: each equation and all that joins
+-- them is True
 equations_chain : (program : Code) (claims : List Claim) (assigned : Assignment) (a b : ℕ) (pairs : List (ℕ × ℕ)) (v : Value)
     → is_of (program_of program) (truth_of (program_of program) true) ≡ true
     → values_at assigned (a ∷ firsts pairs) ≡ values_at assigned (b ∷ seconds pairs) → are_total (values_at assigned (a ∷ firsts pairs)) ≡ true

@@ -1,4 +1,4 @@
--- Assignments that are good apart from some places, and how the value of a node is raised in them.
+-- Assignments that are good apart from some nodes, and how the value of a node is raised in them.
 use Rattle.std.proofs.Common.{◌≡◌, ◌≢◌, ℕ, zero, suc, ◌<◌, inl, inr, Bool, true, false, if◌then◌else◌, List, ◌∷◌, IsTrue, refl, ap, sym, ◌∙◌, subst, length, nat_eq, eq-eqb, eqb-true, true≢false}
 use Rattle.std.proofs.lemmas.Bool.{cases_lt}
 use Rattle.std.proofs.lemmas.List.{get_or_past}
@@ -17,7 +17,7 @@ use Rattle.cu_machine.specs.Steps.{node}
 use Rattle.cu_laws.specs.Good.{Assignment, MayHave, NoValue, RisesTo}
 use Rattle.cu_laws.proofs.Rising.{may_rise}
 
--- ** Assignments that are good apart from some places
+-- ---- assignments that are good apart from some places
 
 pub record GoodApart (apart : ℕ → Bool) (program : Code) (claims : List Claim) (graph : Graph) (assigned : Assignment) : Type 0 where
   pub of_program : (id : ℕ) → IsTrue (is_of (program_of program) (assigned id))
@@ -30,7 +30,7 @@ rises_itself assigned id = below_itself (assigned id)
 pub rises_trans : (a b c : Assignment) → RisesTo a b → RisesTo b c → RisesTo a c
 rises_trans a b c p q id = below_trans (a id) (b id) (c id) (p id) (q id)
 
--- ** Nodes that are there
+-- ---- nodes that are there
 
 abbrev pub is_stuck : Kind → Bool
 is_stuck kind.Stuck = true
@@ -50,7 +50,7 @@ there_unless_stuck graph id k args is other = elim (cases_lt id (length graph)) 
       absurd (true≢false no)
 ]
 
--- ** Raising one value
+-- ---- raising one value
 
 abbrev pub raise : Assignment → ℕ → Value → Assignment
 raise assigned id v x = if nat_eq id x then v else assigned x
@@ -86,9 +86,10 @@ raise_good apart program claims graph assigned id v good up fit may =
           (λ other. may_rise NoValue program claims assigned high (node_at graph x).kind (node_at graph x).args (assigned x) all (good.each x below here));
     }
 
--- ** Raising a node along the Inds that lead to its head
+-- ---- raising a node along the Inds that lead to its head
 
--- an assignment that is higher, in which a node has a value, and in which only Inds and one place have other values
+-- an assignment that is higher, in which a node has a value, and in which only Inds and one place
+-- have other values
 pub record Raised (apart : ℕ → Bool) (program : Code) (claims : List Claim) (graph : Graph) (assigned : Assignment) (id place : ℕ) (v : Value) : Type 0 where
   pub higher : Assignment
   pub good : GoodApart apart program claims graph higher

@@ -30,7 +30,7 @@ values_renumbered number part [] = refl
 values_renumbered number part (arg ∷ args) = ap (value.MoreValues (renumbered number (part arg))) (values_renumbered number part args)
 
 module _ (program : Code) (graph : Graph) (number : ℕ → ℕ) (fit : NodesFit program graph) where
-  -- ** Values of the program
+  -- ---- values of the program
 
   OfProgram : (ℕ → Value) → Type 0
   OfProgram part = (id : ℕ) → IsTrue (is_of (program_of program) (renumbered number (part id)))
@@ -62,7 +62,7 @@ module _ (program : Code) (graph : Graph) (number : ℕ → ℕ) (fit : NodesFit
   within_of zero id = refl
   within_of (suc depth) id = spelled_of (spelled_within depth graph) (within_of depth) (head_of graph id) (head_at graph id).kind (head_at graph id).args refl
 
-  -- ** Nodes
+  -- ---- nodes
 
   module _ (claims : List Claim) (there : ArgumentsThere graph) (acyclic : IsAcyclic graph) where
     as_table : (id : ℕ) (k : Kind) (args : List ℕ) → id < length graph → node_at graph id ≡ node k args → head_of graph id ≡ id
@@ -128,7 +128,7 @@ module _ (program : Code) (graph : Graph) (number : ℕ → ℕ) (fit : NodesFit
       each = λ id below. reads id (node_at graph id).kind (node_at graph id).args below refl;
     }
 
-    -- ** Total values
+    -- ---- total values
 
     -- a node from which only data are reached, where what its arguments spell is total
     total_at : (id : ℕ) (k : Kind) (args : List ℕ) → id < length graph → node_at graph id ≡ node k args → is_plain k ≡ true
@@ -171,7 +171,7 @@ module _ (program : Code) (graph : Graph) (number : ℕ → ℕ) (fit : NodesFit
           and_from (is_total (read_off number graph id)) (are_total (values_at (read_off number graph) ids))
           (plain_total id first (ltb-true id (length graph) parts.0)) (all_plain_total ids rest parts.1)
 
--- ** Valid states
+-- ---- valid states
 
 pub valid_reading : (program : Code) (claims : List Claim) (graph : Graph) (root : ℕ) (goals : List ℕ) (search : Search) (number : ℕ → ℕ)
     → IsValid program (Branch graph root goals search) → Good program claims graph (read_off number graph)

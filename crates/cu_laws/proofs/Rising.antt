@@ -28,7 +28,7 @@ use Rattle.cu_machine.specs.declared.Kind.{Kind}
 use Rattle.cu_machine.specs.declared.Kind.TheVariants as kind
 use Rattle.cu_laws.specs.Good.{Assignment, AtMost, Distinguished, MayHave, RisesTo}
 
--- ** Values above others
+-- ---- values above others
 
 -- what is above a value and others is a value and others
 pub record HighMore (us vs : Values) (u : Value) : Type 0 where
@@ -85,7 +85,7 @@ mutual
       let parts = and_parts (is_ground v) (are_ground vs) ground in
       and_from (is_total v) (are_total vs) (ground_total v parts.0) (all_ground_total vs parts.1)
 
--- ** Built-in operations
+-- ---- built-in operations
 
 mutual
   pub compares_rise : (u v x y : Value) (answer : Bool) → Compares u v answer → Below u x → Below v y → Compares x y answer
@@ -157,7 +157,7 @@ answers_rise program _ _ vs v (builtin.conjoined a b _ f g e) p =
     let two : b ≡ high.two = total_above b high.two high.above_two (ap is_total g ∙ truth_total program true) in
     subst (λ (x : Values). Answers program prim.And x v) (sym high.is) (builtin.conjoined high.one high.two v (sym one ∙ f) (sym two ∙ g) e)
 
--- ** Heads
+-- ---- heads
 
 -- something like it, which is no lower
 abbrev pub Higher : (Value → Type 0) → Value → Type 0
@@ -177,7 +177,7 @@ applied_rises program claims _ us vs v (gives.collect f claim k c _ _ ground e f
     let same : us ≡ vs = all_total_above us vs p (all_ground_total us ground) in
     (v, subst (λ (x : Values). Applied program claims (head.Set f) x v) same (gives.collect f claim k c us v ground e f' a s low), below_itself v)
 
--- ** Functional values
+-- ---- functional values
 
 pub and_then_rises : (us vs : Values) (u v : Value) → AllBelow us vs → Below u v → AllBelow (and_then us u) (and_then vs v)
 and_then_rises _ _ u v below.none p = below.more u v value.NoValue value.NoValue p below.none
@@ -216,7 +216,7 @@ applied_to_rises program claims _ u x y v (gives.completed h us all _ _ m as_man
       found.2,
     )
 
--- ** Case distinctions
+-- ---- case distinctions
 
 pub zip_rises : (xs : List ℕ) (us vs : List Value) → ListBelow us vs → BindingsBelow (zip xs us) (zip xs vs)
 zip_rises [] us vs p = tt
@@ -253,7 +253,7 @@ distinguished_rises program claims e u x us xs v d p ps =
           (below_itself v);
     }
 
--- ** Nodes
+-- ---- nodes
 
 pub list_rises : (low high : Assignment) (args : List ℕ) → RisesTo low high → ListBelow (map low args) (map high args)
 list_rises low high [] up = tt

@@ -1,4 +1,5 @@
--- What variables stand for where a scope names places beside them, and where bindings give their values.
+-- What variables stand for where a scope names nodes beside them, and where bindings give their
+-- values.
 use Rattle.std.proofs.Common.{◌≡◌, ℕ, Bool, true, false, not, ◌||◌, if◌then◌else◌, List, [], ◌∷◌, ◌++◌, Option, None, Some, refl, ap, ap₂, sym, ◌∙◌, subst, length, map, zip, nat_eq, eqb-true, arith, true≢false}
 use Rattle.std.proofs.lemmas.Bool.{and_parts}
 use Rattle.cu_calculus.specs.Below.{Below, EnvBelow}

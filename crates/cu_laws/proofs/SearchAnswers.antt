@@ -83,7 +83,7 @@ listed_by_finds program limits goal depth reading well rule m =
     (record { next = λ before state states valid kept same at. tt; passes = λ state kept id f args is. tt }) tt m in
     (found.0, found.1, found.3)
 
--- ** Claims of the program
+-- ---- claims of the program
 
 mutual
   pub built_of : (program : Code) (v : Value) → is_built program v ≡ true → is_of (program_of program) v ≡ true

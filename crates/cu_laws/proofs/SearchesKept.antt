@@ -29,7 +29,7 @@ use Rattle.cu_laws.specs.Good.{Assignment}
 use Rattle.cu_laws.specs.Promises.{AgreeWithSearches, AnswersPromise, KeptByAnswer, Promises, is_decided}
 use Rattle.cu_laws.proofs.LevelsKept.{decided_at, steps_kept}
 
--- ** What is sorted keeps every value
+-- ---- what is sorted keeps every value
 
 inserted_by_has : (order : Ordering) (v w : Value) (rest after : List Value) → (order ≡ Equal → v ≡ w) → Among v after → Among v (inserted_by order v w rest after)
 inserted_by_has Less v w rest after same m = inl refl
@@ -56,7 +56,7 @@ sorted_keeps u (v ∷ vs) m = elim m [
   | inr there ↦ inserted_keeps u v (sorted vs) (sorted_keeps u vs there)
 ]
 
--- ** What the levels answered
+-- ---- what the levels answered
 
 answered_before : (events : ℕ → List Next) (depth k : ℕ) (reading : Reading) → k < depth → Among (Answer reading) (events k)
     → Among reading.value (answers_before events depth)

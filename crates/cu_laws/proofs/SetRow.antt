@@ -34,7 +34,7 @@ use Rattle.cu_laws.proofs.Lifting.{Lifted, lifted}
 use Rattle.cu_laws.proofs.Raising.{GoodApart, rises_itself, rises_trans, there_unless_stuck}
 use Rattle.cu_laws.proofs.Rising.{all_ground_total, all_total_above, values_rise}
 
--- ** Values that are pushed cell by cell
+-- ---- values that are pushed cell by cell
 
 module _ (program : Code) (claims : List Claim) (assigned : Assignment) (all : (id : ℕ) → IsTrue (is_of (program_of program) (assigned id))) where
   mutual
@@ -64,7 +64,7 @@ module _ (program : Code) (claims : List Claim) (assigned : Assignment) (all : (
         let first = pushed_may program claims assigned all next one both.0 in
         below.more _ v _ vs (value_low next v _ first.0 first.1) (values_low later vs both.1)
 
--- ** Ground values of arguments
+-- ---- ground values of arguments
 
 pub record LiftedAll (program : Code) (claims : List Claim) (graph : Graph) (id : ℕ) (assigned : Assignment) (args : List ℕ) (vs : Values) : Type 0 where
   pub higher : Assignment
@@ -131,7 +131,7 @@ module _ (program : Code) (claims : List Claim) (graph : Graph) (id : ℕ) (f : 
       → are_ground (values_of (map (spelled graph) args)) ≡ true → LiftedAll program claims graph id assigned args (values_of (map (spelled graph) args))
   arguments_lifted assigned args good ground = lifted_all (spelled graph) (can_spell (length graph)) assigned args good ground
 
--- ** A search that ended
+-- ---- a search that ended
 
 -- what is delivered is worth at most the list of what was found
 delivered_low : (program : Code) (claims : List Claim) (graph : Graph) (id : ℕ) (c : ConId) (values : List Value) (later : Assignment) → id < length graph

@@ -1,4 +1,5 @@
--- Listed answers have derivations over true claims, and a listing that ends for want of more covers the ground solutions.
+-- Answers that are listed have derivations over true claims; an exhausted listing covers the ground
+-- solutions.
 use Rattle.std.proofs.Common.{◌≡◌, ℕ, true, List, subst}
 use Rattle.cu_calculus.specs.declared.FunId.{FunId}
 use Rattle.cu_calculus.specs.Claims.{AreLeastLevels, Derives, DerivesAt, level_of}
@@ -23,7 +24,7 @@ use Rattle.cu_laws.proofs.LevelStates.{listed_at_level}
 use Rattle.cu_laws.proofs.ListingKept.{listing_kept}
 use Rattle.cu_laws.proofs.Rising.{ground_total}
 
--- ** Listed answers
+-- ---- listed answers
 
 pub listed_derives : (program : Code) (limits : SearchLimits) (levels : List ℕ) (goal : FunId) (depth : ℕ) (reading : Reading) → is_well_formed program ≡ true
     → is_rule (body_of program goal) ≡ true → AreLevelsOf program levels → Among (Answered depth reading) (listing program limits (start_of program goal)).lines
@@ -32,7 +33,7 @@ listed_derives program limits levels goal depth reading well rule are m =
     let found = listed_at_level program limits levels goal depth reading well rule are m in
     (found.0, all_found_true program limits.step levels well are (level_of levels goal) found.0 found.1 found.2, found.3)
 
--- ** Listings that end for want of more
+-- ---- exhausted listings
 
 pub listing_covers : (program : Code) (limits : SearchLimits) (levels : List ℕ) (goal : FunId) (arguments : Values) (v : Value) → is_well_formed program ≡ true
     → is_rule (body_of program goal) ≡ true → AreLevelsOf program levels → IsExhausted (listing program limits (start_of program goal))

@@ -31,7 +31,7 @@ use Rattle.cu_laws.proofs.MovesOn.{never_nowhere}
 use Rattle.cu_laws.proofs.NeededValues.{dead_never, needed_honest}
 use Rattle.cu_laws.proofs.TracedStates.{after_level_is, goes_on, was_blocked}
 
--- ** No search runs
+-- ---- no search runs
 
 pub continues_itself : (program : Code) (claims : List Claim) (state : State) (assigned : Assignment) → Promises program claims state assigned
     → Continues program claims (graph_of state) (graph_of state) assigned assigned
@@ -98,7 +98,7 @@ idle_on program claims limits graph root goals states assigned well claimed vali
     next_by_on program claims limits graph root goals assigned (need_all program.special.truth graph root) states well claimed valid promises refl
     (unless_if (is_above limits (length graph)) limits (next_by program limits graph root goals (need_all program.special.truth graph root)) states same)
 
--- ** A search runs
+-- ---- a search runs
 
 -- a level that was stepped has something to follow it
 level_on : (limits : Limits) (graph : Graph) (root : ℕ) (goals : List ℕ) (id : ℕ) (found : List Value) (event : LevelEvent) (states : List State)
@@ -160,7 +160,7 @@ traced_on program claims limits (Branch graph root goals (Running id found (More
       }
     ]
 
--- ** Failure
+-- ---- failure
 
 no_failure_if : (b : Bool) (limits : Limits) (other : Next) → (other ≡ Fails → ⊥) → (if b then too_large limits else other) ≡ Fails → ⊥
 no_failure_if true limits other never same = cc

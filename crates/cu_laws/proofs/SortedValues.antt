@@ -15,7 +15,7 @@ use Rattle.cu_machine.specs.Sort.{inserted, inserted_by, sorted}
 use Rattle.cu_machine.proofs.Depth.{among_append}
 use Rattle.cu_machine.proofs.Levels.{among_flat}
 
--- ** Rising lists
+-- ---- rising lists
 
 -- a value is less than the first of a list
 abbrev before_first : Value → List Value → Bool
@@ -57,7 +57,7 @@ pub sorted_rises : (vs : List Value) → rises (sorted vs) ≡ true
 sorted_rises [] = refl
 sorted_rises (v ∷ vs) = inserted_rises v (sorted vs) (sorted_rises vs)
 
--- ** Elements
+-- ---- elements
 
 inserted_from : (x v : Value) (vs : List Value) → Among x (inserted v vs) → (v ≡ x) ⊎ Among x vs
 inserted_from x v [] m = elim m [ inl same ↦ inl same | inr nowhere ↦ absurd nowhere ]
@@ -75,7 +75,7 @@ pub sorted_from : (x : Value) (vs : List Value) → Among x (sorted vs) → Amon
 sorted_from x [] m = m
 sorted_from x (v ∷ vs) m = elim (inserted_from x v (sorted vs) m) [ inl same ↦ inl same | inr behind ↦ inr (sorted_from x vs behind) ]
 
--- ** Places
+-- ---- places
 
 pub place_among : {A : Type 0} (x : A) (xs : List A) → Among x xs → (k : ℕ) × (slice_get xs k ≡ Some x)
 place_among x [] m = absurd m
@@ -87,7 +87,7 @@ among_place x [] k at = let no : ⊥ = cc in absurd no
 among_place x (y ∷ ys) zero at = let same : y ≡ x = cc in inl same
 among_place x (y ∷ ys) (suc k) at = inr (among_place x ys k at)
 
--- ** What was answered
+-- ---- what was answered
 
 -- an answer among the events of a level
 pub record AnsweredAt (events : ℕ → List Next) (depth : ℕ) (v : Value) : Type 0 where

@@ -36,7 +36,7 @@ use Rattle.cu_laws.proofs.AtLevel.{NodeAllowed, allowed_at, allowed_from, nodes_
 use Rattle.cu_laws.proofs.LevelStates.{StateAllowed, next_allowed, start_allowed, values_allowed}
 use Rattle.cu_laws.proofs.TracedStates.{Collected, after_level_is, collected_at, collected_built, goes_on, next_traced, was_blocked}
 
--- ** What is behind an outcome of a level
+-- ---- what is after an outcome of a level
 
 -- a state that follows a level follows one of its states
 outcome_has : (T : State → Type 0) (event : Next) (others : LevelEvent) (values : List Value) (states : List State)
@@ -69,7 +69,7 @@ one_call graph id f g us vs first second =
     let kinds : kind.SetCall f ≡ kind.SetCall g = ap (λ (n : Node). n.kind) (sym first ∙ second) in cc
 
 module _ (program : Code) (limits : Limits) (levels : List ℕ) where
-  -- ** The parts of a traced state
+  -- ---- the parts of a traced state
 
   -- each state of a running search's level is traced at the function's
   abbrev InnerTraced : State → Type 0
@@ -111,7 +111,7 @@ module _ (program : Code) (limits : Limits) (levels : List ℕ) where
   all_traced k (state ∷ states) each = (each state (inl refl), all_traced k states (λ other m. each other (inr m)))
 
   module _ (well : is_well_formed program ≡ true) where
-    -- ** Starts
+    -- ---- starts
 
     pub start_traced : (goal : FunId) → is_rule (body_of program goal) ≡ true → TracedAt program limits levels (level_of levels goal) (start_of program goal)
     start_traced goal rule = traced_from (level_of levels goal) (start_of program goal) (start_valid program goal well rule) (start_allowed program levels goal) tt tt
@@ -135,7 +135,7 @@ module _ (program : Code) (limits : Limits) (levels : List ℕ) where
         traced_from (level_of levels f) (call_on program f arguments)
         (call_on_valid program f arguments well whole (all_built_fit program arguments built)) (call_allowed f arguments built) tt tt
 
-    -- ** A state in which no search runs
+    -- ---- a state in which no search runs
 
     inner_at_only : (only state : State) → Among state (only ∷ []) → InnerTraced only → InnerTraced state
     inner_at_only only state (inl same) inner = subst InnerTraced same inner
@@ -189,7 +189,7 @@ module _ (program : Code) (limits : Limits) (levels : List ℕ) where
     next_by_inner graph root goals (At id) states state before needed same m valid =
         moved_inner graph root id goals (move program graph id) states state before needed refl same m valid
 
-    -- ** All states
+    -- ---- all states
 
     module _ (are : AreLevelsOf program levels) where
       -- what remains to be shown of a state that follows: its search
@@ -238,7 +238,7 @@ module _ (program : Code) (limits : Limits) (levels : List ℕ) where
             (λ front other is there. next_stays k first other front traced.0 is there)
             (λ vs more is other there. stepped_stays k rest vs more traced.1 is other there) same state m
 
-      -- ** Runs and levels
+      -- ---- runs and levels
 
       reached_by : (k : ℕ) (state : State) (onward : State → State) (event : Next)
           → ((after : State) → event ≡ Go (after ∷ []) → TracedAt program limits levels k (onward after)) → TracedAt program limits levels k state

@@ -1,4 +1,5 @@
--- Steps, runs and levels of traced states are sound, and what is answered there follows from the rules.
+-- Steps, runs and levels of traced states are sound, and what is answered there follows from the
+-- rules.
 use Rattle.std.proofs.Common.{◌≡◌, ℕ, ◌-◌, ◌<◌, inl, inr, true, List, [], ◌∷◌, ◌++◌, refl, ap, sym, ◌∙◌, subst, length, map, append-nil}
 use Rattle.std.specs.List.{list_any}
 use Rattle.cu_calculus.specs.declared.FunId.{FunId}
@@ -45,7 +46,7 @@ use Rattle.cu_laws.proofs.SetRow.{delivered_sound}
 use Rattle.cu_laws.proofs.StaysTraced.{allowed_of, next_stays, search_of, start_traced, valid_of}
 use Rattle.cu_laws.proofs.TracedStates.{after_level_is, goes_on, was_blocked}
 
--- ** A search that has ended
+-- ---- a search that has ended
 
 -- what a search that has ended shows of the node at which it ran
 record Ended (program : Code) (limits : Limits) (graph : Graph) (f : FunId) (args : List ℕ) (found : List Value) : Type 0 where
@@ -73,7 +74,7 @@ module _ (program : Code) (limits : Limits) (levels : List ℕ) (k : ℕ) where
   set_call_below state id f args traced is =
       (subst (λ (n : Node). NodeAllowed program levels k n) is (allowed_at program levels k (graph_of state) id (allowed_of program limits levels k state traced))).0
 
-  -- ** One step
+  -- ---- one step
 
   -- nothing more is claimed
   back_alone : (claims : List Claim) (state : State) (later : Assignment) → Sound program claims (graph_of state) later
@@ -153,7 +154,7 @@ module _ (program : Code) (limits : Limits) (levels : List ℕ) (k : ℕ) where
         ])
 
     module _ (are : AreLevelsOf program levels) where
-      -- ** Runs and levels
+      -- ---- runs and levels
 
       abbrev IsLow : FunId → Type 0
       IsLow f = level_of levels f < k
@@ -198,7 +199,7 @@ module _ (program : Code) (limits : Limits) (levels : List ℕ) (k : ℕ) where
           (sym (run_reaches more program limits before) ∙ same) m in
           back_from claims before state later at.came good
 
--- ** Levels by the stride, and answers
+-- ---- levels by the stride, and answers
 
 module _ (program : Code) (limits : SearchLimits) (levels : List ℕ) (well : is_well_formed program ≡ true) (are : AreLevelsOf program levels) where
   pub level_back : (k depth : ℕ) (claims : List Claim) (start state : State) (later : Assignment) → TracedAt program limits.step levels k start

@@ -30,7 +30,7 @@ use Rattle.cu_laws.specs.Traced.{IsTraced, TracedSearch, spelled_values}
 use Rattle.cu_laws.proofs.Collecting.{collect_ready, ready_ground}
 use Rattle.cu_laws.proofs.InnerLevels.{stepped_on}
 
--- ** A search that begins
+-- ---- a search that begins
 
 pub record Collected (graph : Graph) (id : ℕ) (f : FunId) (arguments : Values) : Type 0 where
   pub args : List ℕ
@@ -89,7 +89,7 @@ begun_traced program limits graph root id goals f arguments valid needed found =
   quiet = λ k below. absurd (omega arith);
 }
 
--- ** A search that goes on
+-- ---- a search that goes on
 
 flat_of_map : {A B C : Type 0} (f : B → List C) (g : A → B) (xs : List A) → flat_map f (map g xs) ≡ flat_map (λ x. f (g x)) xs
 flat_of_map f g [] = refl
@@ -119,7 +119,7 @@ on_traced program limits graph id found values level states traced is =
       ];
     }
 
--- ** All states
+-- ---- all states
 
 at_only : (program : Code) (limits : Limits) (only state : State) → Among state (only ∷ []) → IsTraced program limits only → IsTraced program limits state
 at_only program limits only state (inl same) traced = subst (λ (s : State). IsTraced program limits s) same traced

@@ -1,4 +1,4 @@
--- From a graph to one that follows it, no value is lost.
+-- From an assignment for a graph to one for a graph that follows it, by which no value is lost.
 use Rattle.std.specs.Prelude.{◌≡◌, ℕ, ◌<◌, ◌≤◌, List, length}
 use Rattle.cu_calculus.specs.Code.{Code}
 use Rattle.cu_calculus.specs.Gives.{Claim}
@@ -6,12 +6,12 @@ use Rattle.cu_calculus.specs.Value as value
 use Rattle.cu_machine.specs.Graph.{Graph}
 use Rattle.cu_laws.specs.Good.{Assignment, Loose}
 
--- nothing is known past a graph
+-- The assignment says nothing of nodes past the graph.
 abbrev pub NothingPast : Graph → Assignment → Type 0
 NothingPast graph assigned = (x : ℕ) → length graph ≤ x → assigned x ≡ value.Bottom
 
--- An assignment for a graph that follows, which gives each node of the graph before the value that
--- it had.
+-- The assignment `later`, for a graph that follows, is loose and gives each node of the graph
+-- before the value that it had.
 pub record Continues (program : Code) (claims : List Claim) (graph after : Graph)
     (assigned later : Assignment) : Type 0 where
   pub loose : Loose program claims after later

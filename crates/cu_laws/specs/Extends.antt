@@ -1,4 +1,4 @@
--- Assignments for a graph in which an expression was written over a node.
+-- Assignments for a graph in which an expression was built over a node.
 use Rattle.std.specs.Prelude.{◌≡◌, ◌⊎◌, ℕ, ◌<◌, ◌≤◌, List, IsTrue, length}
 use Rattle.cu_calculus.specs.Code.{Code}
 use Rattle.cu_calculus.specs.FlatProgram.{program_of}
@@ -8,13 +8,13 @@ use Rattle.cu_calculus.specs.Value as value
 use Rattle.cu_machine.specs.Graph.{Graph, node_at}
 use Rattle.cu_laws.specs.Good.{Assignment, MayHave, NoValue}
 
--- An assignment keeps what another one gives the nodes of a graph, and gives the new nodes, and the
--- one that was written over, values that these may have.
+-- The assignment `extended` keeps what `assigned` gives the nodes of a graph, and gives the new
+-- nodes, and the one over which an expression was built, values that these may have.
 pub record Extends (program : Code) (claims : List Claim) (graph : Graph) (id : ℕ) (after : Graph)
     (assigned extended : Assignment) : Type 0 where
   pub of_program : (x : ℕ) → IsTrue (is_of (program_of program) (extended x))
   pub same : (x : ℕ) → x < length graph → extended x ≡ assigned x
-  -- nothing is known past the new nodes
+  -- Nothing is known past the new nodes.
   pub past : (x : ℕ) → length after ≤ x → extended x ≡ value.Bottom
   pub each : (x : ℕ) → x < length after → (x ≡ id) ⊎ (length graph ≤ x)
       → MayHave NoValue program claims extended (node_at after x).kind (node_at after x).args

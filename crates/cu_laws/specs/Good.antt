@@ -1,5 +1,5 @@
 -- Good assignments: a value for each node of a graph, none greater than what the calculus gives
--- from the values of its parts.
+-- from the values of the node's parts.
 use Rattle.std.specs.Prelude.{◌≡◌, ◌⊎◌, ℕ, ◌<◌, List, [], ◌∷◌, None, Some, IsTrue, length, map, zip}
 use Rattle.cu_calculus.specs.declared.FunId.{FunId}
 use Rattle.cu_calculus.specs.declared.Head.TheVariants as head
@@ -22,13 +22,13 @@ use Rattle.cu_machine.specs.declared.Kind.TheVariants as kind
 use Rattle.cu_machine.specs.Build.{Scope, place_in}
 use Rattle.cu_machine.specs.Graph.{Graph, node_at}
 
--- a value for each place of a graph
+-- a value for each node of a graph
 abbrev pub Assignment : Type 0
 Assignment = ℕ → Value
 
 -- A case distinction of the code gives v, where its scrutinee is worth u and the variables that it
--- keeps are worth `values`: u takes an alternative, whose term gives v where its pattern's
--- variables stand for what it matched.
+-- keeps are worth `values`: u takes an alternative, whose term gives v under the bindings of the
+-- match.
 pub record Distinguished (program : Code) (claims : List Claim) (e : ExprId) (u : Value)
     (values : List Value) (v : Value) : Type 0 where
   pub mode : Mode
@@ -43,8 +43,8 @@ pub record Distinguished (program : Code) (claims : List Claim) (e : ExprId) (u 
   pub gives : Gives (program_of program) claims
       (bind_all (bind_all empty (zip kept values)) bindings) term v
 
--- The rows of the calculus by kinds: a node of this kind, whose parts are worth these values, is
--- worth v.
+-- The rows of the calculus by kinds of nodes: a node of this kind, whose parts are worth these
+-- values, is worth v.
 abbrev pub Worth : Code → List Claim → Kind → List Value → Value → Type 0
 Worth program claims (kind.Cons c) us v =
     Applied (program_of program) claims (head.Con c) (values_of us) v
@@ -62,13 +62,13 @@ Worth program claims (kind.SetCall f) us v =
     Applied (program_of program) claims (head.Set f) (values_of us) v
 Worth program claims _ us v = ⊥
 
--- nothing is known of it, as of every term; or it is such a value, or a lower one
+-- The value v is Bottom, which says nothing, or at most a value that the node is worth.
 abbrev pub AtMost : (Value → Type 0) → Value → Type 0
 AtMost IsWorth v = (v ≡ value.Bottom) ⊎ ((w : Value) × IsWorth w × Below v w)
 
 -- What the value of a node may be: of a free variable total data, of an Ind at most what its target
 -- has, and of any other node at most what a row gives from the values of its parts. `of_stuck` says
--- what that of a stuck node may be.
+-- what the value of a stuck node may be.
 abbrev pub MayHave : (Value → Type 0) → Code → List Claim → Assignment → Kind → List ℕ → Value
     → Type 0
 MayHave of_stuck program claims assigned kind.Free args v = IsTrue (is_total_data v)
@@ -78,15 +78,15 @@ MayHave of_stuck program claims assigned kind.Stuck args v = of_stuck v
 MayHave of_stuck program claims assigned k args v =
     AtMost (Worth program claims k (map assigned args)) v
 
--- nothing is known of it
+-- Only Bottom is such a value: nothing is known of the node.
 abbrev pub NoValue : Value → Type 0
 NoValue v = v ≡ value.Bottom
 
--- nothing is asked of it
+-- Any value is such a value: nothing is asked of the node.
 abbrev pub AnyValue : Value → Type 0
 AnyValue v = Unit {0}
 
--- values of the program, each of which its node may have
+-- The assignment gives each node a value of the program that the node may have.
 pub record Assigns (of_stuck : Value → Type 0) (program : Code) (claims : List Claim)
     (graph : Graph) (assigned : Assignment) : Type 0 where
   pub of_program : (id : ℕ) → IsTrue (is_of (program_of program) (assigned id))
@@ -94,19 +94,19 @@ pub record Assigns (of_stuck : Value → Type 0) (program : Code) (claims : List
       → MayHave of_stuck program claims assigned (node_at graph id).kind (node_at graph id).args
       (assigned id)
 
--- Good: what is stuck has no value
+-- A good assignment: what is stuck has no value.
 abbrev pub Good : Code → List Claim → Graph → Assignment → Type 0
 Good program claims graph assigned = Assigns NoValue program claims graph assigned
 
--- Loose: what is stuck may have any value
+-- A loose assignment: what is stuck may have any value.
 abbrev pub Loose : Code → List Claim → Graph → Assignment → Type 0
 Loose program claims graph assigned = Assigns AnyValue program claims graph assigned
 
--- what the variables of a scope stand for
+-- the environment in which the variables of a scope have the values of their nodes
 abbrev pub env_in : Assignment → Scope → Environment
 env_in assigned scope x = elim (place_in scope x) [ Some id ↦ assigned id | None ↦ value.Bottom ]
 
--- an assignment says at least what another one does, at every place
+-- The assignment `high` says at least what `low` does, at every node.
 abbrev pub RisesTo : Assignment → Assignment → Type 0
 RisesTo low high = (id : ℕ) → Below (low id) (high id)
 

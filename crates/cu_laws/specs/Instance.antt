@@ -1,4 +1,5 @@
--- Instances: what a reading becomes where ground data stand for its variables. What listings cover.
+-- Instances: what a reading becomes where ground data stand for its variables. Which values a
+-- listing covers.
 use Rattle.std.specs.Prelude.{◌≡◌, ℕ, IsTrue}
 use Rattle.cu_calculus.specs.Code.{Code}
 use Rattle.cu_calculus.specs.Value as value
@@ -9,7 +10,7 @@ use Rattle.cu_machine.specs.Listing.{Answered, Listing}
 use Rattle.cu_machine.specs.Next.{Reading}
 use Rattle.cu_machine.specs.Validity.{is_built}
 
--- a value for each variable
+-- a substitution: a value for each variable
 abbrev pub Substitution : Type 0
 Substitution = ℕ → Value
 
@@ -22,13 +23,14 @@ abbrev mutual
   filled substitution (value.Constructed c vs) = value.Constructed c (all_filled substitution vs)
   filled substitution (value.Partial h vs) = value.Partial h (all_filled substitution vs)
 
+  -- several values in which other values stand for the variables
   pub all_filled : Substitution → Values → Values
   all_filled substitution value.NoValue = value.NoValue
   all_filled substitution (value.MoreValues v vs) =
       value.MoreValues (filled substitution v) (all_filled substitution vs)
 
--- Where some ground data of the program stand for its variables, a reading has these bindings, and
--- v for its value.
+-- The reading has these bindings and the value v, where some ground data of the program stand for
+-- its variables.
 pub record IsInstance (program : Code) (reading : Reading) (arguments : Values) (v : Value)
     : Type 0 where
   pub substitution : Substitution
@@ -36,13 +38,13 @@ pub record IsInstance (program : Code) (reading : Reading) (arguments : Values) 
   pub bindings_are : all_filled substitution (values_of reading.bindings) ≡ arguments
   pub value_is : filled substitution reading.value ≡ v
 
--- ** Listings
+-- ---- listings
 
--- there was no more to search, and no branch waits
+-- There was no more to search, and no branch waits.
 abbrev pub IsExhausted : Listing → Type 0
 IsExhausted listing = listing.end ≡ NoMore 0
 
--- values of the goal variables, and a value, that are an instance of an answer that is listed
+-- The values of the goal variables and the value v are an instance of an answer that is listed.
 pub record Covered (program : Code) (listing : Listing) (arguments : Values) (v : Value)
     : Type 0 where
   pub depth : ℕ

@@ -17,17 +17,18 @@ use Rattle.cu_machine.specs.Validity.{IsValid}
 use Rattle.cu_laws.specs.Continues.{Continues, NothingPast}
 use Rattle.cu_laws.specs.Good.{Assignment, Loose}
 
--- the node whose value a state seeks, and its goal variables
+-- the node whose value a state seeks
 abbrev pub root_of : State → ℕ
 root_of (Branch graph root goals search) = root
 
+-- the nodes of a state's goal variables
 abbrev pub goals_of : State → List ℕ
 goals_of (Branch graph root goals search) = goals
 
--- ** Steps
+-- ---- steps
 
--- An assignment that promises a state an answer: it is loose, nothing is known past the graph, and
--- the root has a total value.
+-- The assignment promises the state an answer: it is loose, says nothing past the graph, and gives
+-- the root a total value.
 pub record Promises (program : Code) (claims : List Claim) (state : State)
     (assigned : Assignment) : Type 0 where
   pub loose : Loose program claims (graph_of state) assigned
@@ -45,17 +46,17 @@ pub record SomeContinues (program : Code) (claims : List Claim) (before : State)
   pub later : Assignment
   pub continues : Continues program claims (graph_of before) (graph_of state) assigned later
 
--- Claims of the program that agree with what searches find: where the search of a claim's function
--- on its arguments ends, it has found the claim's values. Claims that are true at a level do.
+-- Claims of the program agree with what searches find: where the search of a claim's function on
+-- its arguments ends, it has found the claim's values. Claims that are true at a level do so.
 pub record AgreeWithSearches (program : Code) (limits : Limits) (claims : List Claim) : Type 0 where
   pub of_program : IsTrue (list_all (is_claim_of (program_of program)) claims)
   pub agree : (k : ℕ) (claim : Claim) (values : List Value) → slice_get claims k ≡ Some claim
       → Found program limits claim.function claim.arguments values → claim.values ≡ values
 
--- ** Levels
+-- ---- levels
 
--- A state that is reached from a start keeps its promise: its root and its goal variables have the
--- values that those of the start have.
+-- A state that is reached from a start keeps the start's promise: its root and its goal variables
+-- have the values that those of the start have.
 pub record KeepsPromise (program : Code) (claims : List Claim) (start : State)
     (assigned : Assignment) (state : State) : Type 0 where
   pub later : Assignment
@@ -63,7 +64,7 @@ pub record KeepsPromise (program : Code) (claims : List Claim) (start : State)
   pub root : later (root_of state) ≡ assigned (root_of start)
   pub goals : map later (goals_of state) ≡ map assigned (goals_of start)
 
--- what becomes of a state is decided where it neither waits nor stops
+-- whether it is decided what becomes of a state: it neither waits nor stops
 abbrev pub is_decided : Next → Bool
 is_decided (Go states) = true
 is_decided (Answer reading) = true
@@ -71,12 +72,12 @@ is_decided Fails = true
 is_decided (Waits names) = false
 is_decided (Stops stop) = false
 
--- what becomes of the states of all levels before a depth is decided
+-- What becomes of the states of all levels before a depth is decided.
 abbrev pub AreDecided : (State → Next) → State → ℕ → Type 0
 AreDecided event start depth =
     (k : ℕ) → k < depth → IsTrue (list_all is_decided (map event (level_by event start k)))
 
--- an answer that keeps the promise: it is read off a state that does
+-- An answer keeps the start's promise: it is read off a state that does.
 pub record AnswersPromise (program : Code) (limits : Limits) (claims : List Claim) (start : State)
     (assigned : Assignment) (reading : Reading) : Type 0 where
   pub state : State
@@ -84,7 +85,7 @@ pub record AnswersPromise (program : Code) (limits : Limits) (claims : List Clai
   pub answers : next program limits state ≡ Answer reading
   pub keeps : KeepsPromise program claims start assigned state
 
--- a state of a level before a depth has such an answer
+-- A state of a level before a depth has an answer that keeps the start's promise.
 pub record KeptByAnswer (program : Code) (limits : Limits) (claims : List Claim)
     (event : State → Next) (start : State) (assigned : Assignment) (depth : ℕ) : Type 0 where
   pub level : ℕ
@@ -95,7 +96,7 @@ pub record KeptByAnswer (program : Code) (limits : Limits) (claims : List Claim)
   pub answers : event state ≡ Answer reading
   pub answered : AnswersPromise program limits claims start assigned reading
 
--- a state of the level at a depth keeps the promise
+-- A state of the level at a depth keeps the start's promise.
 pub record KeptByState (program : Code) (claims : List Claim) (event : State → Next) (start : State)
     (assigned : Assignment) (depth : ℕ) : Type 0 where
   pub state : State

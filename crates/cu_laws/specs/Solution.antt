@@ -7,7 +7,7 @@ use Rattle.cu_machine.specs.State.{State}
 use Rattle.cu_laws.specs.Good.{Assignment}
 use Rattle.cu_laws.specs.Promises.{Promises, goals_of, root_of}
 
--- An assignment that promises the state an answer gives the goal variables these values, and the
+-- Some assignment that promises the state an answer gives the goal variables these values, and the
 -- root the value v.
 pub record HasSolution (program : Code) (claims : List Claim) (state : State) (arguments : Values)
     (v : Value) : Type 0 where

@@ -1,4 +1,5 @@
--- A search for all values of a function that runs in a state, traced back to where it began.
+-- A search for all values of a function that runs in a state, traced back to the call at which it
+-- began.
 use Rattle.std.specs.Prelude.{◌≡◌, ℕ, ◌<◌, List, IsTrue, Some, map, slice_get}
 use Rattle.std.specs.List.{list_all}
 use Rattle.cu_calculus.specs.declared.FunId.{FunId}
@@ -14,13 +15,13 @@ use Rattle.cu_machine.specs.Spell.{spelled}
 use Rattle.cu_machine.specs.State.{Branch, Idle, Running, State, States, call_on, states_of}
 use Rattle.cu_machine.specs.Validity.{are_built}
 
--- what the places of arguments spell
+-- the values that arguments spell
 abbrev pub spelled_values : Graph → List ℕ → Values
 spelled_values graph args = values_of (map (spelled graph) args)
 
 -- The search stands at the set function's call on ground data. Its level is one of the levels from
--- the call of the function on these; what it has found was answered in the levels before, in which
--- no event was other than quiet.
+-- the call of the function on these data. What it has found was answered in the levels before, in
+-- which every event was quiet.
 pub record TracedSearch (program : Code) (limits : Limits) (graph : Graph) (id : ℕ)
     (found : List Value) (level : States) : Type 0 where
   pub function : FunId
@@ -35,13 +36,13 @@ pub record TracedSearch (program : Code) (limits : Limits) (graph : Graph) (id :
   pub quiet : (k : ℕ) → k < depth → IsTrue
       (list_all is_quiet (inner_events program limits function (spelled_values graph args) k))
 
--- a state whose search, where one runs, is traced
+-- The search that runs in a state, where one does, is traced back to its call.
 abbrev pub IsTraced : Code → Limits → State → Type 0
 IsTraced program limits (Branch graph root goals Idle) = Unit {0}
 IsTraced program limits (Branch graph root goals (Running id found level)) =
     TracedSearch program limits graph id found level
 
--- claims each of which a search finds
+-- Each of the claims is what a search finds.
 abbrev pub AreFound : Code → Limits → List Claim → Type 0
 AreFound program limits claims = (k : ℕ) (claim : Claim) → slice_get claims k ≡ Some claim
     → Found program limits claim.function claim.arguments claim.values

@@ -11,10 +11,10 @@ use Rattle.cu_machine.specs.Validity.{IsValid}
 use Rattle.cu_laws.specs.AtLevel.{IsAtLevel}
 use Rattle.cu_laws.specs.Traced.{TracedSearch}
 
--- A state is valid. The functions that its nodes and their code name have at most this level, and
--- those whose values are collected there have lower ones. A search that runs in it can be traced
--- back to the call at which it began, and each state of its level is traced at the level of the
--- function whose values it collects.
+-- A state is traced at a set level. It is valid. The functions that its nodes and their code
+-- mention have at most this level, and those that they mention in set calls have lower ones. A
+-- search that runs in it can be traced back to the call at which it began, and each state of its
+-- level is traced at the level of the function whose values it collects.
 unfoldable mutual
   pub TracedAt : Code → Limits → List ℕ → ℕ → State → Type 0
   TracedAt program limits levels level (Branch graph root goals search) =
@@ -22,12 +22,15 @@ unfoldable mutual
       × IsAtLevel program levels level graph
       × SearchTracedAt program limits levels graph search
 
+  -- The inner search of a state with this graph, if one runs, is traced, with the states of its
+  -- level.
   pub SearchTracedAt : Code → Limits → List ℕ → Graph → Search → Type 0
   SearchTracedAt program limits levels graph Idle = Unit {0}
   SearchTracedAt program limits levels graph (Running id found states) =
       (traced : TracedSearch program limits graph id found states)
       × AllTracedAt program limits levels (level_of levels traced.function) states
 
+  -- Several states are traced at a set level.
   pub AllTracedAt : Code → Limits → List ℕ → ℕ → States → Type 0
   AllTracedAt program limits levels level NoState = Unit {0}
   AllTracedAt program limits levels level (MoreStates state states) =

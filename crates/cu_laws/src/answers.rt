@@ -60,8 +60,8 @@ pub fn graphs_stay_at_their_level()
         → IsAtLevel program levels level after }
 {}
 
-/// Searches stay traced: that of a state that follows is one that has just
-/// begun at a call on ground data, or that goes on at its next level.
+/// Searches stay traced: the search of a state that follows has just begun at a
+/// call on ground data, or goes on at its next level.
 pub fn searches_stay_traced()
     ensures start { (program : Code) (limits : Limits) (goal : FunId)
         → IsTraced program limits (start_of program goal) }

@@ -20,9 +20,9 @@ ghost use Rattle.cu_laws.specs.Promises.{goals_of, root_of};
 ghost use Rattle.cu_laws.specs.Solution.{HasSolution};
 
 /// A total value that the calculus gives a function on ground data is a
-/// solution of the state in which the search for it begins: of that of the
-/// function's call on these data, and of that of the function as a goal, whose
-/// variables then have these data for values.
+/// solution of the state in which the search for it begins. That is the state
+/// of the function's call on these data, and also the state of the function as
+/// a goal, whose variables then have these data for values.
 pub fn derivations_begin()
     ensures call { (program : Code) (claims : List Claim) (f : FunId) (arguments : Values)
         (v : Value)

@@ -46,9 +46,9 @@ pub fn true_claims_agree_with_searches()
         → AgreeWithSearches program limits claims }
 {}
 
-/// Every answer that is listed has a derivation from the rules, set functions
-/// standing for all their values: the goal, on what its variables are bound to,
-/// has the value that is listed, over claims that are true at its level.
+/// Every answer that is listed has a derivation from the rules, in which set
+/// calls stand for all their values: the goal, on what its variables are bound
+/// to, has the value that is listed, over claims that are true at its level.
 pub fn listed_answers_derive()
     ensures at_level { (program : Code) (limits : SearchLimits) (levels : List ℕ) (goal : FunId)
         (depth : ℕ) (reading : Reading) → IsTrue (is_well_formed program)
@@ -63,9 +63,8 @@ pub fn listed_answers_derive()
         → Derives (program_of program) goal (values_of reading.bindings) reading.value }
 {}
 
-/// Nothing is missed: where a listing ends for want of more to search, and no
-/// branch waits, each ground solution of the goal is an instance of an answer
-/// that is listed.
+/// Nothing is missed: where a listing ends with no more, and no branch waits,
+/// each ground solution of the goal is an instance of an answer that is listed.
 pub fn exhausted_listings_cover()
     ensures at_level { (program : Code) (limits : SearchLimits) (levels : List ℕ) (goal : FunId)
         (arguments : Values) (v : Value) → IsTrue (is_well_formed program)

@@ -1,7 +1,7 @@
 //! Laws of the search: what a listing shows follows from the rules of the
-//! program, and no step, level, search or listing loses a value: where one ends
-//! for want of more, it misses no solution. The crate has the definitions that
-//! the laws need in `specs/`; it computes nothing.
+//! program, and no step, level, search or listing loses a value, so that a
+//! listing that is exhausted misses no ground solution. The crate has the
+//! definitions that the laws need in `specs/`; it computes nothing.
 #![tactic(auto)]
 
 mod answers;

@@ -33,8 +33,8 @@ ghost use Rattle.cu_laws.specs.Good.{AnyValue, Assignment, Good, MayHave, NoValu
 ghost use Rattle.cu_laws.specs.Good.{claim_of, env_in};
 
 /// What a node may have, it may have when its parts are worth more; and it may
-/// have less, unless it is a free variable. That is so where stuck nodes have
-/// no value, and where they may have any.
+/// have less, unless it is a free variable. Both hold where stuck nodes have no
+/// value, and where they may have any.
 pub fn what_nodes_may_have_is_closed()
     ensures upward { (program : Code) (claims : List Claim) (low high : Assignment) (k : Kind)
         (args : List ℕ) (v : Value) → RisesTo low high → MayHave NoValue program claims low k args v
@@ -54,7 +54,7 @@ pub fn what_nodes_may_have_is_closed()
 
 /// An assignment that is good for a graph in which an expression is written
 /// over a node gives that node a value that the expression's term has, where
-/// its variables stand for what the places of the scope are worth. And from
+/// its variables stand for what the nodes of the scope are worth. And from
 /// such a value of the node, where nothing is known yet past the graph, come
 /// values that all new nodes may have.
 pub fn written_expressions_are_worth_their_terms()
@@ -77,7 +77,7 @@ pub fn written_expressions_are_worth_their_terms()
 
 /// Every row of the step table is sound: to an assignment that is good for a
 /// graph that follows belongs one that is good for the graph before, and is at
-/// least as great at every place.
+/// least as great at every node.
 pub fn rows_are_sound()
     ensures { (program : Code) (claims : List Claim) (graph after : Graph) (id : ℕ)
         (later : Assignment) → IsTrue (is_well_formed program) → NodesFit program graph
@@ -85,8 +85,9 @@ pub fn rows_are_sound()
         → (earlier : Assignment) × Good program claims graph earlier × RisesTo later earlier }
 {}
 
-/// So is a step of a state in which no search for all values of a function
-/// runs: what is good for a state that follows comes from what is good for it.
+/// A step of a state in which no search for all values of a function runs is
+/// sound: an assignment that is good for a state that follows comes from one
+/// that is good for the state before.
 pub fn steps_are_sound()
     ensures { (program : Code) (claims : List Claim) (limits : Limits) (graph : Graph) (root : ℕ)
         (goals : List ℕ) (states : List State) (state : State) (later : Assignment)
@@ -111,7 +112,7 @@ pub fn deliveries_are_sound()
 {}
 
 /// What is read off a valid state is a good assignment of its graph, however
-/// its variables are numbered, and nothing is unknown of a goal variable.
+/// its variables are numbered, and it gives each goal variable a total value.
 pub fn readings_are_good()
     ensures good { (program : Code) (claims : List Claim) (graph : Graph) (root : ℕ)
         (goals : List ℕ) (search : Search) (number : ℕ → ℕ)

@@ -25,9 +25,9 @@ ghost use Rattle.cu_laws.specs.Promises.{AgreeWithSearches, AnswersPromise, AreD
 ghost use Rattle.cu_laws.specs.Promises.{KeptByAnswer, KeptByState, Promises, SomeContinues};
 ghost use Rattle.cu_laws.specs.Traced.{IsTraced};
 
-/// Where states follow one that promises an answer, one of them loses no
-/// value. While no search for all values of a function runs this needs no more
-/// than claims of the program; where one runs, claims that agree with what
+/// Where states follow one that promises an answer, one of them loses no value.
+/// While no search for all values of a function runs, this needs no more than
+/// claims of the program; where one runs, it needs claims that agree with what
 /// searches find, as those that are true at a level do
 /// (`true_claims_agree_with_searches`).
 pub fn steps_are_complete()
@@ -54,11 +54,11 @@ pub fn failures_have_no_values()
         → Promises program claims state assigned → ⊥ }
 {}
 
-/// No level loses a solution either: where nothing before a depth waits or
-/// stops, a state of some level before has given an answer that keeps what the
-/// start promises, or a state of the level at the depth keeps it. This holds
-/// of levels of single steps, which are those of searches for all values, and
-/// of the levels of a listing, whose rounds take each state on by several.
+/// No level loses a solution: where nothing before a depth waits or stops, a
+/// state of some level before has given an answer that keeps what the start
+/// promises, or a state of the level at the depth keeps it. This holds of
+/// levels of single steps, which are those of searches for all values, and of
+/// the levels of a listing, whose rounds take each state on by several.
 pub fn levels_are_complete()
     ensures steps { (program : Code) (claims : List Claim) (limits : Limits) (start : State)
         (assigned : Assignment) (depth : ℕ) → IsTrue (is_well_formed program)

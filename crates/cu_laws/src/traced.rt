@@ -71,8 +71,8 @@ pub fn states_stay_traced()
 /// variables, or begins, takes on or ends a search for all values of a
 /// function: an assignment that is good for a state that follows can be carried
 /// back to the state before, where one more row is claimed if a search has
-/// ended. A run of steps is sound so, with a row for each search that ends
-/// during it, and so are the levels of a search, back to its start.
+/// ended. A run of steps is sound in this way, with a row for each search that
+/// ends during it, and so are the levels of a search, back to its start.
 pub fn traced_steps_are_sound()
     ensures next { (program : Code) (limits : Limits) (levels : List ℕ) (k : ℕ)
         (claims : List Claim) (before state : State) (states : List State) (later : Assignment)
@@ -139,11 +139,11 @@ pub fn searches_are_sound()
         graph earlier × RisesTo later earlier }
 {}
 
-/// What a traced state answers is read off a good assignment of its graph. And
-/// what the run of a state of a goal's search answers follows from the rules:
-/// over claims each of which a search finds, and of functions of lower levels
-/// than the goal's, the goal has the value on what its variables are bound to,
-/// with call-time choice; some proof that checks concludes it.
+/// What a traced state answers is read off a good assignment of its graph. What
+/// the run of a state of a goal's search answers follows from the rules: over
+/// claims each of which a search finds, and of functions of lower levels than
+/// the goal's, the goal has the value on what its variables are bound to, with
+/// call-time choice; some proof that checks concludes it.
 pub fn answers_of_traced_states_follow()
     ensures read { (program : Code) (limits : Limits) (levels : List ℕ) (k : ℕ) (graph : Graph)
         (root : ℕ) (goals : List ℕ) (search : Search) (reading : Reading)

@@ -10,7 +10,7 @@ pub record Marks : Type 0 where
   pub before : List (List LayoutMark)
   pub after : List LayoutMark
 
--- The marks of one more token, before the others.
+-- The marks of one more token, and then those of the tokens after it.
 abbrev pub marks_with : List LayoutMark → Marks → Marks
 marks_with here more = record { before = here ∷ more.before; after = more.after }
 
@@ -27,14 +27,15 @@ abbrev pub begins_line : Option ℕ → Sight → Bool
 begins_line None t = true
 begins_line (Some line) t = not (line == t.at.line)
 
--- The marks from here on, with the stack, whether a block is due, and the line of the token before.
+-- The marks from a token of the text on, given the stack, whether a block is due, and the line of
+-- the token before.
 unfoldable pub marks_from : Stack → Bool → Option ℕ → List Sight → Result Marks ℕ
 marks_from stack due line [] = Ok (record { before = []; after = last_marks due stack })
 marks_from stack due line (t ∷ more) =
     marks_through (layout_step due (begins_line line t) t stack)
     (λ next. marks_from next (is_block_keyword t.what) (Some t.at.line) more)
 
--- A module without a header is a block.
+-- Whether a block is due at the start of a text: a module without a header is a block.
 abbrev pub due_at_start : Bool → List Sight → Bool
 due_at_start whole [] = whole
 due_at_start whole (t ∷ more) = whole && not (is_module t.what)
@@ -57,7 +58,7 @@ abbrev pub last_of : {X : Type 0} → Option X → List X → Option X
 last_of before [] = before
 last_of before (x ∷ xs) = last_of (Some x) xs
 
--- Each token behind the marks before it, at its place. There is a list of marks for each token.
+-- Tokens with the marks of each before it, at its place. There is a list of marks for each token.
 abbrev pub interleaving : {X : Type 0} → (Option X → LayoutMark → X) → List X
     → List (List LayoutMark) → List X
 interleaving emitted [] marks = []
@@ -65,7 +66,7 @@ interleaving emitted (t ∷ more) [] = t ∷ more
 interleaving emitted (t ∷ more) (here ∷ marks) =
     map (emitted (Some t)) here ++ t ∷ interleaving emitted more marks
 
--- The tokens with all marks. Those at the end have the place of the last token.
+-- The tokens with all their marks. The marks at the end have the place of the last token.
 abbrev pub with_marks : {X : Type 0} → (Option X → LayoutMark → X) → List X → Marks → List X
 with_marks emitted tokens marks =
     interleaving emitted tokens marks.before ++ map (emitted (last_of None tokens)) marks.after

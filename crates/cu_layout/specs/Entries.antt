@@ -27,7 +27,7 @@ use Rattle.cu_layout.specs.Rules.Entry.{Block, Brace, Open}
 
 -- ---- how a block has begun
 
--- The state after one more token, which is no semicolon.
+-- How a block has begun after one more token, which is no semicolon.
 abbrev pub next_state : Begun → Form → Begun
 next_state begun.Names form.Name = begun.Names
 next_state begun.Names (form.Mark mark.Comma) = begun.Names
@@ -39,20 +39,20 @@ next_state begun.Quoted (form.Mark mark.Backquote) = begun.Operator
 next_state begun.Operator (form.Mark mark.CloseParen) = begun.Names
 next_state _ _ = begun.Other
 
--- The state after any token: a semicolon begins the tokens anew.
+-- How a block has begun after any token: a semicolon begins its tokens anew.
 abbrev pub state_with : Begun → Form → Begun
 state_with state what = if is_semicolon what then begun.Names else next_state state what
 
--- The state after tokens of a block.
+-- How a block of these tokens has begun.
 abbrev pub begun_of : List Form → Begun
 begun_of tokens = fold next_state begun.Names tokens
 
--- Names, operators in parentheses and commas alone.
+-- Whether a block has names, operators in parentheses and commas alone.
 abbrev pub is_names : Begun → Bool
 is_names begun.Names = true
 is_names _ = false
 
--- The shortest tokens with which a block has begun so.
+-- The shortest tokens with which a block begins in this way.
 abbrev pub sample : Begun → List Form
 sample begun.Names = []
 sample begun.Paren = form.Mark mark.OpenParen ∷ []
@@ -68,17 +68,19 @@ entry_of (standing.Block column state) = Block column (sample state)
 entry_of standing.Brace = Brace
 entry_of (standing.Open opening) = Open opening
 
--- The code keeps the innermost entry at the end.
+-- The stack of the definitions that the code's stands for. The code keeps the innermost entry at
+-- the end.
 abbrev pub stack_of : List Standing → Stack
 stack_of entries = map entry_of (reverse entries)
 
--- An entry with the shortest tokens that its block may have begun with.
+-- An entry with the shortest tokens in place of those with which its block has begun.
 abbrev pub plain : Entry → Entry
 plain (Block column tokens) = Block column (sample (begun_of tokens))
 plain Brace = Brace
 plain (Open opening) = Open opening
 
--- A stack with such tokens, to which the rules do the same.
+-- A stack with the shortest tokens in place of those with which its blocks have begun. The rules do
+-- the same to both.
 abbrev pub plain_stack : Stack → Stack
 plain_stack = map plain
 
@@ -97,11 +99,11 @@ sight_at what place = record { what = what; at = position_of place }
 abbrev pub mark_at : Place → LayoutMark → Token
 mark_at place mark = record { kind = token.Layout mark; place = place }
 
--- The tokens with marks behind them, at a place.
+-- Tokens with marks after them, at a place.
 abbrev pub with_marks_at : Place → List LayoutMark → List Token → List Token
 with_marks_at place marks laid = laid ++ map (mark_at place) marks
 
--- What is left of a walk down the stack, with a Close for each block that it has passed.
+-- What a walk down the stack comes to, with a Close for each block that it has passed.
 abbrev pub after_closes : ℕ → Option Step → Option Step
 after_closes closed found = option_map (marks_then (replicate closed layout.Close)) found
 
@@ -127,13 +129,15 @@ state_of (Some block) = block.1
 
 -- ---- what the functions of one rule do
 
--- The tokens laid out so far with the marks of a rule behind them, and the stack that it leaves.
+-- What one rule did: the tokens laid out so far have its marks after them, and the stack is the one
+-- that it leaves.
 pub record Lays (place : Place) (laid laid' : List Token) (stack' : List Standing)
     (step : Step) : Type 0 where
   pub tokens : laid' ≡ with_marks_at place step.marks laid
   pub stack : stack_of stack' ≡ step.stack
 
--- The same for all rules at a token.
+-- What all rules at a token did: the tokens laid out so far have their marks after them, and the
+-- stack is the one that they leave, with the shortest tokens in place of those of its blocks.
 pub record LaysOut (due first : Bool) (what : Form) (place : Place) (laid laid' : List Token)
     (stack stack' : List Standing) : Type 0 where
   pub step : Step
@@ -141,13 +145,14 @@ pub record LaysOut (due first : Bool) (what : Form) (place : Place) (laid laid' 
   pub tokens : laid' ≡ with_marks_at place step.marks laid
   pub stands : stack_of stack' ≡ plain_stack step.stack
 
--- The rules lead to an entry too many, and the fault tells the place. Want of memory says nothing.
+-- The rules lead to an entry too many at a token, and the fault tells its place. An allocation
+-- failure says nothing.
 abbrev pub IsBeyond : Bool → Bool → Form → Place → List Standing → TooDeep → Type 0
 IsBeyond due first what place stack (At told) =
     (told ≡ place) × (layout_step due first (sight_at what place) (stack_of stack) ≡ None)
 IsBeyond due first what place stack NoMemory = Unit {0}
 
--- Whether a stack is within the limit.
+-- A stack was tested rightly: it is within the limit, or it isn't and the fault tells the place.
 abbrev pub IsWithin : Place → Stack → Result (Unit {0}) TooDeep → Type 0
 IsWithin place stack (Ok done) = nat_le (length stack) most_entries ≡ true
 IsWithin place stack (Err fault) = (fault ≡ At place) × (nat_le (length stack) most_entries ≡ false)
@@ -158,7 +163,7 @@ IsWithin place stack (Err fault) = (fault ≡ At place) × (nat_le (length stack
 abbrev pub token_sights : List Token → List Sight
 token_sights tokens = map token_sight tokens
 
--- Whether a token begins its line, after the token at another place.
+-- Whether a token begins its line: there is no token before it, or that one stands on another line.
 abbrev pub begins_line_at : Option Place → Place → Bool
 begins_line_at None place = true
 begins_line_at (Some last) place = not (last.line == place.line)
@@ -178,7 +183,8 @@ block_from before stack due tokens =
     ++ map (emitted_token (last_of before tokens)) marks.after) (λ number. number)
     (marks_from stack due (option_map (λ t. t.place.line) before) (token_sights tokens))
 
--- Tokens that are laid out, and then the others, of which so many tokens stand before.
+-- The tokens that are laid out, and then those of the rest, before which so many tokens of the text
+-- stand.
 abbrev pub laid_then : List Token → ℕ → Result (List Token) ℕ → Result (List Token) ℕ
 laid_then laid count more =
     result_map_both (λ tokens. laid ++ tokens) (λ number. count + number) more

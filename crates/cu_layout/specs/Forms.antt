@@ -33,7 +33,7 @@ form_of _ = form.Other
 abbrev pub sight_of : Lexeme → Sight
 sight_of t = record { what = form_of t.what; at = t.at }
 
--- The form of a kind of the lexer's tokens.
+-- The form of a token of the lexer's, by its kind.
 abbrev pub token_form : TokenKind → Form
 token_form (token.VarId name) = form.Name
 token_form (token.ConId name) = form.Name
@@ -74,15 +74,15 @@ abbrev pub is_semicolon : Form → Bool
 is_semicolon (form.Mark mark.Semicolon) = true
 is_semicolon _ = false
 
--- After these a block is due.
+-- Whether a block is due after a token of this form: `where`, `let` and `of`.
 abbrev pub is_block_keyword : Form → Bool
 is_block_keyword (form.Keyword keyword.Where) = true
 is_block_keyword (form.Keyword keyword.Let) = true
 is_block_keyword (form.Keyword keyword.Of) = true
 is_block_keyword _ = false
 
--- On a block's own column these go on with its item. There `where` closes the block, and every
--- other token begins a new item.
+-- Whether a token of this form goes on with an item where it stands on the column of the item's
+-- block. There `where` closes the block, and every other token begins a new item.
 abbrev pub goes_on : Form → Bool
 goes_on (form.Keyword keyword.Then) = true
 goes_on (form.Keyword keyword.Else) = true
@@ -93,8 +93,8 @@ goes_on (form.Mark mark.CloseParen) = true
 goes_on (form.Mark mark.CloseSquare) = true
 goes_on _ = false
 
--- Names, operators in parentheses and commas alone, as they stand before `free` and `::`. No token
--- at all is such a list too.
+-- Whether tokens are names, operators in parentheses and commas alone, as they stand before `free`
+-- and `::`. No token at all is such a list too.
 abbrev pub only_names : List Form → Bool
 only_names [] = true
 only_names (form.Name ∷ more) = only_names more

@@ -11,12 +11,13 @@ use Rattle.cu_layout.specs.Reading.{lexeme_view, token_view}
 abbrev pub without_layout : List Token → List Token
 without_layout tokens = filter (λ t. is_written t.kind) tokens
 
--- Leaving out what the layout rules put in gives the tokens of the text.
+-- The tokens laid out, without what the layout rules put in, are the tokens of the text.
 abbrev pub KeepsTokens : Type 0
 KeepsTokens = (whole : Bool) (text laid : List Token) → block token_view whole text ≡ Ok laid
     → without_layout laid ≡ without_layout text
 
--- So it gives the text back, where the rules had put in nothing before.
+-- Where the rules had put in nothing before, the tokens laid out are the text again when what the
+-- rules put in is left out.
 abbrev pub GivesTextBack : Type 0
 GivesTextBack = (whole : Bool) (text laid : List Token) → All (λ t. is_written t.kind ≡ true) text
     → block token_view whole text ≡ Ok laid → without_layout laid ≡ text
@@ -39,8 +40,8 @@ abbrev pub KeepsNaturals : Type 0
 KeepsNaturals = (whole : Bool) (text laid : List Token) → All (λ t. HasNatural t.kind) text
     → block token_view whole text ≡ Ok laid → All (λ t. HasNatural t.kind) laid
 
--- All tokens are of a module, those too that layout put in; unless it put in all of them, as in a
--- module without tokens.
+-- All tokens are of a module, those too that layout put in. In a text without tokens layout puts in
+-- all of them, and nothing is said.
 abbrev pub AreOf : NameId → List (List ℕ) → List Token → Type 0
 AreOf owner names tokens = ¬ (without_layout tokens ≡ []) → All (IsTokenOf owner names) tokens
 

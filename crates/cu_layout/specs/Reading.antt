@@ -19,7 +19,7 @@ abbrev pub position_at : Option Lexeme → Position
 position_at None = first_position
 position_at (Some t) = t.at
 
--- The token of a mark.
+-- The token of the definition for a mark, at the place of a token.
 abbrev pub emitted_lexeme : Option Lexeme → LayoutMark → Lexeme
 emitted_lexeme t mark = record { what = Layout mark; at = position_at t }
 
@@ -34,7 +34,7 @@ abbrev pub place_at : Option Token → Place
 place_at None = record { «module» = record { 0 = 0 }; line = 1; column = 1 }
 place_at (Some t) = t.place
 
--- The token of a mark.
+-- The lexer's token for a mark, at the place of a token.
 abbrev pub emitted_token : Option Token → LayoutMark → Token
 emitted_token t mark = record { kind = token.Layout mark; place = place_at t }
 
@@ -55,7 +55,7 @@ pub record IsTooDeepAt (whole : Bool) (text : List Token) (place : Place) : Type
   pub stands : slice_get text number ≡ Some t
   pub told : place ≡ t.place
 
--- Want of memory says nothing.
+-- The fault that an answer tells is the text's own. An allocation failure says nothing.
 abbrev pub Tells : Bool → List Token → TooDeep → Type 0
 Tells whole text (At place) = IsTooDeepAt whole text place
 Tells whole text NoMemory = Unit {0}

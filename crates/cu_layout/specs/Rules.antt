@@ -1,5 +1,5 @@
--- The layout rules: what they put before a token, and what they do to the stack of what stands
--- open.
+-- The layout rules: what they put before a token, and what they do to the stack of what stands open
+-- (after the Curry Report, appendix on syntax, section on layout).
 use Rattle.std.specs.Prelude.{ℕ, Bool, true, false, not, ◌&&◌, ◌||◌, ◌==◌, nat_lt, nat_le, List, [], ◌∷◌, ◌++◌, length, drop, Option, None, Some, if◌then◌else◌}
 use Rattle.std.specs.Option.{option_and_then, option_map}
 use Rattle.cu_lex.specs.declared.token.Keyword.TheVariants as keyword
@@ -28,11 +28,11 @@ pub record Step : Type 0 where
   pub marks : List LayoutMark
   pub stack : Stack
 
--- No marks.
+-- The step of a rule that puts in no marks, and leaves this stack.
 abbrev pub no_marks : Stack → Step
 no_marks stack = record { marks = []; stack = stack }
 
--- Marks, and then a step.
+-- A step with these marks before its own.
 abbrev pub marks_then : List LayoutMark → Step → Step
 marks_then marks step = record { marks = marks ++ step.marks; stack = step.stack }
 
@@ -53,7 +53,7 @@ indentation t kept (Block n tokens ∷ below) =
     then record { marks = layout.Separator ∷ []; stack = Block n [] ∷ below }
     else no_marks kept
 
--- The rule, where `first` says whether the token begins its line.
+-- Rule 2 at a token, where `first` says whether it begins its line.
 abbrev pub line_start : Bool → Sight → Stack → Step
 line_start first t stack = if first then indentation t stack stack else no_marks stack
 
@@ -66,8 +66,9 @@ block_column (Block n tokens ∷ below) = n
 block_column (Brace ∷ below) = 0
 block_column (Open opening ∷ below) = block_column below
 
--- A due block opens at a token further right than the block around it, and rule 2 is skipped.
--- Otherwise it is empty. It is dropped where the token is `{`.
+-- Rule 1, and then rule 2: a block that is due opens at a token further right than the block around
+-- it, and rule 2 is skipped. Otherwise the block that is due is empty. It is dropped where the
+-- token is `{`.
 abbrev pub due_block : Bool → Bool → Sight → Stack → Step
 due_block due first t stack =
     if due && not (is_open_brace t.what) then
@@ -108,13 +109,14 @@ block_tokens (Block n tokens ∷ below) = tokens
 block_tokens (Brace ∷ below) = []
 block_tokens (Open opening ∷ below) = block_tokens below
 
--- Whether a block stands above the partner: it has a mark that closes it.
+-- Whether a block stands above the partner that was found: the step has a mark that closes it.
 abbrev pub closes_block : Step → Bool
 closes_block step = nat_lt 0 (length step.marks)
 
--- At the partner that was found. A comma leaves the partner open, and it does nothing where a block
--- stands above the partner and the innermost block has names alone, since it then stands between
--- the variables of a declaration. Any other token takes its partner off the stack.
+-- What a token does at its partner, if one was found. A comma leaves the partner open, and it does
+-- nothing where a block stands above the partner and the innermost block has names alone, since it
+-- then stands between the variables of a declaration. Any other token takes its partner off the
+-- stack.
 abbrev pub step_at_partner : Form → Stack → Option Step → Step
 step_at_partner what stack None = no_marks stack
 step_at_partner what stack (Some found) =
@@ -122,7 +124,7 @@ step_at_partner what stack (Some found) =
     then no_marks stack else found)
     else record { marks = found.marks; stack = drop 1 found.stack }
 
--- The rule.
+-- Rule 3 at a token of this form.
 abbrev pub partner_end : Form → Stack → Step
 partner_end what stack = step_at_partner what stack (to_partner what stack)
 
@@ -136,12 +138,13 @@ below_brace (Block n tokens ∷ below) =
 below_brace (Brace ∷ below) = Some (no_marks below)
 below_brace (Open opening ∷ below) = below_brace below
 
--- Without a brace nothing happens.
+-- What a closing brace does at the nearest brace that was found. Where there is none nothing
+-- happens.
 abbrev pub step_or_none : Stack → Option Step → Step
 step_or_none stack None = no_marks stack
 step_or_none stack (Some found) = found
 
--- The rule.
+-- Rule 4 at a token of this form.
 abbrev pub brace_end : Form → Stack → Step
 brace_end what stack = if is_close_brace what then step_or_none stack (below_brace stack)
     else no_marks stack
@@ -152,7 +155,7 @@ brace_end what stack = if is_close_brace what then step_or_none stack (below_bra
 abbrev pub tokens_with : Form → List Form → List Form
 tokens_with what tokens = if is_semicolon what then [] else tokens ++ what ∷ []
 
--- The token stands in the innermost block, unless a brace is nearer.
+-- The stack with one more token in the innermost block, unless a brace is nearer.
 abbrev pub stack_noting : Form → Stack → Stack
 stack_noting what [] = []
 stack_noting what (Block n tokens ∷ below) = Block n (tokens_with what tokens) ∷ below
@@ -179,13 +182,13 @@ abbrev pub with_entry : Option Entry → Stack → Stack
 with_entry None stack = stack
 with_entry (Some entry) stack = entry ∷ stack
 
--- The rule.
+-- Rule 5 at a token of this form: the token stands in the innermost block, and may open something.
 abbrev pub stack_with : Form → Stack → Stack
 stack_with what stack = with_entry (opening_entry what) (stack_noting what stack)
 
 -- ---- all rules
 
--- Rules 3, 4 and 5.
+-- Rules 3, 4 and 5 at a token of this form, one after another.
 abbrev pub token_step : Form → Stack → Step
 token_step what stack =
     let third = partner_end what stack in
@@ -196,7 +199,7 @@ token_step what stack =
 abbrev pub most_entries : ℕ
 most_entries = 256
 
--- None where the stack has come to one more entry.
+-- A step, or None where its stack has more entries than it may.
 abbrev pub within_limit : Step → Option Step
 within_limit step = if nat_le (length step.stack) most_entries then Some step else None
 
@@ -210,7 +213,7 @@ layout_step due first t stack =
 
 -- ---- the end of the text
 
--- A block that is still due is empty, and each block that is left is closed.
+-- The marks that close each block that is left at the end of the text.
 abbrev pub closing_marks : Stack → List LayoutMark
 closing_marks [] = []
 closing_marks (Block n tokens ∷ below) = layout.Close ∷ closing_marks below

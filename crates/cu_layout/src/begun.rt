@@ -8,22 +8,27 @@ use cu_lex::Mark;
 /// What a block's tokens are since its last `{` or `;`.
 #[derive(Clone, Copy, Debug)]
 pub enum Begun {
-    /// Names, operators in parentheses and commas.
+    /// Names, operators in parentheses and commas alone.
     Names,
-    /// The same, and an open parenthesis.
+    /// Names, operators in parentheses and commas, and then an open
+    /// parenthesis.
     Paren,
-    /// The same, and an operator behind an open parenthesis.
+    /// Names, operators in parentheses and commas, and then an open parenthesis
+    /// with an operator after it, which may be a name in backquotes.
     Operator,
-    /// The same, and a backquote behind an open parenthesis.
+    /// Names, operators in parentheses and commas, and then an open parenthesis
+    /// with a backquote after it.
     Quote,
-    /// The same, and a name behind these.
+    /// Names, operators in parentheses and commas, and then an open parenthesis
+    /// with a backquote and a name after it.
     Quoted,
-    /// Anything else.
+    /// Any other tokens.
     Other,
 }
 
 impl Begun {
-    /// The state after one more token. A semicolon begins the tokens anew.
+    /// How the block has begun after one more token. A semicolon begins its
+    /// tokens anew.
     pub fn with(self, form: Form) -> Begun
         ensures { result ≡ state_with self form }
     {

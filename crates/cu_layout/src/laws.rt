@@ -2,8 +2,8 @@
 //! the laws.
 ghost use Rattle.cu_layout.specs.Laws.{GivesTextBack, KeepsNames, KeepsNaturals, KeepsOwners, KeepsTokens, ReadsAlike};
 
-/// What the layout rules put in is all that tells the tokens laid out from the
-/// text.
+/// The tokens laid out differ from those of the text in what the layout rules
+/// put in, and in nothing else.
 pub fn text_is_kept()
     ensures kept { KeepsTokens }
     ensures back { GivesTextBack }

@@ -52,7 +52,8 @@ pub fn block(alloc: Global, tokens: Vec<Token>, whole: bool) -> Result<Vec<Token
     Ok(laid)
 }
 
-/// A module without a header is a block.
+/// Whether a block is due at the start of a text: a module without a header is
+/// a block.
 fn due_at_start(tokens: &[Token], whole: bool) -> bool
     ensures { result ≡ due_at_start whole (token_sights tokens.now) }
 {
@@ -62,7 +63,8 @@ fn due_at_start(tokens: &[Token], whole: bool) -> bool
     }
 }
 
-/// Whether a token begins its line, after a token in another place.
+/// Whether a token begins its line: there is no token before it, or that one
+/// stands on another line.
 fn begins_line(last: Option<Place>, place: Place) -> bool
     ensures { result ≡ begins_line_at last place }
 {
@@ -72,7 +74,8 @@ fn begins_line(last: Option<Place>, place: Place) -> bool
     }
 }
 
-/// Gives back the memory of tokens that were taken, once these are an eighth.
+/// Gives back the memory of the tokens that were taken from a list, once they
+/// are more than an eighth of what it has room for.
 fn give_back(left: &mut Vec<Token>)
     ensures items { left.new.items ≡ left.old.items }
     ensures len { vec_len left.new ≡ vec_len left.old }
@@ -96,7 +99,8 @@ fn start_or(last: Option<Place>) -> Place
     }
 }
 
-/// All rules at a token, but for the token itself.
+/// Lays out what all rules put before a token, and changes the stack. The token
+/// itself is added by the caller.
 fn lay_out(
     laid: &mut Vec<Token>,
     stack: &mut Vec<Entry>,
@@ -128,7 +132,8 @@ fn within_limit(stack: &[Entry], place: Place) -> Result<(), TooDeep>
     Ok(())
 }
 
-/// A due block, and else the start of a line.
+/// Rules 1 and 2: a block that is due opens or is empty, and else the start of
+/// a line closes blocks or begins an item.
 fn open(
     laid: &mut Vec<Token>,
     stack: &mut Vec<Entry>,
@@ -166,7 +171,7 @@ fn block_column(stack: &[Entry]) -> u32
     }
 }
 
-/// The first token of a line closes blocks or begins an item.
+/// Rule 2: the first token of a line closes blocks or begins an item.
 fn begin_line(
     laid: &mut Vec<Token>,
     stack: &mut Vec<Entry>,
@@ -186,8 +191,8 @@ fn begin_line(
     Ok(())
 }
 
-/// A token ends what its partner opened. None but those that go on with an item
-/// have one.
+/// Rule 3: a token ends what its partner opened. None but tokens that go on
+/// with an item have a partner.
 fn end(
     laid: &mut Vec<Token>,
     stack: &mut Vec<Entry>,
@@ -216,8 +221,8 @@ fn end(
     Ok(())
 }
 
-/// Whether the innermost block has names alone, operators in parentheses and
-/// commas.
+/// Whether the innermost block has names, operators in parentheses and commas
+/// alone.
 fn only_names(stack: &[Entry]) -> bool
     ensures { result ≡ only_names (block_tokens (stack_of stack.now)) }
 {
@@ -227,7 +232,7 @@ fn only_names(stack: &[Entry]) -> bool
     }
 }
 
-/// A closing brace of the text closes the blocks in it.
+/// Rule 4: a closing brace of the text closes the blocks in it.
 fn close_brace(
     laid: &mut Vec<Token>,
     stack: &mut Vec<Entry>,
@@ -247,7 +252,7 @@ fn close_brace(
     }
 }
 
-/// The token itself stands in its block, and may open something.
+/// Rule 5: the token itself stands in its block, and may open something.
 fn enter(stack: &mut Vec<Entry>, form: Form) -> Result<(), TooDeep>
     ensures ok { OnOk result (stack_of stack.new.items
         ≡ plain_stack (stack_with form (stack_of stack.old.items))) }
@@ -286,7 +291,7 @@ fn close_blocks(laid: &mut Vec<Token>, count: usize, place: Place) -> Result<(),
     Ok(())
 }
 
-/// At the end of the text a block that is due is empty, and all blocks close.
+/// At the end of the text: a block that is due is empty, and all blocks close.
 fn finish(laid: &mut Vec<Token>, stack: &[Entry], due: bool, place: Place) -> Result<(), TooDeep>
     ensures ok { OnOk result (laid.new.items
         ≡ with_marks_at place (last_marks due (stack_of stack.now)) laid.old.items) }

@@ -10,7 +10,7 @@ use crate::form::{Form, Opening};
 use cu_lex::{Keyword, Mark};
 use cu_names::Place;
 
-/// What stands open.
+/// What stands open: a block, a brace, or a bracket or a keyword.
 #[derive(Clone, Copy, Debug)]
 pub enum Entry {
     /// A block that layout opened: its column, and how it has begun.
@@ -23,9 +23,9 @@ pub enum Entry {
 /// How far entries are taken off the stack.
 #[derive(Clone, Copy, Debug)]
 pub struct Cut {
-    /// How many entries stay.
+    /// How many entries stay on the stack.
     pub kept: usize,
-    /// How many of the others are blocks.
+    /// How many of the entries that are taken off are blocks.
     pub closed: usize,
 }
 
@@ -71,7 +71,8 @@ pub fn below_brace(stack: &[Entry]) -> Option<Cut>
     None
 }
 
-/// What the first token of a line does to the stack.
+/// What the first token of a line does to the stack: blocks that it closes, and
+/// maybe an item that it begins.
 #[derive(Clone, Copy, Debug)]
 pub struct Line {
     pub cut: Cut,

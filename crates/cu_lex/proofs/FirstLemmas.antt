@@ -1,4 +1,4 @@
--- Which classes a front can be of, by its first character.
+-- Which classes a prefix can be of, by its first character.
 use Rattle.std.proofs.Common.{◌≡◌, ℕ, ◌<◌, ◌≤◌, ⊎_elim, Bool, true, false, ◌&&◌, ◌||◌, ◌==◌, not, List, [], ◌∷◌, ◌++◌, take, drop, Option, Some, None, is_none, if◌then◌else◌, refl, sym, ap, ◌∙◌, arith, true≢false, codes}
 use Rattle.std.proofs.lemmas.Bool.{cases_lt, le-ltb}
 use Rattle.std.specs.Char.{is_ascii_digit, is_ascii_lowercase, is_ascii_uppercase}

@@ -1,4 +1,4 @@
--- The longest front is the longest.
+-- The prefix that `longest` gives is the longest of a class.
 use Rattle.std.proofs.Common.{◌≡◌, ◌<◌, ◌≤◌, List, [], ◌∷◌, ◌++◌, length, Option, None, Some, IsSome, is_some, refl, sym, ap, subst, ◌∙◌, append_assoc, true≢false, arith}
 use Rattle.std.specs.Option.{option_map, option_or}
 use Rattle.cu_lex.specs.Laws.{GivesLongest, GivesNone}

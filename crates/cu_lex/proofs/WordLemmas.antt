@@ -1,4 +1,4 @@
--- Words at the front of a text.
+-- Words at the start of a text.
 use Rattle.std.proofs.Common.{◌≡◌, ℕ, ◌<◌, Bool, true, false, ◌==◌, List, [], ◌∷◌, ◌++◌, None, if◌then◌else◌, refl, sym, ap, subst, ◌∙◌, arith, slice_index_or, length}
 use Rattle.std.specs.Char.{is_ascii_lowercase, is_ascii_uppercase}
 use Rattle.std.specs.List.{list_all}

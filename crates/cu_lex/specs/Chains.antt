@@ -1,4 +1,4 @@
--- Words with qualifiers, at the front of a text.
+-- Words with qualifiers, at the start of a text.
 use Rattle.std.specs.Prelude.{◌≡◌, ◌≤◌, true, List, ◌++◌, length, Option, None, Some}
 use Rattle.std.specs.Str.{byte}
 use Rattle.cu_lex.specs.declared.cursor.Cursor.{Cursor}
@@ -8,14 +8,14 @@ use Rattle.cu_lex.specs.Located.{Located, characters}
 use Rattle.cu_lex.specs.Scanning.{first_of, later, left, con_id_kind, is_base, IsWord}
 use Rattle.cu_lex.specs.Words.{is_module_name}
 
--- A name or an operator that ends before `rest`, or a ConId, a dot and such a word.
+-- A text begins with a name or an operator, qualified or not, that ends before `rest`.
 pub data Reaches (rest : List Located) : List Located → Type 0 where
   last : {text : List Located} (kind : WordKind) → IsWord text kind rest → is_base kind ≡ true
       → Reaches rest text
   link : {text : List Located} (end : List Located) → IsWord text con_id_kind end
       → first_of end ≡ Some (byte ".") → Reaches rest (later end) → Reaches rest text
 
--- A qualifier before a dot.
+-- A base begins right after a dot of a text, and a qualifier ends before the dot.
 pub record IsBehind (text dot base : List Located) : Type 0 where
   pub outer : List Located
   pub whole : outer ++ dot ≡ text
@@ -23,12 +23,13 @@ pub record IsBehind (text dot base : List Located) : Type 0 where
   pub dotted : first_of dot ≡ Some (byte ".")
   pub after : base ≡ later dot
 
--- Where the last word begins: at the start, or behind a qualifier.
+-- The last word of a qualified word begins at the start of the text, or after a qualifier and its
+-- dot.
 abbrev pub BeginsAt : List Located → List Located → Option Cursor → Type 0
 BeginsAt text base None = base ≡ text
 BeginsAt text base (Some dot) = IsBehind text (left dot) base
 
--- A word with all its qualifiers: no other reaches further.
+-- The word that was found at the start of a text has all its qualifiers: no other reaches further.
 pub record IsQualified (text : List Located) (found : Qualified) : Type 0 where
   pub begins : BeginsAt text (left found.base) found.dot
   pub word : IsWord (left found.base) found.word.kind (left found.word.end)

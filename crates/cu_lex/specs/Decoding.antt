@@ -13,7 +13,7 @@ endings = [] ∷ (0x80 ∷ []) ∷ (0x80 ∷ 0x80 ∷ []) ∷ (0x80 ∷ 0x80 ∷
 unfoldable pub begins_text : List ℕ → Bool
 begins_text bytes = list_any (λ ending. is_utf8 (bytes ++ ending)) endings
 
--- The greatest length up to n of a front with which some UTF-8 text begins.
+-- The greatest length up to n of a prefix with which some UTF-8 text begins.
 unfoldable pub begun_up_to : List ℕ → ℕ → ℕ
 begun_up_to bytes zero = 0
 begun_up_to bytes (suc n) = if begins_text (take (suc n) bytes) then suc n else begun_up_to bytes n

@@ -18,21 +18,22 @@ use Rattle.cu_lex.specs.Pieces.{codes_of, with_code}
 use Rattle.cu_lex.specs.Scanning.{cap, digits, digits_from, is_digit_of, later, left, position, skip}
 use Rattle.cu_lex.specs.Words.{begins_with}
 
--- What an item stands for, and what follows it.
+-- What reading an item from the left gives: the code that it stands for, if any, and what follows
+-- it; None where a text begins with no item.
 abbrev pub Scan : Type 0
 Scan = Option (Option ℕ × List Located)
 
--- The code that digits of a base write.
+-- The code that the first digits of a base write, and what follows them.
 abbrev pub numeric_scan : ℕ → List Located → Scan
 numeric_scan base text = if begins_with (is_digit_of base) (characters text)
     then Some (Some (digits_from base 0 (digits base text)), skip (is_digit_of base) text) else None
 
--- A short escape, or else a decimal one.
+-- A short escape, where one was found, or else a decimal one.
 abbrev pub short_or_decimal : Option ℕ → List Located → Scan
 short_or_decimal (Some code) text = Some (Some code, later text)
 short_or_decimal None text = numeric_scan 10 text
 
--- What follows a backslash.
+-- The item that follows a backslash.
 abbrev pub escape_scan : List Located → Scan
 escape_scan [] = None
 escape_scan (d ∷ text) =
@@ -41,7 +42,7 @@ escape_scan (d ∷ text) =
     else if d.char == byte "o" then numeric_scan 8 text
     else short_or_decimal (short_escape (d.char ∷ [])) (d ∷ text)
 
--- An item between such quotes.
+-- The item at the start of a text, in a literal between such quotes.
 abbrev pub item_scan : ℕ → List Located → Scan
 item_scan quote [] = None
 item_scan quote (c ∷ text) =
@@ -49,21 +50,22 @@ item_scan quote (c ∷ text) =
     else if c.char == quote || is_ascii_control c.char then None
     else Some (Some c.char, text)
 
--- An item with its code cut down to the greatest.
+-- An item with its code cut down to the greatest that the code of the lexer gives.
 abbrev pub capped : Option ℕ × List Located → Option ℕ × List Located
 capped found = (option_map cap found.0, found.1)
 
--- The item that was found.
+-- What the code's `Item` stands for: its code, if any, and what follows it.
 abbrev pub read_item : Item → Option ℕ × List Located
 read_item item = (item.code, left item.end)
 
--- A quote, and what follows it.
+-- A text begins with a quote, and this rest follows.
 pub record IsQuoted (quote : ℕ) (text rest : List Located) : Type 0 where
   pub mark : Located
   pub is : mark.char ≡ quote
   pub whole : text ≡ mark ∷ rest
 
--- What a character literal is worth.
+-- The code's answer on a character literal is right: its value, its code out of range, or that
+-- there is no such literal.
 abbrev pub IsCharLiteral : List Located → CharLiteral → Type 0
 IsCharLiteral text (one.Value c end) =
     (close : List Located) × (item_scan (byte "'") (later text) ≡ Some (Some c, close))
@@ -75,7 +77,7 @@ IsCharLiteral text (one.OutOfRange at) =
 IsCharLiteral text one.Bad = (n : ℕ) (close end : List Located)
     → item_scan (byte "'") (later text) ≡ Some (Some n, close) → IsQuoted (byte "'") close end → ⊥
 
--- The items behind the quote that begins a string literal.
+-- The items after the quote that begins a string literal.
 abbrev pub string_items : List Located → Pieces (Option ℕ)
 string_items text = cut_all (item (byte "\"")) (later text)
 
@@ -84,17 +86,18 @@ abbrev pub so_far : List ℕ → Option Cursor → Result (List ℕ) Position
 so_far value None = Ok value
 so_far value (Some at) = Err (position at)
 
--- A value so far, and what comes then.
+-- The value of some items, and then that of the items after them. The first fault stays.
 abbrev pub joined : Result (List ℕ) Position → Result (List ℕ) Position → Result (List ℕ) Position
 joined (Ok value) more = result_map_both (λ later. value ++ later) (λ fault. fault) more
 joined (Err p) more = Err p
 
--- A code at a place comes to a value so far.
+-- A code at a place, added to the value of the items before it, gives this new value.
 abbrev pub Adds : Result (List ℕ) Position → Option ℕ → Position → Result (List ℕ) Position → Type 0
 Adds old code p new = (more : Result (List ℕ) Position)
     → joined new more ≡ joined old (with_code code p more)
 
--- What a string literal is worth.
+-- The code's answer on a string literal is right: its value, the place of the first item out of
+-- range, or that there is no such literal.
 abbrev pub IsString : List Located → Literal → Type 0
 IsString text (several.Value value end) = IsQuoted (byte "\"") ((string_items text).left) (left end)
     × (codes_of (string_items text).pieces ≡ Ok value)

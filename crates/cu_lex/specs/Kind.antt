@@ -6,8 +6,8 @@ use Rattle.cu_lex.specs.declared.token.Mark as mark
 use Rattle.cu_lex.specs.declared.token.ReservedOperator.{ReservedOperator}
 use Rattle.cu_lex.specs.declared.token.Special.{Special}
 
--- A name or an operator: its text, the qualifier in it, if it has one, what follows that, and which
--- special name it is, if any.
+-- A name or an operator: its text, its qualifier, if it has one, what follows the qualifier, and
+-- which special name it is, if any.
 pub record Spelling : Type 0 where
   pub text : List ℕ
   pub qualifier : Option (List ℕ)

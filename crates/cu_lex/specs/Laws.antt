@@ -5,12 +5,12 @@ use Rattle.cu_lex.specs.Decoding.{begins_text}
 use Rattle.cu_lex.specs.Located.{Located}
 use Rattle.cu_lex.specs.Munch.{Cut, Classes, cut_all, cut_within, longest, IsLongest}
 
--- `longest` gives the longest front of the classes.
+-- `longest` gives a cut exactly where it is the longest of a class.
 abbrev pub GivesLongest : {X : Type 0} → Classes X → Type 0
 GivesLongest {X} classes = (text : List Located) (cut : Cut X)
     → (longest classes text ≡ Some cut) ↔ IsLongest classes text cut
 
--- It gives none where no front is of a class.
+-- `longest` gives nothing exactly where no class allows a prefix of the text.
 abbrev pub GivesNone : {X : Type 0} → Classes X → Type 0
 GivesNone classes =
     (text : List Located)

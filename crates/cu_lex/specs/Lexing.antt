@@ -41,18 +41,19 @@ abbrev pub HasNames : List (List ℕ) → Option TokenKind → Type 0
 HasNames names None = Unit {0}
 HasNames names (Some kind) = HasKind names kind
 
--- The longest piece at the front of a text is this one, before an end.
+-- The longest piece at the start of a text is this one, and this end follows it.
 pub record IsPiece (text : List Located) (what : Piece) (end : List Located) : Type 0 where
   pub front : List Located
   pub cut : longest piece text ≡ Some (cut_at front end what)
 
--- A piece was found, and what follows it.
+-- The piece that was found is the longest at the start of a text, with what follows it.
 pub record FindsPiece (names : List (List ℕ)) (text : List Located)
     (found : Option TokenKind × Cursor) : Type 0 where
   pub piece : IsPiece text (piece_of names found.0) (left found.1)
   pub known : HasNames names found.0
 
--- Why there is no piece, or none in range.
+-- The fault at the start of a text is right: no piece begins there, or a literal out of range. An
+-- allocation failure says nothing, and other faults don't occur.
 abbrev pub FailsAt : NameId → List Located → LexFault → Type 0
 FailsAt owner text (answer.BadToken place) = (place.«module» ≡ owner) × (longest piece text ≡ None)
     × ((first : Located) (rest : List Located) → text ≡ first ∷ rest → position_of place ≡ first.at)
@@ -63,13 +64,13 @@ FailsAt owner text answer.NoMemory = Unit {0}
 FailsAt owner text answer.SourceTooBig = ⊥
 FailsAt owner text (answer.NotUtf8 offset) = ⊥
 
--- What one step of the lexer gives: a piece, or a fault.
+-- What one step of the lexer gives at the start of a text is right: a piece, or a fault.
 abbrev pub Lexes : NameId → List (List ℕ) → List Located
     → Result (Option TokenKind × Cursor) LexFault → Type 0
 Lexes owner names text (Ok found) = FindsPiece names text found
 Lexes owner names text (Err fault) = FailsAt owner text fault
 
--- A token that is a mark.
+-- Whether a piece is a token that is a mark.
 abbrev pub is_mark : Option TokenKind → Bool
 is_mark (Some (token.Mark mark)) = true
 is_mark _ = false
@@ -88,11 +89,12 @@ named q (kind.Keyword k) w = Keyword k
 named q (kind.Reserved k) w = Reserved k
 named q kind.Dashes w = VarOp (spelled q w)
 
--- All but the line feed.
+-- Whether a character is none that ends a line: any but the line feed.
 abbrev pub is_inline : ℕ → Bool
 is_inline c = not (c == 10)
 
--- The piece that a word is, before an end.
+-- The cut of a text at a word, which is a token, or with two or more dashes a comment up to its
+-- line's end.
 abbrev pub word_cut : WordKind → Option (List ℕ) → List ℕ → List Located → List Located → Cut Piece
 word_cut kind.Dashes q w front end = cut_at (front ++ run is_inline end) (skip is_inline end) Blank
 word_cut kind.VarId q w front end = cut_at front end (Token (named q kind.VarId w))
@@ -102,7 +104,7 @@ word_cut kind.ConOp q w front end = cut_at front end (Token (named q kind.ConOp 
 word_cut (kind.Keyword k) q w front end = cut_at front end (Token (Keyword k))
 word_cut (kind.Reserved k) q w front end = cut_at front end (Token (Reserved k))
 
--- What stands before a dot, if there is one.
+-- This stands before a dot of a text, a qualifier, where there is a dot.
 abbrev pub IsOuter : List Located → Option Cursor → Option (List Located) → Type 0
 IsOuter text None None = Unit {0}
 IsOuter text (Some dot) (Some outer) = (outer ++ left dot ≡ text)
@@ -110,7 +112,7 @@ IsOuter text (Some dot) (Some outer) = (outer ++ left dot ≡ text)
 IsOuter text None (Some outer) = ⊥
 IsOuter text (Some dot) None = ⊥
 
--- A word with its qualifier is the longest piece.
+-- The qualified word that was found is the longest piece of a text.
 pub record IsNamed (text : List Located) (found : Qualified) : Type 0 where
   pub begins : BeginsAt text (left found.base) found.dot
   pub word : IsWord (left found.base) found.word.kind (left found.word.end)
@@ -127,7 +129,7 @@ IsSpelled names text found name = (n : IsNamed text found)
     → (spelling_of names name ≡ spelled (option_map characters n.outer) (characters n.word.front))
     × HasName names name
 
--- No separator, capital, digit or quote comes first.
+-- A text doesn't begin with a separator, a capital letter, a digit or a quote.
 pub record IsPlain (text : List Located) : Type 0 where
   pub separator : begins_with is_separator (characters text) ≡ false
   pub capital : begins_with is_ascii_uppercase (characters text) ≡ false
@@ -135,11 +137,11 @@ pub record IsPlain (text : List Located) : Type 0 where
   pub quote : begins_with (λ c. c == 39) (characters text) ≡ false
   pub quotes : begins_with (λ c. c == 34) (characters text) ≡ false
 
--- A brace before a dash begins a comment.
+-- A text begins with a brace and a dash, with which a comment begins.
 abbrev pub OpensComment : List Located → Type 0
 OpensComment text = (first_of text ≡ Some 123) × (first_of (later text) ≡ Some 45)
 
--- Tokens, and one more of a kind at a place, if there is one.
+-- A list of tokens with one more at its end, of this kind at a place, if there is one.
 abbrev pub with_token : List LexerToken → Option TokenKind → Place → List LexerToken
 with_token tokens None place = tokens
 with_token tokens (Some kind) place = tokens ++ record { kind = kind; place = place } ∷ []

@@ -1,14 +1,30 @@
-pub mod Chains
-pub mod Decoding
-pub mod Items
-pub mod Kind
-pub mod Laws
-pub mod Lexing
-pub mod Literals
+-- In the order in which to read them.
+
+-- Characters and the places where they stand.
 pub mod Located
+-- Maximal munch: texts in pieces, each the longest that its classes allow.
 pub mod Munch
-pub mod Pieces
-pub mod Reading
-pub mod Scanning
-pub mod Tokens
+-- The words of the token classes, but for literals in quotes.
 pub mod Words
+-- Character and string literals.
+pub mod Literals
+-- What tokens are, with names as texts.
+pub mod Kind
+-- The pieces of a module's text: its tokens, and what stands between them.
+pub mod Pieces
+-- Where bytes stop being UTF-8.
+pub mod Decoding
+-- The tokens of a module's text.
+pub mod Tokens
+-- Laws of the definition of tokens.
+pub mod Laws
+-- What the lexer's answers stand for.
+pub mod Reading
+-- What is left of a text, and how far its first characters go.
+pub mod Scanning
+-- Words with qualifiers, at the start of a text.
+pub mod Chains
+-- Items of literals, as they are read from the left.
+pub mod Items
+-- One piece of a text, as the lexer finds it.
+pub mod Lexing

@@ -1,4 +1,4 @@
--- Character and string literals.
+-- Character and string literals (Curry Report, appendix on syntax).
 use Rattle.std.specs.Prelude.{ℕ, ◌&&◌, ◌||◌, ◌==◌, List, [], ◌∷◌, codes, Option, None, Some, if◌then◌else◌}
 use Rattle.std.specs.Char.{is_ascii_control}
 use Rattle.std.specs.Option.{option_map, option_or}
@@ -38,7 +38,8 @@ item_of quote (c ∷ []) = if c == quote || (c == byte "\\" || is_ascii_control 
     else Some (Some c)
 item_of quote (c ∷ d ∷ cs) = if c == byte "\\" then escape (d ∷ cs) else None
 
--- A front that is an item.
+-- What a prefix of a text is as an item of a literal between such quotes: its code, or none. None
+-- where it is no item.
 abbrev pub item : ℕ → Classes (Option ℕ)
 item quote front rest = item_of quote (characters front)
 

@@ -47,6 +47,6 @@ without_mark (c ∷ cs) = if c == 0xFEFF then cs else c ∷ cs
 abbrev pub located : List ℕ → List Located
 located cs = located_from first_position (without_mark cs)
 
--- The characters alone.
+-- The characters of a text, without their places.
 abbrev pub characters : List Located → List ℕ
 characters text = map (λ l. l.char) text

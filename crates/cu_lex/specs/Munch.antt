@@ -3,22 +3,22 @@ use Rattle.std.specs.Prelude.{◌≡◌, ℕ, zero, suc, ◌<◌, ◌≤◌, Lis
 use Rattle.std.specs.Option.{option_map, option_or}
 use Rattle.cu_lex.specs.Located.{Position, Located}
 
--- What classes say of a front of a text before what follows it: what it is, or None where it is of
+-- What classes say of a prefix of a text before what follows it: what it is, or None where it is of
 -- no class.
 abbrev pub Classes : Type 0 → Type 0
 Classes X = List Located → List Located → Option X
 
--- A front of a text, what it is, and what follows it.
+-- A prefix of a text, what it is, and what follows it.
 pub record Cut (X : Type 0) : Type 0 where
   pub front : List Located
   pub what : X
   pub rest : List Located
 
--- The cut between a front and what is left.
+-- The cut between a prefix and what is left.
 abbrev pub cut_at : {X : Type 0} → List Located → List Located → X → Cut X
 cut_at begun left x = record { front = begun; what = x; rest = left }
 
--- The longest front of a class, of the fronts that begin with `begun` and go on into `text`.
+-- The longest prefix of a class, of the prefixes that begin with `begun` and go on into `text`.
 unfoldable pub longest_after : {X : Type 0} → Classes X → List Located → List Located
     → Option (Cut X)
 longest_after classes begun [] = None
@@ -27,12 +27,12 @@ longest_after classes begun (c ∷ text) =
     option_or (longest_after classes front text)
     (option_map (cut_at front text) (classes front text))
 
--- The longest front of a class.
+-- The longest prefix of a class.
 abbrev pub longest : {X : Type 0} → Classes X → List Located → Option (Cut X)
 longest classes text = longest_after classes [] text
 
--- What makes a cut the longest: it has a character at least, it is of a class, and no longer front
--- is.
+-- What makes a cut the longest: its prefix has a character at least and is of a class, and no
+-- longer prefix is.
 pub record IsLongest {X : Type 0} (classes : Classes X) (text : List Located)
     (cut : Cut X) : Type 0 where
   pub whole : cut.front ++ cut.rest ≡ text

@@ -23,17 +23,17 @@ pub data Piece : Type 0 where
 
 -- ---- blanks
 
--- White space, and comments.
+-- Whether a word is a blank: white space, or a comment.
 abbrev pub is_blank : List ℕ → Bool
 is_blank word = is_single is_separator word || (is_line_comment word || is_nested_comment word)
 
--- A front that is a blank.
+-- The piece that a prefix of a text is, where it is a blank.
 abbrev pub blank : List ℕ → Option Piece
 blank word = if is_blank word then Some Blank else None
 
 -- ---- names, keywords, operators and marks
 
--- The names that mean something of their own in some places.
+-- The names that have a meaning of their own in some places and are no keywords.
 unfoldable pub special_of : List ℕ → Option Special
 special_of =
     entry ((codes "qualified", special.Qualified) ∷ (codes "as", special.As)
@@ -54,7 +54,7 @@ spelled (Some outer) word =
 abbrev pub operator : List ℕ → Spelling → Kind
 operator word name = if begins_with is_colon word then ConOp name else VarOp name
 
--- The kind of a VarId, a ConId or an operator behind such a qualifier.
+-- The kind of a VarId, a ConId or an operator with such a qualifier, or without one.
 unfoldable pub name_kind : Option (List ℕ) → List ℕ → Option Kind
 name_kind qualifier word =
     if is_var_id word then Some (VarId (spelled qualifier word))
@@ -88,26 +88,28 @@ stands_before kind next = true
 abbrev pub word_before : List ℕ → Kind → Option Piece
 word_before next kind = if stands_before kind next then Some (Token kind) else None
 
--- A front that is such a word.
+-- The piece that a prefix of a text is, where it is a keyword, a name, an operator or a mark.
 abbrev pub word : List ℕ → List ℕ → Option Piece
 word front next = option_and_then (word_before next) (word_kind front)
 
 -- ---- literals
 
--- The value of a number at a place: it is an integer of the language.
+-- The piece of a number at a place: a token where the number is an integer of the language, and
+-- else out of range.
 abbrev pub number_at : Position → ℕ → Piece
 number_at p n = if is_integer (pos n) then Token (Int (pos n)) else OutOfRange p
 
--- A front that is a number.
+-- The piece that a prefix of a text is, where it is a number.
 abbrev pub number : Position → List ℕ → List ℕ → Option Piece
 number p front next =
     option_map (number_at p) (option_or (decimal_number front next) (based_number front))
 
--- The value of a character literal: it is a Unicode scalar value.
+-- The piece of a character literal with this code: a token where it is a Unicode scalar value, and
+-- else out of range.
 abbrev pub character_at : Position → ℕ → Piece
 character_at p code = if scalar code then Token (Char code) else OutOfRange p
 
--- A character literal has one item, and that has a code.
+-- The piece of a character literal with these items: there is one item, and it has a code.
 abbrev pub one_character : List (Placed (Option ℕ)) → Option Piece
 one_character [] = None
 one_character (i ∷ []) = option_map (character_at i.at) i.what
@@ -125,24 +127,24 @@ abbrev pub codes_of : List (Placed (Option ℕ)) → Result (List ℕ) Position
 codes_of [] = Ok []
 codes_of (i ∷ items) = with_code i.what i.at (codes_of items)
 
--- The piece with such a value.
+-- The piece of a string literal with this value, or with its first item out of range at a place.
 abbrev pub string_of : Result (List ℕ) Position → Piece
 string_of (Ok value) = Token (String value)
 string_of (Err p) = OutOfRange p
 
--- A string literal with these items.
+-- The piece of a string literal with these items.
 abbrev pub string : List (Placed (Option ℕ)) → Piece
 string items = string_of (codes_of items)
 
 -- ---- all classes
 
--- The place of a front's first character.
+-- The place of a prefix's first character.
 abbrev pub start : List Located → Position
 start [] = first_position
 start (first ∷ text) = first.at
 
--- What a front of a text is before what follows it: a blank, a word, a number, a character literal,
--- a string literal.
+-- What a prefix of a text is before what follows it: a blank, a word, a number, a character
+-- literal, or a string literal.
 unfoldable pub piece : Classes Piece
 piece front rest =
     option_or (blank (characters front))

@@ -40,7 +40,7 @@ kind_of names (token.Char code) = Char code
 kind_of names (token.String codes) = String codes
 kind_of names (token.Layout mark) = Layout mark
 
--- A place within its module.
+-- The position that a place has in the text of its module.
 abbrev pub position_of : Place → Position
 position_of place = record { line = place.line; column = place.column }
 
@@ -48,8 +48,8 @@ position_of place = record { line = place.line; column = place.column }
 abbrev pub lexeme_of : List (List ℕ) → Token → Lexeme
 lexeme_of names t = record { what = kind_of names t.kind; at = position_of t.place }
 
--- The fault that an answer tells is the text's own, at a place of the module. Want of memory says
--- nothing.
+-- The fault that an answer tells is the text's own, at a place of the module. An allocation failure
+-- says nothing.
 abbrev pub Tells : NameId → LexFault → Result (List Lexeme) Fault → Type 0
 Tells owner answer.SourceTooBig outcome = outcome ≡ Err SourceTooBig
 Tells owner (answer.NotUtf8 offset) outcome = outcome ≡ Err (NotUtf8 offset)
@@ -87,7 +87,7 @@ pub record IsTokenOf (owner : NameId) (names : List (List ℕ)) (t : Token) : Ty
   pub known : HasKind names t.kind
   pub natural : HasNatural t.kind
 
--- The token stands in a text, and layout didn't put it in.
+-- Whether a token stands in the text itself, and wasn't put in by layout.
 abbrev pub is_written : TokenKind → Bool
 is_written (token.Layout mark) = false
 is_written kind = true

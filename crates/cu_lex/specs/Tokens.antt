@@ -9,7 +9,7 @@ use Rattle.cu_lex.specs.Munch.{Placed, cut_all}
 use Rattle.cu_lex.specs.Pieces.{Piece, piece}
 use Rattle.cu_lex.specs.Pieces.Piece.{Blank, Token, OutOfRange}
 
--- A token of the definition: its kind, at the place of its first character.
+-- A token of a text: its kind, at the place of its first character.
 abbrev pub Lexeme : Type 0
 Lexeme = Placed Kind
 
@@ -24,7 +24,7 @@ pub data Fault : Type 0 where
 abbrev pub most_bytes : ℕ
 most_bytes = 16777216
 
--- What a piece adds to the tokens after it.
+-- What a piece adds to the tokens after it: nothing, a token, or the fault that it is out of range.
 abbrev pub with_lexeme : Piece → Position → Result (List Lexeme) Fault → Result (List Lexeme) Fault
 with_lexeme Blank p more = more
 with_lexeme (Token kind) p more =

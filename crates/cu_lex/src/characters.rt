@@ -28,7 +28,7 @@ impl Characters {
         }
     }
 
-    /// The same characters once more.
+    /// A copy of the characters.
     pub fn copy(&self, alloc: Global) -> Result<Characters, AllocError>
         ensures { IfOk result (λ copy. copy ≡ self.now) }
     {
@@ -53,14 +53,14 @@ impl Characters {
         self.items.as_slice()
     }
 
-    /// How many there are.
+    /// How many characters there are.
     pub fn len(&self) -> usize
         ensures { result ≡ length self.now }
     {
         self.items.len()
     }
 
-    /// Whether there are none.
+    /// Whether there are no characters.
     pub fn is_empty(&self) -> bool
         ensures { IsTrue result ↔ (self.now ≡ []) }
     {

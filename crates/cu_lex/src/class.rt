@@ -15,12 +15,12 @@ pub enum Class {
     Small,
     Decimal,
     Separator,
-    /// This character.
+    /// This character alone.
     Is(char),
     Underscore,
     /// Digits of a base up to 16.
     Digit(u32),
-    /// All but the line feed.
+    /// Any character but the line feed.
     InLine,
 }
 
@@ -58,7 +58,7 @@ impl Class {
         }
     }
 
-    /// Behind the first characters that are of the class.
+    /// What is left after the first characters that are of the class.
     pub fn skip<'a>(self, cursor: Cursor<'a>) -> Cursor<'a>
         ensures { left result ≡ skip (has self) (left cursor.entry) }
     {

@@ -6,7 +6,8 @@ ghost use Rattle.cu_lex.specs.Scanning.{comment_end, left, StepsTo};
 
 use crate::cursor::Cursor;
 
-/// Behind the comment whose `{-` stands before the start, if it is closed.
+/// What is left after the comment whose `{-` stands before the start, if it is
+/// closed.
 pub fn after_comment<'a>(start: Cursor<'a>) -> Option<Cursor<'a>>
     ensures { option_map left result ≡ comment_end 1 (left start.entry) }
 {
@@ -20,7 +21,8 @@ pub fn after_comment<'a>(start: Cursor<'a>) -> Option<Cursor<'a>>
     Some(rest)
 }
 
-/// One step inside comments of such a depth.
+/// One step of the search for the end of a comment, where so many comments are
+/// open: how many are open then, and what is left.
 fn step<'a>(depth: usize, start: Cursor<'a>) -> Option<(usize, Cursor<'a>)>
     requires inside { 0 < depth }
     requires fits { depth < 2 ^ 32 }

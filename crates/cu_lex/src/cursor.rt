@@ -27,7 +27,8 @@ impl<'a> Cursor<'a> {
     ghost use Rattle.cu_lex.specs.Reading.{position_of};
     ghost use Rattle.cu_lex.specs.Scanning.{left, position, first_of, later, EndsIn};
 
-    /// At the start of a text, after a byte order mark.
+    /// The cursor at the start of a text, after a byte order mark, if it has
+    /// one.
     pub fn new(text: &'a str) -> Self
         requires { length text.now ≤ 16777216 }
         ensures { left result ≡ located (chars text.now) }
@@ -61,7 +62,7 @@ impl<'a> Cursor<'a> {
         self.after().peek()
     }
 
-    /// Behind the first character, if there is one.
+    /// The cursor after the first character, if there is one.
     pub fn after(self) -> Self
         ensures left { left result ≡ later (left self.entry) }
         ensures shorter { length result.text.now ≤ length self.entry.text.now }
@@ -91,7 +92,7 @@ impl<'a> Cursor<'a> {
         &self.text[..self.text.len() - end.text.len()]
     }
 
-    /// The place, in a module.
+    /// The place of the cursor, in a module.
     pub fn place(self, module: NameId) -> Place
         ensures owner { result.«module» ≡ «module» }
         ensures position { position_of result ≡ position self.entry }

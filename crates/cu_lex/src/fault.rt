@@ -9,14 +9,14 @@ use thiserror::Error;
 /// Why a text has no tokens.
 #[derive(Clone, Copy, Debug, PartialEq, Eq, Error)]
 pub enum LexFault {
-    /// It has more than 16,777,216 bytes.
+    /// The text has more than 16,777,216 bytes.
     #[error("the text has more than 16777216 bytes")]
     SourceTooBig,
     /// The offset of the first byte that no UTF-8 text has there, or the
     /// length of a text that ends inside a character.
     #[error("byte {0} is not UTF-8")]
     NotUtf8(usize),
-    /// Where no token begins.
+    /// The place where no token begins.
     #[error("no token at {0:?}")]
     BadToken(Place),
     /// The start of an Int literal that is too large, or the backslash of an

@@ -5,8 +5,8 @@ ghost use Rattle.cu_lex.specs.Laws.{BeginsTexts, GivesLongest, GivesNone, StepsS
 ghost use Rattle.cu_lex.specs.Literals.{item};
 ghost use Rattle.cu_lex.specs.Pieces.{piece};
 
-/// The pieces of a text, and the items of a literal, are the longest, and the
-/// steps that their definitions allow always suffice.
+/// Pieces of a text and items of a literal are the longest, and the steps that
+/// their definitions allow always suffice.
 pub fn maximal_munch()
     ensures pieces { GivesLongest piece }
     ensures no_piece { GivesNone piece }
@@ -16,7 +16,8 @@ pub fn maximal_munch()
     ensures item_steps { (quote : ℕ) → StepsSuffice (item quote) }
 {}
 
-/// A byte is at fault where no UTF-8 text has it.
+/// The offset at which UTF-8 is at fault is right: `begins_text` tells of bytes
+/// whether some bytes complete them to a UTF-8 text.
 pub fn beginnings_of_texts()
     ensures { BeginsTexts }
 {}

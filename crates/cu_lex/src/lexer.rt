@@ -86,8 +86,8 @@ fn add_token(tokens: &mut Vec<Token>, kind: Option<TokenKind>, place: Place) -> 
     Ok(())
 }
 
-/// The token at the front of a text, or none for a blank, and what follows.
-/// Right behind an underscore that begins no name none begins one: so the
+/// The token at the start of a text, or none for a blank, and what follows.
+/// Right after an underscore that begins no name no name begins: so the
 /// underscores of a run are passed once, and not from each of them.
 fn piece<'a>(
     alloc: Global,

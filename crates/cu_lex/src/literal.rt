@@ -14,24 +14,24 @@ use std::alloc::{AllocError, Global};
 /// What a literal is worth.
 #[derive(Drop)]
 pub enum Literal<'a> {
-    /// The characters, and what follows the literal.
+    /// The characters of the literal, and what follows it.
     Value(Characters, Cursor<'a>),
-    /// Its first escape that stands for no character.
+    /// The place of the first escape that stands for no character.
     OutOfRange(Cursor<'a>),
-    /// There is no such literal.
+    /// No such literal begins here.
     Bad,
 }
 
 /// An item of a literal.
 #[derive(Clone, Copy)]
 struct Item<'a> {
-    /// The code that it stands for, if it is one.
+    /// The code that the item stands for, if it stands for one.
     code: Option<u32>,
-    /// What follows it.
+    /// What follows the item.
     end: Cursor<'a>,
 }
 
-/// The string literal at a quote.
+/// The string literal that begins at a quote.
 pub fn string_literal<'a>(alloc: Global, start: Cursor<'a>) -> Result<Literal<'a>, AllocError>
     ensures { IfOk result (IsString (left start.entry)) }
 {
@@ -93,7 +93,7 @@ pub enum CharLiteral<'a> {
     Bad,
 }
 
-/// The character literal at a quote.
+/// The character literal that begins at a quote.
 pub fn char_literal<'a>(start: Cursor<'a>) -> CharLiteral<'a>
     ensures { IsCharLiteral (left start.entry) result }
 {

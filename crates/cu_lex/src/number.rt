@@ -16,8 +16,8 @@ pub struct Number<'a> {
     pub end: Cursor<'a>,
 }
 
-/// The longest number at a digit. There is none where a dot and a digit follow
-/// decimal digits.
+/// The longest number that begins at a digit. There is none where a dot and a
+/// digit follow decimal digits.
 pub fn number_at<'a>(start: Cursor<'a>) -> Option<Number<'a>>
     ensures { option_map found_number result ≡ option_map held (number_scan (left start.entry)) }
 {
@@ -27,7 +27,7 @@ pub fn number_at<'a>(start: Cursor<'a>) -> Option<Number<'a>>
     }
 }
 
-/// The number at `0x`, `0o` or `0b`.
+/// The number that begins with `0x`, `0o` or `0b`.
 fn based_at<'a>(start: Cursor<'a>) -> Option<Number<'a>>
     ensures { option_map found_number result ≡ option_map held (based_scan (left start.entry)) }
 {

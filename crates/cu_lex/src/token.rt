@@ -14,7 +14,7 @@ pub struct Token {
 }
 
 impl Token {
-    /// The same token once more. Only the characters of a string take memory.
+    /// A copy of the token. Only the characters of a string take memory.
     pub fn copy(&self, alloc: Global) -> Result<Token, AllocError>
         ensures { IfOk result (λ copy. copy ≡ self.now) }
     {
@@ -74,11 +74,12 @@ impl TokenKind {
 pub struct Name {
     /// The whole text: `Data.List.map`.
     pub text: NameId,
-    /// The module name before it, if it is qualified: `Data.List`.
+    /// The module name before the name, if it is qualified: `Data.List`.
     pub qualifier: Option<NameId>,
     /// The text without the qualifier: `map`.
     pub base: NameId,
-    /// Which of the texts with a meaning of their own in some places it is.
+    /// Which of the texts with a meaning of their own in some places the name
+    /// is.
     pub special: Option<Special>,
 }
 
@@ -161,8 +162,8 @@ pub enum Mark {
 pub enum LayoutMark {
     /// The brace that opens a block.
     Open,
-    /// The brace that closes it.
+    /// The brace that closes a block.
     Close,
-    /// The semicolon between two items of it.
+    /// The semicolon between two items of a block.
     Separator,
 }

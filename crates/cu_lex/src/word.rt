@@ -134,17 +134,17 @@ fn begins_with_colon(text: &str) -> bool
     !bytes.is_empty() && bytes[0] == b':'
 }
 
-/// The longest word at a capital letter, with all its qualifiers.
+/// The longest qualified word at a capital letter.
 #[derive(Clone, Copy)]
 pub struct Qualified<'a> {
-    /// Its last dot that follows a qualifier.
+    /// The last dot that follows a qualifier, if there is one.
     pub dot: Option<Cursor<'a>>,
-    /// Where the name or operator behind the qualifier begins.
+    /// Where the name or operator after the qualifier begins.
     pub base: Cursor<'a>,
     pub word: Word<'a>,
 }
 
-/// The longest word at a capital letter.
+/// The longest qualified word at a capital letter.
 pub fn qualified_at<'a>(start: Cursor<'a>) -> Qualified<'a>
     requires { begins_with is_ascii_uppercase (characters (left start)) ≡ true }
     ensures { IsQualified (left start.entry) result }
@@ -160,7 +160,7 @@ pub fn qualified_at<'a>(start: Cursor<'a>) -> Qualified<'a>
     Qualified { dot, base, word }
 }
 
-/// The name or operator after a ConId and a dot.
+/// The name or operator that follows a ConId and a dot.
 fn after_dot<'a>(kind: WordKind, end: Cursor<'a>) -> Option<Word<'a>>
     ensures none { IsNone result → kind ≡ con_id_kind → first_of (left end.entry) ≡ Some (byte ".")
         → HasNoBase (later (left end.entry)) }

@@ -25,17 +25,18 @@ pub record IsBegun (t : Text) (b : Begun) (found : begun.Begun) : Type 0 where
   pub meaning : function_meaning t.names found ≡ b
   pub known : FunctionIsKnown t found
 
--- the function whose rules may go on, or none
+-- The function that the code found as the one whose rules may go on, if it found one, is this one.
 pub record IsBefore (t : Text) (b : Option Begun) (found : Option begun.Begun) : Type 0 where
   pub meaning : begun_meaning t found ≡ b
   pub known : BegunIsKnown t found
 
--- whether a rule of this name goes on with a function
+-- whether a rule of the function of this name goes on with the function begun before
 abbrev pub continues : Option begun.Begun → NameId → Bool
 continues None text = false
 continues (Some b) text = nat_eq b.name.0 text.0
 
--- the function to which a rule belongs
+-- the function to which a rule belongs: the one begun before, where it has the rule's name, or one
+-- that begins here
 abbrev pub begun_for : Option begun.Begun → code.Name → Place → begun.Begun
 begun_for None name place = record { name = name.text; place = place }
 begun_for (Some b) name place =

@@ -46,7 +46,8 @@ abbrev pub rule_enters : Text → Option Begun → Place → code.Name → List 
 rule_enters t b place name ps =
     if goes_on b (name_meaning t.names name) then [] else rule_brings t.names place name ps ∷ []
 
--- This was added, and this is the function whose rules may go on.
+-- The names that declarations bring into scope grew by these, and this is now the function whose
+-- rules may go on.
 pub record Brings (t : Text) (before : Block) (scope : Scope) (next : Option Begun)
     (after : Block) : Type 0 where
   pub added : List entries.Entry
@@ -54,7 +55,7 @@ pub record Brings (t : Text) (before : Block) (scope : Scope) (next : Option Beg
   pub are : AreEntries t scope added
   pub begun : IsBefore t next after.begun
 
--- What a declaration declares was added.
+-- The names that declarations bring into scope grew by those of one more declaration.
 abbrev pub Declares : Text → Block → syntax.Declaration → Block → Type 0
 Declares t before d after =
     Brings t before (declaration_entries (begun_meaning t before.begun) d)

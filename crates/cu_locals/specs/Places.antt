@@ -24,7 +24,8 @@ patterns_place names ps = all_places (patterns_meaning names ps)
 unfoldable pub operands_place : List (List ℕ) → List ConstructorItem → List located.Position
 operands_place names items = places_behind (rest_meaning names items)
 
--- These variables, and variables and wildcards at these places, were found.
+-- What was found of patterns grew by these variables, and by the places of these variables and
+-- wildcards.
 pub record Finds (t : Text) (before : Declared) (binds : List Name)
     (places : List located.Position) (after : Declared) : Type 0 where
   pub names : Adds t.owner t.names before.names.items binds after.names.items

@@ -17,7 +17,7 @@ use std::alloc::{AllocError, Global};
 /// What patterns declare, in the order of the text.
 #[derive(Drop)]
 pub(crate) struct Declared {
-    /// The variables.
+    /// The variables of the patterns.
     pub(crate) names: Vec<Name>,
     /// The places of the variables and the wildcards.
     pub(crate) places: Vec<Position>,
@@ -96,7 +96,7 @@ pub(crate) fn patterns(
     Ok(())
 }
 
-/// Finds what the operands behind operators declare.
+/// Finds what the operands declare that follow operators.
 #[cycle(patterns)]
 fn operands(
     alloc: Global,

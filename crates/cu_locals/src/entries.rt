@@ -19,7 +19,7 @@ use cu_syntax::{Declaration, DeclarationNode, Name, Pattern};
 use cu_translation::{Binder, Entry, Local, Position};
 use std::alloc::{AllocError, Global};
 
-/// A variable.
+/// What a variable brings into scope.
 fn variable_entry(name: Name) -> Entry
     ensures { (t : Text) → NameIsOf t.owner t.names name
         → IsEntryOf t (variable_entry (name_meaning t.names name)) result }
@@ -30,7 +30,7 @@ fn variable_entry(name: Name) -> Entry
     }
 }
 
-/// Variables.
+/// What variables bring into scope, in their order.
 pub fn variable_entries(alloc: Global, names: &[Name]) -> Result<Vec<Entry>, AllocError>
     ensures { (t : Text) → All (NameIsOf t.owner t.names) names.now
         → IfOk result (λ found.
@@ -52,7 +52,7 @@ struct Block {
 }
 
 impl Block {
-    /// Adds variables.
+    /// Adds what variables bring into scope.
     fn variables(&mut self, alloc: Global, names: &[Name]) -> Result<(), AllocError>
         ensures { (t : Text) → All (NameIsOf t.owner t.names) names.now
             → OnOk result (Brings t self.old
@@ -64,7 +64,7 @@ impl Block {
         Ok(())
     }
 
-    /// Adds what a rule declares, where it is the first of its name.
+    /// Adds what a rule declares, where it is the first of its function.
     fn rule(
         &mut self,
         place: Place,
@@ -107,7 +107,7 @@ impl Block {
     }
 }
 
-/// What a rule declares that is the first of its name.
+/// What the first rule of a function declares: the function.
 fn rule_entry(place: Place, name: Name, parameters: &[Pattern<'_>]) -> Entry
     ensures { (t : Text) → NameIsOf t.owner t.names name
         → IsEntryOf t (rule_brings t.names place name parameters.now) result }

@@ -1,4 +1,4 @@
--- What is built of fitting expressions over places that are there may be pushed.
+-- What is built of fitting expressions over nodes that are there may be pushed.
 use Rattle.std.proofs.Common.{◌≡◌, ℕ, zero, suc, ◌+◌, ◌≤◌, Bool, true, false, not, ◌&&◌, ◌||◌, List, [], ◌∷◌, ◌++◌, Option, None, Some, IsTrue, if◌then◌else◌, refl, ap, sym, ◌∙◌, subst, true≢false, length, nat_eq, slice_get, arith, eq-eqb, eqb-true, length-append}
 use Rattle.std.specs.List.{list_all, zip}
 use Rattle.std.proofs.lemmas.List.Folds.{list_all-append}
@@ -25,7 +25,7 @@ use Rattle.cu_machine.specs.Validity.{has_arguments, is_call, is_case}
 use Rattle.cu_machine.proofs.Frames.{AllGood, Frame, GoodBuilt, TopGood, good_append, is_there, or_right, passes, place_there, pushed_good, there_later, there_new}
 use Rattle.cu_machine.proofs.Fuel.{all_follow, both_true, left_true, right_true}
 
--- ** Code
+-- ---- code
 
 abbrev pub passes_expr : Bool → Expr → Bool
 passes_expr sets expr = sets || not (has_set_head expr)
@@ -64,7 +64,7 @@ special_there program well =
     let c = list_all (fits_case program) program.expressions in
     right_true (a && b && c) (has_special program) well
 
--- ** Heads with all their arguments
+-- ---- heads with all their arguments
 
 pub operation_fits : (program : Code) (f : FunId) (operation : Primitive) (n : ℕ) → external_arity operation ≡ n
     → has_arguments program (kind_of_call f (Some (code.External operation))) n ≡ true
@@ -112,7 +112,7 @@ whole_passes program sets (head.Con c) pass = pass
 whole_passes program sets (head.Fun f) pass = call_passes sets f (body_of program f)
 whole_passes program sets (head.Set f) pass = pass
 
--- ** Parts
+-- ---- parts
 
 pub all_hold : {A : Type 0} (xs : List A) → list_all (λ x. true) xs ≡ true
 all_hold [] = refl
@@ -164,7 +164,7 @@ after_good f next nodes built front good = record {
   top = subst (λ (n : ℕ). TopGood f n built.top) (rw (length-append nodes built.parts) (omega arith)) good.top;
 }
 
--- ** Scopes
+-- ---- scopes
 
 pub record ScopeGood (f : Frame) (next : ℕ) (variables : List ℕ) (scope : Scope) : Type 0 where
   pub there : list_all (λ bound. is_there f next bound.1) scope ≡ true
@@ -216,7 +216,7 @@ zip_there f next (x ∷ xs) (id ∷ ids) there =
 pub scope_zip : (f : Frame) (next : ℕ) (xs ids : List ℕ) → length xs ≡ length ids → list_all (is_there f next) ids ≡ true → ScopeGood f next xs (zip xs ids)
 scope_zip f next xs ids same there = record { there = zip_there f next xs ids there }
 
--- ** Expressions
+-- ---- expressions
 
 abbrev pub BuildsGood : Frame → ℕ → Type 0
 BuildsGood f n = (variables : List ℕ) (scope : Scope) (next : ℕ) (e : ExprId) → f.first ≤ next → fits n f.program variables e ≡ true

@@ -34,7 +34,7 @@ pub flat_map-map : {A B C : Type 0} (f : A → B) (g : B → List C) (xs : List 
 flat_map-map f g [] = refl
 flat_map-map f g (x ∷ xs) = ap (λ rest. g (f x) ++ rest) (flat_map-map f g xs)
 
--- what is listed behind an answer is listed by the rest of the round
+-- what is listed after an answer is listed by the rest of the round
 pub unless_last : (last : Bool) (tally : Tally) (end : End) (rest : Round) (line : Line)
     → Among line (if last then nothing tally (Some end) else rest).lines → Among line rest.lines
 unless_last true tally end rest line m = absurd m
@@ -74,14 +74,15 @@ following_level event start d states is_level =
     ∙ ap (flat_map (λ state. go_list (event state))) is_level
     ∙ ap (level_by event start) (sym (add-one d))
 
--- an answer behind a round is one that the later rounds list
+-- an answer after a round is one that the later rounds list
 pub later_lists : (end : Option End) (others : Tally → List State → Listing) (tally : Tally) (following : List State) (line : Line)
     → Among line (unless_ended end (unless_exhausted others tally following)).lines → Among line (others tally following).lines
 later_lists (Some end) others tally following line m = absurd m
 later_lists None others tally [] line m = absurd m
 later_lists None others tally (state ∷ states) line m = m
 
--- what is listed from a level on answers at a state of its depth, if what is listed of the later levels does
+-- what is listed from a level on answers at a state of its depth, if what is listed of the later
+-- levels does
 pub level_lists : (others : Tally → List State → Listing) (code : Code) (limits : SearchLimits) (start : State) (d : ℕ) (tally : Tally)
     (states : List State) (e : ℕ) (r : Reading) → states ≡ level code limits start d
     → ((after : Tally) (following : List State) → following ≡ level code limits start (d + 1)
@@ -107,7 +108,7 @@ pub unless_wide : (wide : Bool) (end : End) (rest : Listing) (line : Line)
 unless_wide true end rest line m = absurd m
 unless_wide false end rest line m = m
 
--- so does the whole listing
+-- an answer that the rounds list is one of its round's level
 pub rounds_list : (left : ℕ) (code : Code) (limits : SearchLimits) (start : State) (d : ℕ) (tally : Tally) (states : List State) (e : ℕ) (r : Reading)
     → states ≡ level code limits start d → Among (Answered e r) (rounds left code limits d tally states).lines
     → AnswersAt code limits start e r

@@ -28,7 +28,7 @@ use Rattle.cu_machine.proofs.Fuel.{both_true, left_true, right_true}
 use Rattle.cu_machine.proofs.Moves.{HeadGood, applied_good, bound_cons_good, case_of_good, chosen_good, computed_good, conjoined_good, fits_literal, free_at_place, head_good, length_free, numbers_there, tells_or_fails, unfolded_good, whole_literal}
 use Rattle.cu_machine.proofs.Rows.{Base, beneath, CollectGood, GraphGood, MoveGood, code_special, fails_good, fit_values, fits_value, frame_of, graph_good, plain_as, put_is_written, sticks_good, tells_good, written_good}
 
--- ** Pairs
+-- ---- pairs
 
 abbrev pub both_pass : (ℕ → Bool) → ℕ × ℕ → Bool
 both_pass p pair = p pair.0 && p pair.1
@@ -114,7 +114,7 @@ no_list (x ∷ xs) same = let is : suc (length xs) ≡ 0 = eqb-true (suc (length
 pub differ : (a b : ℕ) → b ≢ a → nat_eq a b ≡ false
 differ a b apart = differ_if a b (nat_eq a b) refl apart
 
--- ** A head and its place
+-- ---- a head and its place
 
 pub record HeadIs (program : Code) (graph : Graph) (p : ℕ → Bool) (v : ℕ) (k : Kind) (args : List ℕ) : Type 0 where
   pub there : v < length graph
@@ -150,7 +150,8 @@ in_pairs_at program sets graph goals n id p base each joint (pair ∷ pairs) who
   tt,
 )
 
--- where a free variable was bound to a constructor over new ones, what was below, and the new ones, have their arguments there
+-- where a free variable was bound to a constructor over new ones, what was below, and the new ones,
+-- have their arguments there
 pub imitated_closed : (program : Code) (sets : Bool) (graph : Graph) (p : ℕ → Bool) (v k : ℕ) (node : Node) → Closed p graph → v < length graph
     → node.args ≡ numbers (length graph) k
     → Closed (is_there (frame_of program sets graph p) (length graph + k)) (written graph v (record { parts = free_nodes k; top = Fresh node }))
@@ -194,7 +195,7 @@ pub or_false : (a : Bool) → (a || false) ≡ true → a ≡ true
 or_false true h = refl
 or_false false h = h
 
--- ** Values that are spelled
+-- ---- values that are spelled
 
 pub count_values : (part : ℕ → Value) (args : List ℕ) → count (values_of (map part args)) ≡ length args
 count_values part [] = refl
@@ -232,7 +233,7 @@ spelled_fits program graph nodes (suc depth) x =
     (node_whole program graph nodes (head_of graph x))
 
 module _ (program : Code) (sets : Bool) (graph : Graph) (goals : List ℕ) (n id : ℕ) (p : ℕ → Bool) (base : Base program sets graph goals n id p) where
-  -- ** `==`
+  -- ---- `==`
 
   pub compared_if : (us vs : List ℕ) (same : Bool) → list_all p us ≡ true → list_all p vs ≡ true
       → MoveGood program sets goals n
@@ -250,7 +251,7 @@ module _ (program : Code) (sets : Bool) (graph : Graph) (goals : List ℕ) (n id
   compared_good (kind.Cons c) (kind.Lit m) us vs low lows = tells_good program sets graph goals n id p base false
   compared_good _ _ us vs low lows = fails_good program sets graph goals n id p base
 
-  -- ** `=:=`
+  -- ---- `=:=`
 
   pub apart_from_plain : (v : ℕ) → is_plain (node_at graph v).kind ≡ true → id ≢ v
   apart_from_plain v is =
@@ -357,7 +358,7 @@ module _ (program : Code) (sets : Bool) (graph : Graph) (goals : List ℕ) (n id
   equated_good v (kind.Lit l) us w (kind.Lit m) vs one two = tells_or_fails program sets graph goals n id p base (same_literal l m)
   equated_good v _ us w _ vs one two = fails_good program sets graph goals n id p base
 
-  -- ** Built-in operations
+  -- ---- built-in operations
 
   pub head_is : (arg : ℕ) → p arg ≡ true → HeadIs program graph p (head_of graph arg) (head_at graph arg).kind (head_at graph arg).args
   head_is arg low =
@@ -385,7 +386,7 @@ module _ (program : Code) (sets : Bool) (graph : Graph) (goals : List ℕ) (n id
   operated_good operation args low =
       computed_good program sets graph goals n id p base operation (map (λ arg. (head_at graph arg).kind) args) (literals_fit args low)
 
-  -- ** Set functions
+  -- ---- set functions
 
   pub collects_if : (f : FunId) (arguments : Values) (plain_data : Bool) → CollectGood program sets f arguments
       → MoveGood program sets goals n (if plain_data then Collect f arguments else sticks graph id)
@@ -403,7 +404,7 @@ module _ (program : Code) (sets : Bool) (graph : Graph) (goals : List ℕ) (n id
         fit = values_fit program (spelled graph) args (spelled_fits program graph base.fine.nodes (length graph));
       })
 
-  -- ** All rows
+  -- ---- all rows
 
   pub rewritten_good : (k : Kind) (args : List ℕ) → has_arguments program k (length args) ≡ true → passes sets k ≡ true → list_all p args ≡ true
       → MoveGood program sets goals n (rewritten program graph id k args)

@@ -74,7 +74,7 @@ joined_held a b all = ap (λ rest. a ++ rest) (none_left a b all) ∙ append-nil
 pub holds_before : (a b : List ℕ) (x : ℕ) → holds a x ≡ true → holds (joined a b) x ≡ true
 holds_before a b x here = rw (holds_joined a b x, here) refl
 
--- ** First
+-- ---- first
 
 pub before_assoc : (a b c : Need) → before (before a b) c ≡ before a (before b c)
 before_assoc (At id) b c = refl

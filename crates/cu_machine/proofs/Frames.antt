@@ -1,5 +1,6 @@
--- Graphs whose nodes fit, have their arguments there and have no cycle stay so when nodes are pushed and one is replaced, where
--- the new ones reach only what is below the replaced one, or what was pushed before them.
+-- Graphs whose nodes fit, have their arguments there and have no cycle stay so when nodes are
+-- pushed and one is replaced, where the new ones reach only what is below the replaced one, or what
+-- was pushed before them.
 use Rattle.std.proofs.Common.{◌≡◌, ◌≢◌, ℕ, zero, suc, ◌+◌, ◌-◌, ◌<◌, ◌≤◌, ◌⊎◌, inl, inr, Bool, true, false, not, ◌&&◌, ◌||◌, List, [], ◌∷◌, ◌++◌, IsTrue, refl, ap, sym, true≢false, ◌∙◌, subst, length, nat_lt, nat_le, get_or, arith, ltb-true, lt-ltb, leb-true, le-leb, length-append, length-set, get_or-set_same, get_or-set_other, get_or-append-add, append-nil}
 use Rattle.std.specs.List.{list_all}
 use Rattle.std.proofs.lemmas.Bool.{cases_lt}
@@ -12,10 +13,10 @@ use Rattle.cu_machine.specs.Sets.{is_set_kind}
 use Rattle.cu_machine.specs.Validity.{AllFounded, ArgumentsThere, Founded, IsAcyclic, NodesFit, are_places, founded, has_arguments, more, none}
 use Rattle.cu_machine.proofs.Fuel.{all_follow, both_true, left_true, right_true}
 
--- ** Nodes that may be pushed
+-- ---- nodes that may be pushed
 
--- What may stand in a graph: nodes of the program, with set functions or without, whose arguments are below the node that is
--- replaced, or were pushed from the place `first` on.
+-- What may stand in a graph: nodes of the program, with set functions or without, whose arguments
+-- are below the node that is replaced, or were pushed from the place `first` on.
 pub record Frame : Type 0 where
   pub program : Code
   pub sets : Bool
@@ -46,7 +47,7 @@ pub record GoodBuilt (f : Frame) (next : ℕ) (built : Built) : Type 0 where
   pub parts : AllGood f next built.parts
   pub top : TopGood f (next + length built.parts) built.top
 
--- ** Places
+-- ---- places
 
 pub or_right : (a b : Bool) → b ≡ true → (a || b) ≡ true
 or_right true b h = refl
@@ -78,7 +79,7 @@ all_there_later f y z xs later there = all_follow (is_there f y) (is_there f z) 
 pub all_there_below : (f : Frame) (place : ℕ) (xs : List ℕ) → list_all f.below xs ≡ true → list_all (is_there f place) xs ≡ true
 all_there_below f place xs low = all_follow f.below (is_there f place) xs (there_below f place) low
 
--- ** Lists of nodes
+-- ---- lists of nodes
 
 pub good_append : (f : Frame) (place : ℕ) (xs ys : List Node) → AllGood f place xs → AllGood f (place + length xs) ys → AllGood f place (xs ++ ys)
 good_append f place [] ys here rest = subst (λ (n : ℕ). AllGood f n ys) (omega arith) rest
@@ -108,7 +109,7 @@ place_there f next built from good = go built.top good.top
     go (Fresh node) h =
         there_new f (next + length (built.parts ++ node ∷ [])) (next + length built.parts) (omega arith) (rw (length-append built.parts (node ∷ [])) (omega arith))
 
--- ** Graphs
+-- ---- graphs
 
 pub record Fine (program : Code) (sets : Bool) (graph : Graph) : Type 0 where
   pub nodes : NodesFit program graph
@@ -199,7 +200,7 @@ there_within f graph place n x starts closed above to there = elim (there_is f g
   | inr new ↦ let less = new.1 in lt-ltb x n (omega arith)
 ]
 
--- ** No cycles
+-- ---- no cycles
 
 pub all_founded : (p : ℕ → Bool) (graph : Graph) (ids : List ℕ) → ((x : ℕ) → p x ≡ true → Founded graph x) → list_all p ids ≡ true → AllFounded graph ids
 all_founded p graph [] each all = none
@@ -234,7 +235,7 @@ or_replaced graph id built x replaced below all = elim (same_or_other x id) [
   | inr other ↦ founded_as (written graph id built) x (node_at graph x) (at_old graph id built x below other) all
 ]
 
--- so do the others, if the replaced node is
+-- if no path from the replaced node is endless, none from another node is
 mutual
   pub others_founded : (graph : Graph) (id : ℕ) (built : Built) (x : ℕ) → ArgumentsThere graph → Founded (written graph id built) id → Founded graph x
       → x < length graph → Founded (written graph id built) x

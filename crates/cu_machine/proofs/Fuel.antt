@@ -1,11 +1,12 @@
--- On a graph without cycles whose arguments are there, a node is as low as the graph is long, so that many visits suffice.
+-- On a graph without cycles whose arguments are there, a node is as low as the graph is long, so
+-- that many visits suffice.
 use Rattle.std.proofs.Common.{◌≡◌, ℕ, zero, suc, ◌+◌, ◌<◌, ◌≤◌, ◌⊎◌, inl, inr, Bool, true, false, ◌&&◌, List, [], ◌∷◌, IsTrue, refl, length, nat_lt, arith, ltb-true, zero-add, suc-add}
 use Rattle.std.specs.List.{list_all}
 use Rattle.cu_machine.specs.Graph.{Graph, node_at}
 use Rattle.cu_machine.specs.Validity.{AllFounded, ArgumentsThere, Founded, are_places, founded, more, none}
 use Rattle.std.proofs.lemmas.Bool.{cases_lt}
 
--- ** Tests
+-- ---- tests
 
 pub both_true : (a b : Bool) → a ≡ true → b ≡ true → (a && b) ≡ true
 both_true a b p q = rw (p, q) refl
@@ -25,7 +26,7 @@ all_follow p q (x ∷ xs) follows all =
     both_true (q x) (list_all q xs) (follows x (left_true (p x) (list_all p xs) all))
     (all_follow p q xs follows (right_true (p x) (list_all p xs) all))
 
--- the same of elements that pass a third test
+-- what passes a test for each element passes another that follows for elements that pass a third
 pub all_follow_within : {A : Type 0} (r p q : A → Bool) (xs : List A) → ((x : A) → r x ≡ true → p x ≡ true → q x ≡ true)
     → list_all r xs ≡ true → list_all p xs ≡ true → list_all q xs ≡ true
 all_follow_within r p q [] follows within all = refl
@@ -37,7 +38,7 @@ all_follow_within r p q (x ∷ xs) follows within all =
 pub at_or_below : (i n : ℕ) → i < suc n → (i ≡ n) ⊎ (i < n)
 at_or_below i n below = elim (cases_lt i n) [ inl less ↦ inr less | inr same ↦ inl (omega arith) ]
 
--- ** How many numbers pass a test
+-- ---- how many numbers pass a test
 
 abbrev pub one_if : Bool → ℕ
 one_if true = 1
@@ -103,7 +104,7 @@ passes_same p q (suc n) follows fewer i below here =
       | inr less ↦ passes_same p q n (λ j less_j. follows j (omega arith)) (omega arith) i less here
     ]
 
--- ** Low nodes
+-- ---- low nodes
 
 -- every path from a node ends within so many nodes
 unfoldable pub is_low : ℕ → Graph → ℕ → Bool

@@ -1,4 +1,5 @@
--- The states of the levels of a search from a valid state are valid, and what a search finds is of the program.
+-- The states of the levels of a search from a valid state are valid, and what a search finds is of
+-- the program.
 use Rattle.std.proofs.Common.{◌≡◌, ℕ, zero, suc, ◌-◌, inl, inr, true, List, [], ◌∷◌, IsTrue, refl, sym, ◌∙◌, subst, map, eq-eqb}
 use Rattle.std.specs.Prelude.{flat_map}
 use Rattle.std.specs.List.{list_all}
@@ -62,7 +63,7 @@ pub inner_valid : (program : Code) (limits : Limits) (start state : State) (dept
     → Among state (step_level program limits start depth) → IsValid program state
 inner_valid program limits start state depth well valid m = level_by_valid program (next program limits) start (event_of_valid program limits well) valid depth state m
 
--- ** What is found
+-- ---- what is found
 
 pub quiet_answers : (program : Code) (event : Next) → EventValid program event → is_quiet event ≡ true → list_all (is_built program) (answered_by event) ≡ true
 quiet_answers program (Answer reading) valid quiet = both_true (is_built program reading.value) true (valid quiet) refl

@@ -1,4 +1,5 @@
--- Each graph that a move gives comes by a row, where the node has its arguments and the heads that the row looks at are there.
+-- Each graph that a move gives comes by a row, where the node has its arguments and the heads that
+-- the row looks at are there.
 use Rattle.std.proofs.Common.{◌≡◌, ◌≢◌, ℕ, suc, ◌+◌, ◌<◌, ◌≤◌, inl, inr, Bool, true, false, ◌&&◌, ◌||◌, List, [], ◌∷◌, ◌++◌, Option, None, Some, if◌then◌else◌, refl, ap, ap₂, sym, ◌∙◌, subst, true≢false, length, map, nat_eq, nat_lt, ℤ, pos, negsuc, arith, lt-ltb, ltb-false, ltb-true, eq-eqb, eqb-true, length-append}
 use Rattle.std.specs.List.{list_all, zip}
 use Rattle.std.specs.Ordering.{int_eq}
@@ -85,7 +86,7 @@ module _ (program : Code) (graph : Graph) (id : ℕ) where
   came_pairs each joint g (pair ∷ pairs) step graphs after same m =
       came_alone _ (λ x is. step x (ap alone_follows (sym is))) graphs after same m
 
-  -- ** Calls and choices
+  -- ---- calls and choices
 
   came_unfolded : (f : FunId) (args : List ℕ) (o : Option Body) (arity : Option ℕ) → node_at graph id ≡ node (kind.Call f) args → body_of program f ≡ o
       → is_call arity o (length args) ≡ true → Came program graph id (unfolded program graph id args o)
@@ -102,7 +103,7 @@ module _ (program : Code) (graph : Graph) (id : ℕ) where
         | inr rest ↦ elim rest [ inl there ↦ row.right one two is (sym there) | inr nowhere ↦ absurd nowhere ]
       ]
 
-  -- ** Case distinctions
+  -- ---- case distinctions
 
   came_literal : (mode : Mode) (scrutinee : ℕ) (scope : Scope) (branches : List Branch) (l : Lit) (args : List ℕ) (o : Option Branch) → CaseAt program graph id mode scrutinee scope branches
       → head_at graph scrutinee ≡ node (kind.Lit l) args → branch_for (takes_literal l) branches ≡ o → Came program graph id (takes_branch program scope graph id [] o)
@@ -158,7 +159,7 @@ module _ (program : Code) (graph : Graph) (id : ℕ) where
       refl ready
   came_case mode e scrutinee values _ is has whole ready = let none_left : ⊥ = true≢false (sym whole) in absurd none_left
 
-  -- ** Applications
+  -- ---- applications
 
   came_extended : (function argument : ℕ) (h : Head) (args : List ℕ) (arity : ℕ) (b : Bool) → node_at graph id ≡ node kind.Apply (function ∷ argument ∷ [])
       → head_at graph function ≡ node (kind.Part h) args → arity_of program h ≡ Some arity → length args < arity → nat_lt (length (args ++ argument ∷ [])) arity ≡ b
@@ -191,7 +192,7 @@ module _ (program : Code) (graph : Graph) (id : ℕ) where
       came_partial function argument h args (arity_of program h) is head refl (right_true (is_allowed program h) (takes_more (arity_of program h) (length args)) whole)
   came_applied function argument k args is head whole = came_unlike_partial function argument k args is head refl
 
-  -- ** Operations on literals
+  -- ---- operations on literals
 
   came_counted : (operation : Primitive) (args : List ℕ) (m n result : ℤ) → node_at graph id ≡ node (kind.Prim operation) args
       → kinds_of graph args ≡ kind.Lit (Int m) ∷ kind.Lit (Int n) ∷ [] → number_of operation m n ≡ Some result
@@ -252,7 +253,7 @@ module _ (program : Code) (graph : Graph) (id : ℕ) where
   came_computed prim.Chr args (kind.Lit (Int n) ∷ []) is on kinds = came_character args n is kinds
   came_computed operation args ks is on kinds = came_no_operands operation args ks is on kinds refl
 
-  -- ** Comparisons
+  -- ---- comparisons
 
   came_compared : (a b : ℕ) (k l : Kind) (us vs : List ℕ) → node_at graph id ≡ node (kind.Prim prim.Equal) (a ∷ b ∷ []) → head_at graph a ≡ node k us
       → head_at graph b ≡ node l vs → (is_bound k && is_bound l) ≡ true → Came program graph id (compared program.special graph id k us l vs)
@@ -277,7 +278,7 @@ module _ (program : Code) (graph : Graph) (id : ℕ) where
       (λ after same. row.compared_partial a b is (ap₂ (λ (m o : Node). is_partial m.kind || is_partial o.kind) one two) same)
   came_compared a b _ _ us vs is one two bound = let none_left : ⊥ = true≢false (sym bound) in absurd none_left
 
-  -- ** Equations
+  -- ---- equations
 
   came_imitates : (a b v other : ℕ) (c : ConId) (args : List ℕ) → node_at graph id ≡ node (kind.Prim prim.Unify) (a ∷ b ∷ [])
       → FreeBeside graph a b v other (kind.Cons c) args → Came program graph id (imitates program.special graph id v other c args)
@@ -335,7 +336,7 @@ module _ (program : Code) (graph : Graph) (id : ℕ) where
   came_equated a b (kind.Cons c) (kind.Part h) us vs is one two heads = came_with_partial a b (kind.Cons c) (kind.Part h) us vs is one two refl
   came_equated a b _ _ us vs is one two heads = let none_left : ⊥ = true≢false (sym heads) in absurd none_left
 
-  -- ** Built-in operations
+  -- ---- built-in operations
 
   came_equal : (a b : ℕ) → node_at graph id ≡ node (kind.Prim prim.Equal) (a ∷ b ∷ []) → list_all (has_bound_head graph) (a ∷ b ∷ []) ≡ true
       → Came program graph id (operated program.special graph id prim.Equal (a ∷ b ∷ []))
@@ -379,7 +380,7 @@ module _ (program : Code) (graph : Graph) (id : ℕ) where
   came_operated prim.Failed args is whole ready = let none_left : ⊥ = true≢false (sym whole) in absurd none_left
   came_operated operation args is whole ready = came_on_literals operation args is refl
 
-  -- ** All rows
+  -- ---- all rows
 
   came_collects : (f : FunId) (args : List ℕ) → node_at graph id ≡ node (kind.SetCall f) args → Came program graph id (collects graph id f (values_of (map (spelled graph) args)))
   came_collects f args is =

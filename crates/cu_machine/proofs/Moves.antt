@@ -35,7 +35,7 @@ use Rattle.cu_machine.proofs.Frames.{AllGood, Frame, GoodBuilt, all_there_below,
 use Rattle.cu_machine.proofs.Fuel.{all_follow, both_true, left_true, right_true}
 use Rattle.cu_machine.proofs.Rows.{Base, GraphGood, MoveGood, fails_good, frame_of, graph_good, head_closed, leaf_good, plain_as, put_good, put_is_written, puts_good, sticks_good, tells_good, written_good}
 
--- ** Free variables one after another
+-- ---- free variables one after another
 
 pub length_free : (k : ℕ) → length (free_nodes k) ≡ k
 length_free zero = refl
@@ -66,7 +66,7 @@ numbers_plain graph from (suc k) each =
     more from (numbers (from + 1) k) (subst (λ (x : ℕ). Plain graph x) (omega arith) (each 0 (omega arith)))
     (numbers_plain graph (from + 1) k (λ i below. subst (λ (x : ℕ). Plain graph x) (omega arith) (each (i + 1) (omega arith))))
 
--- ** Branches
+-- ---- branches
 
 pub branch_found_if : (test : Shallow → Bool) (q : Branch → Bool) (first branch : Branch) (rest : Option Branch) (b : Bool) → test first.pattern ≡ b → q first ≡ true
     → (rest ≡ Some branch → (q branch ≡ true) × (test branch.pattern ≡ true)) → (if b then Some first else rest) ≡ Some branch
@@ -105,7 +105,7 @@ abbrev pub fits_branch : Code → List ℕ → Branch → Bool
 fits_branch program variables branch =
     fits_pattern program branch.pattern && fits (length program.expressions) program (variables ++ bound_by branch.pattern) branch.body
 
--- ** Literals
+-- ---- literals
 
 abbrev pub fits_literal : Kind → Bool
 fits_literal (kind.Lit l) = is_literal l
@@ -130,7 +130,7 @@ scalar_integer c scalar =
     (scalar_below c 0xD800 0x110000 0xE000 (leb-true 0xD800 0xE000 refl) (leb-true 0xE000 0x110000 refl) scalar)
     (leb-true 0x110000 (2 ^ 127 - 1) refl)
 
--- ** Rows
+-- ---- rows
 
 -- the head of a node that is below
 pub record HeadGood (program : Code) (sets : Bool) (graph : Graph) (p : ℕ → Bool) (arg : ℕ) : Type 0 where
@@ -166,7 +166,7 @@ module _ (program : Code) (sets : Bool) (graph : Graph) (goals : List ℕ) (n id
     tt,
   )
 
-  -- ** Calls
+  -- ---- calls
 
   pub unfolded_as : (args : List ℕ) (arity : ℕ) (body : Body) → fits_body program arity body ≡ true → is_call (Some arity) (Some body) (length args) ≡ true
       → list_all p args ≡ true → MoveGood program sets goals n (unfolded program graph id args (Some body))
@@ -194,7 +194,7 @@ module _ (program : Code) (sets : Bool) (graph : Graph) (goals : List ℕ) (n id
       → MoveGood program sets goals n (unfolded program graph id args (body_of program f))
   unfolded_good f args whole low = unfolded_of f args (slice_get program.functions f.0) refl whole low
 
-  -- ** Choices
+  -- ---- choices
 
   pub renaming_good : (arg : ℕ) → p arg ≡ true → GraphGood program sets goals n (put graph id (renaming arg))
   renaming_good arg low = put_good program sets graph goals n id p (renaming arg) base refl (or_right sets true refl) (both_true (p arg) true low refl)
@@ -206,7 +206,7 @@ module _ (program : Code) (sets : Bool) (graph : Graph) (goals : List ℕ) (n id
   )
   chosen_good _ low = sticks_good program sets graph goals n id p base
 
-  -- ** Case distinctions
+  -- ---- case distinctions
 
   pub takes_branch_good : (variables : List ℕ) (scope : Scope) (args : List ℕ) (o : Option Branch) → ScopeGood (frame_of program sets graph p) (length graph) variables scope
       → list_all p args ≡ true
@@ -311,7 +311,7 @@ module _ (program : Code) (sets : Bool) (graph : Graph) (goals : List ℕ) (n id
       (right_true (a && b) (list_all (fits_branch program variables) branches) fit) head.there head.whole head.args
   case_of_good mode e scrutinee values _ got whole low lows = sticks_good program sets graph goals n id p base
 
-  -- ** Applications
+  -- ---- applications
 
   pub extended_if : (h : Head) (args : List ℕ) (arity : ℕ) (fewer : Bool) → nat_lt (length args) arity ≡ fewer → arity_of program h ≡ Some arity
       → is_allowed program h ≡ true → (nat_lt (length args) arity ≡ false → nat_eq arity (length args) ≡ true) → passes_head sets h ≡ true
@@ -347,7 +347,7 @@ module _ (program : Code) (sets : Bool) (graph : Graph) (goals : List ℕ) (n id
       (list_all-append p args (argument ∷ []) ∙ both_true (list_all p args) (p argument && true) low (both_true (p argument) true one refl))
   applied_good argument _ args whole passing low one = fails_good program sets graph goals n id p base
 
-  -- ** Numbers and characters
+  -- ---- numbers and characters
 
   pub literal_good : (l : Lit) → is_literal l ≡ true → MoveGood program sets goals n (Become (put graph id (alone (kind.Lit l)) ∷ []))
   literal_good l fit = leaf_good program sets graph goals n id p base (kind.Lit l) (both_true (is_literal l) true fit refl) (or_right sets true refl)
@@ -393,7 +393,7 @@ module _ (program : Code) (sets : Bool) (graph : Graph) (goals : List ℕ) (n id
   computed_good prim.Chr (kind.Lit (Int m) ∷ []) fit = character_good m
   computed_good _ _ fit = fails_good program sets graph goals n id p base
 
-  -- ** Conjunctions
+  -- ---- conjunctions
 
   pub tells_or_fails : (b : Bool) → MoveGood program sets goals n (if b then tells program.special graph id true else fails graph id)
   tells_or_fails true = tells_good program sets graph goals n id p base true

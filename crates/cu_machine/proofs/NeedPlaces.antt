@@ -17,7 +17,7 @@ use Rattle.cu_machine.proofs.Frames.{Closed}
 use Rattle.cu_machine.proofs.Fuel.{both_true, left_true, right_true}
 use Rattle.cu_machine.proofs.Rows.{head_closed}
 
--- ** Which of two needs asks for a step
+-- ---- which of two needs asks for a step
 
 pub unless_done_at : (R : Type 0) (a b : Need) (i : ℕ) → (a ≡ At i → R) → (a ≡ Done → b ≡ At i → R) → unless_done a b ≡ At i → R
 unless_done_at R Done b i one two same = two refl same
@@ -56,7 +56,7 @@ first_done q f (x ∷ xs) each same =
     let parts = before_done (f x) (first (map f xs)) same in
     both_true (q x) (list_all q xs) (each x parts.0) (first_done q f xs each parts.1)
 
--- ** What is ready to be rewritten
+-- ---- what is ready to be rewritten
 
 abbrev pub is_bound : Kind → Bool
 is_bound (kind.Cons c) = true
@@ -119,7 +119,7 @@ pub waiting_not_at : (ids : List ℕ) (i : ℕ) → waiting ids ≡ At i → ⊥
 waiting_not_at [] i same = cc
 waiting_not_at (id ∷ ids) i same = cc
 
--- ** The table
+-- ---- the table
 
 module _ (R : Type 0) (truth : ConId) (graph : Graph) (part : Extent → ℕ → Need) (p : ℕ → Bool) (id i : ℕ)
     (each : (extent : Extent) (x : ℕ) → p x ≡ true → part extent x ≡ At i → R)
@@ -175,7 +175,7 @@ module _ (R : Type 0) (truth : ConId) (graph : Graph) (part : Extent → ℕ →
   rest_at_at Throughout (kind.Part h) args low same = first_at R p (part Throughout) args i (each Throughout) low same
   rest_at_at _ _ args low same = let none_left : ⊥ = cc in absurd none_left
 
--- ** Needs
+-- ---- needs
 
 abbrev pub IsRedex : Graph → ℕ → Type 0
 IsRedex graph i = (i < length graph) × (is_plain (node_at graph i).kind ≡ false) × (is_ready graph (node_at graph i).kind (node_at graph i).args ≡ true)

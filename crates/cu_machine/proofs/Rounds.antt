@@ -16,20 +16,21 @@ use Rattle.cu_machine.specs.Run.{run}
 use Rattle.cu_machine.specs.State.{State}
 use Rattle.cu_machine.proofs.Depth.{following_level}
 
--- ** One round
+-- ---- one round
 
 -- lines before those of a round
 abbrev pub after_front : List Line → Round → Round
 after_front lines round = record { lines = lines ++ round.lines; tally = round.tally; end = round.end }
 
--- an end that comes in a round, behind so many answers and then these lines
+-- an end that comes in a round, after so many answers and then these lines
 abbrev pub EndsRound : Option ℕ → ℕ → ℕ → List Line → End → Type 0
 EndsRound limit d answers lines (Answers count) = (limit ≡ Some count) × (count ≡ answers + answers_in lines)
 EndsRound limit d answers lines (Stopped stop last) = last ≡ d
 EndsRound limit d answers lines _ = ⊥
 
--- What a round lists of outcomes whose lines are these: all of them, and then what is behind them, or it ended there. `whole` is
--- what the round lists, and `behind` what it lists behind them with another count.
+-- What a round lists of outcomes whose lines are these: all of them, and then what is after them,
+-- or it ended there. `whole` is what the round lists, and `behind` what it lists after them with
+-- another count.
 pub data Passed (d : ℕ) (limit : Option ℕ) (answers : ℕ) (lines : List Line) (whole : Round) (behind : Tally → Round) : Type 0 where
   passed : (after : Tally) → whole ≡ after_front lines (behind after) → after.answers ≡ answers + answers_in lines → Passed d limit answers lines whole behind
   ended : (end : End) (rest : List Line) → whole.end ≡ Some end → lines ≡ whole.lines ++ rest → EndsRound limit d answers whole.lines end
@@ -84,9 +85,9 @@ passed_of d limit tally (Answer reading ∷ front) back =
     (is_last limit (tally.answers + 1)) refl (passed_of d limit (one_answer tally) front back)
 passed_of d limit tally (Stops stop ∷ front) back = ended (Stopped stop d) (flat_map (lines_of d) front) refl refl refl
 
--- ** Rounds
+-- ---- rounds
 
--- later rounds list behind earlier ones
+-- later rounds list after earlier ones
 pub lines_more : (in_round : ℕ → List Next) (from more : ℕ) → (rest : List Line) × (lines_before in_round (from + more) ≡ lines_before in_round from ++ rest)
 lines_more in_round from zero = let same : from + 0 ≡ from = omega arith in ([], ap (lines_before in_round) same ∙ sym (append-nil (lines_before in_round from)))
 lines_more in_round from (suc more) =
@@ -128,9 +129,10 @@ pub map_append : {A B : Type 0} (f : A → B) (xs ys : List A) → map f (xs ++ 
 map_append f [] ys = refl
 map_append f (x ∷ xs) ys = ap (λ rest. f x ∷ rest) (map_append f xs ys)
 
--- ** Where an answer is listed
+-- ---- where an answer is listed
 
--- An answer is listed behind what comes before it, or the listing ended by then, where some lines were listed before the others.
+-- An answer is listed after what comes before it, or the listing ended by then, where some lines
+-- were listed before the others.
 abbrev pub ListsOrEnded : SearchLimits → ℕ → List Line → Line → List Line → Listing → Type 0
 ListsOrEnded limits round wanted line listed listing =
     ((rest : List Line) × (listed ++ listing.lines ≡ wanted ++ line ∷ rest))
@@ -203,7 +205,7 @@ lists_later limits d round tally wanted listed lines line whole others following
     let found = first whole.lines rest front in
     ended_inside limits d round tally.answers wanted listed line whole end (unless_exhausted others whole.tally following) found.0 is same up found.1 ends
 
--- ** All rounds
+-- ---- all rounds
 
 pub regroup : (a b c d e : List Line) → (a ++ (b ++ c)) ++ d ++ e ≡ (a ++ b) ++ (c ++ d ++ e)
 regroup a b c d e =

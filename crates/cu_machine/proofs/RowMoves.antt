@@ -42,7 +42,7 @@ pub among_image : {A B : Type 0} (f : A → B) (x : A) (xs : List A) → Among x
 among_image f x [] m = absurd m
 among_image f x (y ∷ ys) m = elim m [ inl same ↦ inl (ap f same) | inr rest ↦ inr (among_image f x ys rest) ]
 
--- ** Case distinctions
+-- ---- case distinctions
 
 pub case_moves : (program : Code) (graph : Graph) (id : ℕ) (mode : Mode) (scrutinee : ℕ) (scope : Scope) (branches : List Branch) (k : Kind) (args : List ℕ)
     → CaseAt program graph id mode scrutinee scope branches → head_at graph scrutinee ≡ node k args
@@ -53,7 +53,7 @@ case_moves program graph id mode scrutinee scope branches k args at head =
     ∙ ap (λ (s : Scope). distinguished program s graph id branches (head_of graph scrutinee) (head_at graph scrutinee).kind (head_at graph scrutinee).args) (sym at.scope_is)
     ∙ ap (λ (m : Node). distinguished program scope graph id branches (head_of graph scrutinee) m.kind m.args) head
 
--- ** Applications
+-- ---- applications
 
 pub apply_moves : (program : Code) (graph : Graph) (id function argument : ℕ) (k : Kind) (args : List ℕ) → node_at graph id ≡ node kind.Apply (function ∷ argument ∷ [])
     → head_at graph function ≡ node k args → move program graph id ≡ applied program graph id argument k args
@@ -80,7 +80,7 @@ pub whole_now : (program : Code) (h : Head) (args : List ℕ) → extended progr
 whole_now program h args =
     ap (λ (b : Bool). if b then node (kind.Part h) args else node (kind_of_whole program h) args) (never_below (length args))
 
--- ** Built-in operations
+-- ---- built-in operations
 
 pub operation_moves : (program : Code) (graph : Graph) (id : ℕ) (operation : Primitive) (args : List ℕ) → node_at graph id ≡ node (kind.Prim operation) args
     → is_on_literals operation ≡ true → move program graph id ≡ computed program.special graph id operation (kinds_of graph args)
@@ -181,7 +181,7 @@ no_operands_fail special graph id prim.Ord (kind.Lit (Char c) ∷ []) is = let n
 no_operands_fail special graph id prim.Chr (kind.Lit (Int n) ∷ []) is = let none_left : ⊥ = true≢false is in absurd none_left
 no_operands_fail special graph id _ _ is = refl
 
--- ** Comparisons and equations
+-- ---- comparisons and equations
 
 pub equal_moves : (program : Code) (graph : Graph) (id a b : ℕ) (k l : Kind) (us vs : List ℕ) → node_at graph id ≡ node (kind.Prim prim.Equal) (a ∷ b ∷ [])
     → head_at graph a ≡ node k us → head_at graph b ≡ node l vs → move program graph id ≡ compared program.special graph id k us l vs
@@ -245,7 +245,7 @@ differ_eq a b other = go (nat_eq a b) refl
     go true is = absurd (other (eqb-true a b is))
     go false is = refl
 
--- ** All rows
+-- ---- all rows
 
 pub row_moves : (program : Code) (graph : Graph) (id : ℕ) (after : Graph) → Steps program graph id after → Follows program graph id after
 row_moves program graph id after (row.call f args params body is has same) =

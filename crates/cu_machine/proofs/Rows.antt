@@ -23,7 +23,7 @@ use Rattle.cu_machine.proofs.Frames.{Closed, Fine, Frame, GoodBuilt, all_there_b
 use Rattle.cu_machine.proofs.Fuel.{all_follow, both_true, is_low, left_true, low_enough, lower, right_true}
 use Rattle.cu_machine.proofs.Visits.{followed_keeps, never_low}
 
--- ** What is below a node
+-- ---- what is below a node
 
 pub record Beneath (graph : Graph) (id : ℕ) (p : ℕ → Bool) : Type 0 where
   pub closed : Closed p graph
@@ -86,7 +86,7 @@ head_closed p graph zero x closed here = here
 head_closed p graph (suc visits) x closed here =
     followed_keeps p p (head_within visits graph) x (node_at graph x).kind (node_at graph x).args here (λ y low. head_closed p graph visits y closed low) (closed x here).1
 
--- ** Goal variables
+-- ---- goal variables
 
 pub plain_there : (graph : Graph) (x : ℕ) → is_plain (node_at graph x).kind ≡ true → x < length graph
 plain_there graph x is = elim (cases_lt x (length graph)) [
@@ -120,7 +120,7 @@ mutual
   all_plain_written graph id built (x ∷ xs) there (more first rest one others) =
       more x xs (plain_written graph id built x there one) (all_plain_written graph id built xs there others)
 
--- ** Graphs that rows give
+-- ---- graphs that rows give
 
 pub record GraphGood (program : Code) (sets : Bool) (goals : List ℕ) (n : ℕ) (graph : Graph) : Type 0 where
   pub fine : Fine program sets graph
@@ -154,7 +154,7 @@ MoveGood program sets goals n (Become graphs) = AllGraphsGood program sets goals
 MoveGood program sets goals n (Overflows operation a b) = Unit {0}
 MoveGood program sets goals n (Collect f arguments) = CollectGood program sets f arguments
 
--- ** What is rewritten
+-- ---- what is rewritten
 
 -- a place in a graph, at which no goal variable's value stands, with what is below it
 pub record Base (program : Code) (sets : Bool) (graph : Graph) (goals : List ℕ) (n id : ℕ) (p : ℕ → Bool) : Type 0 where
@@ -202,7 +202,7 @@ pub puts_good : (program : Code) (sets : Bool) (graph : Graph) (goals : List ℕ
     → MoveGood program sets goals n (puts graph id node)
 puts_good program sets graph goals n id p node base whole passing low = (put_good program sets graph goals n id p node base whole passing low, tt)
 
--- ** Built-in entities
+-- ---- built-in entities
 
 pub record SpecialGood (program : Code) : Type 0 where
   pub falsity : takes (arity_of program (head.Con program.special.falsity)) 0 ≡ true
@@ -251,7 +251,7 @@ special_good program special =
 pub code_special : (program : Code) (sets : Bool) → CodeGood program sets → SpecialGood program
 code_special program sets good = special_good program (special_there program good.well_formed)
 
--- ** Nodes without arguments
+-- ---- nodes without arguments
 
 module _ (program : Code) (sets : Bool) (graph : Graph) (goals : List ℕ) (n id : ℕ) (p : ℕ → Bool) (base : Base program sets graph goals n id p) where
   pub leaf_good : (k : Kind) → has_arguments program k 0 ≡ true → passes sets k ≡ true → MoveGood program sets goals n (puts graph id (alone k))

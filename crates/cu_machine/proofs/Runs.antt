@@ -1,4 +1,5 @@
--- What a run gives is what becomes of the state that it reaches, and an answer is what is read off that.
+-- What a run gives is what becomes of the state that it reaches, and an answer is what is read off
+-- that.
 use Rattle.std.proofs.Common.{◌≡◌, ℕ, zero, suc, ◌-◌, ◌<◌, Bool, true, false, List, [], ◌∷◌, ◌++◌, Option, None, Some, if◌then◌else◌, refl, ap, sym, ◌∙◌, arith, length, map, nat_lt}
 use Rattle.std.specs.List.{list_any}
 use Rattle.cu_calculus.specs.Code.{Code}
@@ -13,7 +14,7 @@ use Rattle.cu_machine.specs.Run.{only_state, reached_on, reading_at, run, run_on
 use Rattle.cu_machine.specs.Spell.{cells_of_all}
 use Rattle.cu_machine.specs.State.{Branch, Idle, MoreStates, NoState, Running, State, States, call_on, states_of}
 
--- ** Runs
+-- ---- runs
 
 pub reaches_by : (program : Code) (limits : Limits) (state : State) (onward : State → Next) (others : State → State) (o : Option State)
     → ((after : State) → onward after ≡ next program limits (others after))
@@ -53,7 +54,7 @@ run_otherwise zero program limits state is = refl
 run_otherwise (suc more) program limits state is =
     ap (λ (o : Option State). elim o as (λ x. Next) [ Some one ↦ run_on more program limits one | None ↦ next program limits state ]) is
 
--- ** Answers
+-- ---- answers
 
 pub no_answer_if : (b : Bool) (limits : Limits) (other : Next) (r : Reading) → (other ≡ Answer r → ⊥) → (if b then too_large limits else other) ≡ Answer r → ⊥
 no_answer_if true limits other r never same = cc

@@ -1,5 +1,5 @@
--- The states that follow any valid one are valid, also where a search runs: it finds ground data of the program, and its
--- levels are valid.
+-- The states that follow any valid one are valid, also where a search runs: it finds ground data of
+-- the program, and its levels are valid.
 use Rattle.std.proofs.Common.{◌≡◌, ℕ, zero, suc, ◌+◌, inl, inr, Bool, true, false, ◌&&◌, List, [], ◌∷◌, ◌++◌, Option, None, Some, if◌then◌else◌, refl, ap, sym, ◌∙◌, subst, true≢false, length, nat_lt, arith}
 use Rattle.std.specs.List.{list_all, list_any}
 use Rattle.std.proofs.lemmas.List.Folds.{list_all-append}
@@ -36,7 +36,7 @@ use Rattle.cu_machine.proofs.Runs.{answer_read, run_reaches}
 use Rattle.cu_machine.proofs.Starts.{value_good}
 use Rattle.cu_machine.proofs.Successors.{branch_good, next_valid}
 
--- ** Values of the program
+-- ---- values of the program
 
 mutual
   pub built_fits : (program : Code) (v : Value) → is_built program v ≡ true → fits_value program v ≡ true
@@ -98,7 +98,7 @@ mutual
       (renumbered_fits program number v (left_true (fits_value program v) (fit_values program vs) fit))
       (all_renumbered_fit program number vs (right_true (fits_value program v) (fit_values program vs) fit))
 
--- ** Lists of found values
+-- ---- lists of found values
 
 pub inserted_all_by : (q : Value → Bool) (order : Ordering) (v w : Value) (rest after : List Value) → q v ≡ true → q w ≡ true → list_all q rest ≡ true
     → list_all q after ≡ true → list_all q (inserted_by order v w rest after) ≡ true
@@ -125,7 +125,7 @@ listed_fits program nil cons (v ∷ vs) empty more all =
     (both_true (fits_value program (listed nil cons vs)) true
     (listed_fits program nil cons vs empty more (right_true (is_built program v) (list_all (is_built program) vs) all)) refl))
 
--- ** The end of a search
+-- ---- the end of a search
 
 pub set_call_unplain : (k : Kind) → is_set_call k ≡ true → is_plain k ≡ false
 set_call_unplain (kind.SetCall f) calls = refl
@@ -154,7 +154,7 @@ delivered_good program graph goals n id p found base built =
     delivered_by program graph goals n id p found program.special.values base special.values
     (listed_fits program program.special.nil program.special.cons (sorted found) special.nil special.cons (sorted_all (is_built program) found built))
 
--- ** Events
+-- ---- events
 
 abbrev pub EventValid : Code → Next → Type 0
 EventValid program (Go states) = (state : State) → Among state states → IsValid program state
@@ -182,7 +182,7 @@ reading_built program graph root goals reading nodes is ground =
     (subst (λ (r : Reading). fits_value program r.value ≡ true) (sym is)
     (renumbered_fits program number (spelled graph root) (spelled_fits program graph nodes (length graph) root)))
 
--- ** Outcomes of a level
+-- ---- outcomes of a level
 
 pub alone_valid : (program : Code) (state other : State) → IsValid program state → Among other (state ∷ []) → IsValid program other
 alone_valid program state other valid m = elim m [ inl same ↦ subst (λ (s : State). IsValid program s) same valid | inr nowhere ↦ absurd nowhere ]
@@ -225,7 +225,7 @@ pub unless_valid : (program : Code) (limits : Limits) (b : Bool) (event : Next) 
 unless_valid program limits true event valid = tt
 unless_valid program limits false event valid = valid
 
--- ** All states
+-- ---- all states
 
 module _ (program : Code) (limits : Limits) (well : is_well_formed program ≡ true) where
   code_good : CodeGood program true
@@ -304,7 +304,7 @@ module _ (program : Code) (limits : Limits) (well : is_well_formed program ≡ t
   follows_valid before state states valid same m =
       (subst (λ (event : Next). EventValid program event) same (event_of_valid before valid)) state m
 
-  -- ** Runs
+  -- ---- runs
 
   pub reached_valid_by : (state : State) (onward : State → State) (event : Next) → ((after : State) → event ≡ Go (after ∷ []) → IsValid program (onward after)) → IsValid program state
       → IsValid program (elim (only_state event) as (λ x. State) [ Some after ↦ onward after | None ↦ state ])

@@ -1,4 +1,5 @@
--- The state in which a search begins is valid, and one in which the search for a goal begins has no set functions.
+-- The state in which a search begins is valid, and one in which the search for a goal begins has no
+-- set functions.
 use Rattle.std.proofs.Common.{◌≡◌, ℕ, zero, suc, ◌+◌, ◌<◌, ◌≤◌, inl, inr, Bool, true, false, not, ◌&&◌, List, [], ◌∷◌, ◌++◌, Option, None, Some, IsTrue, refl, ap, sym, ◌∙◌, subst, true≢false, length, nat_lt, nat_le, get_or, slice_get, arith, ltb-true, lt-ltb, le-leb, eq-eqb, zero-add, length-append}
 use Rattle.std.specs.List.{list_all}
 use Rattle.std.proofs.lemmas.Bool.{cases_lt}
@@ -26,7 +27,7 @@ use Rattle.cu_machine.proofs.Fuel.{all_follow, both_true, left_true, right_true}
 use Rattle.cu_machine.proofs.Moves.{free_at_place, free_nodes_good, length_free, length_numbers, numbers_plain, numbers_there}
 use Rattle.cu_machine.proofs.Rows.{fit_values, fits_value, plain_as}
 
--- ** Graphs of new nodes alone
+-- ---- graphs of new nodes alone
 
 abbrev pub empty_frame : Code → Bool → Frame
 empty_frame program sets = record { program = program; sets = sets; below = λ x. false; first = 0 }
@@ -64,7 +65,7 @@ fresh_fine program sets nodes good = record {
   passing = λ i below. (good_at (empty_frame program sets) 0 nodes i good below).passing;
 }
 
--- ** Values
+-- ---- values
 
 pub sets_pass : (sets : Bool) (k : Kind) → sets ≡ true → passes sets k ≡ true
 sets_pass sets k there = rw there refl
@@ -90,7 +91,7 @@ mutual
       (value_good f next v from sets (left_true (fits_value f.program v) (fit_values f.program vs) fit))
       (values_good f (next + length (pushed (push_value next v))) vs (omega arith) sets (right_true (fits_value f.program v) (fit_values f.program vs) fit))
 
--- ** Calls
+-- ---- calls
 
 -- nodes, and a call on some of them, which is pushed last
 pub call_fine : (program : Code) (sets : Bool) (f : FunId) (parts : BuiltParts) (k : ℕ) → is_well_formed program ≡ true → takes (function_arity program f) k ≡ true
@@ -125,7 +126,7 @@ call_on_valid program f arguments well whole fit =
       tt,
     )
 
--- ** The start of a goal
+-- ---- the start of a goal
 
 pub free_parts : (program : Code) (sets : Bool) (k : ℕ) → GoodParts (empty_frame program sets) 0 k (record { nodes = free_nodes k; ids = numbers 0 k })
 free_parts program sets k = record {

@@ -15,7 +15,7 @@ use Rattle.cu_machine.proofs.Levels.{among_flat}
 use Rattle.cu_machine.proofs.Rounds.{listing_lists}
 use Rattle.cu_machine.proofs.Runs.{run_otherwise, run_reaches}
 
--- ** Elements of lists
+-- ---- elements of lists
 
 pub among_split : {A : Type 0} (x : A) (xs : List A) → Among x xs → (before : List A) × (after : List A) × (xs ≡ before ++ x ∷ after)
 among_split x [] m = absurd m
@@ -43,7 +43,7 @@ among_flat_at f y x (z ∷ xs) m found = elim m [
   | inr rest ↦ behind (f z) (flat_map f xs) y (among_flat_at f y x xs rest found)
 ]
 
--- ** A step on a run
+-- ---- a step on a run
 
 -- a step to the only state that follows, while steps are left, or the end of the run
 abbrev pub StepOnRun : Code → Limits → ℕ → State → State → Type 0
@@ -79,7 +79,7 @@ reached_otherwise zero program limits state is = refl
 reached_otherwise (suc more) program limits state is =
     ap (λ (o : Option State). elim o as (λ x. State) [ Some after ↦ reached_on more program limits after | None ↦ state ]) is
 
--- ** Rounds
+-- ---- rounds
 
 module _ (program : Code) (limits : SearchLimits) (start : State) where
   -- a state so many single steps from the start lies on the run of a state of some level

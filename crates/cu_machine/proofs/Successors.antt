@@ -1,4 +1,5 @@
--- The states that follow a valid one without a running search are valid, and have no set functions where the code has none.
+-- The states that follow a valid one without a running search are valid, and have no set functions
+-- where the code has none.
 use Rattle.std.proofs.Common.{◌≡◌, ℕ, zero, suc, ◌<◌, ◌⊎◌, inl, inr, Bool, true, false, not, ◌&&◌, ◌||◌, List, [], ◌∷◌, Option, None, Some, IsTrue, if◌then◌else◌, refl, sym, ◌∙◌, subst, true≢false, length, get_or, map, nat_eq, nat_lt, ℤ, pos, negsuc, arith, ltb-true, lt-ltb}
 use Rattle.std.specs.List.{All, list_all, list_any, zip}
 use Rattle.std.specs.Ordering.{int_eq}
@@ -38,7 +39,7 @@ use Rattle.cu_machine.proofs.NeedPlaces.{IsRedex, need_at_redex}
 use Rattle.cu_machine.proofs.Rows.{AllGraphsGood, CollectGood, GraphGood, MoveGood}
 use Rattle.cu_machine.proofs.Starts.{call_on_valid}
 
--- ** Only a set function's call begins a search
+-- ---- only a set function's call begins a search
 
 abbrev pub IsNoSearch : Move → Type 0
 IsNoSearch (Become graphs) = Unit {0}
@@ -151,7 +152,7 @@ only_set_calls program graph id kind.Apply (function ∷ argument ∷ []) =
 only_set_calls program graph id (kind.Prim operation) args = inr (operated_no_search program.special graph id operation args)
 only_set_calls program graph id _ args = inr tt
 
--- ** States
+-- ---- states
 
 -- what is wanted of a state: it is valid, and without set functions where there are to be none
 pub record StateGood (program : Code) (sets : Bool) (state : State) : Type 0 where
@@ -260,7 +261,7 @@ next_good program sets limits graph root goals states state good before passing 
     (λ i is. need_at_redex (length graph) program.special.truth graph Throughout root i before.arguments (lt-ltb root (length graph) before.root_there) is)
     (unless_if (is_above limits (length graph)) limits (next_by program limits graph root goals (need_all program.special.truth graph root)) states same) m
 
--- ** With set functions, and without them
+-- ---- with set functions, and without them
 
 pub all_true : {A : Type 0} (p : A → Bool) (xs : List A) → ((x : A) → p x ≡ true) → list_all p xs ≡ true
 all_true p [] each = refl
@@ -287,7 +288,7 @@ next_without program limits before state states well code_without valid (without
     (next_good program false limits graph root goals states state (record { well_formed = well; passing = code_without }) valid.0
     (λ i below. at_node (λ node. not (is_set_kind node.kind)) graph i all below) same m).without_sets refl
 
--- ** The same for branches that stand for states
+-- ---- the same for branches that stand for states
 
 pub mapped_among : {B : Type 0} (f : B → State) (xs : List B) (k : ℕ) (d : B) → k < length xs → Among (f (get_or xs k d)) (map f xs)
 mapped_among f [] k d below = let none_left : ⊥ = omega arith in absurd none_left

@@ -9,7 +9,7 @@ use Rattle.cu_machine.specs.Validity.{ArgumentsThere, Founded}
 use Rattle.cu_machine.proofs.Fuel.{low_enough}
 use Rattle.cu_machine.proofs.Visits.{free_once, head_once, need_once, occurs_once, same_later, spelled_once}
 
--- ** More visits
+-- ---- more visits
 
 pub head_later : (graph : Graph) (id visits : ℕ) → ArgumentsThere graph → Founded graph id → id < length graph → length graph ≤ visits
     → head_within visits graph id ≡ head_of graph id
@@ -36,7 +36,7 @@ pub occurs_later : (graph : Graph) (v id visits : ℕ) → ArgumentsThere graph 
 occurs_later graph v id visits there found below enough =
     same_later (λ n. occurs_within n graph v id) graph id visits there found below (λ n. occurs_once n graph v id) enough
 
--- ** The tables
+-- ---- the tables
 
 pub head_table : (graph : Graph) (id : ℕ) → ArgumentsThere graph → Founded graph id → id < length graph
     → head_of graph id ≡ followed (head_of graph) id (node_at graph id).kind (node_at graph id).args

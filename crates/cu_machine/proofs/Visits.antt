@@ -20,7 +20,7 @@ pub never_low : {A : Type 0} (graph : Graph) (id : ℕ) → is_low 0 graph id �
 unfolding is_low
 never_low graph id low = let no : ⊥ = cc in absurd no
 
--- ** Heads
+-- ---- heads
 
 pub followed_agrees : (p : ℕ → Bool) (f g : ℕ → ℕ) (id : ℕ) (k : Kind) (args : List ℕ) → ((x : ℕ) → p x ≡ true → f x ≡ g x)
     → list_all p args ≡ true → followed f id k args ≡ followed g id k args
@@ -49,12 +49,12 @@ head_low (suc visits) n graph id low =
     followed_keeps (is_low (suc n) graph) (is_low n graph) (head_within visits graph) id (node_at graph id).kind (node_at graph id).args low
     (λ x below. head_low visits n graph x (lower n graph x below)) low
 
--- and so are the arguments of its head, but for one
+-- the arguments of a node's head are as low as the node, but for one
 pub arguments_low : (n : ℕ) (graph : Graph) (id : ℕ) → is_low (suc n) graph id ≡ true → list_all (is_low n graph) (head_at graph id).args ≡ true
 unfolding is_low
 arguments_low n graph id low = head_low (length graph) n graph id low
 
--- ** Needs
+-- ---- needs
 
 pub map_agrees : {A : Type 0} (p : ℕ → Bool) (f g : ℕ → A) (xs : List ℕ) → ((x : ℕ) → p x ≡ true → f x ≡ g x) → list_all p xs ≡ true → map f xs ≡ map g xs
 map_agrees p f g [] same low = refl
@@ -113,7 +113,7 @@ need_once (suc n) truth graph extent id low =
     (need_agrees (is_low n graph) (need_within n truth graph) (need_within (suc n) truth graph) truth graph (head_of graph id) (head_at graph id).kind (head_at graph id).args same args)
     (rest_agrees (is_low n graph) (need_within n truth graph) (need_within (suc n) truth graph) extent (head_at graph id).kind (head_at graph id).args same args)
 
--- ** Free variables
+-- ---- free variables
 
 pub all_free_agree : (p : ℕ → Bool) (part other : ℕ → List ℕ) (args : List ℕ) → ((x : ℕ) → p x ≡ true → part x ≡ other x)
     → list_all p args ≡ true → all_free part args ≡ all_free other args
@@ -134,7 +134,7 @@ free_once (suc n) graph id low =
     free_agrees (is_low n graph) (free_within n graph) (free_within (suc n) graph) (head_of graph id) (head_at graph id).kind (head_at graph id).args
     (free_once n graph) (arguments_low n graph id low)
 
--- ** Values
+-- ---- values
 
 pub spelled_agrees : (p : ℕ → Bool) (part other : ℕ → Value) (id : ℕ) (k : Kind) (args : List ℕ) → ((x : ℕ) → p x ≡ true → part x ≡ other x)
     → list_all p args ≡ true → spelled_at part id k args ≡ spelled_at other id k args
@@ -149,7 +149,7 @@ spelled_once (suc n) graph id low =
     spelled_agrees (is_low n graph) (spelled_within n graph) (spelled_within (suc n) graph) (head_of graph id) (head_at graph id).kind (head_at graph id).args
     (spelled_once n graph) (arguments_low n graph id low)
 
--- ** Occurrences
+-- ---- occurrences
 
 pub any_agrees : (p : ℕ → Bool) (part other : ℕ → Bool) (args : List ℕ) → ((x : ℕ) → p x ≡ true → part x ≡ other x)
     → list_all p args ≡ true → list_any part args ≡ list_any other args
@@ -169,7 +169,7 @@ occurs_once (suc n) graph v id low =
     occurs_agrees (is_low n graph) (occurs_within n graph v) (occurs_within (suc n) graph v) v (head_of graph id) (head_at graph id).kind (head_at graph id).args
     (occurs_once n graph v) (arguments_low n graph id low)
 
--- ** As many visits as there are nodes
+-- ---- as many visits as there are nodes
 
 pub same_by : {A : Type 0} (f : ℕ → A) (n : ℕ) → ((k : ℕ) → f (k + n) ≡ f (suc (k + n))) → (k : ℕ) → f (k + n) ≡ f n
 same_by f n once zero = ap f (zero-add n)

@@ -60,7 +60,7 @@ special = record {
   values = Some (constructor 4);
 }
 
--- parts before what they are parts of
+-- the expressions, each after its parts
 abbrev expressions : List Expr
 expressions =
     Literal (Int (pos 0))
@@ -80,6 +80,7 @@ expressions =
     ∷ Whole (Set (function 0)) []
     ∷ []
 
+-- the code of the example's program
 abbrev pub coin_code : Code
 coin_code = record {
   functions = functions;
@@ -88,24 +89,27 @@ coin_code = record {
   expressions = expressions;
 }
 
--- the coin itself
+-- the function coin
 abbrev pub coin_function : FunId
 coin_function = function 0
 
--- the goals
+-- the goal `coin`
 abbrev pub coin : FunId
 coin = function 4
 
+-- the goal `0 ? 1`
 abbrev pub zero_or_one : FunId
 zero_or_one = function 5
 
+-- the goal `loop ? 1`
 abbrev pub loop_or_one : FunId
 loop_or_one = function 6
 
+-- the goal `set0 coin`
 abbrev pub all_of_the_coin : FunId
 all_of_the_coin = function 7
 
--- so many rounds of so many steps
+-- limits on a search: so many rounds of so many steps
 abbrev pub small_limits : ℕ → ℕ → SearchLimits
 small_limits rounds stride = record {
   rounds = rounds;
@@ -114,19 +118,20 @@ small_limits rounds stride = record {
   step = record { nodes = 1000; width = 100 };
 }
 
+-- the value of a number
 abbrev pub number : ℕ → Value
 number n = value.Literal (Int (pos n))
 
--- the answer of a number in a round, of a goal without variables
+-- the line of a number as an answer in a round, of a goal without variables
 abbrev pub number_at : ℕ → ℕ → Line
 number_at round n = Answered round (record { bindings = []; value = number n })
 
--- a list of values, as a value
+-- a list of values as a value of the example's program
 abbrev pub list_of : List Value → Value
 list_of [] = Constructed (constructor 2) NoValue
 list_of (v ∷ vs) = Constructed (constructor 3) (MoreValues v (MoreValues (list_of vs) NoValue))
 
--- the answer of all values that a set function's call has, in a round, of a goal without variables
+-- the line of a set function's value as an answer in a round, of a goal without variables
 abbrev pub all_at : ℕ → List Value → Line
 all_at round values =
     Answered round

@@ -1,4 +1,5 @@
--- The levels of the search tree.
+-- The levels of the search tree: the states that are reached from the start by so many steps or
+-- rounds.
 use Rattle.std.specs.Prelude.{ℕ, zero, suc, List, [], ◌∷◌, flat_map}
 use Rattle.cu_calculus.specs.Code.{Code}
 use Rattle.cu_machine.specs.declared.Limits.{Limits}
@@ -22,10 +23,10 @@ level_by event start zero = start ∷ []
 level_by event start (suc depth) =
     flat_map (λ state. go_list (event state)) (level_by event start depth)
 
--- the levels of a search, whose rounds take each state on by its stride
+-- the states of a round's level, where each round takes a state on by its stride
 abbrev pub level : Code → SearchLimits → State → ℕ → List State
 level program limits start depth = level_by (run limits.stride program limits.step) start depth
 
--- the levels by single steps, which are those of an inner search
+-- the states at a depth by single steps, as an inner search has them
 abbrev pub step_level : Code → Limits → State → ℕ → List State
 step_level program limits start depth = level_by (next program limits) start depth

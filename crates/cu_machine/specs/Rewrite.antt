@@ -1,6 +1,6 @@
--- The step table: what becomes of a graph where the node at a place is rewritten. A call's
--- arguments are shared by all their uses, which is call-time choice; a flexible case distinction on
--- a free variable narrows it, once for each branch.
+-- The step table: what becomes of a graph where a node is rewritten. A call's arguments are shared
+-- by all their uses, which is call-time choice (Hussmann 1993); a flexible case distinction on a
+-- free variable narrows it, once for each branch (Antoy, Echahed and Hanus 2000).
 use Rattle.std.specs.Prelude.{ℕ, zero, suc, ◌+◌, Bool, true, false, ◌&&◌, List, [], ◌∷◌, ◌++◌, Option, None, Some, if◌then◌else◌, length, map, nat_eq, nat_lt, zip, ℤ, pos, negsuc, ◌+ℤ◌, ◌-ℤ◌, ◌*ℤ◌, int_lt, int_le}
 use Rattle.std.specs.List.{list_any}
 use Rattle.std.specs.Ordering.{int_eq}
@@ -28,87 +28,96 @@ use Rattle.cu_machine.specs.Graph.{Graph, Node, alone, head_at, head_of, node_at
 use Rattle.cu_machine.specs.Spell.{spelled}
 use Rattle.cu_machine.specs.State.{free_nodes, numbers}
 
+-- what becomes of a graph
 pub data Move : Type 0 where
-  -- the graphs that follow, from left to right
+  -- These graphs follow, from left to right.
   Become : List Graph → Move
-  -- an operation on these integers has a result that is none of the language
+  -- The operation on these integers has a result that is no integer of the language.
   Overflows : Primitive → ℤ → ℤ → Move
-  -- a search for all values of a function on these arguments begins
+  -- A search for all values of a function on these arguments begins.
   Collect : FunId → Values → Move
 
 -- one graph follows
 abbrev pub alone_follows : Graph → Move
 alone_follows graph = Become (graph ∷ [])
 
--- a node is put at the place
+-- the step that puts a node in the place of the node `id`
 abbrev pub puts : Graph → ℕ → Node → Move
 puts graph id node = alone_follows (put graph id node)
 
+-- the step in which the node `id` fails
 abbrev pub fails : Graph → ℕ → Move
 fails graph id = puts graph id (alone kind.Fail)
 
+-- the step in which the node `id` becomes stuck
 abbrev pub sticks : Graph → ℕ → Move
 sticks graph id = puts graph id (alone kind.Stuck)
 
--- True and False
+-- the node of True or False
 abbrev pub truth_node : Special → Bool → Node
 truth_node special true = alone (kind.Cons special.truth)
 truth_node special false = alone (kind.Cons special.falsity)
 
+-- the step in which the node `id` becomes True or False
 abbrev pub tells : Special → Graph → ℕ → Bool → Move
 tells special graph id answer = puts graph id (truth_node special answer)
 
--- ** Calls
+-- ---- calls
 
--- the function's body written over its call, whose arguments its parameters stand for
+-- the step of a call: the function's right side is built over it, where the parameters stand for
+-- the arguments
 abbrev pub unfolded : Code → Graph → ℕ → List ℕ → Option code.Body → Move
 unfolded program graph id args (Some (code.Rule params body)) =
     alone_follows (write program (zip params args) graph id body)
 unfolded program graph id args _ = sticks graph id
 
--- ** Choices
+-- ---- choices
 
--- a choice is its left argument, and its right one
+-- the step of a choice: its left argument, and its right one
 abbrev pub chosen : Graph → ℕ → List ℕ → Move
 chosen graph id (left ∷ right ∷ []) =
     Become (put graph id (renaming left) ∷ put graph id (renaming right) ∷ [])
 chosen graph id _ = sticks graph id
 
--- ** Case distinctions
+-- ---- case distinctions
 
--- the branch for a literal and for a constructor
+-- whether a branch is for this literal
 abbrev pub takes_literal : Lit → Shallow → Bool
 takes_literal l (code.Exactly m) = same_literal l m
 takes_literal l (code.Built c xs) = false
 
+-- whether a branch is for this constructor
 abbrev pub takes_constructor : ConId → Shallow → Bool
 takes_constructor c (code.Exactly l) = false
 takes_constructor c (code.Built d xs) = same_constructor c d
 
+-- the first branch whose pattern passes a test
 abbrev pub branch_for : (Shallow → Bool) → List Branch → Option Branch
 branch_for test [] = None
 branch_for test (branch ∷ branches) = if test branch.pattern then Some branch
     else branch_for test branches
 
--- a branch is written over the case distinction, where the pattern's variables stand for arguments
+-- the step into a branch, if there is one: its body is built over the case distinction, where the
+-- pattern's variables stand for the arguments
 abbrev pub takes_branch : Code → Scope → Graph → ℕ → List ℕ → Option Branch → Move
 takes_branch program scope graph id args None = fails graph id
 takes_branch program scope graph id args (Some branch) =
     alone_follows (write program (scope ++ zip (bound_by branch.pattern) args) graph id branch.body)
 
--- a free variable becomes what a pattern asks for: a literal, or a constructor over new free
--- variables
+-- a graph in which a free variable becomes what a pattern asks for: a literal, or a constructor
+-- over new free variables
 abbrev pub bound_to : Graph → ℕ → Shallow → Graph
 bound_to graph v (code.Exactly l) = put graph v (alone (kind.Lit l))
 bound_to graph v (code.Built c xs) =
     put (graph ++ free_nodes (length xs)) v
     (record { kind = kind.Cons c; args = numbers (length graph) (length xs) })
 
+-- the step of narrowing: the free variable `v` becomes what each branch asks for
 abbrev pub narrows : Graph → ℕ → List Branch → Move
 narrows graph v branches = Become (map (λ branch. bound_to graph v branch.pattern) branches)
 
--- A case distinction, by the head of its scrutinee. On a free variable it is a flexible one, since
--- a rigid one waits there.
+-- The step of a case distinction, by the head of its scrutinee. On a free variable the distinction
+-- is a flexible one, since a rigid one waits there.
 abbrev pub distinguished : Code → Scope → Graph → ℕ → List Branch → ℕ → Kind → List ℕ → Move
 distinguished program scope graph id branches v (kind.Lit l) args =
     takes_branch program scope graph id [] (branch_for (takes_literal l) branches)
@@ -118,7 +127,7 @@ distinguished program scope graph id branches v (kind.Part h) args = fails graph
 distinguished program scope graph id branches v kind.Free args = narrows graph v branches
 distinguished program scope graph id branches v _ _ = sticks graph id
 
--- the code of a case distinction, over the values that its node keeps
+-- the step of a case distinction of the code, over the values that its node keeps
 abbrev pub case_of : Code → Graph → ℕ → ℕ → List ℕ → Option code.Expr → Move
 case_of program graph id scrutinee values (Some (code.Case mode variables e branches)) =
     distinguished program (zip variables values) graph id branches (head_of graph scrutinee)
@@ -126,28 +135,31 @@ case_of program graph id scrutinee values (Some (code.Case mode variables e bran
     (head_at graph scrutinee).args
 case_of program graph id scrutinee values _ = sticks graph id
 
--- ** Applications
+-- ---- applications
 
--- a partial application with one argument more: partial still, or a whole call
+-- what a partial application becomes with these arguments: a partial application still, or a whole
+-- call
 abbrev pub extended : Code → Head → List ℕ → Option ℕ → Node
 extended program h args None = alone kind.Stuck
 extended program h args (Some arity) =
     if nat_lt (length args) arity then record { kind = kind.Part h; args = args }
     else record { kind = kind_of_whole program h; args = args }
 
+-- the step of an application, by the head of what is applied: only a partial application is
 abbrev pub applied : Code → Graph → ℕ → ℕ → Kind → List ℕ → Move
 applied program graph id argument (kind.Part h) args =
     puts graph id (extended program h (args ++ argument ∷ []) (arity_of program h))
 applied program graph id argument _ _ = fails graph id
 
--- ** Numbers and characters
+-- ---- numbers and characters
 
--- an integer, or an overflow
+-- the step of an operation with this result: an integer of the language, or an overflow
 abbrev pub counted : Graph → ℕ → Primitive → ℤ → ℤ → ℤ → Move
 counted graph id operation m n result =
     if is_integer result then puts graph id (alone (kind.Lit (Int result)))
     else Overflows operation m n
 
+-- the step of an operation on two integers
 abbrev pub calculated : Special → Graph → ℕ → Primitive → ℤ → ℤ → Move
 calculated special graph id prim.Add m n = counted graph id prim.Add m n (m +ℤ n)
 calculated special graph id prim.Sub m n = counted graph id prim.Sub m n (m -ℤ n)
@@ -162,13 +174,13 @@ calculated special graph id prim.Greater m n = tells special graph id (int_lt n 
 calculated special graph id prim.AtLeast m n = tells special graph id (int_le n m)
 calculated special graph id _ m n = fails graph id
 
--- the character of a number
+-- the step to the character of a number, where there is one
 abbrev pub puts_character : Graph → ℕ → ℤ → Move
 puts_character graph id (pos n) = if is_scalar n then puts graph id (alone (kind.Lit (Char n)))
     else fails graph id
 puts_character graph id (negsuc n) = fails graph id
 
--- an operation on literals; on anything else it has no value
+-- the step of an operation on literals; on anything else it fails
 abbrev pub computed : Special → Graph → ℕ → Primitive → List Kind → Move
 computed special graph id operation (kind.Lit (Int m) ∷ kind.Lit (Int n) ∷ []) =
     calculated special graph id operation m n
@@ -177,15 +189,15 @@ computed special graph id prim.Ord (kind.Lit (Char c) ∷ []) =
 computed special graph id prim.Chr (kind.Lit (Int n) ∷ []) = puts_character graph id n
 computed special graph id _ _ = fails graph id
 
--- ** Equality and equations
+-- ---- equality and equations
 
--- a node over each pair
+-- nodes of a kind, one over each pair
 abbrev pub pair_nodes : Kind → List (ℕ × ℕ) → List Node
 pair_nodes each [] = []
 pair_nodes each ((a, b) ∷ pairs) = record { kind = each; args = a ∷ b ∷ [] } ∷ pair_nodes each pairs
 
--- Nodes at the places from `id` on, `more` of them after the first, joined from the right by nodes
--- of a kind, which begin at the place `next`; the outermost is still to be placed.
+-- Nodes of a kind that join nodes from the right: there is one at `id` and `more` after it; the new
+-- nodes begin at `next`, and the outermost is still to be placed.
 abbrev pub joined_from_right : Kind → ℕ → ℕ → ℕ → Built
 joined_from_right joint next id zero = record { parts = []; top = Shared id }
 joined_from_right joint next id (suc more) =
@@ -195,27 +207,28 @@ joined_from_right joint next id (suc more) =
       top = Fresh (record { kind = joint; args = id ∷ place_of next rest ∷ [] });
     }
 
--- Pairs of arguments: one node over a single pair, and for more of them nodes that are pushed from
--- the left and joined from the right.
+-- Nodes of the kind `each` over pairs: a single one over a single pair, else nodes that are pushed
+-- from the left, and then joined from the right by nodes of the kind `joint`.
 abbrev pub build_pairs : Kind → Kind → ℕ → ℕ × ℕ → List (ℕ × ℕ) → Built
 build_pairs each joint next (a, b) [] = build_alone (record { kind = each; args = a ∷ b ∷ [] })
 build_pairs each joint next pair (other ∷ pairs) =
     let nodes = pair_nodes each (pair ∷ other ∷ pairs) in
     after nodes (joined_from_right joint (next + length nodes) next (length pairs + 1))
 
--- the arguments of two like constructors in pairs, written over the node at a place; True where
--- there are none
+-- the step on two like constructors: nodes over their arguments in pairs are built over the node
+-- `id`, or True where there are no arguments
 abbrev pub in_pairs : Special → Kind → Kind → Graph → ℕ → List (ℕ × ℕ) → Move
 in_pairs special each joint graph id [] = tells special graph id true
 in_pairs special each joint graph id (pair ∷ pairs) =
     alone_follows (written graph id (build_pairs each joint (length graph) pair pairs))
 
--- comparisons of arguments, joined by calls of `&&`
+-- the step of `==` on two like constructors: comparisons of their arguments, joined by calls of
+-- `&&`
 abbrev pub compared_in_pairs : Special → Graph → ℕ → List (ℕ × ℕ) → Move
 compared_in_pairs special graph id pairs =
     in_pairs special (kind.Prim prim.Equal) (kind.Call special.both) graph id pairs
 
--- `==` on heads; on a partial application it has no value
+-- the step of `==`, by the heads of its sides; on a partial application it fails
 abbrev pub compared : Special → Graph → ℕ → Kind → List ℕ → Kind → List ℕ → Move
 compared special graph id (kind.Cons c) us (kind.Cons d) vs =
     if same_constructor c d then compared_in_pairs special graph id (zip us vs)
@@ -226,43 +239,47 @@ compared special graph id (kind.Lit l) us (kind.Cons d) vs = tells special graph
 compared special graph id (kind.Cons c) us (kind.Lit m) vs = tells special graph id false
 compared special graph id _ _ _ _ = fails graph id
 
+-- whether a node of this kind is True
 abbrev pub is_true : Special → Kind → Bool
 is_true special (kind.Cons c) = same_constructor c special.truth
 is_true special _ = false
 
--- `&` on heads
+-- the step of `&`, by the heads of its sides
 abbrev pub conjoined : Special → Graph → ℕ → Kind → Kind → Move
 conjoined special graph id a b = if is_true special a && is_true special b
     then tells special graph id true else fails graph id
 
--- Whether a free variable is reached from a node by Ind and constructors alone. The first number
--- bounds how deep the graph is looked at.
+-- whether a free variable is a head, or is reached from it by constructors and Inds; `part` says so
+-- of its arguments
 abbrev pub occurs_at : (ℕ → Bool) → ℕ → ℕ → Kind → List ℕ → Bool
 occurs_at part v id kind.Free args = nat_eq v id
 occurs_at part v id (kind.Cons c) args = list_any part args
 occurs_at part v id _ _ = false
 
+-- whether a free variable is reached from a node by constructors and Inds; the first number bounds
+-- how deep the graph is looked at
 unfoldable pub occurs_within : ℕ → Graph → ℕ → ℕ → Bool
 occurs_within zero graph v id = false
 occurs_within (suc depth) graph v id =
     occurs_at (occurs_within depth graph v) v (head_of graph id) (head_at graph id).kind
     (head_at graph id).args
 
+-- whether a free variable is reached from one of several nodes by constructors and Inds
 abbrev pub occurs_in : Graph → ℕ → List ℕ → Bool
 occurs_in graph v ids = list_any (occurs_within (length graph) graph v) ids
 
--- equations of arguments, joined by `&`
+-- the step of `=:=` on two like constructors: equations of their arguments, joined by `&`
 abbrev pub equated_in_pairs : Special → Graph → ℕ → List (ℕ × ℕ) → Move
 equated_in_pairs special graph id pairs =
     in_pairs special (kind.Prim prim.Unify) (kind.Prim prim.And) graph id pairs
 
--- a free variable becomes another name of a node, and the equation holds
+-- the step in which a free variable becomes an Ind of another node, and the equation holds
 abbrev pub renames : Special → Graph → ℕ → ℕ → ℕ → Move
 renames special graph id v other = puts (put graph v (renaming other)) id (truth_node special true)
 
--- A free variable is equated with a constructor: without arguments it becomes another name of it;
--- with arguments it becomes that constructor over new free variables, which are equated with the
--- arguments, unless it is reached from them.
+-- The step of an equation of a free variable with a constructor. Without arguments the variable
+-- becomes an Ind of it. With arguments the variable becomes the constructor over new free
+-- variables, which are equated with the arguments; if it is reached from these, the equation fails.
 abbrev pub imitates : Special → Graph → ℕ → ℕ → ℕ → ConId → List ℕ → Move
 imitates special graph id v other c [] = renames special graph id v other
 imitates special graph id v other c (arg ∷ args) =
@@ -272,8 +289,8 @@ imitates special graph id v other c (arg ∷ args) =
     equated_in_pairs special (put (graph ++ free_nodes (length args + 1)) v
     (record { kind = kind.Cons c; args = fresh })) id (zip fresh (arg ∷ args))
 
--- `=:=` on heads and their places; a partial application equals nothing, and neither do a literal
--- and a constructor
+-- the step of `=:=`, by the heads of its sides and their indices; a partial application equals
+-- nothing, and a literal equals no constructor
 abbrev pub equated : Special → Graph → ℕ → ℕ → Kind → List ℕ → ℕ → Kind → List ℕ → Move
 equated special graph id v kind.Free us w kind.Free vs =
     if nat_eq v w then tells special graph id true else renames special graph id v w
@@ -287,14 +304,16 @@ equated special graph id v (kind.Lit l) us w (kind.Lit m) vs =
     if same_literal l m then tells special graph id true else fails graph id
 equated special graph id v _ _ w _ _ = fails graph id
 
--- ** Set functions
+-- ---- set functions
 
--- a partial application in an argument leaves the call stuck; otherwise the search begins
+-- the step of a set function's call: a search begins, unless a partial application in an argument
+-- leaves the call stuck
 abbrev pub collects : Graph → ℕ → FunId → Values → Move
 collects graph id f arguments = if are_data arguments then Collect f arguments else sticks graph id
 
--- ** All rows
+-- ---- all rows
 
+-- the step of a built-in operation on its arguments
 abbrev pub operated : Special → Graph → ℕ → Primitive → List ℕ → Move
 operated special graph id prim.Equal (a ∷ b ∷ []) =
     compared special graph id (head_at graph a).kind (head_at graph a).args (head_at graph b).kind
@@ -310,7 +329,7 @@ operated special graph id prim.And _ = sticks graph id
 operated special graph id operation args =
     computed special graph id operation (map (λ arg. (head_at graph arg).kind) args)
 
--- what becomes of the graph where the node at a place is rewritten
+-- what becomes of a graph where the node `id`, of this kind and with these arguments, is rewritten
 abbrev pub rewritten : Code → Graph → ℕ → Kind → List ℕ → Move
 rewritten program graph id (kind.Call f) args = unfolded program graph id args (body_of program f)
 rewritten program graph id kind.Or args = chosen graph id args
@@ -324,5 +343,6 @@ rewritten program graph id (kind.SetCall f) args =
     collects graph id f (values_of (map (spelled graph) args))
 rewritten program graph id _ _ = sticks graph id
 
+-- what becomes of a graph where the node `id` is rewritten
 abbrev pub move : Code → Graph → ℕ → Move
 move program graph id = rewritten program graph id (node_at graph id).kind (node_at graph id).args

@@ -1,6 +1,7 @@
--- The step table as a relation, one constructor for each row that gives graphs: which graphs follow
--- where the node at a place is rewritten. It says the same as the function of Rewrite wherever the
--- node is needed in a valid state. Rows that end a branch or begin a search have none.
+-- The step table as a relation, with a constructor for each row that gives graphs: which graphs
+-- follow where the node `id` is rewritten, by needed narrowing (Antoy, Echahed and Hanus 2000) with
+-- call-time choice (Hussmann 1993). The relation agrees with the function of Rewrite wherever the
+-- node is needed in a valid state. Moves that end a branch or begin a search have no row.
 use Rattle.std.specs.Prelude.{◌≡◌, ◌≢◌, ◌<◌, ℕ, ◌+◌, Bool, true, false, ◌&&◌, ◌||◌, List, [], ◌∷◌, ◌++◌, Option, None, Some, IsTrue, IsFalse, if◌then◌else◌, length, map, zip, ℤ, pos, ◌+ℤ◌, ◌-ℤ◌, ◌*ℤ◌, int_lt, int_le}
 use Rattle.std.specs.Ordering.{int_eq}
 use Rattle.cu_calculus.specs.declared.ConId.{ConId}
@@ -31,21 +32,24 @@ use Rattle.cu_machine.specs.Rewrite.{alone_follows, bound_to, branch_for, compar
 use Rattle.cu_machine.specs.Spell.{spelled}
 use Rattle.cu_machine.specs.State.{free_nodes, numbers}
 
+-- a node of this kind with these arguments
 abbrev pub node : Kind → List ℕ → Node
 node k args = record { kind = k; args = args }
 
--- ** Results
+-- ---- results
 
+-- the graph in which the node `id` fails
 abbrev pub failing : Graph → ℕ → Graph
 failing graph id = put graph id (alone kind.Fail)
 
+-- the graph in which the node `id` becomes True or False
 abbrev pub telling : Code → Graph → ℕ → Bool → Graph
 telling program graph id answer = put graph id (truth_node program.special answer)
 
--- ** Premises
+-- ---- premises
 
--- a case distinction at a place, of the mode that its code has, with the places of the variables
--- that it keeps and its branches
+-- The node `id` is a case distinction of this mode over this scrutinee, whose code has these
+-- branches, and this is the scope that it keeps.
 pub record CaseAt (program : Code) (graph : Graph) (id : ℕ) (mode : Mode) (scrutinee : ℕ)
     (scope : Scope) (branches : List Branch) : Type 0 where
   pub number : ℕ
@@ -56,12 +60,13 @@ pub record CaseAt (program : Code) (graph : Graph) (id : ℕ) (mode : Mode) (scr
   pub code_is : expr_of program (record { 0 = number }) ≡ Some (code.Case mode kept inner branches)
   pub scope_is : scope ≡ zip kept values
 
+-- whether a node of this kind is a partial application
 abbrev pub is_partial : Kind → Bool
 is_partial (kind.Part h) = true
 is_partial _ = false
 
--- an equation's two sides: a free variable at a place, on the left or on the right, and another
--- node
+-- One of an equation's two sides has the free variable `v` as its head, and the other side has the
+-- head `other`.
 pub data FreeBeside (graph : Graph) (a b v other : ℕ) (k : Kind) (args : List ℕ) : Type 0 where
   on_the_left : (us : List ℕ) → head_of graph a ≡ v → head_at graph a ≡ node kind.Free us
       → head_of graph b ≡ other → head_at graph b ≡ node k args
@@ -70,13 +75,13 @@ pub data FreeBeside (graph : Graph) (a b v other : ℕ) (k : Kind) (args : List 
       → head_of graph a ≡ other → head_at graph a ≡ node k args
       → FreeBeside graph a b v other k args
 
--- a literal and a constructor, in either order
+-- whether one node is a literal and the other one a constructor
 abbrev pub are_mixed : Kind → Kind → Bool
 are_mixed (kind.Lit l) (kind.Cons c) = true
 are_mixed (kind.Cons c) (kind.Lit l) = true
 are_mixed _ _ = false
 
--- the operations on literals
+-- whether an operation is one on literals
 abbrev pub is_on_literals : Primitive → Bool
 is_on_literals prim.Equal = false
 is_on_literals prim.Unify = false
@@ -84,7 +89,7 @@ is_on_literals prim.And = false
 is_on_literals prim.Failed = false
 is_on_literals _ = true
 
--- the integer that an operation gives, and what a comparison tells
+-- the integer that an operation gives, where it gives one
 abbrev pub number_of : Primitive → ℤ → ℤ → Option ℤ
 number_of prim.Add m n = Some (m +ℤ n)
 number_of prim.Sub m n = Some (m -ℤ n)
@@ -93,6 +98,7 @@ number_of prim.Div m n = if int_eq n (pos 0) then None else Some (floor_quotient
 number_of prim.Mod m n = if int_eq n (pos 0) then None else Some (floor_rest m n)
 number_of _ m n = None
 
+-- the answer of a comparison, where the operation is one
 abbrev pub test_of : Primitive → ℤ → ℤ → Option Bool
 test_of prim.Less m n = Some (int_lt m n)
 test_of prim.AtMost m n = Some (int_le m n)
@@ -100,46 +106,50 @@ test_of prim.Greater m n = Some (int_lt n m)
 test_of prim.AtLeast m n = Some (int_le n m)
 test_of _ m n = None
 
+-- whether an operation divides
 abbrev pub divides : Primitive → Bool
 divides prim.Div = true
 divides prim.Mod = true
 divides _ = false
 
+-- whether an operation takes two integers
 abbrev pub is_on_integers : Primitive → Bool
 is_on_integers prim.Ord = false
 is_on_integers prim.Chr = false
 is_on_integers operation = is_on_literals operation
 
--- literals of an operation's kinds
+-- whether nodes of these kinds are literals that an operation takes
 abbrev pub are_operands : Primitive → List Kind → Bool
 are_operands operation (kind.Lit (Int m) ∷ kind.Lit (Int n) ∷ []) = is_on_integers operation
 are_operands prim.Ord (kind.Lit (Char c) ∷ []) = true
 are_operands prim.Chr (kind.Lit (Int n) ∷ []) = true
 are_operands _ _ = false
 
+-- the kinds of the heads of arguments
 abbrev pub kinds_of : Graph → List ℕ → List Kind
 kinds_of graph args = map (λ arg. (head_at graph arg).kind) args
 
--- a free variable bound to a constructor over new ones
+-- the graph in which a free variable became a constructor over n new ones
 abbrev pub imitating : Graph → ℕ → ConId → ℕ → Graph
 imitating graph v c n =
     put (graph ++ free_nodes n) v (node (kind.Cons c) (numbers (length graph) n))
 
--- ** Rows
+-- ---- rows
 
+-- By a row of the step table the graph `after` follows where the node `id` is rewritten.
 pub data Steps (program : Code) (graph : Graph) (id : ℕ) (after : Graph) : Type 0 where
-  -- a call: the function's body
+  -- A call becomes the function's right side.
   call : (f : FunId) (args params : List ℕ) (body : ExprId)
       → node_at graph id ≡ node (kind.Call f) args
       → body_of program f ≡ Some (code.Rule params body)
       → after ≡ write program (zip params args) graph id body → Steps program graph id after
-  -- a choice: its left argument, and its right one
+  -- A choice becomes its left argument, or its right one.
   left : (one two : ℕ) → node_at graph id ≡ node kind.Or (one ∷ two ∷ [])
       → after ≡ put graph id (renaming one) → Steps program graph id after
   right : (one two : ℕ) → node_at graph id ≡ node kind.Or (one ∷ two ∷ [])
       → after ≡ put graph id (renaming two) → Steps program graph id after
-  -- a case distinction on a literal, a constructor or a partial application: the branch that
-  -- matches, or failure
+  -- A case distinction on a literal, a constructor or a partial application becomes the branch that
+  -- matches, or fails.
   literal_branch : (mode : Mode) (scrutinee : ℕ) (scope : Scope) (branches : List Branch) (l : Lit)
       (args : List ℕ) (branch : Branch)
       → CaseAt program graph id mode scrutinee scope branches
@@ -171,14 +181,16 @@ pub data Steps (program : Code) (graph : Graph) (id : ℕ) (after : Graph) : Typ
       → CaseAt program graph id mode scrutinee scope branches
       → head_at graph scrutinee ≡ node (kind.Part h) args → after ≡ failing graph id
       → Steps program graph id after
-  -- a flexible case distinction on a free variable, which becomes what one of the branches asks for
+  -- The free variable on which a flexible case distinction looks becomes what one of the branches
+  -- asks for.
   narrowing : (scrutinee : ℕ) (scope : Scope) (branches : List Branch) (args : List ℕ)
       (branch : Branch)
       → CaseAt program graph id Flex scrutinee scope branches
       → head_at graph scrutinee ≡ node kind.Free args → Among branch branches
       → after ≡ bound_to graph (head_of graph scrutinee) branch.pattern
       → Steps program graph id after
-  -- an application of a partial application, which is partial still, or whole; and of anything else
+  -- An application of a partial application is partial still, or becomes a whole call; an
+  -- application of anything else fails.
   still_partial : (function argument : ℕ) (h : Head) (args : List ℕ) (arity : ℕ)
       → node_at graph id ≡ node kind.Apply (function ∷ argument ∷ [])
       → head_at graph function ≡ node (kind.Part h) args → arity_of program h ≡ Some arity
@@ -195,7 +207,8 @@ pub data Steps (program : Code) (graph : Graph) (id : ℕ) (after : Graph) : Typ
       ≡ node kind.Apply (function ∷ argument ∷ [])
       → IsFalse (is_partial (head_at graph function).kind) → after ≡ failing graph id
       → Steps program graph id after
-  -- arithmetic: an integer of the language, what a comparison tells, division by 0
+  -- An operation on integers becomes its result, if that is an integer of the language, or what a
+  -- comparison answers; a division by 0 fails.
   number : (operation : Primitive) (args : List ℕ) (m n result : ℤ)
       → node_at graph id ≡ node (kind.Prim operation) args
       → kinds_of graph args ≡ kind.Lit (Int m) ∷ kind.Lit (Int n) ∷ []
@@ -211,7 +224,7 @@ pub data Steps (program : Code) (graph : Graph) (id : ℕ) (after : Graph) : Typ
       → kinds_of graph args ≡ kind.Lit (Int m) ∷ kind.Lit (Int n) ∷ [] → IsTrue (divides operation)
       → IsTrue (int_eq n (pos 0))
       → after ≡ failing graph id → Steps program graph id after
-  -- characters and their numbers
+  -- A character becomes its number, and a number becomes its character or fails.
   code_point : (args : List ℕ) (c : ℕ) → node_at graph id ≡ node (kind.Prim prim.Ord) args
       → kinds_of graph args ≡ kind.Lit (Char c) ∷ []
       → after ≡ put graph id (alone (kind.Lit (Int (pos c)))) → Steps program graph id after
@@ -223,13 +236,13 @@ pub data Steps (program : Code) (graph : Graph) (id : ℕ) (after : Graph) : Typ
       → kinds_of graph args ≡ kind.Lit (Int n) ∷ []
       → ((c : ℕ) → n ≡ pos c → IsFalse (is_scalar c)) → after ≡ failing graph id
       → Steps program graph id after
-  -- an operation on what isn't a literal of its kind
+  -- An operation on arguments that aren't literals of its types fails.
   no_operands : (operation : Primitive) (args : List ℕ)
       → node_at graph id ≡ node (kind.Prim operation) args → IsTrue (is_on_literals operation)
       → IsFalse (are_operands operation (kinds_of graph args)) → after ≡ failing graph id
       → Steps program graph id after
-  -- a comparison: of two literals, of a literal and a constructor, of two constructors, and with a
-  -- partial application
+  -- `==` compares two literals, a literal and a constructor, or two constructors; with a partial
+  -- application it fails.
   compared_literals : (a b : ℕ) (l m : Lit) (us vs : List ℕ)
       → node_at graph id ≡ node (kind.Prim prim.Equal) (a ∷ b ∷ [])
       → head_at graph a ≡ node (kind.Lit l) us → head_at graph b ≡ node (kind.Lit m) vs
@@ -252,7 +265,7 @@ pub data Steps (program : Code) (graph : Graph) (id : ℕ) (after : Graph) : Typ
   compared_partial : (a b : ℕ) → node_at graph id ≡ node (kind.Prim prim.Equal) (a ∷ b ∷ [])
       → IsTrue (is_partial (head_at graph a).kind || is_partial (head_at graph b).kind)
       → after ≡ failing graph id → Steps program graph id after
-  -- a conjunction: True where both sides are, or failure
+  -- `&` becomes True where both sides are True, and fails otherwise.
   both_true : (a b : ℕ) → node_at graph id ≡ node (kind.Prim prim.And) (a ∷ b ∷ [])
       → IsTrue (is_true program.special (head_at graph a).kind
       && is_true program.special (head_at graph b).kind) → after ≡ telling program graph id true
@@ -261,7 +274,8 @@ pub data Steps (program : Code) (graph : Graph) (id : ℕ) (after : Graph) : Typ
       → IsFalse (is_true program.special (head_at graph a).kind
       && is_true program.special (head_at graph b).kind) → after ≡ failing graph id
       → Steps program graph id after
-  -- an equation of a free variable with itself, and with another one
+  -- An equation of a free variable with itself holds; an equation with another one makes it an Ind
+  -- of that.
   same_variable : (a b : ℕ) (us vs : List ℕ) → node_at graph id
       ≡ node (kind.Prim prim.Unify) (a ∷ b ∷ []) → head_at graph a ≡ node kind.Free us
       → head_at graph b ≡ node kind.Free vs → head_of graph a ≡ head_of graph b
@@ -271,8 +285,9 @@ pub data Steps (program : Code) (graph : Graph) (id : ℕ) (after : Graph) : Typ
       → head_at graph b ≡ node kind.Free vs → head_of graph a ≢ head_of graph b
       → after ≡ telling program (put graph (head_of graph a) (renaming (head_of graph b))) id true
       → Steps program graph id after
-  -- of a free variable with a literal or a constructor without arguments, and with one that has
-  -- arguments
+  -- An equation of a free variable with a literal or a constructor makes the variable that literal
+  -- or constructor; with arguments, these are equated with new free variables, and it fails if the
+  -- variable is reached from them.
   bound_to_literal : (a b v other : ℕ) (l : Lit) (args : List ℕ)
       → node_at graph id ≡ node (kind.Prim prim.Unify) (a ∷ b ∷ [])
       → FreeBeside graph a b v other (kind.Lit l) args
@@ -295,7 +310,9 @@ pub data Steps (program : Code) (graph : Graph) (id : ℕ) (after : Graph) : Typ
       → equated_in_pairs program.special (imitating graph v c (length args + 1)) id
       (zip (numbers (length graph) (length args + 1)) (arg ∷ args)) ≡ alone_follows after
       → Steps program graph id after
-  -- of two literals, of two constructors, and of what never is equal
+  -- An equation of two literals holds or fails; one of two like constructors becomes equations of
+  -- their arguments; one of unlike constructors, of a literal and a constructor, or with a partial
+  -- application fails.
   equal_literals : (a b : ℕ) (l m : Lit) (us vs : List ℕ)
       → node_at graph id ≡ node (kind.Prim prim.Unify) (a ∷ b ∷ [])
       → head_at graph a ≡ node (kind.Lit l) us → head_at graph b ≡ node (kind.Lit m) vs
@@ -323,7 +340,7 @@ pub data Steps (program : Code) (graph : Graph) (id : ℕ) (after : Graph) : Typ
   with_partial : (a b : ℕ) → node_at graph id ≡ node (kind.Prim prim.Unify) (a ∷ b ∷ [])
       → IsTrue (is_partial (head_at graph a).kind || is_partial (head_at graph b).kind)
       → after ≡ failing graph id → Steps program graph id after
-  -- a set function's call with a partial application in an argument, which can't go on
+  -- A set function's call with a partial application in an argument becomes stuck.
   set_of_partial : (f : FunId) (args : List ℕ) → node_at graph id ≡ node (kind.SetCall f) args
       → IsFalse (are_data (values_of (map (spelled graph) args)))
       → after ≡ put graph id (alone kind.Stuck) → Steps program graph id after

@@ -1,5 +1,5 @@
--- Valid states: numbers name something, nodes have what their kinds ask for, no cycles, and a goal
--- variable stands for data.
+-- Valid states: indices name nodes, nodes have the arguments that their kinds ask for, graphs have
+-- no cycles, and the goal variables stand for data.
 use Rattle.std.specs.Prelude.{ℕ, ◌<◌, suc, Bool, true, false, ◌&&◌, List, [], ◌∷◌, Option, Some, IsTrue, length, nat_eq, nat_lt}
 use Rattle.std.specs.List.{list_all}
 use Rattle.cu_calculus.specs.declared.Head.TheVariants as head
@@ -19,26 +19,26 @@ use Rattle.cu_machine.specs.declared.Kind.TheVariants as kind
 use Rattle.cu_machine.specs.Graph.{Graph, node_at}
 use Rattle.cu_machine.specs.State.{Branch, Idle, MoreStates, NoState, Running, Search, State, States}
 
--- ** Nodes
+-- ---- nodes
 
--- a function with rules, which takes so many arguments
+-- whether a function has rules and takes n arguments
 abbrev pub is_call : Option ℕ → Option code.Body → ℕ → Bool
 is_call arity (Some (code.Rule params body)) n = takes arity n
 is_call arity _ n = false
 
--- an operation other than `failed`, which has no node of this kind
+-- whether an operation takes n arguments; `failed` has no node of this kind
 abbrev pub is_operation : Primitive → ℕ → Bool
 is_operation prim.Failed n = false
 is_operation operation n = nat_eq (external_arity operation) n
 
--- a case distinction of this mode, whose node has a scrutinee and a value for each variable that it
--- keeps
+-- whether an expression is a case distinction of this mode, whose node has n arguments: a
+-- scrutinee, and a value for each variable that it keeps
 abbrev pub is_case : Mode → Option code.Expr → ℕ → Bool
 is_case mode (Some (code.Case other variables e branches)) n =
     same_mode mode other && nat_eq n (suc (length variables))
 is_case mode _ n = false
 
--- a node of this kind has so many arguments
+-- whether a node of this kind has n arguments
 abbrev pub has_arguments : Code → Kind → ℕ → Bool
 has_arguments program (kind.Cons c) n = takes (arity_of program (head.Con c)) n
 has_arguments program (kind.Lit l) n = is_literal l && nat_eq n 0
@@ -56,37 +56,40 @@ has_arguments program (kind.SetCall f) n =
 has_arguments program kind.Fail n = nat_eq n 0
 has_arguments program kind.Stuck n = nat_eq n 0
 
--- arguments that name nodes
+-- whether all of these are indices of nodes, in a graph of n nodes
 abbrev pub are_places : ℕ → List ℕ → Bool
 are_places n ids = list_all (λ id. nat_lt id n) ids
 
--- every node of a graph is one of the program's
+-- Every node of a graph has as many arguments as its kind takes in the program.
 abbrev pub NodesFit : Code → Graph → Type 0
 NodesFit program graph = (id : ℕ) → id < length graph
     → IsTrue (has_arguments program (node_at graph id).kind (length (node_at graph id).args))
 
--- the arguments of every node are nodes of the graph
+-- The arguments of every node are nodes of the graph.
 abbrev pub ArgumentsThere : Graph → Type 0
 ArgumentsThere graph = (id : ℕ) → id < length graph
     → IsTrue (are_places (length graph) (node_at graph id).args)
 
--- ** No cycles
+-- ---- no cycles
 
--- a node from which no path is endless
+-- No path from the node is endless.
 mutual
   pub data Founded (graph : Graph) : ℕ → Type 0 where
     founded : (id : ℕ) → AllFounded graph (node_at graph id).args → Founded graph id
 
+  -- No path from one of the nodes is endless.
   pub data AllFounded (graph : Graph) : List ℕ → Type 0 where
     none : AllFounded graph []
     more : (id : ℕ) (ids : List ℕ) → Founded graph id → AllFounded graph ids
         → AllFounded graph (id ∷ ids)
 
+-- From no node of a graph is a path endless, so that it has no cycle.
 abbrev pub IsAcyclic : Graph → Type 0
 IsAcyclic graph = (id : ℕ) → id < length graph → Founded graph id
 
--- ** Goal variables
+-- ---- goal variables
 
+-- whether a node of this kind may stand in the value of a goal variable
 abbrev pub is_plain : Kind → Bool
 is_plain kind.Free = true
 is_plain (kind.Lit l) = true
@@ -94,19 +97,20 @@ is_plain (kind.Cons c) = true
 is_plain kind.Ind = true
 is_plain _ = false
 
--- a node from which free variables, literals, constructors and Inds alone are reached
+-- From the node only free variables, literals, constructors and Inds are reached.
 mutual
   pub data Plain (graph : Graph) : ℕ → Type 0 where
     plain : (id : ℕ) → IsTrue (is_plain (node_at graph id).kind)
         → AllPlain graph (node_at graph id).args → Plain graph id
 
+  -- From each of the nodes only free variables, literals, constructors and Inds are reached.
   pub data AllPlain (graph : Graph) : List ℕ → Type 0 where
     none : AllPlain graph []
     more : (id : ℕ) (ids : List ℕ) → Plain graph id → AllPlain graph ids → AllPlain graph (id ∷ ids)
 
--- ** States
+-- ---- states
 
--- ground data, whose constructors are the program's and have all their arguments
+-- whether a value is ground data, whose constructors are the code's and have all their arguments
 abbrev mutual
   pub is_built : Code → Value → Bool
   is_built program value.Bottom = false
@@ -116,14 +120,17 @@ abbrev mutual
       takes (arity_of program (head.Con c)) (count vs) && are_built program vs
   is_built program (value.Partial h vs) = false
 
+  -- whether several values are ground data of the code
   pub are_built : Code → Values → Bool
   are_built program value.NoValue = true
   are_built program (value.MoreValues v vs) = is_built program v && are_built program vs
 
+-- whether a node of this kind is the call of a set function
 abbrev pub is_set_call : Kind → Bool
 is_set_call (kind.SetCall f) = true
 is_set_call _ = false
 
+-- A graph with a root and goal variables is valid, apart from an inner search.
 pub record IsValidBranch (program : Code) (graph : Graph) (root : ℕ) (goals : List ℕ) : Type 0 where
   pub root_there : root < length graph
   pub goals_there : IsTrue (are_places (length graph) goals)
@@ -132,6 +139,8 @@ pub record IsValidBranch (program : Code) (graph : Graph) (root : ℕ) (goals : 
   pub acyclic : IsAcyclic graph
   pub goals_plain : AllPlain graph goals
 
+-- An inner search belongs to the call of a set function in the graph, and the values that it found
+-- are ground data.
 pub record IsValidSearch (program : Code) (graph : Graph) (id : ℕ)
     (found : List Value) : Type 0 where
   pub there : id < length graph
@@ -139,15 +148,18 @@ pub record IsValidSearch (program : Code) (graph : Graph) (id : ℕ)
   pub built : IsTrue (list_all (is_built program) found)
 
 unfoldable mutual
+  -- A state is valid, with all states of its inner search.
   pub IsValid : Code → State → Type 0
   IsValid program (Branch graph root goals search) =
       IsValidBranch program graph root goals × SearchIsValid program graph search
 
+  -- The inner search of a state with this graph is valid, if one runs.
   pub SearchIsValid : Code → Graph → Search → Type 0
   SearchIsValid program graph Idle = Unit {0}
   SearchIsValid program graph (Running id found level) =
       IsValidSearch program graph id found × AllValid program level
 
+  -- Several states are valid.
   pub AllValid : Code → States → Type 0
   AllValid program NoState = Unit {0}
   AllValid program (MoreStates state states) = IsValid program state × AllValid program states

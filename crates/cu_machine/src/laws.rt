@@ -53,9 +53,9 @@ pub fn needs_are_joined()
     ensures again { (a b : Need) → before a (before b a) ≡ before a b }
 {}
 
-/// On a graph whose arguments are nodes of it, and at a node from which no
-/// path is endless, as many visits as the graph has nodes suffice: more of
-/// them give the same.
+/// On a graph whose arguments are nodes of it, and at a node from which no path
+/// is endless, as many visits as the graph has nodes suffice: more of them give
+/// the same result.
 pub fn visits_suffice()
     ensures head { (graph : Graph) (id visits : ℕ) → ArgumentsThere graph → Founded graph id
         → id < length graph → length graph ≤ visits
@@ -75,9 +75,10 @@ pub fn visits_suffice()
         → occurs_within visits graph variable id ≡ occurs_within (length graph) graph variable id }
 {}
 
-/// There the tables hold of the whole: what a node needs is told by what its
-/// arguments need, with no bound on the visits, and likewise its head, its
-/// value and the free variables in it.
+/// On a graph whose arguments are nodes of it, and at a node from which no path
+/// is endless, the tables hold without a bound on visits: what a node needs is
+/// told by what its arguments need, and likewise its head, its value and the
+/// free variables in it.
 pub fn tables_hold()
     ensures head { (graph : Graph) (id : ℕ) → ArgumentsThere graph → Founded graph id
         → id < length graph → head_of graph id
@@ -129,7 +130,7 @@ pub fn states_stay_valid()
         → Among state (step_level program limits start depth) → IsValid program state }
 {}
 
-/// Where the code has no set functions, none comes up in a state.
+/// Where the code has no set functions, none comes up in a state of its search.
 pub fn states_stay_without_sets()
     ensures start { (program : Code) (goal : FunId) → IsTrue (is_rule (body_of program goal))
         → IsWithoutSets (start_of program goal) }
@@ -177,7 +178,7 @@ pub fn runs_are_steps()
 /// An answer whose state stands so many single steps from the start is due in
 /// a round of at most that number, and of exactly that number where rounds are
 /// single steps: a run reaches the state from one of that round's level. There
-/// the answer is listed, right behind what is listed before it, unless the
+/// the answer is listed, right after what is listed before it, unless the
 /// listing ended by then: by a limit on rounds or answers, or by a stop.
 pub fn answers_are_listed()
     ensures depth { (code : Code) (limits : SearchLimits) (start state : State) (steps : ℕ)

@@ -27,11 +27,11 @@ pub enum Kind {
     Call(FunId),
     /// A built-in operation other than `failed`, on its arguments.
     Prim(Prim),
-    /// A function that its first argument gives, on its second one.
+    /// The application of its first argument, a function, to its second one.
     Apply,
-    /// A case distinction, which holds the number of its expression. Its
-    /// arguments are the scrutinee and then the values of the variables that
-    /// the expression keeps.
+    /// A case distinction, by the number of its expression. Its arguments are
+    /// the scrutinee and then the values of the variables that the expression
+    /// keeps.
     Case(Mode, usize),
     /// A choice between its two arguments.
     Or,
@@ -39,16 +39,17 @@ pub enum Kind {
     Ind,
     /// The set function of a function, on its arguments.
     SetCall(FunId),
-    /// What has no value.
+    /// A node that has no value: the branch that needs it fails.
     Fail,
-    /// What can't go on: it waits for ever, and for no variable.
+    /// A node that can't go on: a branch that needs it waits for ever, and for
+    /// no variable.
     Stuck,
 }
 
 /// What a branch waits for, by the names that a listing gives.
 #[derive(Clone, Copy, Debug, PartialEq, Eq)]
 pub enum Waited {
-    /// A goal variable, by its place among them, counted from 0.
+    /// A goal variable, by its number among them, counted from 0.
     Named(u32),
     /// Another variable, numbered from 1 in the order in which they are met.
     Other(u32),

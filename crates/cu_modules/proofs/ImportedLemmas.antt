@@ -1,4 +1,4 @@
--- The imports of modules, one behind another, and what they bind.
+-- The imports of modules, one after another, and what they bind.
 use Rattle.std.proofs.Common.{◌≡◌, ◌∙◌, ◌||◌, ℕ, ◌+◌, ◌<◌, ◌≤◌, Bool, true, false, List, [], ◌∷◌, ◌++◌, Option, take, take_all, get_or, length, refl, sym, ap, subst, if◌then◌else◌}
 use Rattle.std.proofs.lemmas.List.{flat_map_more, map-append, map_more}
 use Rattle.std.proofs.lemmas.List.Elements.{All-append, All-nil, All-push}

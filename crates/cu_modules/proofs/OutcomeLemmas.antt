@@ -1,4 +1,4 @@
--- Modules one behind another: their scopes, and the first with a fault.
+-- Modules one after another: their scopes, and the first with a fault.
 use Rattle.std.proofs.Common.{◌≡◌, ◌∙◌, ◌⊎◌, inl, inr, ◌||◌, ℕ, ◌+◌, ◌<◌, ◌≤◌, zero, suc, Bool, true, false, List, [], ◌∷◌, ◌++◌, Option, None, Some, Result, Ok, Err, map, take, take_all, get_or, length, refl, sym, ap, subst, append_assoc, append-nil, arith, if◌then◌else◌, true≢false}
 use Rattle.std.proofs.lemmas.Bool.Decides.{same_from_decides}
 use Rattle.std.proofs.lemmas.List.{length-map, length_push, map-append, take_more}

@@ -1,4 +1,4 @@
--- Faults that were told, one behind another.
+-- Faults that were told, one after another.
 use Rattle.std.proofs.Common.{◌≡◌, ◌∙◌, ℕ, ◌+◌, ◌<◌, ◌≤◌, Bool, List, [], ◌∷◌, ◌++◌, map, take, take_all, get_or, length, refl, sym, ap, subst, append_assoc, append-nil, arith, None, Result}
 use Rattle.std.proofs.lemmas.List.{length-map, map_more}
 use Rattle.std.proofs.lemmas.List.Concat.{flat_map-append}

@@ -62,13 +62,14 @@ set_function_names =
     codes "set0" ∷ codes "set1" ∷ codes "set2" ∷ codes "set3" ∷ codes "set4" ∷ codes "set5"
     ∷ codes "set6" ∷ codes "set7" ∷ []
 
--- such functions, the first for functions of so many parameters, the next for one more
+-- the entities of functions that give all values of calls: the first is for functions of n
+-- parameters, the next for one more
 abbrev pub set_functions : List ℕ → ℕ → List (List ℕ) → List Entity
 set_functions owner n [] = []
 set_functions owner n (name ∷ names) =
     entity owner (SetFunction n) name ∷ set_functions owner (n + 1) names
 
--- what a module has without a declaration
+-- the entities that a module has without a declaration
 abbrev pub built_in_entities : List ℕ → List Entity
 built_in_entities owner =
     if bytes_eq owner prelude_name then first_types ++ map (entity owner Function) external_names

@@ -15,12 +15,13 @@ use Rattle.cu_modules.specs.Scopes.{Interface, Named, constructors_in, export_li
 abbrev pub wrong_module : Wrong → ModuleName → Fault
 wrong_module wrong name = record { wrong = wrong; at = name.at; name = name.text }
 
--- a name that should be there
+-- the fault that a name isn't exported, unless it is there
 abbrev pub unless : Bool → Name → List Fault
 unless true name = []
 unless false name = wrong_name NotExported name ∷ []
 
--- the constructors in a list beside a type, where these entities could be meant
+-- the faults of the constructors that a list names beside a type: those that are none of these
+-- entities
 abbrev pub constructor_faults : List Entity → ConstructorsNamed → List Fault
 constructor_faults entities (syntax.Only names) =
     flat_map (λ (c : Name). unless (list_any (is_called c) entities) c) names
@@ -71,13 +72,14 @@ abbrev pub own_values : Named → List (List ℕ)
 own_values m = flat_map (λ (e : Entity). if same_space Values (space_of e.sort) then e.name ∷ []
     else []) (own_entities m)
 
--- All that is wrong with a module, behind the interfaces of the modules that it imports.
+-- All that is wrong with the names of a module, given the interfaces of the modules before it.
 abbrev pub faults : List Interface → Named → List Fault
 faults before m =
     export_list_faults before m (export_list m.syntax.header) ++
     (flat_map (import_faults before) (imports_of m)
     ++ demand_faults (scope before m) (items_demands (own_values m) m.syntax.items))
 
--- All that is wrong with a goal in a module.
+-- All that is wrong with the names of a goal in a module, given the interfaces of the modules
+-- before that.
 abbrev pub goal_faults : List Interface → Named → Goal → List Fault
 goal_faults before m goal = demand_faults (scope before m) (goal_demands goal)

@@ -18,7 +18,7 @@ abbrev pub option_names : Option NameId → List NameId
 option_names None = []
 option_names (Some id) = id ∷ []
 
--- Numbers of these names, all of which a table has.
+-- The names that were found are these, and a table has all of them.
 pub record AreImports (names : List (List ℕ)) (texts : List (List ℕ))
     (found : List NameId) : Type 0 where
   pub are : texts_of names found ≡ texts

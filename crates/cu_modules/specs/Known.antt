@@ -10,7 +10,7 @@ use Rattle.cu_entities.specs.EntityMeaning.{EntityIsKnown, entities_meaning}
 abbrev pub listed_texts : List (Bor (List ℕ)) → List (List ℕ)
 listed_texts texts = map (λ (t : Bor (List ℕ)). t.now) texts
 
--- These are the entities, and a table has all their names.
+-- The entities of the code stand for these, and a table has all their names.
 pub record AreEntities (names : List (List ℕ)) (meant : List Entity)
     (entities : List code.Entity) : Type 0 where
   pub are : entities_meaning names entities ≡ meant

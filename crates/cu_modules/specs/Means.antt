@@ -6,26 +6,27 @@ use Rattle.cu_uses.specs.Faults.{Fault, IsFirst}
 use Rattle.cu_modules.specs.Faults.{faults, goal_faults}
 use Rattle.cu_modules.specs.Scopes.{Interface, Named, interfaces, meant, scope}
 
--- the interfaces of the modules before one
+-- the interfaces of the modules before the one of this number
 abbrev pub interfaces_before : List Named → ℕ → List Interface
 interfaces_before modules number = interfaces [] (take number modules)
 
--- Among modules, each behind those that it imports, the name means this entity alone in the module
--- of a number.
+-- A name means this entity alone in the module of a number. Each module stands after those that it
+-- imports.
 pub record Means (modules : List Named) (number : ℕ) (space : Space) (name : Name)
     (entity : Entity) : Type 0 where
   pub m : Named
   pub is_there : slice_get modules number ≡ Some m
   pub is_alone : meant (scope (interfaces_before modules number) m) space name ≡ entity ∷ []
 
--- Nothing is wrong with the names of modules, behind these interfaces.
+-- Nothing is wrong with the names of these modules, one after another, given the interfaces of the
+-- modules before them.
 pub data AreScoped : List Interface → List Named → Type 0 where
   no_module : (before : List Interface) → AreScoped before []
   one_more : (before : List Interface) (m : Named) (modules : List Named) → faults before m ≡ []
       → AreScoped (interfaces before (m ∷ [])) modules
       → AreScoped before (m ∷ modules)
 
--- The first module with a fault, behind others without, and its first fault.
+-- The first module that has a fault, after others without, and its first fault.
 pub record IsWrong (modules : List Named) (name : List ℕ) (fault : Fault) : Type 0 where
   pub right : List Named
   pub m : Named
@@ -41,7 +42,7 @@ pub record IsGoalScoped (modules : List Named) (root : ℕ) (goal : Goal) : Type
   pub is_there : slice_get modules root ≡ Some m
   pub right : goal_faults (interfaces_before modules root) m goal ≡ []
 
--- The first fault of a goal in the module of a number.
+-- The first fault of a goal's names in the module of this number.
 pub record IsGoalWrong (modules : List Named) (root : ℕ) (goal : Goal)
     (fault : Fault) : Type 0 where
   pub m : Named

@@ -34,8 +34,8 @@ in_text_at names place fault = InText (text_of names place.«module») fault
 abbrev pub in_text : List (List ℕ) → NameId → TextFault → Refusal
 in_text names id fault = InText (text_of names id) fault
 
--- A refusal that an answer tells has this property. A fault of the library and want of memory say
--- nothing.
+-- A refusal that an answer tells has this property. A fault of the library and an allocation
+-- failure say nothing.
 abbrev pub Tells : List (List ℕ) → (Refusal → Type 0) → OrderFault → Type 0
 Tells names P (answer.MissingModule id) = P (MissingModule (text_of names id))
 Tells names P (answer.SourceTooBig id) = P (in_text names id (Tokens tokens.Fault.SourceTooBig))
@@ -54,30 +54,32 @@ Tells names P (answer.TooManyModules id) = P (TooManyModules (text_of names id))
 Tells names P answer.Fetch = Unit {0}
 Tells names P answer.NoMemory = Unit {0}
 
--- The library's count rose where the answer is a fault of it, and stands still otherwise.
+-- The library's count of faults rose where the answer is a fault of the library, and is as before
+-- otherwise.
 abbrev pub FaultCount : OrderFault → ℕ → ℕ → Type 0
 FaultCount answer.Fetch old new = Rose old new
 FaultCount _ old new = new ≡ old
 
 -- ---- the modules of an answer, whatever the library tells
 
--- each name is another than those before it
+-- each module has another name than those before it
 abbrev pub AllNew : List (List ℕ) → List Named → Type 0
 AllNew before [] = Unit {0}
 AllNew before (m ∷ modules) = (is_among before m.name ≡ false)
     × AllNew (before ++ m.name ∷ []) modules
 
--- each module stands behind all that it imports
+-- each module stands after all that it imports
 abbrev pub AllBehind : List (List ℕ) → List Named → Type 0
 AllBehind before [] = Unit {0}
 AllBehind before (m ∷ modules) = All (λ name. is_among before name ≡ true) (import_names m)
     × AllBehind (before ++ m.name ∷ []) modules
 
--- A module that is built in is its own text's.
+-- A module that is built in is what the built-in text of its name is read as.
 abbrev pub IsOwn : Named → Type 0
 IsOwn m = (text : List ℕ) → built_in m.name ≡ Some text → IsRead m.name text (Ok m.syntax)
 
--- Modules, each once and behind all that it imports.
+-- Modules stand once each, and after all that they import. Those that are built in are read from
+-- their own texts.
 pub record AreOrdered (modules : List Named) : Type 0 where
   pub differ : AllNew [] modules
   pub behind : AllBehind [] modules

@@ -45,14 +45,14 @@ pub record StandsFor (names : List (List ℕ)) (prelude : NameId) (path : List N
 abbrev pub Stands : List (List ℕ) → Progress → Type 0
 Stands names p = StandsFor names p.prelude p.path.items p.done.items p.fetched
 
--- A visit that ended well only does more modules.
+-- A visit that succeeds adds modules to those that are done, and leaves the path as it was.
 pub record Came (names : List (List ℕ)) (before after : Progress) : Type 0 where
   pub stands : Stands names after
   pub path : after.path.items ≡ before.path.items
   pub more : List Module
   pub done : after.done.items ≡ before.done.items ++ more
 
--- A module that is read stands at the end of the path.
+-- A module that is read was put at the end of the path, and its imports are these.
 pub record Enters (names : List (List ℕ)) (before after : Progress) (name : NameId) (m : Module)
     (found : List NameId) : Type 0 where
   pub stands : Stands names after
@@ -63,15 +63,15 @@ pub record Enters (names : List (List ℕ)) (before after : Progress) (name : Na
   pub imports : AreImports names (import_names (module_of names m)) found
   pub own : IsOwn (module_of names m)
 
--- how many are fetched with a module
+-- how many modules are fetched, with one more
 abbrev pub fetched_with : List ℕ → ℕ → ℕ
 fetched_with name count = if is_built_in name then count else count + 1
 
--- One more may be fetched, or need not be.
+-- One more module may be fetched, or need not be since it is built in.
 abbrev pub IsFree : ℕ → List ℕ → Type 0
 IsFree count name = is_built_in name ≡ true ⊎ ¬ (count ≡ most_modules)
 
--- The text of a module is looked at, and what it is read as.
+-- The text of a module may be looked at, and is read as this module.
 pub record IsFound (held : List ℕ → Option (List ℕ)) (count : ℕ) (name : List ℕ)
     (found : syntax.Module) : Type 0 where
   pub free : IsFree count name
@@ -79,7 +79,7 @@ pub record IsFound (held : List ℕ → Option (List ℕ)) (count : ℕ) (name :
   pub is : source held name ≡ Some text
   pub read : IsRead name text (Ok found)
 
--- why a module isn't found
+-- why a module that may be looked for isn't found
 pub data IsLacking (held : List ℕ → Option (List ℕ)) (count : ℕ) (name : List ℕ) : Refusal
     → Type 0 where
   too_many : is_built_in name ≡ false → count ≡ most_modules
@@ -89,7 +89,7 @@ pub data IsLacking (held : List ℕ → Option (List ℕ)) (count : ℕ) (name :
   unread : (refusal : Refusal) (text : List ℕ) → IsFree count name → source held name ≡ Some text
       → IsFaultOf name text refusal → IsLacking held count name refusal
 
--- a module on the path is met again
+-- the cycle of imports that a module closes, which is on the path already
 pub record IsCycle (path : List (List ℕ)) (name : List ℕ) (refusal : Refusal) : Type 0 where
   pub met : is_among path name ≡ true
   pub refused : refusal ≡ ImportCycle (from name path)

@@ -1,4 +1,4 @@
--- What `read` tells of a text.
+-- What `read` tells of the text of a module.
 use Rattle.std.specs.Prelude.{◌≡◌, ℕ, List, Err}
 use Rattle.cu_layout.specs.declared.fault.TooDeep as layout
 use Rattle.cu_layout.specs.declared.fault.TooDeep.TheVariants as too_deep
@@ -16,13 +16,13 @@ use Rattle.cu_modules.specs.BuiltInEntities.{prelude_name}
 use Rattle.cu_modules.specs.Texts.{IsRead, TextFault}
 use Rattle.cu_modules.specs.Walk.{InText, Refusal}
 
--- A refusal is a fault of the text of a name.
+-- A refusal is the fault of a text that is looked for under a name.
 pub record IsFaultOf (name text : List ℕ) (refusal : Refusal) : Type 0 where
   pub fault : TextFault
   pub refused : refusal ≡ InText name fault
   pub read : IsRead name text (Err fault)
 
--- answers for faults of the layers below
+-- ---- answers for faults of the lexer, of the layout and of the parser
 
 abbrev pub fault_of_tokens : NameId → LexFault → OrderFault
 fault_of_tokens id lex.SourceTooBig = answer.SourceTooBig id
@@ -40,7 +40,7 @@ fault_of_syntax id (parse.Syntax line) = answer.Syntax id line
 fault_of_syntax id (parse.TooLong line) = answer.TooLong id line
 fault_of_syntax id parse.NoMemory = answer.NoMemory
 
--- A module, of which a table has all names.
+-- A table has the name of a module and all names in it.
 pub record HasModule (names : List (List ℕ)) (m : Module) : Type 0 where
   pub known : IsKnown names m.name
   pub owned : ModuleIsOf m.name names m.syntax

@@ -23,8 +23,8 @@ abbrev pub fault_at : List (List ℕ) → Wrong → Place → NameId → Fault
 fault_at names wrong place id =
     record { wrong = wrong; at = position_of place; name = text_of names id }
 
--- The module of the fault that an answer tells, and the fault, have this property. Want of memory
--- says nothing.
+-- The module of the fault that an answer tells, and the fault, have this property. An allocation
+-- failure says nothing.
 abbrev pub TellsFault : List (List ℕ) → (List ℕ → Fault → Type 0) → ScopeFault → Type 0
 TellsFault names P (answer.NotExported place id) =
     P (text_of names place.«module») (fault_at names wrong.NotExported place id)
@@ -36,7 +36,7 @@ TellsFault names P (answer.Duplicate place id) =
     P (text_of names place.«module») (fault_at names wrong.Duplicate place id)
 TellsFault names P answer.NoMemory = Unit {0}
 
--- A table has the names of an answer: that of the module, and that of the token.
+-- A table has the names of an answer: that of the fault's module, and that of its token.
 abbrev pub FaultIsKnown : List (List ℕ) → ScopeFault → Type 0
 FaultIsKnown names (answer.NotExported place id) = IsKnown names place.«module» × IsKnown names id
 FaultIsKnown names (answer.UnknownName place id) = IsKnown names place.«module» × IsKnown names id
@@ -44,8 +44,7 @@ FaultIsKnown names (answer.Ambiguous place id) = IsKnown names place.«module» 
 FaultIsKnown names (answer.Duplicate place id) = IsKnown names place.«module» × IsKnown names id
 FaultIsKnown names answer.NoMemory = Unit {0}
 
--- A qualifier, if there is one, and what stands behind it are those of a name, and a table has
--- them.
+-- A name has this qualifier, if any, and this base, and a table has both.
 pub record IsNamed (names : List (List ℕ)) (qualifier : Option NameId) (base : NameId)
     (name : Name) : Type 0 where
   pub qualifier_is : name.qualifier ≡ option_map (text_of names) qualifier

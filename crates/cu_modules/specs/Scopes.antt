@@ -30,7 +30,7 @@ imports_by _ = []
 abbrev pub names_module : List ℕ → Import → Bool
 names_module name found = bytes_eq found.name.text name
 
--- the import of the whole Prelude, in front of a text
+-- the import of the whole Prelude, at the start of a text
 abbrev pub prelude_import : Import
 prelude_import = record {
   at = first_position;
@@ -48,7 +48,7 @@ imports_of m =
     (if bytes_eq m.name prelude_name || list_any (names_module prelude_name) written then written
     else prelude_import ∷ written)
 
--- what the module of a name exports, of those before
+-- what the module of this name exports, by the interfaces of the modules before
 abbrev pub exports_of : List Interface → List ℕ → List Entity
 exports_of before name =
     flat_map (λ (i : Interface). i.entities)
@@ -56,7 +56,7 @@ exports_of before name =
 
 -- ---- entities that a list names
 
--- whether an unqualified name is an entity's
+-- whether an unqualified name is that of an entity
 abbrev pub is_called : Name → Entity → Bool
 is_called name e = is_none name.qualifier && bytes_eq name.base e.name
 
@@ -85,7 +85,7 @@ comes_with (syntax.Only names) e = list_any (λ name. is_called name e) names
 abbrev pub is_type_of : Entity → Entity → Bool
 is_type_of e t = is_type t.sort && (bytes_eq e.owner t.owner && is_constructor_of t.name e.sort)
 
--- the types of a name among entities
+-- the types that a name could mean among entities
 abbrev pub types_called : Name → List Entity → List Entity
 types_called name entities = filter (λ (t : Entity). is_type t.sort && is_called name t) entities
 
@@ -116,13 +116,14 @@ binding qualifier e = record { qualifier = qualifier; entity = e }
 abbrev pub imported : List Interface → Import → List Entity
 imported before found = taken found.list (exports_of before found.name.text)
 
--- whether an own entity hides an imported one of its unqualified name
+-- whether an own entity of a module hides an imported one: it has the same name, in the same name
+-- space
 abbrev pub is_hidden : List Entity → Entity → Bool
 is_hidden mine e =
     list_any (λ (o : Entity). bytes_eq o.name e.name
     && same_space (space_of o.sort) (space_of e.sort)) mine
 
--- the entities that an import brings without a qualifier, where these are the module's own
+-- the entities that an import brings without a qualifier into a module with these own entities
 abbrev pub unqualified : List Entity → List Interface → Import → List Entity
 unqualified mine before found = if found.qualified then []
     else filter (λ e. not (is_hidden mine e)) (imported before found)
@@ -138,7 +139,8 @@ own_bindings name mine = map (binding (Some name)) mine ++ map (binding None) mi
 abbrev pub own_entities : Named → List Entity
 own_entities m = own m.name m.syntax.items
 
--- The scope of a module. The constructor `:` is always in scope.
+-- The scope of a module, given the interfaces of the modules before it. The constructor `:` is
+-- always in scope.
 abbrev pub scope : List Interface → Named → List Binding
 scope before m =
     binding None cons ∷ own_bindings m.name (own_entities m)
@@ -176,14 +178,15 @@ abbrev pub export_list : Option Header → Option (List Export)
 export_list None = None
 export_list (Some header) = header.exports
 
--- What a module exports: its own entities, where it has no list.
+-- What a module exports: what its export list names, each entity once, or its own entities where it
+-- has no list.
 abbrev pub exported : List Interface → Named → List Entity
 exported before m = distinct (exports_listed before m (export_list m.syntax.header))
 
 abbrev pub interface : List Interface → Named → Interface
 interface before m = record { name = m.name; entities = exported before m }
 
--- the interfaces of modules behind others
+-- the interfaces of modules, after those of others
 abbrev pub interfaces : List Interface → List Named → List Interface
 interfaces before [] = before
 interfaces before (m ∷ modules) = interfaces (before ++ interface before m ∷ []) modules

@@ -10,15 +10,15 @@ use Rattle.cu_syntax.specs.Parsing as parsing
 use Rattle.cu_syntax.specs.Parsing.{ModuleRead}
 use Rattle.cu_syntax.specs.Syntax.{Header, Module}
 
--- Why a text is no module of a name.
+-- Why a text isn't a module of the name under which it was looked for.
 pub data TextFault : Type 0 where
-  -- a fault of its tokens
+  -- a fault of the text's tokens
   Tokens : tokens.Fault → TextFault
   -- the token at which blocks nest too deep
   TooDeep : Position → TextFault
-  -- a fault of its syntax
+  -- a fault of the text's syntax
   Syntax : parsing.Fault → TextFault
-  -- its header has another name
+  -- the header has another name
   HeaderName : TextFault
 
 -- whether a header lets a module have a name
@@ -26,13 +26,13 @@ abbrev pub allows : Option Header → List ℕ → Bool
 allows None name = true
 allows (Some header) name = bytes_eq header.name.text name
 
--- The tokens of a text with the braces and semicolons of its layout.
+-- A text's tokens with the braces and semicolons of its layout are these.
 pub record HasLayout (text : List ℕ) (laid : List Lexeme) : Type 0 where
   pub found : List Lexeme
   pub has_tokens : tokens.tokens text ≡ Ok found
   pub has_layout : block lexeme_view true found ≡ Ok laid
 
--- what a text is read as, that was looked for under a name
+-- what a text that was looked for under a name is read as
 pub data IsRead (name text : List ℕ) : Result Module TextFault → Type 0 where
   no_tokens : (fault : tokens.Fault) → tokens.tokens text ≡ Err fault
       → IsRead name text (Err (Tokens fault))

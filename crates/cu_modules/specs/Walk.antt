@@ -9,7 +9,7 @@ use Rattle.cu_uses.specs.Binders.{is_among}
 use Rattle.cu_modules.specs.Scopes.{Named, imports_of}
 use Rattle.cu_modules.specs.Texts.{IsRead, TextFault}
 
--- Why a walk ends early.
+-- Why a walk over modules ends early.
 pub data Refusal : Type 0 where
   -- a fault in the text of the module of this name
   InText : List ℕ → TextFault → Refusal
@@ -44,17 +44,18 @@ abbrev pub fetched : List (List ℕ) → List Named → ℕ
 fetched path modules =
     length (fetched_names path) + length (fetched_names (map (λ (m : Named). m.name) modules))
 
--- the names of a path, from this one on
+-- the names of a path, from this name on
 abbrev pub from : List ℕ → List (List ℕ) → List (List ℕ)
 from name [] = []
 from name (p ∷ path) = if bytes_eq p name then p ∷ path else from name path
 
--- A module that isn't done and isn't on the path from the root.
+-- A module is neither done nor on the path from the root.
 pub record IsNew (path : List (List ℕ)) (before : List Named) (name : List ℕ) : Type 0 where
   pub not_done : is_there before name ≡ false
   pub not_met : is_among path name ≡ false
 
--- Its text may be looked at.
+-- A module is new, and its text may be looked at: it is built in, or not as many as `most_modules`
+-- were fetched.
 pub record IsOpen (path : List (List ℕ)) (before : List Named) (name : List ℕ) : Type 0 where
   pub new : IsNew path before name
   pub few : is_built_in name ≡ true ⊎ ¬ (fetched path before ≡ most_modules)
@@ -63,8 +64,8 @@ abbrev pub import_names : Named → List (List ℕ)
 import_names m = map (λ (i : Import). i.name.text) (imports_of m)
 
 mutual
-  -- the modules that are done after a visit, where `path` leads to the module and `before` were
-  -- done before
+  -- the modules that are done after a visit of one module, where `path` leads to it and `before`
+  -- were done before
   pub data Visits (held : List ℕ → Option (List ℕ)) : List (List ℕ) → List Named → List ℕ
       → Result (List Named) Refusal → Type 0 where
     done : (path : List (List ℕ)) (before : List Named) (name : List ℕ)
@@ -96,7 +97,8 @@ mutual
         (import_names (record { name = name; syntax = syntax })) (Ok after)
         → Visits held path before name (Ok (after ++ record { name = name; syntax = syntax } ∷ []))
 
-  -- the same for modules one after another
+  -- the modules that are done after visits of the modules of a list, one after another; the first
+  -- refusal ends them
   pub data VisitAll (held : List ℕ → Option (List ℕ)) : List (List ℕ) → List Named → List (List ℕ)
       → Result (List Named) Refusal → Type 0 where
     no_more : (path : List (List ℕ)) (before : List Named)
@@ -110,13 +112,14 @@ mutual
         → Visits held path before name (Ok after) → VisitAll held path after names outcome
         → VisitAll held path before (name ∷ names) outcome
 
--- the modules that are built in, and then the others
+-- the modules of a list, those that are built in first
 abbrev pub built_in_first : List Named → List Named
 built_in_first modules =
     filter (λ (m : Named). is_built_in m.name) modules
     ++ filter (λ (m : Named). not (is_built_in m.name)) modules
 
--- what a root reaches, where texts are held under the names of modules
+-- the modules that a root reaches, or the refusal, where `held` has the texts by the names of
+-- modules
 pub data Walk (held : List ℕ → Option (List ℕ)) (root : List ℕ) : Result (List Named) Refusal
     → Type 0 where
   refused : (refusal : Refusal) → Visits held [] [] root (Err refusal)

@@ -29,11 +29,11 @@ impl ModuleScope {
         }
     }
 
-    /// Binds an entity behind a qualifier, or without one.
+    /// Binds an entity, with a qualifier or without one.
     ///
     /// # Errors
     ///
-    /// Want of memory. The scope is of no use then.
+    /// An allocation failure. The scope is of no use then.
     pub(crate) fn bind(
         &mut self,
         qualifier: Option<NameId>,
@@ -49,11 +49,11 @@ impl ModuleScope {
         Ok(())
     }
 
-    /// Binds entities behind a qualifier, or without one.
+    /// Binds entities, all with one qualifier or without one.
     ///
     /// # Errors
     ///
-    /// Want of memory. The scope is of no use then.
+    /// An allocation failure. The scope is of no use then.
     pub(crate) fn bind_all(
         &mut self,
         qualifier: Option<NameId>,
@@ -75,7 +75,7 @@ impl ModuleScope {
 }
 
 /// What is in scope in a module without its imports: the constructor `:`, and
-/// the module's own entities behind its name and without a qualifier.
+/// the module's own entities, with its name as qualifier and without one.
 pub(crate) fn own_scope(
     alloc: Global,
     names: &Names,

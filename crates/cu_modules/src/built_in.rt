@@ -75,7 +75,7 @@ pub(crate) fn built_in_entities(
     Ok(entities)
 }
 
-/// The name of a text that the table has.
+/// The number of a text that the table has.
 pub(crate) fn found(names: &Names, text: &str) -> NameId
     requires { Contains names.now text.now }
     ensures { slice_get names.now result.0 ≡ Some text.now }
@@ -86,7 +86,7 @@ pub(crate) fn found(names: &Names, text: &str) -> NameId
     }
 }
 
-/// The entities that the Prelude has without a declaration.
+/// Adds the entities that the Prelude has without a declaration.
 fn add_first(names: &Names, owner: NameId, entities: &mut Vec<Entity>) -> Result<(), AllocError>
     requires built_in { HasBuiltIn names.now }
     requires known { IsKnown names.now owner }
@@ -113,7 +113,7 @@ pub(crate) fn cons(names: &Names) -> Entity
     }
 }
 
-/// The type of lists and its constructors.
+/// Adds the type of lists and its constructors.
 fn add_list(names: &Names, owner: NameId, entities: &mut Vec<Entity>) -> Result<(), AllocError>
     requires built_in { HasBuiltIn names.now }
     requires known { IsKnown names.now owner }
@@ -136,7 +136,7 @@ fn add_list(names: &Names, owner: NameId, entities: &mut Vec<Entity>) -> Result<
     Ok(())
 }
 
-/// Types with one constructor of the same name.
+/// Adds types that have one constructor each, of the type's name.
 fn add_single_types(
     names: &Names,
     owner: NameId,
@@ -166,7 +166,7 @@ fn add_single_types(
     Ok(())
 }
 
-/// Entities of one sort.
+/// Adds entities of one sort with these names.
 fn add_named(
     names: &Names,
     owner: NameId,
@@ -189,8 +189,8 @@ fn add_named(
     Ok(())
 }
 
-/// Functions that give all values of calls, the first of functions without
-/// parameters.
+/// Adds the functions that give all values of calls, of which the first is for
+/// functions without parameters.
 fn add_set_functions(
     names: &Names,
     owner: NameId,

@@ -33,7 +33,8 @@ use cu_syntax::Export;
 use cu_uses::{Fault, FirstFault, TextSet, items_faults};
 use std::alloc::{AllocError, Global};
 
-/// What is in scope in a module, behind the interfaces of those that it imports.
+/// What is in scope in a module, given the interfaces of the modules that it
+/// imports.
 pub(crate) fn scoped(
     alloc: Global,
     names: &Names,

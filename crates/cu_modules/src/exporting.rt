@@ -13,7 +13,7 @@ use indexmap::IndexMap;
 use std::alloc::{AllocError, Global};
 
 impl Interfaces {
-    /// No module's exports.
+    /// The exports of no module.
     pub(crate) fn new(alloc: Global) -> Interfaces
         ensures { (names : List (List ℕ)) → AreInterfaces names [] result }
     {
@@ -26,7 +26,7 @@ impl Interfaces {
     ///
     /// # Errors
     ///
-    /// Want of memory. The interfaces are of no use then.
+    /// An allocation failure. The interfaces are of no use then.
     pub(crate) fn add(&mut self, name: NameId, exports: Vec<Entity>) -> Result<(), AllocError>
         ensures { (names : List (List ℕ)) (before : List Interface) (meant : List meant.Entity)
             → AllDiffer names → IsKnown names name → exports_of before (text_of names name) ≡ []
@@ -38,7 +38,8 @@ impl Interfaces {
         Ok(())
     }
 
-    /// What the module of a name exports; nothing, where nothing was added.
+    /// What the module of this name exports, and nothing where nothing was
+    /// added of it.
     pub(crate) fn of(&self, name: NameId) -> &[Entity]
         ensures { (names : List (List ℕ)) (before : List Interface)
             → IsKnown names name → AreInterfaces names before self.now

@@ -20,7 +20,7 @@ pub enum OrderFault {
     /// there, or the length of a text that ends inside a character.
     #[error("byte {1} is not UTF-8")]
     NotUtf8(NameId, usize),
-    /// Where no token begins.
+    /// The place where no token begins.
     #[error("no token at {}:{}", .0.line, .0.column)]
     BadToken(Place),
     /// The start of a literal that is too large.

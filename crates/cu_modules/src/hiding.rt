@@ -12,7 +12,7 @@ use cu_entities::{Entity, Key};
 use std::alloc::{AllocError, Global};
 
 /// Whether one of a module's own entities, which are bound without a qualifier,
-/// hides an imported one of its unqualified name.
+/// hides an imported one, which has its unqualified name.
 fn is_hidden(own: &ModuleScope, entity: Entity) -> bool
     ensures { (names : List (List ℕ)) (mine : List meant.Entity)
         → EntityIsKnown names entity → IsScope names (map (binding None) mine) own.now

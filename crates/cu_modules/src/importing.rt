@@ -54,7 +54,7 @@ pub(crate) fn imports(
     Ok(imports)
 }
 
-/// The import of the whole Prelude, in front of a text.
+/// The import of the whole Prelude, at the start of a text.
 fn prelude_import(owner: NameId, prelude: NameId) -> Import
     ensures { (names : List (List ℕ)) → IsKnown names prelude → text_of names prelude ≡ prelude_name
         → AreImportsOf owner names (prelude_import ∷ []) (result ∷ []) }
@@ -91,7 +91,7 @@ fn add_imports(alloc: Global, module: &Module, imports: &mut Vec<Import>) -> Res
     Ok(())
 }
 
-/// What an item imports, if it is an import.
+/// The import that an item is, if it is one.
 fn import_of(alloc: Global, item: &Item) -> Result<Option<Import>, AllocError>
     ensures { (owner : NameId) (names : List (List ℕ)) → ItemIsOf owner names item.now
         → IfOk result (λ found. AreImportsOf owner names (imports_by (item_meaning names item.now))
@@ -103,13 +103,13 @@ fn import_of(alloc: Global, item: &Item) -> Result<Option<Import>, AllocError>
     }
 }
 
-/// Binds what an import brings: what it takes of its module, behind its
-/// qualifier, and what the module's own entities, which are bound without a
-/// qualifier, don't hide of that also without one.
+/// Binds what an import brings: what it takes of its module, with its
+/// qualifier, and without one what the module's own entities don't hide of
+/// that.
 ///
 /// # Errors
 ///
-/// Want of memory. The scope is of no use then.
+/// An allocation failure. The scope is of no use then.
 pub(crate) fn bind_import(
     alloc: Global,
     import: &Import,
@@ -154,7 +154,7 @@ fn qualifier_of(import: &Import) -> NameId
 ///
 /// # Errors
 ///
-/// Want of memory. The scope is of no use then.
+/// An allocation failure. The scope is of no use then.
 pub(crate) fn bind_imports(
     alloc: Global,
     imports: &[Import],

@@ -17,11 +17,12 @@ use cu_syntax::{Item, ItemNode};
 use std::alloc::{AllocError, Global};
 
 /// The names of the modules that a module imports, in the order of the text. It
-/// imports the Prelude first of all, unless it is the Prelude or says so itself.
+/// imports the Prelude first of all, unless it is the Prelude or says so
+/// itself.
 ///
 /// # Errors
 ///
-/// Want of memory.
+/// An allocation failure.
 pub fn import_names(
     alloc: Global,
     module: &Module,

@@ -47,7 +47,7 @@ fn is_key(bound: &Bound, key: Key) -> bool
     Key::of(bound.qualifier, bound.entity) == key
 }
 
-/// The bound entities that a key finds.
+/// The bound entities that a key finds, in order.
 fn matching(alloc: Global, bound: &[Bound], key: Key) -> Result<Vec<Entity>, AllocError>
     ensures { (names : List (List ℕ)) → AllDiffer names → All (BoundIsKnown names) bound.now
         → KeyIsKnown names key
@@ -65,7 +65,7 @@ fn matching(alloc: Global, bound: &[Bound], key: Key) -> Result<Vec<Entity>, All
     Ok(found)
 }
 
-/// Entities, each once.
+/// The entities of a list, each once.
 pub(crate) fn each_once(alloc: Global, entities: &[Entity]) -> Result<Vec<Entity>, AllocError>
     ensures { (names : List (List ℕ)) (meant : List meant.Entity) → AllDiffer names
         → AreEntities names meant entities.now
@@ -99,7 +99,7 @@ pub(crate) fn meant(
     each_once(alloc, found.as_slice())
 }
 
-/// Whether a constructor is one of a type's that come with it.
+/// Whether an entity is a constructor of a type and comes with it.
 fn is_brought(entity: Entity, constructors: &Constructors, of: Entity) -> bool
     ensures { result ≡ brings constructors.now of entity }
 {
@@ -154,7 +154,7 @@ pub(crate) fn constructors_of(
     Ok(all)
 }
 
-/// Types, and behind them their constructors that come with them.
+/// Types, each with the constructors after it that come with it.
 fn type_exports(
     alloc: Global,
     scope: &ModuleScope,
@@ -308,7 +308,7 @@ fn exported_by(
     }
 }
 
-/// What a module's export list exports, an entry behind another.
+/// What a module's export list exports, one entry after another.
 pub(crate) fn listed(
     alloc: Global,
     exports: &[Export],

@@ -17,7 +17,7 @@ use cu_syntax as syntax;
 use cu_syntax::{Constructors, ImportList, Name};
 use std::alloc::{AllocError, Global};
 
-/// Whether an unqualified name is an entity's.
+/// Whether an unqualified name is that of an entity.
 pub(crate) fn is_called(name: &Name, entity: Entity) -> bool
     ensures { result ≡ called name.now entity }
 {
@@ -35,14 +35,15 @@ pub(crate) fn comes_with(constructors: &Constructors, entity: Entity) -> bool
     }
 }
 
-/// Whether one of several names is an entity's.
+/// Whether one of several names is that of an entity.
 fn is_any(names: &[Name], entity: Entity) -> bool
     ensures { result ≡ list_any (λ (name : Name). called name entity) names.now }
 {
     names.iter().any(|name| is_called(name, entity))
 }
 
-/// Whether an entity is a constructor of a type of a name among others.
+/// Whether an entity is a constructor of one of the types that have this name
+/// among others.
 pub(crate) fn is_beside(name: &Name, entities: &[Entity], entity: Entity) -> bool
     ensures { result ≡ is_beside name.now entities.now entity }
 {
@@ -71,7 +72,7 @@ fn is_listed(list: &ImportList, exports: &[Entity], entity: Entity) -> bool
         .any(|entry| names_entity(entry, exports, entity))
 }
 
-/// Whether an import with this list leaves an export of its module.
+/// Whether an import with this list leaves out an export of its module.
 fn leaves(list: &ImportList, exports: &[Entity], entity: Entity) -> bool
     ensures { result ≡ is_left list.now exports.now entity }
 {

@@ -2,8 +2,8 @@
 use cu_entities::{Entity, NameTable};
 use cu_names::NameId;
 
-/// An entity, with the qualifier behind which a text can name it, or without
-/// one.
+/// An entity that is bound, with the qualifier by which a text can name it, or
+/// without one.
 #[derive(Clone, Copy, Debug)]
 pub(crate) struct Bound {
     pub(crate) qualifier: Option<NameId>,

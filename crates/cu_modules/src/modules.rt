@@ -12,14 +12,14 @@ pub struct Module {
 }
 
 impl Module {
-    /// The name by which it was looked for.
+    /// The name by which the module was looked for.
     pub fn name(&self) -> NameId
         ensures { result ≡ self.now.name }
     {
         self.name
     }
 
-    /// What its text says.
+    /// What the module's text says.
     pub fn syntax(&self) -> &syntax::Module
         ensures { result.now ≡ self.now.syntax }
     {

@@ -19,7 +19,7 @@ pub enum ScopeFault {
     /// The name means two entities or more.
     #[error("ambiguous name at {}:{}", .0.line, .0.column)]
     Ambiguous(Place, NameId),
-    /// A second declaration in one scope.
+    /// The name is declared a second time in one scope.
     #[error("second declaration at {}:{}", .0.line, .0.column)]
     Duplicate(Place, NameId),
     #[error("out of memory")]

@@ -33,7 +33,7 @@ use cu_syntax::GoalText;
 use cu_uses::{Fault, FirstFault, Wrong, goal_faults};
 use std::alloc::Global;
 
-/// What names mean in modules, each of which stands behind those that it
+/// What names mean in modules, each of which stands after those that it
 /// imports.
 ///
 /// # Errors
@@ -102,8 +102,8 @@ fn table_of(scoped: Scoped) -> NameTable
     table
 }
 
-/// The scopes of modules, beside which a goal in the module of a number is right
-/// too. A goal's names mean there what they mean in that module.
+/// The scopes of modules, after a check of the names of a goal in the module of
+/// a number. A goal's names mean there what they mean in that module.
 ///
 /// # Errors
 ///
@@ -151,8 +151,8 @@ fn of_fault(fault: Fault) -> ScopeFault
 }
 
 impl Scopes {
-    /// The entity that a name alone means in the module of a number: the name
-    /// behind a qualifier, or without one.
+    /// The entity that a name means in the module of a number, where it means
+    /// one alone. The name has a qualifier, or none.
     pub fn meaning(
         &self,
         module: u32,
@@ -188,7 +188,7 @@ impl Scopes {
     }
 }
 
-/// The entity that is meant, where it is one.
+/// The entity that a name means, where it means one alone.
 fn alone(meant: Option<Meant>) -> Option<Entity>
     ensures { result ≡ only_one «meant» }
 {

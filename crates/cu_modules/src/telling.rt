@@ -34,7 +34,7 @@ fn tell(wrong: Wrong, name: &Name, first: &mut FirstFault)
     });
 }
 
-/// Tells that a name isn't there, unless it is.
+/// Tells that a name isn't exported, unless it is there.
 pub(crate) fn tell_unless(there: bool, name: &Name, first: &mut FirstFault)
     ensures { (owner : NameId) (names : List (List ℕ)) → NameIsOf owner names name.now
         → Told owner names first.old (unless there (name_meaning names name.now)) first.new }
@@ -45,7 +45,8 @@ pub(crate) fn tell_unless(there: bool, name: &Name, first: &mut FirstFault)
     tell(Wrong::NotExported, name, first);
 }
 
-/// Tells that a name means nothing, or several entities, of those that it means.
+/// Tells that a name means nothing, or several entities, where these are the
+/// entities that it means.
 pub(crate) fn tell_unless_one(entities: &[Entity], name: &Name, first: &mut FirstFault)
     ensures { (owner : NameId) (names : List (List ℕ)) (es : List meant.Entity)
         → NameIsOf owner names name.now → AreEntities names es entities.now

@@ -30,16 +30,16 @@ pub(crate) struct Frame {
     pub(crate) left: vec::IntoIter<NameId>,
 }
 
-/// How far a walk has come.
+/// How far a walk over modules has come.
 #[derive(Drop)]
 pub(crate) struct Progress {
     /// The name of the Prelude.
     pub(crate) prelude: NameId,
     /// The modules on the way from the root to the one at hand.
     pub(crate) path: Vec<NameId>,
-    /// The modules that are done, behind those that they import.
+    /// The modules that are done, each after those that it imports.
     pub(crate) done: Vec<Module>,
-    /// How many were fetched.
+    /// How many modules were fetched.
     pub(crate) fetched: usize,
 }
 
@@ -75,7 +75,7 @@ impl Progress {
         self.done.iter().any(|module| module.name == name)
     }
 
-    /// Takes imports up to the first that isn't done.
+    /// Takes imports off a list up to the first that isn't done.
     fn first_new(&self, left: &mut vec::IntoIter<NameId>) -> Option<NameId>
         ensures { (names : List (List ℕ)) → AllDiffer names
             → All (HasModule names) self.now.done.items
@@ -142,7 +142,7 @@ pub(crate) fn visit<L: Library>(
     Ok(())
 }
 
-/// A module that isn't done, entered, with all of its imports left.
+/// Enters a module that isn't done, with all of its imports left.
 fn begin<L: Library>(
     alloc: Global,
     names: &mut Names,
@@ -179,7 +179,8 @@ fn begin<L: Library>(
     })
 }
 
-/// Nothing, if a module isn't on the path, or else the cycle that it closes.
+/// Answers nothing, if a module isn't on the path, and else the cycle that it
+/// closes.
 fn not_met(alloc: Global, path: &[NameId], name: NameId) -> Result<(), OrderFault>
     ensures new { (names : List (List ℕ)) → AllDiffer names → All (IsKnown names) path.now
         → IsKnown names name
@@ -197,7 +198,7 @@ fn not_met(alloc: Global, path: &[NameId], name: NameId) -> Result<(), OrderFaul
     Err(OrderFault::ImportCycle(cycle))
 }
 
-/// A module that is new, at the end of the path, with the modules that it
+/// Puts a new module at the end of the path, and gives the modules that it
 /// imports.
 fn enter<L: Library>(
     alloc: Global,

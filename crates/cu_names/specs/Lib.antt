@@ -1,1 +1,2 @@
+-- Tables of names, as the lists of their texts.
 pub mod Texts

@@ -16,7 +16,7 @@ IsKnown texts id = id.0 < length texts
 abbrev pub interned : List (List ℕ) → List ℕ → List (List ℕ)
 interned texts text = if list_any (bytes_eq text) texts then texts else texts ++ text ∷ []
 
--- Each text stands once.
+-- No text stands twice in a table: where two of its numbers have one text they are one number.
 abbrev pub AllDiffer : List (List ℕ) → Type 0
 AllDiffer texts = (i j : ℕ) (text : List ℕ) → slice_get texts i ≡ Some text
     → slice_get texts j ≡ Some text → i ≡ j

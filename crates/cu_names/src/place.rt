@@ -1,4 +1,4 @@
-//! Places in texts.
+//! Places in the texts of modules.
 use crate::NameId;
 
 /// A place in the text of a module. Lines and columns count from 1, columns in

@@ -1,1 +1,2 @@
+-- What private contracts and invariants of loops say.
 pub mod Inside

@@ -76,7 +76,8 @@ fn term_uses(met: &[bool], x: u32, term: &LocalTerm) -> bool
     }
 }
 
-/// Whether one of these terms uses a variable so.
+/// Whether one of these terms uses a variable that nothing around binds in it,
+/// by itself or by a local function that is met.
 #[cycle(uses)]
 fn terms_use(met: &[bool], x: u32, terms: &[LocalTerm]) -> bool
     ensures { result ≡ any_use (is_met met.now) x (local_terms_of terms.now) }
@@ -89,7 +90,8 @@ fn terms_use(met: &[bool], x: u32, terms: &[LocalTerm]) -> bool
     false
 }
 
-/// Whether one of these alternatives uses a variable so.
+/// Whether one of these alternatives uses a variable that nothing around binds
+/// in it, by itself or by a local function that is met.
 #[cycle(uses)]
 fn alternatives_use(met: &[bool], x: u32, alternatives: &[(Pattern, LocalTerm)]) -> bool
     ensures { result ≡ alternatives_use (is_met met.now) x
@@ -103,7 +105,8 @@ fn alternatives_use(met: &[bool], x: u32, alternatives: &[(Pattern, LocalTerm)])
     false
 }
 
-/// Whether a rule uses a variable that it doesn't bind.
+/// Whether a rule uses a variable that it doesn't bind, by itself or by a local
+/// function that is met.
 fn rule_uses(met: &[bool], x: u32, rule: &LocalRule) -> bool
     ensures { result ≡ rule_uses (is_met met.now) x (local_rule_meaning rule.now) }
 {
@@ -123,8 +126,8 @@ pub(crate) fn rules_use(met: &[bool], x: u32, rules: &[LocalRule]) -> bool
     false
 }
 
-/// Meets the local function at a place where it uses the variable, or one
-/// that is met. Whether it wasn't met before.
+/// Meets the local function at a place where it uses the variable, or a local
+/// function that is met. Tells whether it wasn't met before.
 fn meet(met: &mut [bool], locals: &[LocalFunction], place: usize, x: u32) -> bool
     requires sized { length met.old ≡ length locals.now }
     requires place { place < length locals.now }
@@ -141,7 +144,8 @@ fn meet(met: &mut [bool], locals: &[LocalFunction], place: usize, x: u32) -> boo
 }
 
 /// Goes once through the local functions, inner ones first, and meets those
-/// that use the variable, or one that is met. Whether there was any.
+/// that use the variable, or a local function that is met. Tells whether one
+/// was met for the first time.
 fn spread(met: &mut [bool], locals: &[LocalFunction], x: u32) -> bool
     requires { length met.old ≡ length locals.now }
     ensures { Round (map local_function_meaning locals.now) x 0 met.old met.new result }

@@ -9,18 +9,19 @@ use cu_kernel::{Constructor, DataType, Special};
 /// The Prelude's place among the modules.
 const PRELUDE: u32 = 0;
 
-/// What a type is like.
+/// What a type of those that every program begins with is like.
 #[derive(Clone, Copy)]
 pub(crate) enum Outline {
     /// The type of lists.
     List,
-    /// The type of tuples of so many components; unit is that of none.
+    /// The type of tuples of so many components. Unit is that of none.
     Tuple(u32),
     /// A type whose values are literals.
     Literal,
 }
 
-/// The list, unit, the tuples of 2 to 15 components, `Int` and `Char`.
+/// What the types are like that every program begins with: the list, unit, the
+/// tuples of 2 to 15 components, `Int` and `Char`.
 const FIRST_TYPES: [Outline; 18] = [
     Outline::List,
     Outline::Tuple(0),
@@ -42,7 +43,7 @@ const FIRST_TYPES: [Outline; 18] = [
     Outline::Literal,
 ];
 
-/// What the first types are like.
+/// What the types are like that every program begins with.
 fn first_types() -> &'static [Outline]
     ensures { map outline_meaning result.now ≡ first_outlines }
 {
@@ -50,7 +51,7 @@ fn first_types() -> &'static [Outline]
 }
 
 impl Outline {
-    /// How many parameters such a type has.
+    /// How many parameters a type like this has.
     fn parameters(self) -> u32
         ensures { result ≡ (outline_meaning self).parameters }
     {
@@ -61,7 +62,8 @@ impl Outline {
         }
     }
 
-    /// Whether these are the constructors of such a type, by their fields.
+    /// Whether these constructors are those of a type like this, by their
+    /// fields.
     fn has(self, constructors: &[Constructor]) -> bool
         ensures { result ≡ have_fields (outline_meaning self).fields
             (map constructor_meaning constructors.now) }
@@ -84,7 +86,7 @@ fn is_like(outline: Outline, data_type: &DataType) -> bool
         && outline.has(data_type.constructors.as_slice())
 }
 
-/// Whether types begin with such ones.
+/// Whether types begin with ones that are like these.
 fn begin_with(outlines: &[Outline], types: &[DataType]) -> bool
     ensures { result ≡ begin_with (map outline_meaning outlines.now) (map type_meaning types.now) }
 {
@@ -106,8 +108,8 @@ fn has_list_constructors(special: &Special) -> bool
     special.nil.0 == 0 && special.cons.0 == 1
 }
 
-/// Whether the types begin with the built-in ones, of which the built-in
-/// entities have the list's constructors.
+/// Whether the types begin with those that every program begins with, and the
+/// built-in entities have the list's constructors.
 pub(crate) fn has_first_types(special: &Special, types: &[DataType]) -> bool
     ensures { result ≡ has_first_types special.now (map type_meaning types.now) }
 {

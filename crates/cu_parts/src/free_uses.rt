@@ -53,7 +53,8 @@ fn push_variable(found: &mut Vec<u32>, x: u32, scope: &Scope) -> Result<(), Allo
     Ok(())
 }
 
-/// Pushes those of a term in which one more variable is bound.
+/// Pushes the variables of a term that are not bound where they stand, where
+/// one more variable is bound around it.
 #[cycle(free)]
 #[tactic(auto, using(crate::specs::Inside::Scope::bound_variants))]
 fn push_inside(
@@ -69,7 +70,7 @@ fn push_inside(
     push_term(alloc, found, body, &Scope::With(x, &*scope))
 }
 
-/// Pushes those of two terms.
+/// Pushes the variables of two terms that are not bound where they stand.
 #[cycle(free)]
 fn push_two(
     alloc: Global,
@@ -86,7 +87,7 @@ fn push_two(
     push_term(alloc, found, second, scope)
 }
 
-/// Pushes those of these terms.
+/// Pushes the variables of these terms that are not bound where they stand.
 #[cycle(free)]
 fn push_terms(
     alloc: Global,
@@ -103,7 +104,7 @@ fn push_terms(
     Ok(())
 }
 
-/// Pushes those of an alternative.
+/// Pushes the variables of an alternative that are not bound where they stand.
 #[cycle(free)]
 #[tactic(auto, using(crate::specs::Inside::Scope::bound_variants))]
 fn push_alternative(
@@ -127,7 +128,7 @@ fn push_alternative(
     )
 }
 
-/// Pushes those of alternatives.
+/// Pushes the variables of alternatives that are not bound where they stand.
 #[cycle(free)]
 fn push_alternatives(
     alloc: Global,
@@ -187,8 +188,8 @@ fn push_locals(
     Ok(())
 }
 
-/// The variables that the rules of a top-level function and those of its
-/// local functions use and don't bind themselves.
+/// The variables that the rules of a top-level function, and those of its local
+/// functions, use and don't bind themselves.
 pub(crate) fn free_uses(alloc: Global, function: &TopFunction) -> Result<Vec<u32>, AllocError>
     ensures { IfOk result (λ found. found.items
         ≡ free_in_function (top_function_meaning function.now)) }

@@ -11,11 +11,11 @@ ghost use Rattle.cu_parts.specs.Inside.KnownHeads.{known_heads};
 
 use cu_kernel::{ConId, Head, Heads, Lit, LocalFunction, LocalHead, LocalRule, LocalTerm, Pattern};
 
-/// The heads that are known.
+/// The heads of which it is known how many arguments they take.
 #[derive(Clone, Copy)]
 pub(crate) enum Known<'a> {
-    /// Local functions of one top-level function. Of all other heads nothing
-    /// is known, so that any may stand.
+    /// The local functions of one top-level function. Nothing is known of other
+    /// heads, so that any may stand.
     Locals(&'a [LocalFunction]),
     /// The functions and constructors of a program. Any local function may
     /// stand.
@@ -146,7 +146,8 @@ fn pattern_passes(known: Known, pattern: &Pattern) -> bool
     }
 }
 
-/// Whether all of these patterns pass.
+/// Whether the literals and constructors of all of these patterns may stand
+/// there.
 #[cycle(patterns)]
 fn patterns_pass(known: Known, patterns: &[Pattern]) -> bool
     ensures { result ≡ patterns_pass (known_heads known.entry) (patterns_of patterns.now) }
@@ -186,7 +187,8 @@ fn term_passes(known: Known, term: &LocalTerm) -> bool
     }
 }
 
-/// Whether all of these terms pass.
+/// Whether the heads, literals and patterns of all of these terms may stand
+/// there.
 #[cycle(terms)]
 fn terms_pass(known: Known, terms: &[LocalTerm]) -> bool
     ensures { result ≡ terms_pass (known_heads known.entry) (local_terms_of terms.now) }
@@ -199,7 +201,8 @@ fn terms_pass(known: Known, terms: &[LocalTerm]) -> bool
     true
 }
 
-/// Whether all of these alternatives pass.
+/// Whether the heads, literals and patterns of all of these alternatives may
+/// stand there.
 #[cycle(terms)]
 fn alternatives_pass(known: Known, alternatives: &[(Pattern, LocalTerm)]) -> bool
     ensures { result ≡ alternatives_pass (known_heads known.entry)
@@ -213,7 +216,7 @@ fn alternatives_pass(known: Known, alternatives: &[(Pattern, LocalTerm)]) -> boo
     true
 }
 
-/// Whether a rule passes.
+/// Whether the heads, literals and patterns of a rule may stand there.
 fn rule_passes(known: Known, rule: &LocalRule) -> bool
     ensures { result ≡ rule_passes (known_heads known.entry) (local_rule_meaning rule.now) }
 {

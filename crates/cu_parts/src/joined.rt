@@ -20,7 +20,7 @@ use crate::type_names::{
 use cu_kernel::{ConId, Counts, Heads, LocalParts, LocalProgram, Special, TopFunction};
 use std::alloc::{AllocError, Global};
 
-/// Whether nothing comes before.
+/// Whether the numbers of a part begin with 0, since nothing comes before it.
 fn begins(start: &Counts) -> bool
     ensures { result ≡ begins start.now }
 {
@@ -41,8 +41,9 @@ fn names_fit(parts: &LocalParts) -> bool
         && goal_fits(parts, &parts.goal)
 }
 
-/// Whether the heads in a function's rules are there and take the arguments
-/// that they have, and so the types that its local functions declare.
+/// Whether the heads in a function's rules are there and have the arguments
+/// that they take, and whether the types are there that its local functions
+/// declare.
 fn function_fits(parts: &LocalParts, heads: &Heads, function: &TopFunction) -> bool
     requires { table.heads_program heads.now ≡ heads_program (local_kernel_of parts.now) }
     ensures { result ≡ function_fits (local_kernel_of parts.now)
@@ -52,7 +53,8 @@ fn function_fits(parts: &LocalParts, heads: &Heads, function: &TopFunction) -> b
         && local_signatures_fit(parts, function.locals.as_slice())
 }
 
-/// Whether this is so of all functions.
+/// Whether the heads and declared types of all these functions are there as
+/// they are used.
 fn functions_fit(parts: &LocalParts, heads: &Heads, functions: &[TopFunction]) -> bool
     requires { table.heads_program heads.now ≡ heads_program (local_kernel_of parts.now) }
     ensures { result ≡ list_all (function_fits (local_kernel_of parts.now))
@@ -123,8 +125,7 @@ fn heads_fit(alloc: Global, parts: &LocalParts) -> Result<bool, AllocError>
     Ok(all_fit(parts, &heads))
 }
 
-/// Whether the parts of a whole program fit together, so that it can be
-/// lifted:
+/// Whether the parts of a whole program fit together, so that it can be lifted:
 ///
 /// - Nothing comes before it: all numbers begin with 0.
 /// - Its types begin with the list, unit, the tuples of 2 to 15 components,
@@ -140,8 +141,8 @@ fn heads_fit(alloc: Global, parts: &LocalParts) -> Result<bool, AllocError>
 /// - The goal's function has rules and a parameter for each of its names.
 ///
 /// Takes time in proportion to the size of the program, and memory for a list
-/// of the functions and one of the constructors. Terms are walked by
-/// recursion. The one error is want of memory.
+/// of the functions and one of the constructors. Terms are walked by recursion.
+/// The one error is an allocation failure.
 pub fn is_joined(alloc: Global, program: &LocalProgram) -> Result<bool, AllocError>
     ensures decides { IfOk result (λ joined. IsTrue joined ↔ IsJoined program.now) }
 {

@@ -29,7 +29,7 @@ fn capture_nothing(marks: &[Mark]) -> bool
 /// number of a function's variables, and to the size of a function's rules for
 /// each variable that one of its rules uses and doesn't bind. Takes memory for
 /// the variables of one function at a time. Terms are walked by recursion. The
-/// one error is want of memory.
+/// one error is an allocation failure.
 pub fn is_part(alloc: Global, parts: &LocalParts) -> Result<bool, AllocError>
     ensures decides { IfOk result (λ right. IsTrue right ↔ IsPart (local_kernel_of parts.now)) }
 {
@@ -43,7 +43,8 @@ pub fn is_part(alloc: Global, parts: &LocalParts) -> Result<bool, AllocError>
 }
 
 /// The program of these parts, where all is right that can be told of them
-/// alone; otherwise nothing. Takes what [`is_part`] takes.
+/// alone, and nothing otherwise. Takes the time and memory that [`is_part`]
+/// takes.
 pub fn checked(alloc: Global, parts: LocalParts) -> Result<Option<LocalProgram>, AllocError>
     ensures checked { IfOk result (λ checked. MatchOption checked (IsPart (local_kernel_of parts)
         → ⊥)

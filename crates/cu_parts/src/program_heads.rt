@@ -9,7 +9,7 @@ ghost use Rattle.cu_kernel.specs.LocalValid.{without_rules};
 use cu_kernel::{Body, Constructor, DataType, Function, Shape, TopFunction};
 use std::alloc::{AllocError, Global};
 
-/// The constructors of a type, after those of the types before it.
+/// Adds the constructors of a type, after those of the types before it.
 fn push_shapes(
     shapes: &mut Vec<Shape>,
     place: usize,
@@ -40,7 +40,7 @@ pub(crate) fn shapes(alloc: Global, types: &[DataType]) -> Result<Vec<Shape>, Al
     Ok(shapes)
 }
 
-/// A function of the same name and arity, with no rules.
+/// A function of the same name and arity, without rules.
 fn without_rules(alloc: Global, function: &TopFunction) -> Function
     ensures { plain_function (function_meaning result)
         ≡ without_rules (top_function_meaning function.now) }

@@ -8,9 +8,9 @@ ghost use Rattle.cu_parts.specs.Inside.Scope.{bound_in};
 pub(crate) enum Scope<'a> {
     /// The variables of the rule's parameters.
     Parameters(&'a [u32]),
-    /// One more variable than around.
+    /// One more variable than in the scope around.
     With(u32, &'a Scope<'a>),
-    /// The variables of a pattern beside those around.
+    /// The variables of a pattern beside those of the scope around.
     WithAll(&'a [u32], &'a Scope<'a>),
 }
 

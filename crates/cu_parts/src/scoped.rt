@@ -62,7 +62,8 @@ fn body_fits(arity: u32, body: &LocalBody) -> bool
     }
 }
 
-/// Whether each local function has rules of its arity, which can be held.
+/// Whether each local function has rules of its arity, and the arity is below
+/// `ARITY_END`.
 fn locals_fit(locals: &[LocalFunction]) -> bool
     ensures { result ≡ list_all fits_local (map local_function_meaning locals.now) }
 {
@@ -74,7 +75,8 @@ fn locals_fit(locals: &[LocalFunction]) -> bool
     true
 }
 
-/// Whether the numbers of parameters are right.
+/// Whether the numbers of parameters of a top-level function and its local
+/// functions are right.
 fn arities_fit(function: &TopFunction) -> bool
     ensures { result ≡ arities_fit (top_function_meaning function.now) }
 {
@@ -83,7 +85,8 @@ fn arities_fit(function: &TopFunction) -> bool
         && locals_fit(function.locals.as_slice())
 }
 
-/// Whether the rules of these local functions pass.
+/// Whether the heads, literals and patterns of these local functions' rules may
+/// stand there.
 pub(crate) fn locals_pass(known: Known, locals: &[LocalFunction]) -> bool
     ensures { result ≡ list_all (rule_passes (known_heads known.entry))
         (flat_map local_rules (map local_function_meaning locals.now)) }
@@ -96,7 +99,8 @@ pub(crate) fn locals_pass(known: Known, locals: &[LocalFunction]) -> bool
     true
 }
 
-/// Whether all rules of a top-level function and of its local functions pass.
+/// Whether the heads, literals and patterns of all rules of a top-level
+/// function and of its local functions may stand there.
 pub(crate) fn all_rules_pass(known: Known, function: &TopFunction) -> bool
     ensures { result ≡ list_all (rule_passes (known_heads known.entry))
         (all_rules (top_function_meaning function.now)) }
@@ -104,7 +108,8 @@ pub(crate) fn all_rules_pass(known: Known, function: &TopFunction) -> bool
     rules_pass(known, rules_of(&function.body)) && locals_pass(known, function.locals.as_slice())
 }
 
-/// Whether local functions are called with their own arguments.
+/// Whether local functions are called with as many arguments as they take, or
+/// fewer in partial applications.
 fn calls_fit(function: &TopFunction) -> bool
     ensures { result ≡ calls_fit (top_function_meaning function.now) }
 {
@@ -112,7 +117,7 @@ fn calls_fit(function: &TopFunction) -> bool
 }
 
 /// Whether a local function doesn't capture a variable, or the variable is
-/// bound, and not in it.
+/// bound, and not in the function itself.
 fn fits_capturing(
     alloc: Global,
     function: &LocalFunction,

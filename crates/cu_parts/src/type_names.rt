@@ -100,7 +100,8 @@ fn type_is_placed(parts: &LocalParts, data_type: &DataType) -> bool
         && constructors_name_types(parts, data_type.constructors.as_slice())
 }
 
-/// Whether this is so of all of these data types.
+/// Whether the modules and the names of types of all of these data types are
+/// there.
 pub(crate) fn types_are_placed(parts: &LocalParts, types: &[DataType]) -> bool
     ensures { result ≡ list_all (type_is_placed (local_kernel_of parts.now))
         (map type_meaning types.now) }
@@ -120,7 +121,8 @@ fn synonym_is_placed(parts: &LocalParts, synonym: &Synonym) -> bool
     is_module(parts, synonym.module) && names_types(parts, &synonym.body)
 }
 
-/// Whether this is so of all of these synonyms.
+/// Whether the modules and the names of types of all of these synonyms are
+/// there.
 pub(crate) fn synonyms_are_placed(parts: &LocalParts, synonyms: &[Synonym]) -> bool
     ensures { result ≡ list_all (synonym_is_placed (local_kernel_of parts.now))
         (map synonym_meaning synonyms.now) }
@@ -140,7 +142,7 @@ fn mark_is_placed(parts: &LocalParts, mark: &Mark) -> bool
     is_module(parts, mark.module) && signature_names_types(parts, &mark.declared)
 }
 
-/// Whether this is so of all of these marks.
+/// Whether the modules and the names of types of all of these marks are there.
 pub(crate) fn marks_are_placed(parts: &LocalParts, marks: &[Mark]) -> bool
     ensures { result ≡ list_all (mark_is_placed (local_kernel_of parts.now))
         (map mark_meaning marks.now) }

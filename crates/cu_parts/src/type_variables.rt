@@ -7,10 +7,10 @@ ghost use Rattle.cu_kernel.specs.TypesOf.{type_of, types_of};
 
 use cu_kernel::{Constructor, DataType, Synonym, TypeTerm};
 
-/// A constructor has fewer fields than this.
+/// The number below which a constructor's number of fields lies.
 const ARITY_END: usize = u32::MAX as usize;
 
-/// Whether the variables of a type are the first so many.
+/// Whether the type variables of a type are among the first so many.
 #[cycle(parameters)]
 #[tactic(auto, using(cu_kernel::specs::TypesOf::types_of_variants))]
 fn has_parameters(count: u32, t: &TypeTerm) -> bool
@@ -25,7 +25,7 @@ fn has_parameters(count: u32, t: &TypeTerm) -> bool
     }
 }
 
-/// Whether the variables of these types are the first so many.
+/// Whether the type variables of these types are among the first so many.
 #[cycle(parameters)]
 fn all_have_parameters(count: u32, types: &[TypeTerm]) -> bool
     ensures { result ≡ all_have_parameters count (types_of types.now) }
@@ -38,8 +38,8 @@ fn all_have_parameters(count: u32, types: &[TypeTerm]) -> bool
     true
 }
 
-/// Whether a constructor's fields can be counted, and have the variables of a
-/// type with so many parameters.
+/// Whether a constructor's fields can be counted, and their type variables are
+/// the parameters of its type, which has so many.
 #[tactic(auto, using(crate::proofs::TypeLists::listed))]
 fn is_constructor(count: u32, constructor: &Constructor) -> bool
     ensures { result ≡ is_constructor count (constructor_meaning constructor.now) }
@@ -48,7 +48,8 @@ fn is_constructor(count: u32, constructor: &Constructor) -> bool
         && all_have_parameters(count, constructor.fields.as_slice())
 }
 
-/// Whether all of these are such constructors.
+/// Whether all of these constructors are right ones of a type with so many
+/// parameters.
 fn are_constructors(count: u32, constructors: &[Constructor]) -> bool
     ensures { result ≡ list_all (is_constructor count) (map constructor_meaning constructors.now) }
 {
@@ -60,7 +61,7 @@ fn are_constructors(count: u32, constructors: &[Constructor]) -> bool
     true
 }
 
-/// Whether all of these data types have the variables that they declare.
+/// Whether the type variables of all of these data types are their parameters.
 pub(crate) fn are_data_types(types: &[DataType]) -> bool
     ensures { result ≡ list_all is_data_type (map type_meaning types.now) }
 {
@@ -72,7 +73,7 @@ pub(crate) fn are_data_types(types: &[DataType]) -> bool
     true
 }
 
-/// Whether all of these synonyms have the variables that they declare.
+/// Whether the type variables of all of these synonyms are their parameters.
 pub(crate) fn are_synonyms(synonyms: &[Synonym]) -> bool
     ensures { result ≡ list_all is_synonym (map synonym_meaning synonyms.now) }
 {

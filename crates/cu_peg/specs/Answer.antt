@@ -5,7 +5,7 @@ use Rattle.cu_peg.specs.declared.grammar.BadGrammar.TheVariants as answer
 use Rattle.cu_peg.specs.declared.row.Row.{Row}
 use Rattle.cu_peg.specs.WellFormed.{IsFirstBad}
 
--- An answer tells the first bad row. Want of memory says nothing.
+-- An answer tells the first bad row. An allocation failure says nothing.
 abbrev pub TellsBad : List Row → BadGrammar → Type 0
 TellsBad rows (answer.Row r) = IsFirstBad rows r
 TellsBad rows answer.NoMemory = Unit {0}

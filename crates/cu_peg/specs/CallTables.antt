@@ -13,7 +13,7 @@ abbrev pub TellsNullable : List Row → List Bool → Type 0
 TellsNullable rows marks = (r : ℕ) → (marked marks r ≡ true → IsNullable rows r)
     × (IsNullable rows r → marked marks r ≡ true)
 
--- when a row can do so
+-- the condition under which a row can match without taking a token
 abbrev pub nullable_by : Row → Condition
 nullable_by (row.Token c) = record { quantifier = quantifier.Any; numbers = [] }
 nullable_by (row.Sequence ps) = record { quantifier = quantifier.All; numbers = ps }
@@ -25,7 +25,7 @@ nullable_by (row.SeparatedBy p s) = record { quantifier = quantifier.All; number
 nullable_by (row.Ahead p) = record { quantifier = quantifier.All; numbers = [] }
 nullable_by (row.NotAhead p) = record { quantifier = quantifier.All; numbers = [] }
 
--- the front of parts up to the first that takes a token
+-- the parts of a sequence up to the first that takes a token
 abbrev pub called : List Bool → List ℕ → List ℕ
 called nullable [] = []
 called nullable (p ∷ ps) = p ∷ (if marked nullable p then called nullable ps else [])

@@ -28,7 +28,7 @@ spelling_in name_kind.VarOp (kind.VarOp name) = Some name
 spelling_in name_kind.ConOp (kind.ConOp name) = Some name
 spelling_in _ _ = None
 
--- whether a name is this one of those that mean something in some places
+-- whether a name is the one wanted of those that mean something in some places
 abbrev pub is_special : Special → Option Special → Bool
 is_special wanted found = option_map_or (sameb special.the_type wanted) found false
 
@@ -37,13 +37,13 @@ abbrev pub is_digit : ℤ → Bool
 is_digit (pos n) = nat_lt n 10
 is_digit (negsuc n) = false
 
--- the mark that one of the layout stands for
+-- the mark of the text that a mark of the layout stands for
 abbrev pub mark_of : LayoutMark → Mark
 mark_of layout.Open = mark.OpenBrace
 mark_of layout.Close = mark.CloseBrace
 mark_of layout.Separator = mark.Semicolon
 
--- whether a class has a token of a kind
+-- whether a class has tokens of this kind
 abbrev pub has_kind : Class → Kind → Bool
 has_kind (class.Unqualified wanted) token =
     option_map_or (λ name. is_none name.qualifier) (spelling_in wanted token) false

@@ -18,14 +18,15 @@ holds_of marks quantifier.Any numbers = list_any (marked marks) numbers
 abbrev pub holds : List Bool → Condition → Bool
 holds marks condition = holds_of marks condition.quantifier condition.numbers
 
--- A number is not in the set, and its condition holds.
+-- A number isn't in the set yet, and its condition holds of the set.
 pub record MayJoin (conditions : List Condition) (marks : List Bool) (n : ℕ) : Type 0 where
   pub condition : Condition
   pub is : slice_get conditions n ≡ Some condition
   pub held : holds marks condition ≡ true
   pub new : marked marks n ≡ false
 
--- A set comes from another by adding numbers, in this order, that may join one after another.
+-- A set comes from another by adding these numbers in their order, each of which may join when it
+-- is added.
 pub data Derived (conditions : List Condition) (start : List Bool) : List Bool → List ℕ
     → Type 0 where
   begun : Derived conditions start start []

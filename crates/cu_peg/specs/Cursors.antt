@@ -44,7 +44,7 @@ part_at (row.AtLeastOne p) part = Some p
 part_at (row.SeparatedBy p s) part = Some p
 part_at _ part = None
 
--- the parts behind one that leaves some tokens, if there are any
+-- the parts that follow one that leaves some tokens, if there are any
 abbrev pub next_parts : (ℕ → ℕ → Option End) → Row → Cursor → ℕ → Option Cursor
 next_parts cell (row.Sequence ps) c left = if nat_lt (c.part + 1) (length ps)
     then Some (cursor c.row (c.part + 1) left) else None
@@ -63,13 +63,13 @@ form_of cell (row.Token c) n left = form.Leaf (n - left)
 form_of cell (row.Choice ps) n left = form.Chosen (unwrap_or (first_alternative cell ps left) 0)
 form_of cell _ n left = form.Parts
 
--- the row of the first of some parts, and the parts behind it
+-- the row of the first of some parts, and the parts after it
 abbrev pub next_part : (ℕ → ℕ → Option End) → Row → Cursor → Option (ℕ × Option Cursor)
 next_part cell e c =
     option_and_then (λ p. option_map (λ end. (p, next_parts cell e c end.left)) (cell p c.left))
     (part_at e c.part)
 
--- the number of nodes at an end
+-- the number of nodes of the tree that ends here, 0 where there is none
 abbrev pub nodes_at : Option End → ℕ
 nodes_at None = 0
 nodes_at (Some end) = end.nodes

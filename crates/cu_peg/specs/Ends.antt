@@ -18,7 +18,7 @@ last n (suc k) = (n - suc k) ∷ last n k
 abbrev pub capped : ℕ → ℕ
 capped n = min n (2 ^ 64 - 1)
 
--- A row matches where some tokens are left, up to an end.
+-- A row matches where some tokens are left, and this is the end of its tree.
 pub record EndsAt (rows : List Row) (has : Class → ℕ → Bool) (n r left : ℕ)
     (end : End) : Type 0 where
   pub tree : ParseTree ℕ
@@ -26,7 +26,7 @@ pub record EndsAt (rows : List Row) (has : Class → ℕ → Bool) (n r left : �
   pub matched : Matches rows has r (last n left) (last n end.left) tree
   pub counted : end.nodes ≡ capped (size tree)
 
--- What the table says of a row is so.
+-- The end that a table has of a row where some tokens are left is right.
 abbrev pub IsEnd : List Row → (Class → ℕ → Bool) → ℕ → ℕ → ℕ → Option End → Type 0
 IsEnd rows has n r left None = Fails rows has r (last n left)
 IsEnd rows has n r left (Some end) = EndsAt rows has n r left end
@@ -35,7 +35,7 @@ IsEnd rows has n r left (Some end) = EndsAt rows has n r left end
 abbrev pub end_at : List (List (Option End)) → ℕ → ℕ → Option End
 end_at table r left = slice_index_or (slice_index_or table left []) r None
 
--- All that the table says is so.
+-- All ends that a table has are right.
 abbrev pub IsRight : List Row → (Class → ℕ → Bool) → ℕ → List (List (Option End)) → Type 0
 IsRight rows has n table = (left r : ℕ) → left < length table → r < length rows
     → IsEnd rows has n r left (end_at table r left)
@@ -48,13 +48,14 @@ alone left = record { left = left; nodes = 1 }
 abbrev pub with_nodes : ℕ → End → End
 with_nodes nodes end = record { left = end.left; nodes = capped (nodes + end.nodes) }
 
--- the parts of a sequence one after another, behind an end
+-- the end of a sequence's parts, matched one after another from an end on
 abbrev pub sequence_end : (ℕ → ℕ → Option End) → List ℕ → End → Option End
 sequence_end cell [] end = Some end
 sequence_end cell (p ∷ ps) end =
     option_and_then (λ next. sequence_end cell ps (with_nodes end.nodes next)) (cell p end.left)
 
--- the first end, if there is one, or another
+-- the end of an alternative, with a node for the choice, or else the end of the alternatives after
+-- it
 abbrev pub chosen_end : Option End → Option End → Option End
 chosen_end (Some end) other = Some (with_nodes 1 end)
 chosen_end None other = other
@@ -71,7 +72,7 @@ abbrev pub many_end : (ℕ → Option End) → ℕ → Option End → Option End
 many_end again left None = Some (alone left)
 many_end again left (Some end) = option_map (with_nodes end.nodes) (again end.left)
 
--- a part, and the parts behind it, if there are some
+-- the end of a part and of the parts after it, if there are any, as one tree
 abbrev pub joined : End → Option End → End
 joined end None = with_nodes 1 end
 joined end (Some others) = with_nodes end.nodes others

@@ -6,20 +6,20 @@ use Rattle.cu_peg.specs.Matches.{Fails, Matches}
 use Rattle.cu_peg.specs.Parse.{ParseTree}
 use Rattle.cu_peg.specs.WellFormed.{IsClosed, IsWellFormed}
 
--- A row leaves one rest and gives one tree.
+-- A row that matches a text leaves one rest and gives one tree.
 abbrev pub MatchesOnce : {T : Type 0} → (Class → T → Bool) → Type 0
 MatchesOnce {T} has =
     (rows : List Row) (r : ℕ) (text rest other : List T) (tree another : ParseTree T)
     → Matches rows has r text rest tree → Matches rows has r text other another
     → (rest ≡ other) × (tree ≡ another)
 
--- It doesn't match and fail.
+-- No row both matches and fails on a text.
 abbrev pub NeverBoth : {T : Type 0} → (Class → T → Bool) → Type 0
 NeverBoth {T} has =
     (rows : List Row) (r : ℕ) (text rest : List T) (tree : ParseTree T)
     → Matches rows has r text rest tree → ¬ (Fails rows has r text)
 
--- what a row may do on a text
+-- A row matches a text, or fails on it.
 pub data Decided {T : Type 0} (rows : List Row) (has : Class → T → Bool) (r : ℕ)
     (text : List T) : Type 0 where
   match : (rest : List T) (tree : ParseTree T) → Matches rows has r text rest tree

@@ -1,5 +1,5 @@
 -- What the rows of a grammar match: the big-step semantics of parsing expressions (Ford, Parsing
--- expression grammars, 2004), with the trees that they give. A row matches a front of a text and
+-- expression grammars, 2004), with the trees that they give. A row matches a prefix of a text and
 -- leaves a rest, or it fails.
 use Rattle.std.specs.Prelude.{◌≡◌, ℕ, Bool, true, false, zero, suc, List, [], ◌∷◌, Some, slice_get}
 use Rattle.cu_peg.specs.declared.class.Class.{Class}
@@ -8,19 +8,20 @@ use Rattle.cu_peg.specs.declared.row.Row.TheVariants as row
 use Rattle.cu_peg.specs.Parse.{ParseTree, ParseTrees, Leaf, Parts, Chosen, NoTree, MoreTrees, only}
 
 mutual
-  -- The row of a number matches the front of a text.
+  -- Row number r matches a prefix of a text, leaves the rest, and gives the tree.
   pub data Matches {T : Type 0} (rows : List Row) (has : Class → T → Bool) : ℕ → List T → List T
       → ParseTree T → Type 0 where
     matches : (r : ℕ) (e : Row) (text rest : List T) (tree : ParseTree T)
         → slice_get rows r ≡ Some e → RowMatches rows has e text rest tree
         → Matches rows has r text rest tree
 
-  -- It matches no front.
+  -- Row number r matches no prefix of a text.
   pub data Fails {T : Type 0} (rows : List Row) (has : Class → T → Bool) : ℕ → List T → Type 0 where
     fails : (r : ℕ) (e : Row) (text : List T) → slice_get rows r ≡ Some e → RowFails rows has e text
         → Fails rows has r text
 
-  -- A row matches the front of a text, its parts being rows of the table.
+  -- A row matches a prefix of a text, leaves the rest, and gives the tree. Its parts are rows of
+  -- the table.
   pub data RowMatches {T : Type 0} (rows : List Row) (has : Class → T → Bool) : Row → List T
       → List T → ParseTree T → Type 0 where
     token : (c : Class) (x : T) (rest : List T) → has c x ≡ true
@@ -51,7 +52,7 @@ mutual
         → Matches rows has p text after tree
         → RowMatches rows has (row.Many p) after rest (Parts trees)
         → RowMatches rows has (row.AtLeastOne p) text rest (Parts (MoreTrees tree trees))
-    -- the last part: no separator with a part behind it follows
+    -- the last part: no separator with a part after it follows
     last : (p s : ℕ) (text rest : List T) (tree : ParseTree T) → Matches rows has p text rest tree
         → RowFails rows has (row.Sequence (s ∷ p ∷ [])) rest
         → RowMatches rows has (row.SeparatedBy p s) text rest (Parts (only tree))
@@ -65,7 +66,7 @@ mutual
     not_ahead : (p : ℕ) (text : List T) → Fails rows has p text
         → RowMatches rows has (row.NotAhead p) text text (Parts NoTree)
 
-  -- A row matches no front of a text. `?` and `*` never fail.
+  -- A row matches no prefix of a text. `?` and `*` never fail.
   pub data RowFails {T : Type 0} (rows : List Row) (has : Class → T → Bool) : Row → List T
       → Type 0 where
     no_token : (c : Class) → RowFails rows has (row.Token c) []

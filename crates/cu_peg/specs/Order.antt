@@ -10,7 +10,8 @@ pub record IsOrder (rows : List Row) (order : List ℕ) : Type 0 where
   pub behind_calls : (i q : ℕ) → i < length order → Calls rows (slice_index order i) q
       → Contains (take i order) q
 
--- What a grammar keeps.
+-- Rows are a grammar: they are closed and well-formed, and the order has each row after those that
+-- it calls.
 pub record IsGrammar (rows : List Row) (order : List ℕ) : Type 0 where
   pub closed : IsClosed rows
   pub well_formed : IsWellFormed rows

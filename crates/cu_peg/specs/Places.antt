@@ -7,7 +7,8 @@ use Rattle.cu_peg.specs.declared.table.End.{End}
 use Rattle.cu_peg.specs.declared.places.Entry.{Entry}
 use Rattle.cu_peg.specs.Ends.{alone}
 
--- What the table is: how many rows each place has, and the ends of the rows at each place.
+-- What contracts see of a table of ends: how many rows each place has, and the ends of the rows at
+-- each place.
 pub record TableView : Type 0 where
   pub width : ℕ
   pub columns : List (List (Option End))
@@ -16,7 +17,8 @@ pub record TableView : Type 0 where
 abbrev pub unpacked : Entry → Option End
 unpacked e = if e.nodes == 0 then None else Some (record { left = e.left; nodes = e.nodes })
 
--- the end of a row of which nothing is kept where so many tokens are left
+-- the usual end of a row, which isn't kept: a row that always matches takes nothing, and another
+-- doesn't match
 abbrev pub usual : List Bool → ℕ → ℕ → Option End
 usual certain left r = if marked certain r then Some (alone left) else None
 
@@ -45,26 +47,29 @@ abbrev pub span_at : List Entry → List ℕ → ℕ → List Entry
 span_at entries begins k =
     span entries (slice_index_or begins k 0) (slice_index_or begins (suc k) (length entries))
 
--- Places begin one behind another, up to the number of entries.
+-- Places begin one after another among the entries, up to the number of entries.
 abbrev pub Rising : List ℕ → ℕ → Type 0
 Rising [] n = Unit {0}
 Rising (a ∷ []) n = a ≤ n
 Rising (a ∷ b ∷ begins) n = (a ≤ b) × Rising (b ∷ begins) n
 
--- Of a row at a place nothing is kept, since its end is the usual one; or one entry is.
+-- The end of a row at a place is kept: it is the usual one, and no entry was added, or one entry
+-- was added for it.
 abbrev pub KeepsOne : List Bool → ℕ → ℕ → Option End → List Entry → List Entry → Type 0
 KeepsOne certain left r end old new =
     ((new ≡ old) × (end ≡ usual certain left r))
     ⊎ ((e : Entry) × (new ≡ old ++ e ∷ []) × (e.row ≡ r) × (unpacked e ≡ end))
 
--- Behind the entries of other places stand those that keep the ends of all rows at one.
+-- After the entries of other places, entries were added that keep the ends of all rows at one more
+-- place.
 pub record Packs (certain : List Bool) (ends : List (Option End)) (left : ℕ)
     (old entries : List Entry) : Type 0 where
   pub kept : List Entry
   pub behind : entries ≡ old ++ kept
   pub same : column certain left kept ≡ ends
 
--- What a table keeps: where no place is being filled, none is finished.
+-- What a table of ends keeps: its places rise, and where no place is being filled, none is
+-- finished.
 pub record IsTable (certain : List Bool) (entries : List Entry) (begins : List ℕ)
     (filled : Option (List (Option End))) : Type 0 where
   pub rising : Rising begins (length entries)

@@ -10,28 +10,28 @@ use Rattle.cu_peg.specs.Ends.{IsRight}
 use Rattle.cu_peg.specs.Result.{has_at}
 use Rattle.cu_peg.specs.WellFormed.{named}
 
--- The rows that are marked name no others.
+-- The rows that are marked name no rows but marked ones.
 abbrev pub IsClosedSet : List Row → List Bool → Type 0
 IsClosedSet rows marks = (r : ℕ) (e : Row) → marked marks r ≡ true → slice_get rows r ≡ Some e
     → All (λ p. marked marks p ≡ true) (named e)
 
--- A row is among those that are marked, and they name no others.
+-- The start row is marked, and the rows that are marked name no rows but marked ones.
 pub record IsReached (rows : List Row) (start : ℕ) (marks : List Bool) : Type 0 where
   pub start_in : marked marks start ≡ true
   pub closed : IsClosedSet rows marks
 
--- a row, or one that matches nothing in its place
+-- a row that is marked, or in place of another a row that matches nothing
 abbrev pub kept_row : Bool → Row → Row
 kept_row true e = e
 kept_row false e = row.Choice []
 
--- the rows that are marked, and in the place of each other one that matches nothing
+-- the rows that are marked, and in place of each other row one that matches nothing
 abbrev pub kept : List Bool → List Row → List Row
 kept marks [] = []
 kept [] (e ∷ rows) = row.Choice [] ∷ kept [] rows
 kept (mark ∷ marks) (e ∷ rows) = kept_row mark e ∷ kept marks rows
 
--- All that the table says of the rows that a row reaches is so.
+-- All that a table says of the rows that the start row reaches is right.
 pub record IsTableOf (rows : List Row) (start : ℕ) (tokens : List Token)
     (table : List (List (Option End))) : Type 0 where
   pub marks : List Bool
@@ -39,7 +39,8 @@ pub record IsTableOf (rows : List Row) (start : ℕ) (tokens : List Token)
   pub right : (names : List (List ℕ))
       → IsRight (kept marks rows) (has_at (map (lexeme_of names) tokens)) (length tokens) table
 
--- Rows are marked and put on a list of those that are still to be looked at.
+-- Rows were marked, and those that hadn't been were put on the list of rows whose parts are still
+-- to be marked.
 pub record Spreads (marks : List Bool) (pending : List ℕ) (marks' : List Bool)
     (pending' : List ℕ) : Type 0 where
   pub long : length marks' ≡ length marks

@@ -8,7 +8,7 @@ use Rattle.cu_peg.specs.declared.row.Row.{Row}
 use Rattle.cu_peg.specs.Matches.{HasTree}
 use Rattle.cu_peg.specs.Parse.{ParseTree, tree_over}
 
--- this many numbers, in order from one on
+-- this many numbers, counted up from n
 abbrev pub numbers : ℕ → ℕ → List ℕ
 numbers n zero = []
 numbers n (suc k) = n ∷ numbers (suc n) k
@@ -17,8 +17,8 @@ numbers n (suc k) = n ∷ numbers (suc n) k
 abbrev pub has_at : List Lexeme → Class → ℕ → Bool
 has_at text c n = option_map_or (has c) (slice_get text n) false
 
--- A tree over the numbers of a text's tokens is the one that all of them have, and stands for one
--- that the text has.
+-- A tree over the numbers of a text's tokens is the one that the numbers have, and stands for the
+-- one that the text has.
 pub record IsTreeOf (rows : List Row) (start : ℕ) (text : List Lexeme)
     (found : ParseTree ℕ) : Type 0 where
   pub numbered : HasTree rows (has_at text) start (numbers 0 (length text)) found

@@ -1,4 +1,4 @@
--- Trees are read off their nodes from the right end.
+-- Trees of texts, read off their nodes from the right end.
 use Rattle.std.specs.Prelude.{◌≡◌, ℕ, zero, suc, ◌+◌, ◌-◌, ◌≤◌, ◌⊎◌, List, [], ◌∷◌, ◌++◌, refl}
 use Rattle.std.proofs.Common.{arith, ap, sym, ◌∙◌, append_assoc, append-nil, inl, inr}
 use base.Stored.{coded_unit}
@@ -8,24 +8,24 @@ use Rattle.cu_peg.specs.declared.node.Form.TheVariants as form
 use Rattle.cu_peg.specs.declared.node.Node.{Node}
 use Rattle.cu_peg.specs.Parse.{ParseTree, ParseTrees, Leaf, Parts, Chosen, NoTree, MoreTrees, size, sizes, spelled, spelled_all}
 
--- the first trees, as many as have this many nodes (none are left where the nodes spell trees)
+-- the first trees that have this many nodes together (none are left where the nodes spell trees)
 abbrev pub front : ℕ → ParseTrees ℕ → ParseTrees ℕ
 front zero trees = NoTree
 front (suc n) NoTree = NoTree
 front (suc n) (MoreTrees tree trees) = MoreTrees tree (front (suc n - size tree) trees)
 
--- and the others
+-- the trees after the first ones that have this many nodes together
 abbrev pub back : ℕ → ParseTrees ℕ → ParseTrees ℕ
 back zero trees = trees
 back (suc n) NoTree = NoTree
 back (suc n) (MoreTrees tree trees) = back (suc n - size tree) trees
 
--- a choice of the first tree
+-- a list of trees whose first is made the n-th alternative of a choice
 abbrev pub choose : ℕ → ParseTrees ℕ → ParseTrees ℕ
 choose n NoTree = NoTree
 choose n (MoreTrees tree trees) = MoreTrees (Chosen n tree) trees
 
--- what a node makes of the trees behind it
+-- the trees that a node and the trees after it make
 abbrev pub behind : Form → ℕ → ParseTrees ℕ → ParseTrees ℕ
 behind (form.Leaf n) count trees = MoreTrees (Leaf n) trees
 behind form.Parts count trees = MoreTrees (Parts (front (count - 1) trees)) (back (count - 1) trees)
@@ -42,9 +42,9 @@ first_of (MoreTrees tree trees) = tree
 abbrev pub read : List Node → ParseTree ℕ
 read nodes = first_of (read_all nodes)
 
--- That reading gives back what was spelled, which the code of trees needs.
+-- ---- reading the nodes that a tree spells gives the tree, as storing trees as nodes needs
 
--- trees in front of others
+-- the trees of one list and then those of another
 abbrev join : ParseTrees ℕ → ParseTrees ℕ → ParseTrees ℕ
 join NoTree others = others
 join (MoreTrees tree trees) others = MoreTrees tree (join trees others)

@@ -90,7 +90,7 @@ pub record RepeatsNullable (rows : List Row) (r : ℕ) : Type 0 where
   pub is : slice_get rows r ≡ Some repeater
   pub repeats : RowRepeatsNullable rows repeater
 
--- what makes a row bad
+-- A row is bad: it is left recursive, or it repeats what may match without taking a token.
 abbrev pub IsBad : List Row → ℕ → Type 0
 IsBad rows r = IsLeftRecursive rows r ⊎ RepeatsNullable rows r
 

@@ -81,7 +81,7 @@ fn callees(alloc: Global, row: &Row, nullable: &[bool]) -> Result<RowNumbers, Al
     Ok(RowNumbers::new(parts))
 }
 
-/// The front of parts up to the first that takes a token.
+/// The parts of a sequence up to the first that takes a token.
 fn called(alloc: Global, parts: &[u32], nullable: &[bool]) -> Result<Vec<u32>, AllocError>
     ensures { IfOk result (λ found. found.items ≡ called nullable.now parts.now) }
 {
@@ -95,7 +95,7 @@ fn called(alloc: Global, parts: &[u32], nullable: &[bool]) -> Result<Vec<u32>, A
     Ok(front)
 }
 
-/// The first row that may match without end.
+/// The first row that may match without end, if there is one.
 pub fn first_bad(
     alloc: Global,
     rows: &[Row],

@@ -26,7 +26,7 @@ pub enum Class {
     Unqualified(NameKind),
     /// A name of this kind, with a qualifier or without.
     Name(NameKind),
-    /// An unqualified name that means something in some places.
+    /// An unqualified name that has this meaning in some places.
     Special(Special),
     /// A keyword.
     Keyword(Keyword),
@@ -94,7 +94,7 @@ fn is_special(wanted: Special, name: &Name) -> bool
     }
 }
 
-/// The mark that one of the layout stands for.
+/// The mark of the text that a mark of the layout stands for.
 fn mark_of(mark: LayoutMark) -> Mark
     ensures { result ≡ mark_of mark }
 {

@@ -38,7 +38,7 @@ pub fn is_marked(marks: &[bool], number: usize) -> bool
 }
 
 impl Condition {
-    /// The condition on these numbers.
+    /// A condition that asks for all or any of these numbers.
     pub fn new(
         alloc: Global,
         quantifier: Quantifier,

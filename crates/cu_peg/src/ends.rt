@@ -14,8 +14,8 @@ use crate::table::{End, Table};
 use cu_lex::Token;
 use std::alloc::{AllocError, Global};
 
-/// The end of a row where some tokens are left, by those of the rows that it
-/// calls there, and by its own where fewer are left.
+/// The end of a row where some tokens are left. The table has the ends of the
+/// rows that it calls there, and all ends where fewer tokens are left.
 pub fn row_end(
     row: &Row,
     number: usize,
@@ -81,7 +81,7 @@ fn with_nodes(nodes: usize, end: End) -> End
     }
 }
 
-/// A part, and the parts behind it, if there are some.
+/// The end of a part and of the parts after it, if there are any, as one tree.
 fn joined(end: End, others: Option<End>) -> End
     ensures { result ≡ joined end others }
 {
@@ -91,7 +91,7 @@ fn joined(end: End, others: Option<End>) -> End
     }
 }
 
-/// The end of a row behind a separator.
+/// The end of a row that follows a separator.
 fn behind(separator: u32, number: usize, table: &Table, left: usize) -> Option<End>
     ensures { result ≡ option_and_then (λ between. end_at table.now.columns number between.left)
         (end_at table.now.columns separator left) }
@@ -100,7 +100,7 @@ fn behind(separator: u32, number: usize, table: &Table, left: usize) -> Option<E
     table.end(number, between.left)
 }
 
-/// The end of parts one after another.
+/// The end of a sequence's parts, matched one after another.
 fn sequence_end(parts: &[u32], table: &Table, left: usize) -> Option<End>
     ensures { result ≡ sequence_end (end_at table.now.columns) parts.now (alone left) }
 {
@@ -124,7 +124,8 @@ fn choice_end(parts: &[u32], table: &Table, left: usize) -> Option<End>
     None
 }
 
-/// The end of a row, and none where it isn't among those that are asked for.
+/// The end of a row, and none where the row isn't among those that are asked
+/// for.
 fn kept_end(
     row: &Row,
     number: usize,

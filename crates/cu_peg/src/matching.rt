@@ -9,15 +9,15 @@ use crate::{Grammar, Tree};
 use cu_lex::Token;
 use std::alloc::{AllocError, Global};
 
-/// The tree that a row of a grammar gives of a whole list of tokens, if it
-/// has one. Time grows with the number of rows times the number of tokens, and
+/// The tree that a row of a grammar gives of a whole list of tokens, if it has
+/// one. Time grows with the number of rows times the number of tokens, and
 /// memory with how many of the rows that it reaches match at each token, and
 /// with the size of the tree.
 ///
 /// # Errors
 ///
-/// Want of memory; also where the tree has more nodes than memory has room
-/// for.
+/// An allocation failure; also where the tree has more nodes than memory has
+/// room for.
 pub fn matches(
     alloc: Global,
     grammar: &Grammar,

@@ -8,8 +8,8 @@ pub enum Form {
     /// The parts of a sequence, or what is optional, repeated or separated.
     /// Looking ahead has none.
     Parts,
-    /// One of the alternatives of a choice, by its number from 0. Its tree
-    /// follows.
+    /// One of the alternatives of a choice, by its number from 0. The tree of
+    /// the alternative follows.
     Chosen(usize),
 }
 

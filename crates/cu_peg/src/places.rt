@@ -10,7 +10,7 @@ use std::alloc::{AllocError, Global};
 #[derive(Clone, Copy, Debug)]
 pub struct Entry {
     row: u32,
-    /// How many tokens are left behind the end.
+    /// How many tokens are left after the end.
     left: u32,
     /// How many nodes the tree has, and 0 where the row doesn't match.
     nodes: u32,
@@ -61,7 +61,7 @@ fn unpack(entry: Entry) -> Option<End>
     })
 }
 
-/// The end of a row of which nothing is kept: one that always matches takes
+/// The end of a row of which nothing is kept: a row that always matches takes
 /// nothing there, and another doesn't match.
 fn usual(certain: &[bool], row: usize, left: usize) -> Option<End>
     ensures { result ≡ usual certain.now left row }

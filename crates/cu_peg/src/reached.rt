@@ -81,7 +81,8 @@ fn reach_all(
     Ok(())
 }
 
-/// Marks a row. One that wasn't marked is to be looked at.
+/// Marks a row. One that wasn't marked goes on the list of rows whose parts are
+/// still to be marked.
 fn reach(row: usize, marks: &mut Vec<bool>, pending: &mut Vec<usize>) -> Result<(), AllocError>
     requires { row < length marks.old.items }
     ensures spreads { OnOk result

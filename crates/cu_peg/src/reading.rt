@@ -20,11 +20,11 @@ use std::alloc::{AllocError, Global};
 /// there is one at least.
 #[derive(Clone, Copy, Debug)]
 pub struct Cursor {
-    /// The row.
+    /// The number of the row.
     pub row: usize,
     /// The number of the next part, or of the alternative.
     pub part: usize,
-    /// How many tokens are left there.
+    /// How many tokens are left where that part begins.
     pub left: usize,
 }
 
@@ -92,7 +92,7 @@ fn number_at(parts: &[u32], part: usize) -> Option<usize>
     Some(*number as usize)
 }
 
-/// The parts behind the first of some parts, which leaves some tokens, if
+/// The parts that follow the first of some parts, which leaves some tokens, if
 /// there are any.
 fn next_parts(row: &Row, parts: Cursor, table: &Table, left: usize) -> Option<Cursor>
     ensures { result ≡ next_parts (end_at table.now.columns) row.now parts left }
@@ -154,7 +154,7 @@ fn push_parts(pending: &mut Vec<Cursor>, parts: Option<Cursor>) -> Result<(), Al
     Ok(())
 }
 
-/// The row of the first of some parts, and the parts behind it, if there are
+/// The row of the first of some parts, and the parts after it, if there are
 /// any.
 fn next_part(rows: &[Row], table: &Table, parts: Cursor) -> Option<(usize, Option<Cursor>)>
     ensures { (e : Row) → slice_get rows.now parts.row ≡ Some e

@@ -37,23 +37,23 @@ impl RowNumbers {
 /// A row of a grammar: a parsing expression over the numbers of rows.
 #[derive(Debug, Drop)]
 pub enum Row {
-    /// A token of the class.
+    /// Matches one token of the class.
     Token(Class),
-    /// The parts one after another.
+    /// Matches the parts one after another.
     Sequence(RowNumbers),
-    /// The first alternative that matches, whatever follows it.
+    /// Matches as the first alternative that matches does, whatever follows it.
     Choice(RowNumbers),
-    /// The part, where it matches.
+    /// Matches the part, or nothing where the part doesn't match.
     Optional(u32),
-    /// The part as often as it matches.
+    /// Matches the part as often as it matches, maybe never.
     Many(u32),
-    /// The part as often as it matches, which is once at least.
+    /// Matches the part as often as it matches, which is once at least.
     AtLeastOne(u32),
-    /// A part, and then the separator and the part again as often as both
-    /// match. A separator with no part behind it is left.
+    /// Matches a part, and then the separator and the part again as often as
+    /// both match. A separator with no part after it is left.
     SeparatedBy(u32, u32),
-    /// That the part matches here. It takes nothing.
+    /// Takes nothing, and matches where the part matches.
     Ahead(u32),
-    /// That the part doesn't match here. It takes nothing.
+    /// Takes nothing, and matches where the part doesn't match.
     NotAhead(u32),
 }

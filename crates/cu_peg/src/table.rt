@@ -11,10 +11,10 @@ use std::marker::Model;
 /// Where a row matches.
 #[derive(Clone, Copy, Debug)]
 pub struct End {
-    /// How many tokens are left behind it.
+    /// How many tokens are left where the row's match ends.
     pub left: usize,
-    /// How many nodes its tree has; the largest number stands for that many
-    /// or more.
+    /// How many nodes the row's tree has. The largest number stands for that
+    /// many or more.
     pub nodes: usize,
 }
 
@@ -53,7 +53,7 @@ pub struct Table {
     certain: Vec<bool>,
     /// What is kept of the places that are finished.
     entries: Vec<Entry>,
-    /// Where the entries of each of them begin.
+    /// Where the entries of each finished place begin.
     begins: Vec<usize>,
     /// The place that is being filled.
     filled: Option<Column>,
@@ -75,7 +75,7 @@ impl Model for Table {
 }
 
 impl Table {
-    /// A table of no place. Of the rows that are certain nothing is kept where
+    /// A table of no place. Of rows that are `certain` no end is kept where
     /// they match and take nothing.
     pub fn new(alloc: Global, certain: Vec<bool>) -> Self
         ensures { result ≡ record { width = length certain.items; columns = [] } }
@@ -88,7 +88,7 @@ impl Table {
         }
     }
 
-    /// How many places it has.
+    /// How many places the table has.
     pub fn len(&self) -> usize
         ensures { result ≡ length self.now.columns }
     {

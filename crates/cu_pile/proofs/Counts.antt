@@ -59,7 +59,8 @@ past_without c n (m ∷ ms) h = past_first c n m ms (m == n) refl h (past_withou
 past_step : (c word whole rest last : ℕ) → whole ≡ last + rest → word ≤ c + rest → 1 ≤ last + (c - word) → suc word ≤ c + whole
 past_step c word whole rest last a b d = omega arith
 
--- each number below the word stands in the list: those past the count are as many as the word goes beyond it
+-- each number below the word stands in the list: those past the count are as many as the word goes
+-- beyond it
 pub past_bound : (c word : ℕ) (xs : List ℕ) → ((n : ℕ) → times n xs ≡ once_below n word) → word ≤ c + number_past c xs
 past_bound c zero xs all = omega arith
 past_bound c (suc word) xs all =

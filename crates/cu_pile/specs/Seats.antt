@@ -22,7 +22,7 @@ abbrev pub times : ℕ → List ℕ → ℕ
 times n [] = 0
 times n (m ∷ ms) = (if m == n then 1 else 0) + times n ms
 
--- 1 for a number below the word, else 0
+-- how often a number stands among those below the word: once or never
 abbrev pub once_below : ℕ → ℕ → ℕ
 once_below n word = if nat_lt n word then 1 else 0
 
@@ -31,7 +31,7 @@ abbrev pub number_past : ℕ → List ℕ → ℕ
 number_past count [] = 0
 number_past count (m ∷ ms) = (if nat_lt m count then 0 else 1) + number_past count ms
 
--- the list ends with this number
+-- The list ends with this number.
 abbrev pub EndsWith : List ℕ → ℕ → Type 0
 EndsWith drawn n = (front : List ℕ) × (drawn ≡ front ++ n ∷ [])
 
@@ -41,19 +41,19 @@ module _ {I : Type 0} where
   total f [] = 0
   total f (v ∷ views) = (if v.spent then 0 else f v) + total f views
 
-  -- the fact holds of the view of each seat that is not spent
+  -- The fact holds of the view of each seat that is not spent.
   abbrev pub EachSeat : (SeatView I → Type 0) → List (SeatView I) → Type 0
   EachSeat P views =
       (seat : ℕ) (v : SeatView I) → get_elem? views seat ≡ some v → v.spent ≡ false → P v
 
-  -- the items of a table
+  -- the items of the round for which a table is made
   abbrev pub items_of : Start I → List I
   items_of start = start.items.value.items
 
-  -- a seat of a round of these items, which drew nothing yet and holds no slot
+  -- A seat of a round of these items has drawn nothing yet and holds no slot.
   abbrev pub IsFresh : List I → Me (Option I) (SeatView I) → Type 0
   IsFresh items me = me ≡ (seated items [] me.0.workers, [])
 
-  -- what a seat knows
+  -- what a seat knows: its view
   abbrev pub view_of : Seat (Option I) (SeatView I) → SeatView I
   view_of seat = seat.me.0

@@ -1,4 +1,4 @@
-//! A law of the rule.
+//! A law of the rule of a round's table: how large the claim word gets.
 ghost use Rattle.std.specs.Prelude.{◌+◌, ◌≤◌, ℕ, List, Option, length, slice_index};
 ghost use Rattle.atomic_table.specs.Table.{State};
 ghost use Rattle.cu_pile.specs.declared.seat.SeatView.{SeatView};

@@ -49,14 +49,14 @@ impl<I: Drop> Claims<I> {
         Ok((Claims { table, count }, seat))
     }
 
-    /// How many items there are.
+    /// How many items the round has.
     pub fn count(&self) -> u64
         ensures { result ≡ length (items_of self.now.table.shared.key) }
     {
         self.count
     }
 
-    // A second seat, which stands for half of the workers.
+    // Divides the workers of a seat: half of them get a seat of their own.
     pub(crate) fn split(&self, seat: &mut Seat<I>) -> Seat<I>
         requires table { seat.old.table_id ≡ self.now.table.shared.table_id }
         requires fresh { IsFresh (items_of self.now.table.shared.key) seat.old.me }
@@ -72,7 +72,7 @@ impl<I: Drop> Claims<I> {
         self.table.shared.split_seat::<Halves>(seat)
     }
 
-    // The numbers of another seat join those of this one.
+    // Joins another seat to this one, which then has the numbers of both.
     pub(crate) fn join(&self, seat: &mut Seat<I>, other: Seat<I>)
         requires tables { (seat.old.table_id ≡ self.now.table.shared.table_id)
             × (other.table_id ≡ self.now.table.shared.table_id) }
@@ -101,7 +101,7 @@ impl<I: Drop> Claims<I> {
     }
 }
 
-// Drops what is left in a table's slots.
+// Drops what is left in the slots of a closed table.
 fn drop_slots<I: Drop>(mut closed: Closed<Option<I>, Global>)
     requires { IsFull closed.slots }
 {
@@ -113,7 +113,7 @@ fn drop_slots<I: Drop>(mut closed: Closed<Option<I>, Global>)
     closed.free();
 }
 
-// Each item in a slot of its own.
+// The items, each in a slot of its own.
 fn filled<I: Drop>(alloc: Global, items: Vec<I>) -> Result<Vec<Option<I>>, AllocError>
     ensures { IfOk result (λ slots. slots.items ≡ map (λ item. Some item) items.items) }
 {

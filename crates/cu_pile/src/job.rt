@@ -9,10 +9,10 @@ pub trait Job {
 
     type Out: Send + Drop;
 
-    /// Which items it may be given.
+    /// The items that the job may be given.
     ghost accepts: { Self → Self.In → Type 0 };
 
-    /// What it promises of an item: the outcomes that the item may have.
+    /// What the job promises of an item: the outcomes that the item may have.
     ghost promises: { Self → Self.In → Self.Out → Type 0 };
 
     fn run(&self, item: Self::In) -> Result<Self::Out, AllocError>

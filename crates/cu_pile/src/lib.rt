@@ -1,3 +1,5 @@
+//! A round's workers: a job over each item of a list, where workers that run
+//! side by side draw the items, each once.
 #![tactic(auto)]
 
 mod bound;

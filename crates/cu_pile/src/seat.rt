@@ -3,7 +3,8 @@ use atomic_table::{Join, Play, Split, TableRule};
 use std::collections::LinkedList;
 use std::snapshot::Snapshot;
 
-/// What a seat knows. It exists in proofs alone: no value of it is made.
+/// The view of a seat: what it knows. It exists in proofs alone; no value of it
+/// is made.
 pub struct SeatView<I> {
     /// The items of the round.
     pub items: LinkedList<I>,
@@ -11,7 +12,7 @@ pub struct SeatView<I> {
     pub drawn: LinkedList<u64>,
     /// How many workers the seat stands for.
     pub workers: u32,
-    /// The seat was joined to another one.
+    /// Whether the seat was joined to another one.
     pub spent: bool,
 }
 
@@ -40,7 +41,7 @@ impl<I> TableRule<Option<I>, SeatView<I>, Start<I>> for ClaimRule {
 /// A seat at a round's table.
 pub type Seat<I> = atomic_table::Seat<Option<I>, SeatView<I>>;
 
-// A draw of a number.
+// The step in which a worker draws a number.
 pub(crate) struct Draw;
 
 impl<I> Play<Option<I>, SeatView<I>> for Draw {
@@ -49,7 +50,7 @@ impl<I> Play<Option<I>, SeatView<I>> for Draw {
     ghost then = { Draws };
 }
 
-// The workers that a seat stands for, divided between two seats.
+// The step in which the workers of a seat are divided between two seats.
 pub(crate) struct Halves;
 
 impl<I> Split<SeatView<I>> for Halves {
@@ -61,7 +62,8 @@ impl<I> Split<SeatView<I>> for Halves {
     ghost right = { λ v. seated v.items [] (v.workers / 2) };
 }
 
-// The numbers that two seats drew, one list after the other.
+// The step in which the numbers of two seats are joined, one list after the
+// other.
 pub(crate) struct Both;
 
 impl<I> Join<SeatView<I>> for Both {

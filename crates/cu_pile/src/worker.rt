@@ -110,8 +110,8 @@ pub fn work<J: Job, G: Gate>(
     outcomes
 }
 
-// The outcomes with that of one item more. Where memory ran out before, the
-// item is dropped.
+// The outcomes with that of one item more. Once memory ran out, the item is
+// dropped.
 fn with_outcome<J: Job>(
     outcomes: Result<Vec<(u64, J::Out)>, AllocError>,
     number: u64,

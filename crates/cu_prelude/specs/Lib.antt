@@ -1,1 +1,2 @@
+-- The texts of the modules that are built in.
 pub mod BuiltIn

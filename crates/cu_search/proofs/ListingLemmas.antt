@@ -78,7 +78,7 @@ left-goes_on s within none = left-is s within ∙ ap (λ end. after_lines (round
 pub left-ends : (s : Standing) (end : End) → s.round ≤ s.limits.rounds → end_at s ≡ Some end → left_of s ≡ after_lines (round_at s).lines (only_end end)
 left-ends s end within some = left-is s within ∙ ap (λ end. after_lines (round_at s).lines (unless_ended end (left_of (next_of s)))) some
 
--- ** Bytes
+-- ---- bytes
 
 bytes-after_lines : (notation : Notation) (lines : List Line) (listing : Listing)
     → listing_bytes notation (after_lines lines listing) ≡ lines_bytes notation lines ++ listing_bytes notation listing
@@ -98,7 +98,7 @@ bytes-ends s end within some =
     ∙ bytes-after_lines s.notation (round_at s).lines (only_end end)
     ∙ ap (λ bytes. lines_bytes s.notation (round_at s).lines ++ bytes) (bytes-only_end s.notation end)
 
--- a front of the round's lines is a front of what is left
+-- a prefix of the round's lines is a prefix of what is left
 pub lines-front : (s : Standing) (a b : Option (List ℕ)) → s.round ≤ s.limits.rounds → AddsFront a b (lines_bytes s.notation (round_at s).lines)
     → AddsFront a b (listing_bytes s.notation (left_of s))
 lines-front s a b within h =
@@ -106,7 +106,7 @@ lines-front s a b within h =
     let is = ap (listing_bytes s.notation) (left-is s within) ∙ bytes-after_lines s.notation (round_at s).lines rest in
     subst (AddsFront a b) (sym is) (part_front a b (lines_bytes s.notation (round_at s).lines) (listing_bytes s.notation rest) h)
 
--- the lines and the line of the end were written, or a front of the latter
+-- the lines and the line of the end were written, or a prefix of the latter
 pub end-written : (s : Standing) (end : End) (a b c : Option (List ℕ)) → s.round ≤ s.limits.rounds → end_at s ≡ Some end
     → Adds a b (lines_bytes s.notation (round_at s).lines) → Adds b c (end_text end) → Adds a c (listing_bytes s.notation (left_of s))
 end-written s end a b c within some h k =
@@ -141,7 +141,7 @@ listing-goes_on first s after a b c is left h k =
       end = h.end ∙ ap (λ listing. listing.end) left;
     }
 
--- ** The next round
+-- ---- the next round
 
 if-None : (b : Bool) (end : End) (rest : Option End) → (if b then Some end else rest) ≡ None → (b ≡ false) × (rest ≡ None)
 if-None true end rest h = let no : ⊥ = cc in absurd no

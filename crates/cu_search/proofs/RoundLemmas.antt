@@ -40,7 +40,7 @@ pub round_of-nil : (d : ℕ) (limit : Option ℕ) (tally : Tally) → round_of d
 unfolding round_of
 round_of-nil d limit tally = refl
 
--- a front of a line, as that of a list of one line
+-- a prefix of a line, as that of a list of one line
 pub one_line_front : (notation : Notation) (a b : Option (List ℕ)) (line : Line) → AddsFront a b (line_text notation line) → AddsFront a b (lines_bytes notation (line ∷ []))
 one_line_front notation a b line h = subst (AddsFront a b) (sym (append-nil (line_text notation line))) h
 
@@ -98,7 +98,7 @@ module _ (notation : Notation) where
         end_is = sym (h.end ∙ ap (λ round. round.end) same);
       }
 
-  -- a front of a part was written
+  -- a prefix of a part was written
   round_front : (a b c : Option (List ℕ)) (whole part : Round) (others : Tally → Round) (end : Option End) → part.end ≡ end
       → RoundLeft a b whole (then_round part others) → AddsFront b c (bytes_of part.lines) → AddsFront a c (bytes_of whole.lines)
   round_front a b c whole part others None is h k =

@@ -1,6 +1,14 @@
+-- In the order in which to read them.
+
+-- The text of a listing.
 pub mod Lines
+-- Where a search stands between two rounds.
 pub mod Standing
+-- What was written to a sink.
 pub mod Written
+-- What a round does to a search and to its output.
 pub mod Rounds
+-- Where searches of the code stand.
 pub mod Stands
+-- What the lines of a listing come to.
 pub mod Totals

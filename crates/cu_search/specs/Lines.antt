@@ -12,31 +12,32 @@ use Rattle.cu_machine.specs.declared.Waited.TheVariants.{Named, Other}
 use Rattle.cu_machine.specs.Listing.{Answered, Line, Listing, Waiting}
 use Rattle.cu_values.specs.Display.{Labels, display, variable_text}
 
--- what a listing calls things
+-- the names that a listing uses
 pub record Notation : Type 0 where
-  -- the program's entities, in values
+  -- what the program calls its entities, in values
   pub labels : Labels
-  -- the goal's variables, in declared order
+  -- the names of the goal's variables, in declared order
   pub variables : List (List ℕ)
 
--- what stands before a line of a round
+-- what begins a line of a round: `[d] `
 abbrev pub round_mark : ℕ → List ℕ
 round_mark d = codes "[" ++ (decimal d ++ codes "] ")
 
--- ** Answers
+-- ---- answers
 
--- a goal variable and what it is bound to
+-- a goal variable with its value: `x=VALUE`
 abbrev pub binding_text : Labels → List ℕ → Value → List ℕ
 binding_text labels name value = name ++ (codes "=" ++ display labels value)
 
--- the variables after the first: `, y=VALUE`
+-- the goal variables after the first one, with their values: `, y=VALUE`
 abbrev pub further_bindings : Labels → List (List ℕ) → List Value → List ℕ
 further_bindings labels [] values = []
 further_bindings labels (name ∷ names) [] = []
 further_bindings labels (name ∷ names) (value ∷ values) =
     codes ", " ++ (binding_text labels name value ++ further_bindings labels names values)
 
--- all of them: `{x=VALUE, y=VALUE} `, and nothing where the goal has no variables
+-- all goal variables with their values: `{x=VALUE, y=VALUE} `, and nothing where the goal has no
+-- variables
 abbrev pub bindings_text : Labels → List (List ℕ) → List Value → List ℕ
 bindings_text labels [] values = []
 bindings_text labels (name ∷ names) [] = []
@@ -44,28 +45,28 @@ bindings_text labels (name ∷ names) (value ∷ values) =
     codes "{" ++ (binding_text labels name value
     ++ (further_bindings labels names values ++ codes "} "))
 
--- ** Waits
+-- ---- waits
 
--- a variable that is waited for: a goal variable by its name, another one by its number
+-- a variable that is waited for: a goal variable by its name, another variable by its number
 abbrev pub waited_text : List (List ℕ) → Waited → List ℕ
 waited_text variables (Named k) = slice_index_or variables k []
 waited_text variables (Other n) = variable_text n
 
--- the variables after the first
+-- the variables that are waited for after the first one, each after a comma
 abbrev pub further_waits : List (List ℕ) → List Waited → List ℕ
 further_waits variables [] = []
 further_waits variables (name ∷ names) =
     codes ", " ++ (waited_text variables name ++ further_waits variables names)
 
--- what a branch waits for
+-- what a branch waits for, in words
 abbrev pub waits_text : List (List ℕ) → List Waited → List ℕ
 waits_text variables [] = codes "waits inside a set function"
 waits_text variables (name ∷ names) =
     codes "waits on " ++ (waited_text variables name ++ further_waits variables names)
 
--- ** Lines
+-- ---- lines
 
--- the line of an answer, and that of a branch that waits
+-- the line of an answer, or of a branch that waits
 abbrev pub line_text : Notation → Line → List ℕ
 line_text notation (Answered d reading) =
     round_mark d ++ (bindings_text notation.labels notation.variables reading.bindings
@@ -73,17 +74,18 @@ line_text notation (Answered d reading) =
 line_text notation (Waiting d names) =
     round_mark d ++ (waits_text notation.variables names ++ codes "\n")
 
+-- why a search stopped, in words
 abbrev pub stop_text : Stop → List ℕ
 stop_text (Overflow operation m n) = codes "overflow"
 stop_text (TooLarge counted) = codes "too large"
 stop_text (TooWide counted) = codes "too wide"
 
--- how many branches wait, where there are some
+-- how many branches wait, in words, where there are some
 abbrev pub floundered_text : ℕ → List ℕ
 floundered_text zero = []
 floundered_text (suc k) = codes "; " ++ (decimal (suc k) ++ codes " floundered")
 
--- the last line
+-- the last line of a listing, which says how it ends
 abbrev pub end_text : End → List ℕ
 end_text (NoMore waits) = codes "no more" ++ (floundered_text waits ++ codes "\n")
 end_text (Rounds d count) = codes "stopped at round "
@@ -96,13 +98,14 @@ abbrev pub line_texts : Notation → List Line → List (List ℕ)
 line_texts notation [] = []
 line_texts notation (line ∷ lines) = line_text notation line ∷ line_texts notation lines
 
--- all pieces of a listing
+-- all lines of a listing, the last one included, each a piece of its own
 abbrev pub pieces : Notation → Listing → List (List ℕ)
 pieces notation listing = line_texts notation listing.lines ++ end_text listing.end ∷ []
 
--- the bytes of lines, and those of a listing
+-- the bytes of the lines of answers and waiting branches
 abbrev pub lines_bytes : Notation → List Line → List ℕ
 lines_bytes notation lines = concat (line_texts notation lines)
 
+-- the bytes of a whole listing
 abbrev pub listing_bytes : Notation → Listing → List ℕ
 listing_bytes notation listing = concat (pieces notation listing)

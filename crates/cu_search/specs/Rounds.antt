@@ -1,4 +1,4 @@
--- What a round does to a search and to its output.
+-- What a round does to a search and to its output, by what it comes to.
 use Rattle.std.specs.Prelude.{◌≡◌, ℕ, List, Option, Some, None, true, Result, Ok, Err}
 use Rattle.cu_machine.specs.Listing.{after_lines}
 use Rattle.cu_search.specs.declared.fault.SearchFault.{SearchFault}
@@ -8,9 +8,10 @@ use Rattle.cu_search.specs.Lines.{lines_bytes, listing_bytes}
 use Rattle.cu_search.specs.Standing.{IsGoing, Standing, end_at, left_of, next_of, round_at}
 use Rattle.cu_search.specs.Written.{Adds, AddsFront}
 
--- Where the search goes on, it stands before the next round, and the lines of this one and what is
--- left then are what was left before. It ends exactly where the listing ends with this round, with
--- the listing's end; then, or where it broke off, it has ended.
+-- The round leaves the new search. Where the search goes on, it stands before the next round, and
+-- the lines of this round with what is left of the listing then are what was left before. It ends
+-- exactly where the listing ends with this round, with the listing's end. Where it ended or broke
+-- off, no round follows.
 abbrev pub Leaves : {E : Type 0} → Result Round E → Standing → Standing → Type 0
 Leaves (Ok Going) old new =
     (end_at old ≡ None) × (new ≡ next_of old) × IsGoing new
@@ -19,8 +20,8 @@ Leaves (Ok (Ended end)) old new = (end_at old ≡ Some end) × (end ≡ (left_of
     × (new.ended ≡ true)
 Leaves (Err fault) old new = new.ended ≡ true
 
--- The lines of this round were written, or all that was left with the line of the end, or a front
--- of that.
+-- What the round wrote. Where the search goes on, these are the lines of this round; where the
+-- listing ended, all that was left of it; and where the search broke off, a prefix of that.
 abbrev pub Writes : Result Round SearchFault → Standing → Option (List ℕ) → Option (List ℕ) → Type 0
 Writes (Ok Going) old before after =
     Adds before after (lines_bytes old.notation (round_at old).lines)

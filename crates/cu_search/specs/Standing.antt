@@ -1,4 +1,4 @@
--- What a search stands for, and what it lists from there on.
+-- Where a search stands between two rounds, and what it lists from there on.
 use Rattle.std.specs.Prelude.{◌≡◌, ℕ, ◌+◌, ◌-◌, ◌≤◌, List, [], ◌∷◌, Bool, false, Option, Some, None, if◌then◌else◌, length, map, flat_map, nat_eq, nat_lt}
 use Rattle.std.specs.List.{All}
 use Rattle.std.specs.Option.{option_or}
@@ -16,12 +16,12 @@ use Rattle.cu_machine.specs.State.{State, start_of}
 use Rattle.cu_machine.specs.Validity.{IsValid}
 use Rattle.cu_search.specs.Lines.{Notation}
 
--- a search before a round
+-- a search between two rounds
 pub record Standing : Type 0 where
   pub code : Code
   pub notation : Notation
   pub limits : SearchLimits
-  -- the next round
+  -- the number of the next round
   pub round : ℕ
   -- how many answers and waiting branches were listed so far
   pub tally : Tally
@@ -30,7 +30,7 @@ pub record Standing : Type 0 where
   -- whether the listing ended or broke off
   pub ended : Bool
 
--- before the first round of a goal's search
+-- a goal's search before its first round
 abbrev pub opened : Code → Notation → SearchLimits → FunId → Standing
 opened code notation limits goal = record {
   code = code;
@@ -42,11 +42,11 @@ opened code notation limits goal = record {
   ended = false;
 }
 
--- what is still to be listed
+-- what a search is still to list
 abbrev pub left_of : Standing → Listing
 left_of s = rounds (s.limits.rounds - s.round) s.code s.limits s.round s.tally s.level
 
--- what becomes of the level's states
+-- what becomes of the states of the next round's level
 abbrev pub outcomes_of : Standing → List Next
 outcomes_of s = map (run s.limits.stride s.code s.limits.step) s.level
 
@@ -55,7 +55,7 @@ outcomes_of s = map (run s.limits.stride s.code s.limits.step) s.level
 abbrev pub round_at : Standing → Round
 round_at s = round_of s.round s.limits.answers s.tally (outcomes_of s)
 
--- the level after it
+-- the level after the next round
 abbrev pub level_after : Standing → List State
 level_after s = flat_map go_list (outcomes_of s)
 
@@ -74,7 +74,7 @@ end_at s =
     option_or (round_at s).end
     (end_after s.limits s.round (round_at s).tally.waits (length (level_after s)))
 
--- after the next round, where the listing doesn't end with it
+-- a search after its next round, where the listing doesn't end with that
 abbrev pub next_of : Standing → Standing
 next_of s = record {
   code = s.code;
@@ -90,7 +90,8 @@ next_of s = record {
 abbrev pub widest : ℕ
 widest = 1048576
 
--- A search whose next round may be run. The limit on the width is in its range, and so levels are.
+-- The next round of the search may be run. The limit on the width is in its range, and so levels
+-- are.
 pub record IsGoing (s : Standing) : Type 0 where
   pub going : s.ended ≡ false
   pub within : s.round ≤ s.limits.rounds

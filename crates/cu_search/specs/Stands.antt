@@ -1,4 +1,5 @@
--- What searches stand for, however their graphs are kept: `content` says what a store's nodes are.
+-- Where searches of the code stand, however their graphs are kept: `content` says which nodes a
+-- store has.
 use Rattle.std.specs.Prelude.{map}
 use Rattle.cu_machine.specs.Graph.{Graph}
 use Rattle.cu_names.specs.Texts.{text_of}
@@ -9,13 +10,14 @@ use Rattle.cu_search.specs.declared.wording.Wording.{Wording}
 use Rattle.cu_search.specs.Lines.{Notation}
 use Rattle.cu_search.specs.Standing.{Standing}
 
--- what a listing calls things, by a program, its table of names and a goal
+-- the names that a listing uses, by a program, its table of names and a goal
 abbrev pub notation_of : Wording → Notation
 notation_of wording = record {
   labels = labels_of wording.names.now wording.kernel.now;
   variables = map (text_of wording.names.now) wording.goal.now.names.items;
 }
 
+-- where a search of the code stands
 abbrev pub standing_of : {S : Type 0} → (S → Graph) → Search S → Standing
 standing_of content search = record {
   code = search.program.now;

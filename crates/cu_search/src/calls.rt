@@ -1,10 +1,10 @@
-//! Closures as the jobs of a round.
+//! Closures as the job of a round's workers.
 
 use cu_pile::Job;
 use std::alloc::AllocError;
 use std::marker::PhantomData;
 
-/// The calls of a closure on the items of a round.
+/// The job that calls a closure on the items of a round.
 #[derive(Drop)]
 pub(crate) struct Calls<F, I, O> {
     pub(crate) call: F,

@@ -17,12 +17,12 @@ use cu_io::Sink;
 use cu_machine::{End, Waited};
 use cu_step::{Outcome, Reading};
 
-/// What the lines of a round have in common.
+/// What all lines of a round have in common.
 #[derive(Clone, Copy)]
 pub(crate) struct Turn<'p> {
-    /// The round.
+    /// The number of the round.
     pub(crate) round: u64,
-    /// The last answer that is wanted, where there is one.
+    /// The number of the last answer that is wanted, where there is one.
     pub(crate) limit: Option<u64>,
     pub(crate) wording: Wording<'p>,
 }

@@ -14,8 +14,8 @@ use std::alloc::{AllocError, Global};
 /// The length in bytes of the lines for which a page takes room.
 const LINE: usize = 4096;
 
-/// A line, and what displaying its values takes memory for. Both are kept from
-/// one line to the next.
+/// A line that is being written, and the memory that displaying its values
+/// takes. Both are kept from one line to the next.
 #[derive(Drop)]
 pub(crate) struct Page {
     pub(crate) line: Vec<u8>,

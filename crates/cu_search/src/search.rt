@@ -31,7 +31,7 @@ use std::thread::Threads;
 pub enum Round {
     /// The search goes on with the next round.
     Going,
-    /// The listing ended so.
+    /// The listing ended, in this way.
     Ended(End),
 }
 
@@ -199,7 +199,7 @@ pub(crate) fn ending(limits: &SearchLimits, round: u64, waits: u64, count: u64) 
     }
 }
 
-/// Writes the last line of a listing that ends so.
+/// Writes the last line of a listing with this end.
 fn write_end<K: Sink>(page: &mut Page, end: End, sink: &mut K) -> Result<(), SearchFault>
     ensures whole { OnOk result (Adds (K.written sink.old) (K.written sink.new) (end_text end)) }
     ensures front { OnErr result
@@ -210,7 +210,7 @@ fn write_end<K: Sink>(page: &mut Page, end: End, sink: &mut K) -> Result<(), Sea
     page.write(sink)
 }
 
-/// Writes the last line of a listing that ends so, with nothing before it.
+/// Writes a listing that has no other line than the last one, with this end.
 pub fn write_last_line<K: Sink>(alloc: Global, end: End, sink: &mut K) -> Result<(), SearchFault>
     ensures whole { OnOk result (Adds (K.written sink.old) (K.written sink.new) (end_text end)) }
     ensures front { OnErr result

@@ -21,7 +21,7 @@ impl Model for Tally {
 }
 
 impl Tally {
-    /// Nothing was listed.
+    /// The count before anything is listed.
     pub(crate) fn new() -> Tally
         ensures { result ≡ record { answers = 0; waits = 0 } }
     {
@@ -31,14 +31,14 @@ impl Tally {
         }
     }
 
-    /// The number of answers.
+    /// How many answers were listed.
     pub(crate) fn answers(&self) -> u64
         ensures { result ≡ self.now.answers }
     {
         self.answers
     }
 
-    /// The number of waiting branches.
+    /// How many waiting branches were listed.
     pub(crate) fn waits(&self) -> u64
         ensures { result ≡ self.now.waits }
     {

@@ -10,7 +10,7 @@ use cu_values::{Cell, Value};
 use std::alloc::AllocError;
 
 /// How many lines a listing has before its last one, and the sum of the numbers
-/// of one to ten digits that stand alone behind the round in such a line.
+/// of one to ten digits that stand alone after the round in such a line.
 #[derive(Clone, Copy, Debug, PartialEq, Eq)]
 pub struct Totals {
     pub lines: u64,
@@ -18,7 +18,7 @@ pub struct Totals {
 }
 
 impl Totals {
-    /// No lines.
+    /// What no lines come to.
     pub(crate) fn new() -> Totals
         ensures { result ≡ no_lines }
     {
@@ -26,7 +26,7 @@ impl Totals {
     }
 
     /// Counts the line of an answer. A sum that left 128 bits would count as
-    /// want of memory; so many lines don't fit into any memory.
+    /// an allocation failure; so many lines don't fit into any memory.
     pub(crate) fn add_answer(&mut self, reading: &Reading) -> Result<(), AllocError>
         ensures { OnOk result (self.new ≡ and_answer self.old (reading_of reading.now)) }
     {
@@ -55,7 +55,7 @@ fn addend(reading: &Reading) -> i128
     }
 }
 
-/// What a value adds.
+/// What a value that stands alone in its line adds to the sum.
 fn value_addend(value: &Value) -> i128
     ensures { result ≡ spec.value_addend value.now }
 {
@@ -65,7 +65,7 @@ fn value_addend(value: &Value) -> i128
     }
 }
 
-/// What a number adds.
+/// What a number adds to the sum.
 fn number_addend(number: i128) -> i128
     ensures { result ≡ spec.number_addend number }
 {

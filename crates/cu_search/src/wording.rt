@@ -1,4 +1,4 @@
-//! What a listing calls things.
+//! The names that a listing uses.
 ghost use Rattle.std.specs.Prelude.{◌≡◌, [], slice_index_or};
 ghost use Rattle.cu_names.specs.Texts.{text_of};
 ghost use Rattle.cu_search.specs.Stands.{notation_of};

@@ -16,7 +16,7 @@ use Rattle.cu_sets.specs.declared.level.Ending.TheVariants as ending
 use Rattle.cu_sets.specs.Levels.{Level, before, ended}
 use Rattle.cu_sets.specs.Nesting.{deepest, nesting}
 
--- ** What becomes of one branch
+-- ---- what becomes of one branch
 
 both_lists : (vs ws : List Value) (ss ts : List State) → vs ≡ ws → ss ≡ ts → On vs ss ≡ On ws ts
 both_lists vs ws ss ts same alike = rw (same, alike) refl
@@ -57,14 +57,15 @@ module _ (a b : Level) (event : Next) where
 pub blocked_answer : (reading : Reading) → is_ground reading.value ≡ false → (others : LevelEvent) → with_outcome (Answer reading) others ≡ Blocked
 blocked_answer reading ground others = ap (λ (t : Bool). if t then with_found reading.value others else Blocked) ground
 
--- ** A whole level
+-- ---- a whole level
 
 before_ended : (a : Level) (e : Ending) → before a (ended e) ≡ ended e
 before_ended a ending.Blocked = refl
 before_ended a (ending.Halted stop) = refl
 
 module _ {B : Type 0} (state : B → State) (program : Code) (limits : Limits) where
-  -- what became of the branches so far, and what becomes of those that are left, is what becomes of all
+  -- what became of the branches so far, and what becomes of those that are left, is what becomes of
+  -- all
   pub record Steps (a : Level) (left : List B) (all : List B) : Type 0 where
     pub event : before a (stepped program limits (states_of (map state left))) ≡ stepped program limits (states_of (map state all))
     pub valid : All (λ branch. IsValid program (state branch)) left
@@ -139,7 +140,7 @@ module _ {B : Type 0} (state : B → State) (program : Code) (limits : Limits) w
   level_valid [] valid = λ k d below. let no : ⊥ = omega arith in absurd no
   level_valid (branch ∷ branches) valid = one_more_valid branch branches valid.0 (level_valid branches valid.1)
 
--- ** A branch in which a search runs
+-- ---- a branch in which a search runs
 
 module _ (program : Code) (limits : Limits) (graph : Graph) (root : ℕ) (goals : List ℕ) (id : ℕ) (found : List Value) where
   pub running_valid : (level : States) → IsValid program (Branch graph root goals (Running id found level)) → AllValid program level
@@ -174,7 +175,7 @@ module _ (program : Code) (limits : Limits) (graph : Graph) (root : ℕ) (goals 
       becomes ∙ ap (after_level limits graph root goals id found) is
       ∙ sym (running_small (states_of (map state (branch ∷ branches))) within)
 
-  -- ** After a level
+  -- ---- after a level
 
   pub too_wide : (values : List Value) (states : List State) (n : ℕ) (event : Next) → n ≡ length states → limits.width < n → event ≡ Stops (TooWide n)
       → event ≡ after_level limits graph root goals id found (On values states)
@@ -190,7 +191,7 @@ module _ (program : Code) (limits : Limits) (graph : Graph) (root : ℕ) (goals 
       ∙ ap (λ (l : States). Go (Branch graph root goals (Running id (found ++ values) l) ∷ [])) same
       ∙ sym (ap (λ (b : Bool). if b then Stops (TooWide (length states)) else Go (Branch graph root goals (Running id (found ++ values) (states_of states)) ∷ [])) e)
 
-  -- ** The end of a search
+  -- ---- the end of a search
 
   pub end_large : (after whole : Graph) (event : Next) → after ≡ whole → is_above limits (length after) ≡ true → event ≡ too_large limits
       → event ≡ unless_one_is_large limits (Branch whole root goals Idle ∷ [])
@@ -210,7 +211,7 @@ module _ (program : Code) (limits : Limits) (graph : Graph) (root : ℕ) (goals 
 pub nested : (graph : Graph) (root : ℕ) (goals : List ℕ) (id : ℕ) (found : List Value) (level : States) → nesting (Branch graph root goals (Running id found level)) ≡ deepest level + 1
 nested graph root goals id found level = refl
 
--- ** What calls answer
+-- ---- what calls answer
 
 pub empty_level : (n m : ℕ) → n ≡ m → (b : Bool) → b ≡ (n == 0) → b ≡ true → m ≡ 0
 empty_level n m same b is so =

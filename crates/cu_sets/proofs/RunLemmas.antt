@@ -14,7 +14,7 @@ use Rattle.cu_step.specs.declared.Outcome.{Outcome}
 use Rattle.cu_step.specs.declared.Outcome.TheVariants as outcome
 use Rattle.cu_step.specs.Outcome.{branches_of, next_of, state_of}
 
--- ** Whether one branch follows
+-- ---- whether one branch follows
 
 pub none_alone : {S : Type 0} (content : S → Graph) (branches : List (Branch S)) → (length branches ≡ 1 → ⊥) → only_state (Go (map (state_of content) branches)) ≡ None
 none_alone content [] other = refl
@@ -34,7 +34,7 @@ one_follows content (outcome.Go branches) branch is = ap (λ (bs : List (Branch 
 one_follows content (outcome.Inner inner) branch is = ap (λ (bs : List (Branch _)). Go (map (state_of content) bs)) is
 one_follows content _ branch is = let no : ⊥ = cc in absurd no
 
--- ** The run
+-- ---- the run
 
 -- so many steps that are left give what all give
 pub record Runs (program : Code) (limits : Limits) (start : State) (steps : ℕ) (state : State) (more : ℕ) : Type 0 where

@@ -1,4 +1,4 @@
--- The end of a search, by the built-in entities of its program.
+-- The end of a search for all values, by the built-in entities of its program.
 use Rattle.std.specs.Prelude.{List, ℕ, length, None, Some}
 use Rattle.cu_calculus.specs.declared.builtin.Special.{Special}
 use Rattle.cu_calculus.specs.Gives.{listed}
@@ -9,8 +9,8 @@ use Rattle.cu_machine.specs.Graph.{Graph, put, stuck}
 use Rattle.cu_machine.specs.Sort.{sorted}
 use Rattle.cu_machine.specs.Spell.{push_value}
 
--- the graph in which the values that were found stand at a place, as the definition of a step has
--- it
+-- the graph in which the values that were found stand in place of the call `id`, as the definition
+-- of a step has it
 abbrev pub delivered_by : Special → Graph → ℕ → List Value → Graph
 delivered_by special graph id found = elim special.values [
   | Some c ↦ written graph id (push_value (length graph)

@@ -1,4 +1,4 @@
--- What branches of a level became, before what the others become.
+-- What became of the branches of a level, from left to right.
 use Rattle.std.specs.Prelude.{List, ◌++◌, map}
 use Rattle.cu_calculus.specs.Value.{Value}
 use Rattle.cu_machine.specs.Graph.{Graph}
@@ -17,16 +17,18 @@ pub record Level : Type 0 where
   pub values : List Value
   pub states : List State
 
+-- what a level of the code has gathered
 abbrev pub level_of : {S : Type 0} → (S → Graph) → code.Level S → Level
 level_of content level =
     record { values = level.values.items; states = map (state_of content) level.branches.items }
 
+-- what became of a level whose first branches gave this, and whose other branches come to `event`
 abbrev pub before : Level → LevelEvent → LevelEvent
 before level (On values states) = On (level.values ++ values) (level.states ++ states)
 before level Blocked = Blocked
 before level (Halts stop) = Halts stop
 
--- what ends the search
+-- what became of a level that ended the search
 abbrev pub ended : Ending → LevelEvent
 ended ending.Blocked = Blocked
 ended (ending.Halted stop) = Halts stop

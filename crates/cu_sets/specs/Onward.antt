@@ -1,4 +1,4 @@
--- Whether exactly one branch follows.
+-- Whether exactly one branch follows a step.
 use Rattle.std.specs.Prelude.{◌≡◌, [], ◌∷◌, None}
 use Rattle.cu_machine.specs.Graph.{Graph}
 use Rattle.cu_machine.specs.Run.{only_state}
@@ -7,7 +7,8 @@ use Rattle.cu_step.specs.declared.Outcome.{Outcome}
 use Rattle.cu_sets.specs.declared.runs.Onward.{Onward}
 use Rattle.cu_sets.specs.declared.runs.Onward.TheVariants as onward
 
--- the only branch that an outcome goes on as, or else the outcome itself
+-- The answer is the only branch that follows, or else the outcome itself, where not exactly one
+-- does.
 abbrev pub GoesOnward : {S : Type 0} → (S → Graph) → Outcome S → Onward S → Type 0
 GoesOnward content outcome (onward.Only branch) = branches_of outcome ≡ branch ∷ []
 GoesOnward content outcome (onward.Other same) =

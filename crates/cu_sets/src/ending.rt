@@ -24,14 +24,14 @@ pub(crate) fn is_too_large<S: Store>(store: &S, limits: &Limits) -> bool
     limits.nodes < store.len()
 }
 
-/// The end of a count of nodes at one more than the limit.
+/// The stop for too many nodes, whose count ends at one more than the limit.
 pub(crate) fn too_large(limits: &Limits) -> Stop
     ensures { Stops result ≡ too_large limits.now }
 {
     Stop::TooLarge(u64::from(limits.nodes) + 1)
 }
 
-/// One branch alone follows.
+/// The outcome in which one branch follows.
 fn alone<S: Store>(alloc: Global, branch: Branch<S>) -> Result<Outcome<S>, AllocError>
     ensures next { IfOk result (λ outcome. next_of S.content outcome
         ≡ Go (state_of S.content branch ∷ [])) }
@@ -67,7 +67,7 @@ pub(crate) fn delivered<S: Store>(
     alone(alloc, running.ended())
 }
 
-/// What becomes of a branch whose search goes on with a level.
+/// What becomes of a branch whose search goes on with this level.
 fn goes_on<S: Store>(
     alloc: Global,
     running: Running<S>,
@@ -113,7 +113,7 @@ fn ends<S: Store>(
     }
 }
 
-/// What becomes of a branch whose search had a level that was stepped.
+/// What becomes of a branch whose search had a level, after this was stepped.
 pub(crate) fn after_level<S: Store>(
     alloc: Global,
     running: Running<S>,

@@ -9,7 +9,8 @@ use cu_step::{Branch, Outcome, Reading, Stop};
 use cu_values::Value;
 use std::alloc::{AllocError, Global};
 
-/// What became of branches of a level, none of which ended the search.
+/// What became of the first branches of a level, none of which ended the
+/// search.
 #[derive(Drop)]
 pub(crate) struct Level<S> {
     /// The values that were found, in the order of the branches.
@@ -21,9 +22,9 @@ pub(crate) struct Level<S> {
 /// What ends a search before its level is empty.
 #[derive(Clone, Copy)]
 pub(crate) enum Ending {
-    /// An answer that isn't ground data, or a branch that waits.
+    /// A branch waits, or answered a value that isn't ground data.
     Blocked,
-    /// A branch that stops.
+    /// A branch stopped.
     Halted(Stop),
 }
 
@@ -37,7 +38,7 @@ pub(crate) enum Stepped<S> {
 }
 
 impl<S: Store> Level<S> {
-    /// No branch was stepped yet.
+    /// The level of which no branch was stepped yet.
     pub fn new(alloc: Global) -> Level<S>
         ensures { level_of S.content result ≡ record { values = []; states = [] } }
     {
@@ -47,7 +48,8 @@ impl<S: Store> Level<S> {
         }
     }
 
-    /// Adds what became of the next branch, unless it ends the search.
+    /// Adds what became of the next branch. If that ends the search, it is
+    /// answered.
     pub fn add(&mut self, outcome: Outcome<S>) -> Result<Option<Ending>, AllocError>
         requires { IsFalse (is_inner outcome) }
         ensures ends { IfOk result (λ ending. IfSome ending (λ ending. (others : LevelEvent)
@@ -69,7 +71,7 @@ impl<S: Store> Level<S> {
         }
     }
 
-    /// Adds an answer that is ground data. Another one ends the search.
+    /// Adds an answer that is ground data. Another answer ends the search.
     fn add_answer(&mut self, reading: Reading) -> Result<Option<Ending>, AllocError>
         ensures ends { IfOk result (λ ending. IfSome ending (λ ending. (others : LevelEvent)
             → with_outcome (Answer (reading_of reading)) others ≡ ended ending)) }

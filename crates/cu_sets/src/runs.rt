@@ -34,7 +34,7 @@ fn only_branch_of<S: Store>(outcome: Outcome<S>) -> Onward<S>
     }
 }
 
-/// Whether branches are exactly one.
+/// Whether there is exactly one branch.
 fn only<S: Store>(branches: Vec<Branch<S>>) -> Onward<S>
     ensures { GoesOnward S.content (Go branches) result }
 {
@@ -48,8 +48,8 @@ fn only<S: Store>(branches: Vec<Branch<S>>) -> Onward<S>
     }
 }
 
-/// Takes a branch on for up to so many steps, which are one or more, while
-/// exactly one branch follows: what becomes of it then. An `Err` says what it
+/// Takes a branch on for up to so many steps, one or more, while exactly one
+/// branch follows, and answers what becomes of it then. An `Err` says what it
 /// says of [`advance`].
 pub fn run<S: Store>(
     alloc: Global,

@@ -1,4 +1,4 @@
--- How the spot behind a qualifier is entered.
+-- How the spot after a qualifier is entered.
 use Rattle.std.proofs.Common.{◌≡◌, List, [], subst, sym}
 use Rattle.std.specs.declared.alloc.Global.{Global}
 use Rattle.std.specs.declared.vec.Vec.{Vec}

@@ -11,8 +11,8 @@ use Rattle.cu_sites.specs.Inside.Needing.{is_defined}
 use Rattle.cu_sites.specs.Inside.Relating.{relates}
 use Rattle.cu_sites.specs.Numbered.{HasNumbers}
 
--- These are the dependencies of the variables of a text: between their numbers, and between no
--- others.
+-- The dependencies that the code has are those of the variables of a text: between their numbers,
+-- and between no others.
 pub record AreDependencies (nodes : List Node) (d : Dependencies) : Type 0 where
   pub binders : List Binder
   pub functions : List Position

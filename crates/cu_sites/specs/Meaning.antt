@@ -54,7 +54,7 @@ pub record GroupIsOf (owner : NameId) (names : List (List ℕ)) (g : groups.Grou
   pub first : RuleIsOf owner names g.first
   pub others : All (RuleIsOf owner names) g.others.items
 
--- These are the groups, and their tokens are those of the module.
+-- The groups of rules that the code found are these, and their tokens are those of the module.
 pub record AreGroups (owner : NameId) (names : List (List ℕ)) (whole : List Group)
     (found : List groups.Group) : Type 0 where
   pub meaning : map (group_meaning names) found ≡ whole
@@ -62,7 +62,8 @@ pub record AreGroups (owner : NameId) (names : List (List ℕ)) (whole : List Gr
 
 -- ---- spots
 
--- A scope's number stands for its first entry and the scope around that; 0 is that of no name.
+-- The entry of a scope: the number stands for its first name and the scope around. The number 0 is
+-- that of the scope without names.
 
 pub record IsEntry (t : Text) (entries : List ScopeEntry) (number : ℕ) (e : Entry) : Type 0 where
   pub place : ℕ
@@ -90,7 +91,7 @@ pub record IsSpot (t : Text) (entries : List ScopeEntry) (found : spots.Spot) (s
 
 -- ---- sites
 
--- the qualifiers of a comprehension behind the first so many
+-- the qualifiers of a comprehension after the first n
 abbrev pub behind : ℕ → syntax.Qualifiers → syntax.Qualifiers
 behind zero qs = qs
 behind (suc n) syntax.NoQualifier = syntax.NoQualifier
@@ -104,7 +105,7 @@ abbrev pub element_in : syntax.Expression → syntax.Expression
 element_in (syntax.Comprehension at element qualifiers) = element
 element_in e = e
 
--- What a site is. That of a local function tells its block by its number among all blocks.
+-- The site of a local function: it tells its block by the block's number among all blocks.
 pub record IsFunction (t : Text) (blocks : List (Vec Declaration Global)) (number : ℕ)
     (g : groups.Group) (s : Site) : Type 0 where
   pub block : Vec Declaration Global
@@ -143,7 +144,7 @@ IsSite t blocks (site.Free xs) s =
 
 -- ---- nodes
 
--- what stands in the right side of a definition
+-- what stands in the right side of a definition, and nothing where a site is no definition
 abbrev pub inside_at : Spot → Site → List Node
 inside_at spot (Defined x right) = right_nodes spot right
 inside_at spot (Bound p right) = right_nodes spot right
@@ -152,7 +153,8 @@ inside_at spot _ = []
 abbrev pub inside : Node → List Node
 inside n = inside_at n.spot n.site
 
--- A node, and that what stands in the right side of a definition follows it.
+-- The code's node stands for this one. What stands in the right side of a definition follows it,
+-- and is counted by its extent.
 pub record IsNode (t : Text) (entries : List ScopeEntry) (blocks : List (Vec Declaration Global))
     (found : nodes.Node) (n : Node) (followed_by : List Node) : Type 0 where
   pub spot : IsSpot t entries found.spot n.spot
@@ -169,7 +171,7 @@ AreNodes t entries blocks (found ∷ others) [] = ⊥
 AreNodes t entries blocks (found ∷ others) (n ∷ ns) =
     IsNode t entries blocks found n ns × AreNodes t entries blocks others ns
 
--- These nodes stand in a text, in its order.
+-- The sites of the code are these nodes, in the order of the text.
 pub record Stands (t : Text) (nodes : List Node) (s : all.Sites) : Type 0 where
   pub are : AreNodes t s.entries.items s.blocks.items s.nodes.items nodes
 
@@ -178,7 +180,7 @@ pub record Stands (t : Text) (nodes : List Node) (s : all.Sites) : Type 0 where
 abbrev pub nodes_in : all.Sites → List nodes.Node
 nodes_in s = s.nodes.items
 
--- a spot among sites
+-- The code's spot is this one, among the scopes of these sites.
 abbrev pub IsSpotIn : Text → all.Sites → spots.Spot → Spot → Type 0
 IsSpotIn t s found spot = IsSpot t s.entries.items found spot
 

@@ -8,7 +8,8 @@ use Rattle.cu_sites.specs.declared.numbers.Numbers.{Numbers}
 use Rattle.cu_sites.specs.Inside.Counting.{IsBinderTable, IsPlaceTable, binders_meaning}
 use Rattle.cu_locals.specs.Places.{positions_meaning}
 
--- These variables and these local functions were counted.
+-- The numbers of the code are those of these variables and these local functions, each by its place
+-- among them.
 pub record HasNumbers (binders : List Binder) (functions : List located.Position) (n : Numbers)
     : Type 0 where
   pub binder_keys : List code.Binder

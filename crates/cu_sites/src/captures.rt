@@ -25,7 +25,7 @@ pub(crate) struct Graph {
 }
 
 impl Graph {
-    /// Nothing is used or bound.
+    /// The graph in which nothing is used or bound.
     fn new(alloc: Global, numbers: &Numbers) -> Result<Graph, AllocError>
         ensures { (binders : List local.Binder) (functions : List located.Position)
             → HasNumbers binders functions numbers.now
@@ -78,7 +78,7 @@ impl Graph {
         self.binds.add(numbers.variable(binder) as usize, binding)
     }
 
-    /// Notes what stands in a function.
+    /// Notes what a node uses and declares in the local function around it.
     fn note(&mut self, numbers: &Numbers, usage: &Usage) -> Result<(), AllocError>
         ensures { (binders : List local.Binder) (functions : List located.Position)
             → HasNumbers binders functions numbers.now

@@ -31,7 +31,7 @@ pub(crate) struct Definition {
     pub(crate) used: Vec<Local>,
 }
 
-/// Whether what a definition uses is bound inside it.
+/// Whether what a definition uses is bound inside the definition.
 fn is_inner(inner: &BinderTable, used: Local) -> bool
     ensures { (binders : List code.Binder) → IsBinderTable binders inner.now
         → not result ≡ is_bound_outside (binders_meaning binders) (local_meaning used) }
@@ -42,7 +42,7 @@ fn is_inner(inner: &BinderTable, used: Local) -> bool
     }
 }
 
-/// Adds what isn't bound inside a definition.
+/// Adds those of the used names that aren't bound inside a definition.
 fn push_outer(found: &mut Vec<Local>, inner: &BinderTable, used: &[Local]) -> Result<(), AllocError>
     ensures { (binders : List code.Binder) → IsBinderTable binders inner.now
         → OnOk result (Finds found.old.items
@@ -69,7 +69,7 @@ fn declared_inside(alloc: Global, inside: &[Usage]) -> Result<BinderTable, Alloc
     Ok(found)
 }
 
-/// What a definition uses and doesn't bind, where this stands inside it. What
+/// What a definition uses and doesn't bind, given what stands inside it. What
 /// stands in functions inside it has another depth.
 fn used_inside(alloc: Global, depth: usize, inside: &[Usage]) -> Result<Vec<Local>, AllocError>
     ensures { IfOk result (λ found. locals_meaning found.items
@@ -110,7 +110,7 @@ fn push_selections(
     Ok(())
 }
 
-/// Adds the definitions at a node, where this stands in its right side.
+/// Adds the definitions at a node, given what stands in its right side.
 fn push_definitions(
     alloc: Global,
     found: &mut Vec<Definition>,
@@ -149,7 +149,7 @@ fn push_definitions(
     }
 }
 
-/// So many usages from a place on.
+/// So many usages, from this one on.
 fn behind(usages: &[Usage], at: usize, count: usize) -> &[Usage]
     ensures { result.now ≡ take count (drop at usages.now) }
 {

@@ -155,21 +155,21 @@ pub struct Dependencies {
     /// The variables that are defined, in the order of the text.
     variables: Vec<Binder>,
     numbers: Numbers,
-    /// The variables on which a variable depends, by numbers.
+    /// The variables that each variable's definition needs, by numbers.
     needs: Relation,
 }
 
 impl Dependencies {
-    /// The dependencies of a text.
+    /// The dependencies of the local variables of a text.
     ///
     /// # Errors
     ///
-    /// Want of memory, or numbers past those of 32 bits.
+    /// An allocation failure, or numbers past those of 32 bits.
     pub fn of(alloc: Global, sites: &Sites<'_>) -> Result<Dependencies, AllocError>
         ensures { (t : Text) (nodes : List text.Node) → Stands t nodes sites.now
             → IfOk result (AreDependencies nodes) }
     {
-        // The law that the proof rests on.
+        // The proof rests on this law.
         captures_are_least();
         let usages = sites.usages(alloc)?;
         let definitions = definitions(alloc, sites, usages.as_slice())?;
@@ -208,12 +208,12 @@ impl Dependencies {
     ///
     /// # Errors
     ///
-    /// Want of memory.
+    /// An allocation failure.
     pub fn is_recursive(&self, alloc: Global, x: Binder) -> Result<bool, AllocError>
         ensures { (nodes : List text.Node) → AreDependencies nodes self.now
             → IfOk result (λ found. found ≡ is_recursive nodes (binder_meaning x)) }
     {
-        // The law that the proof rests on.
+        // The proof rests on this law.
         captures_are_least();
         let number = self.numbers.variable(x) as usize;
         let found = reached(alloc, &self.needs, self.needs.row(number), &[])?;

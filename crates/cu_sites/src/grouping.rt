@@ -50,7 +50,7 @@ impl<'t> Grouping<'t> {
         });
     }
 
-    /// Reads a rule.
+    /// Reads one more rule.
     fn rule(&mut self, alloc: Global, rule: Rule<'t>) -> Result<(), AllocError>
         ensures { (t : Text) → GroupingIsOf t self.old → RuleIsOf t.owner t.names rule.entry
             → OnOk result (Reads t self.old (Some (rule_meaning t.names rule.entry)) self.new) }
@@ -69,7 +69,7 @@ impl<'t> Grouping<'t> {
         Ok(())
     }
 
-    /// Reads a rule, or what isn't one.
+    /// Reads one more declaration or item, which is a rule or not.
     fn read(&mut self, alloc: Global, found: Option<Rule<'t>>) -> Result<(), AllocError>
         ensures { (t : Text) (rule : Option meant.Rule) → GroupingIsOf t self.old
             → IsRuleIn t rule found.entry → OnOk result (Reads t self.old rule self.new) }
@@ -86,7 +86,7 @@ impl<'t> Grouping<'t> {
 ///
 /// # Errors
 ///
-/// Want of memory.
+/// An allocation failure.
 pub fn groups<'t>(alloc: Global, items: &'t [Item]) -> Result<Vec<Group<'t>>, AllocError>
     ensures { (owner : NameId) (names : List (List ℕ)) → AllDiffer names
         → All (ItemIsOf owner names) items.now
@@ -106,7 +106,7 @@ pub fn groups<'t>(alloc: Global, items: &'t [Item]) -> Result<Vec<Group<'t>>, Al
     Ok(done)
 }
 
-/// The rules of a name at the head of declarations.
+/// The rules of a name with which declarations begin.
 pub(crate) fn leading<'t>(
     alloc: Global,
     name: Name,

@@ -60,7 +60,7 @@ impl BinderTable {
         self.numbers.get(&binder).is_some()
     }
 
-    /// Counts these variables behind those that were counted.
+    /// Counts these variables after those that were counted.
     pub(crate) fn add_all(&mut self, binders: &[Binder]) -> Result<(), AllocError>
         ensures { (before : List code.Binder) → IsBinderTable before self.old
             → OnOk result (IsBinderTable (before ++ binders.now) self.new) }
@@ -71,7 +71,8 @@ impl BinderTable {
         Ok(())
     }
 
-    /// The place of a variable, or how many were counted.
+    /// The number of a variable, or how many were counted where it isn't among
+    /// them.
     fn number(&self, binder: Binder) -> u32
         ensures { (binders : List code.Binder) → IsBinderTable binders self.now
             → result ≡ binder_at binders binder }
@@ -112,7 +113,7 @@ impl PlaceTable {
         Ok(())
     }
 
-    /// Counts these local functions behind those that were counted.
+    /// Counts these local functions after those that were counted.
     fn add_all(&mut self, places: &[Position]) -> Result<(), AllocError>
         ensures { (before : List positions.Position) → IsPlaceTable before self.old
             → OnOk result (IsPlaceTable (before ++ places.now) self.new) }
@@ -123,7 +124,8 @@ impl PlaceTable {
         Ok(())
     }
 
-    /// The place of a local function, or how many were counted.
+    /// The number of a local function, or how many were counted where it isn't
+    /// among them.
     fn number(&self, place: Position) -> u32
         ensures { (places : List positions.Position) → IsPlaceTable places self.now
             → result ≡ place_at places place }
@@ -140,11 +142,12 @@ pub struct Numbers {
 }
 
 impl Numbers {
-    /// Counts what stands in a text, and these variables behind the text's own.
+    /// Counts the variables and local functions of a text, and these variables
+    /// after the text's own.
     ///
     /// # Errors
     ///
-    /// Want of memory, or numbers past those of 32 bits.
+    /// An allocation failure, or numbers past those of 32 bits.
     pub fn of(alloc: Global, sites: &Sites<'_>, last: &[Binder]) -> Result<Numbers, AllocError>
         ensures { (t : Text) (nodes : List Node) → Stands t nodes sites.now
             → IfOk result
@@ -167,7 +170,7 @@ impl Numbers {
     ///
     /// # Errors
     ///
-    /// Want of memory, or numbers past those of 32 bits.
+    /// An allocation failure, or numbers past those of 32 bits.
     pub(crate) fn counted(
         alloc: Global,
         binders: &[Binder],
@@ -202,7 +205,8 @@ impl Numbers {
         self.functions.count
     }
 
-    /// The number of a variable. One that isn't counted has the number of all.
+    /// The number of a variable. A variable that wasn't counted has the number
+    /// of all that were.
     pub fn variable(&self, binder: Binder) -> u32
         ensures { (binders : List local.Binder) (functions : List located.Position)
             → HasNumbers binders functions self.now
@@ -211,8 +215,9 @@ impl Numbers {
         self.variables.number(binder)
     }
 
-    /// The place, among the local functions, of the one whose first token stands
-    /// here. One that isn't counted has the number of all.
+    /// The place, among the local functions, of the one whose first token
+    /// stands here. A function that wasn't counted has the number of all that
+    /// were.
     pub fn function(&self, at: Position) -> u32
         ensures { (binders : List local.Binder) (functions : List located.Position)
             → HasNumbers binders functions self.now

@@ -22,7 +22,7 @@ impl<'t> Sites<'t> {
     ///
     /// # Errors
     ///
-    /// Want of memory.
+    /// An allocation failure.
     pub fn scope(&self, alloc: Global, at: Spot) -> Result<Vec<Entry>, AllocError>
         ensures { (t : Text) (spot : sites.Spot) → IsSpotIn t self.now at spot
             → IfOk result (λ found. AreEntries t spot.scope found.items) }
@@ -40,7 +40,8 @@ impl<'t> Sites<'t> {
         Ok(found)
     }
 
-    /// The blocks in the text; a local function tells its own by its number.
+    /// The blocks in the text. A local function tells its block by its number
+    /// among them.
     pub fn blocks(&self) -> &[Vec<Declaration<'t>>]
         ensures { result.now ≡ blocks_in self.now }
     {

@@ -5,7 +5,7 @@ ghost use Rattle.cu_sites.specs.Inside.Relating.{Gains, Holds, IsBegun, IsReache
 use indexmap::IndexSet;
 use std::alloc::{AllocError, Global};
 
-/// A relation between numbers: for each of the first numbers those to which it
+/// A relation between numbers: for each of the first numbers, those to which it
 /// is related.
 #[derive(Drop)]
 pub(crate) struct Relation {
@@ -13,7 +13,7 @@ pub(crate) struct Relation {
 }
 
 impl Relation {
-    /// As many numbers, none of which is related to any.
+    /// The relation in which none of the first numbers is related to any.
     pub(crate) fn new(alloc: Global, count: usize) -> Result<Relation, AllocError>
         ensures { IfOk result (Holds count []) }
     {
@@ -57,7 +57,7 @@ impl Relation {
         Ok(())
     }
 
-    /// How many numbers it relates to others.
+    /// How many numbers have a row in the relation.
     pub(crate) fn count(&self) -> usize
         ensures { result ≡ length self.now.rows.items }
     {
@@ -130,7 +130,7 @@ impl Walk {
     }
 }
 
-/// These numbers, each once.
+/// The set of these numbers.
 fn set_of(alloc: Global, numbers: &[usize]) -> Result<IndexSet<usize>, AllocError>
     ensures { IfOk result (λ set. (k : ℕ) → is_in set.keys k ≡ is_in numbers.now k) }
 {

@@ -14,7 +14,7 @@ use std::alloc::{AllocError, Global};
 /// A rule of a function.
 #[derive(Drop)]
 pub struct Rule<'t> {
-    /// The place of its first token.
+    /// The place of the rule's first token.
     pub place: Place,
     pub name: Name,
     pub parameters: Vec<Pattern<'t>>,

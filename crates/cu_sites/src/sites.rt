@@ -7,7 +7,8 @@ use cu_translation::{Entry, Position};
 /// Where something stands in a text.
 #[derive(Clone, Copy, Debug, PartialEq, Eq)]
 pub struct Spot {
-    /// The place of the first token of the innermost local function around.
+    /// The place of the first token of the innermost local function around, if
+    /// there is one.
     pub function: Option<Position>,
     /// How many local functions are around.
     pub depth: usize,
@@ -40,7 +41,7 @@ pub enum Site<'t> {
     /// The place of a qualifier's first token, its pattern, the comprehension,
     /// and how many qualifiers of the comprehension there are up to this one.
     Generated(Place, Pattern<'t>, Expression<'t>, usize),
-    /// A local function, behind the number of its block.
+    /// A local function, after the number of its block.
     Function(usize, Group<'t>),
     /// A local variable and what it is defined by.
     Defined(Name, RightSide<'t>),
@@ -54,8 +55,7 @@ pub enum Site<'t> {
 pub struct Node<'t> {
     pub spot: Spot,
     pub site: Site<'t>,
-    /// How many nodes are those of the right side of a definition, which follow
-    /// it.
+    /// How many of the nodes after a definition are those of its right side.
     pub extent: usize,
 }
 

@@ -46,7 +46,7 @@ impl<'t> Sites<'t> {
         Ok(scope)
     }
 
-    /// Behind names that are declared.
+    /// The spot after names that are declared, which are in scope there.
     pub(crate) fn with(
         &mut self,
         alloc: Global,
@@ -63,7 +63,8 @@ impl<'t> Sites<'t> {
         Ok(Spot { scope, ..at })
     }
 
-    /// In a rule of a local function, behind its variables.
+    /// The spot in a rule of a local function, where its variables are in
+    /// scope.
     pub(crate) fn in_function(
         &mut self,
         alloc: Global,
@@ -87,7 +88,7 @@ impl<'t> Sites<'t> {
         })
     }
 
-    /// Where the names of a block are in scope.
+    /// The spot in a block, where its names are in scope.
     pub(crate) fn in_block(
         &mut self,
         alloc: Global,
@@ -118,7 +119,7 @@ impl<'t> Sites<'t> {
         Ok(number)
     }
 
-    /// Behind a qualifier.
+    /// The spot after a qualifier, where its variables are in scope.
     pub(crate) fn past(
         &mut self,
         alloc: Global,
@@ -140,7 +141,7 @@ impl<'t> Sites<'t> {
         }
     }
 
-    /// Behind all qualifiers.
+    /// The spot after all qualifiers, where their variables are in scope.
     pub(crate) fn past_all(
         &mut self,
         alloc: Global,
@@ -171,7 +172,7 @@ impl<'t> Sites<'t> {
         Ok(())
     }
 
-    /// Notes that all nodes behind this one are those of its right side.
+    /// Notes that all nodes after a definition are those of its right side.
     pub(crate) fn close(&mut self, definition: usize)
         ensures { Closes definition self.old self.new }
     {

@@ -21,7 +21,8 @@ use std::alloc::{AllocError, Global};
 /// What a node uses and declares, and where it stands.
 #[derive(Drop)]
 pub(crate) struct Usage {
-    /// The place of the first token of the innermost local function around.
+    /// The place of the first token of the innermost local function around, if
+    /// there is one.
     pub(crate) function: Option<Position>,
     /// How many local functions are around.
     pub(crate) depth: usize,
@@ -30,7 +31,7 @@ pub(crate) struct Usage {
 }
 
 impl<'t> Sites<'t> {
-    /// What a name means in a scope, if it is local.
+    /// What a name means in a scope, if it is a local name.
     fn named(&self, scope: usize, name: Name) -> Option<Local>
         ensures { (t : Text) (found : Scope) → IsScope t self.now.entries.items scope found
             → NameIsOf t.owner t.names name
@@ -53,7 +54,7 @@ impl<'t> Sites<'t> {
         None
     }
 
-    /// Adds what a name means in a scope, if it is local.
+    /// Adds what a name means in a scope, if it is a local name.
     fn push_use(&self, found: &mut Vec<Local>, scope: usize, name: Name) -> Result<(), AllocError>
         ensures { (t : Text) (names : Scope) → IsScope t self.now.entries.items scope names
             → NameIsOf t.owner t.names name
@@ -106,8 +107,9 @@ impl<'t> Sites<'t> {
         }
     }
 
-    /// Adds the local variables and functions that are used at a node; a lambda
-    /// expression and a qualifier with a list use their new functions.
+    /// Adds the local variables and functions that are used at a node. A lambda
+    /// expression and a qualifier with a list use the function that they
+    /// become.
     fn push_used(
         &self,
         alloc: Global,

@@ -36,7 +36,7 @@ struct BlockSpot {
     block: usize,
 }
 
-/// Where a qualifier stands: the spots before and behind it, the comprehension,
+/// Where a qualifier stands: the spots before and after it, the comprehension,
 /// and how many qualifiers of the comprehension there are up to this one.
 #[derive(Clone, Copy)]
 struct Step<'t> {
@@ -47,7 +47,7 @@ struct Step<'t> {
 }
 
 impl<'t> Sites<'t> {
-    /// A name that is used on arguments.
+    /// Notes a name that is used on arguments, and what stands in these.
     fn use_of(
         &mut self,
         alloc: Global,
@@ -64,7 +64,7 @@ impl<'t> Sites<'t> {
         self.push(at, Site::Use(name, arguments))
     }
 
-    /// What stands in an expression on arguments.
+    /// Notes what stands in an expression on arguments.
     #[cycle(walk)]
     fn applied(
         &mut self,
@@ -125,7 +125,7 @@ impl<'t> Sites<'t> {
         }
     }
 
-    /// What stands in an expression.
+    /// Notes what stands in an expression.
     #[cycle(walk)]
     pub(crate) fn expression(
         &mut self,
@@ -140,7 +140,7 @@ impl<'t> Sites<'t> {
         self.applied(alloc, at, &[], e)
     }
 
-    /// What stands in several expressions.
+    /// Notes what stands in several expressions.
     #[cycle(walk)]
     fn expressions(
         &mut self,
@@ -158,7 +158,7 @@ impl<'t> Sites<'t> {
         Ok(())
     }
 
-    /// What stands in operands behind operators.
+    /// Notes what stands in the operands after operators.
     #[cycle(walk)]
     fn operands(
         &mut self,
@@ -176,7 +176,7 @@ impl<'t> Sites<'t> {
         Ok(())
     }
 
-    /// A lambda expression, and what stands in it.
+    /// Notes a lambda expression, and what stands in it.
     #[cycle(walk)]
     fn lambda(
         &mut self,
@@ -200,8 +200,8 @@ impl<'t> Sites<'t> {
         self.expression(alloc, inner, body)
     }
 
-    /// What stands in local declarations, and in the expression in which they
-    /// hold.
+    /// Notes what stands in local declarations, and in the expression in which
+    /// they hold.
     #[cycle(walk)]
     fn let_in(
         &mut self,
@@ -221,7 +221,7 @@ impl<'t> Sites<'t> {
         self.expression(alloc, inner, body)
     }
 
-    /// What stands in several alternatives.
+    /// Notes what stands in several alternatives.
     #[cycle(walk)]
     fn alternatives(
         &mut self,
@@ -239,7 +239,7 @@ impl<'t> Sites<'t> {
         Ok(())
     }
 
-    /// What stands in an alternative.
+    /// Notes what stands in an alternative.
     #[cycle(walk)]
     fn alternative(&mut self, alloc: Global, at: Spot, a: Alternative<'t>) -> Result<(), AllocError>
         ensures { (t : Text) (spot : sites.Spot) → IsAt t self.old at spot
@@ -253,7 +253,8 @@ impl<'t> Sites<'t> {
         self.right_side(alloc, inner, a.right)
     }
 
-    /// What stands in the first number, the second and the last.
+    /// Notes what stands in an enumeration: in the first number, the second and
+    /// the last.
     #[cycle(walk)]
     fn enumeration(
         &mut self,
@@ -271,7 +272,7 @@ impl<'t> Sites<'t> {
         self.maybe(alloc, at, numbers.last)
     }
 
-    /// What stands in an expression, if it is there.
+    /// Notes what stands in an expression, if it is there.
     #[cycle(walk)]
     fn maybe(
         &mut self,
@@ -289,8 +290,8 @@ impl<'t> Sites<'t> {
         }
     }
 
-    /// What stands in the element of a comprehension, behind all qualifiers, and
-    /// what stands in these.
+    /// Notes what stands in the element of a comprehension, after all
+    /// qualifiers, and what stands in these.
     #[cycle(walk)]
     fn comprehension(
         &mut self,
@@ -312,8 +313,8 @@ impl<'t> Sites<'t> {
         self.qualifiers(alloc, at, whole, qualifiers)
     }
 
-    /// What stands in the qualifiers of a comprehension, each in the scope of
-    /// those before it.
+    /// Notes what stands in the qualifiers of a comprehension, each in the
+    /// scope of those before it.
     #[cycle(walk)]
     fn qualifiers(
         &mut self,
@@ -343,7 +344,7 @@ impl<'t> Sites<'t> {
         Ok(())
     }
 
-    /// What stands in a qualifier.
+    /// Notes what stands in a qualifier.
     #[cycle(walk)]
     fn qualifier(
         &mut self,
@@ -380,8 +381,8 @@ impl<'t> Sites<'t> {
         }
     }
 
-    /// What stands in a right-hand side. The names behind `where` are in scope
-    /// in the guards too.
+    /// Notes what stands in a right-hand side. The names after `where` are in
+    /// scope in the guards too.
     #[cycle(walk)]
     pub(crate) fn right_side(
         &mut self,
@@ -400,7 +401,7 @@ impl<'t> Sites<'t> {
         self.declarations(alloc, BlockSpot { at: inner, block }, node.local.as_slice())
     }
 
-    /// What stands in an expression, or in guards.
+    /// Notes what stands in an expression, or in guards.
     #[cycle(walk)]
     fn body(&mut self, alloc: Global, at: Spot, b: &Body<'t>) -> Result<(), AllocError>
         ensures { (t : Text) (spot : sites.Spot) → IsAt t self.old at spot
@@ -413,7 +414,7 @@ impl<'t> Sites<'t> {
         }
     }
 
-    /// What stands in guards, and in the expressions behind them.
+    /// Notes what stands in guards, and in the expressions after them.
     #[cycle(walk)]
     fn guards(&mut self, alloc: Global, at: Spot, cases: &[Guard<'t>]) -> Result<(), AllocError>
         ensures { (t : Text) (spot : sites.Spot) → IsAt t self.old at spot
@@ -427,7 +428,7 @@ impl<'t> Sites<'t> {
         Ok(())
     }
 
-    /// What stands in the declarations of a block.
+    /// Notes what stands in the declarations of a block.
     #[cycle(walk)]
     fn declarations(
         &mut self,
@@ -448,8 +449,8 @@ impl<'t> Sites<'t> {
         Ok(())
     }
 
-    /// What stands in a declaration, which others follow. Gives the function
-    /// whose rules may go on.
+    /// Notes what stands in a declaration, which others follow. Gives the
+    /// function whose rules may go on.
     #[cycle(walk)]
     fn declaration(
         &mut self,
@@ -491,7 +492,7 @@ impl<'t> Sites<'t> {
         }
     }
 
-    /// A rule of a block: that of a variable, or one of a function.
+    /// Notes a rule of a block: that of a variable, or one of a function.
     #[cycle(walk)]
     fn rule(
         &mut self,
@@ -520,7 +521,7 @@ impl<'t> Sites<'t> {
         self.function_rule(alloc, inner.at, rule.place, rule)
     }
 
-    /// A local function, by its first rule.
+    /// Notes a local function, at its first rule.
     fn first_rule(
         &mut self,
         alloc: Global,
@@ -547,8 +548,8 @@ impl<'t> Sites<'t> {
         )
     }
 
-    /// What stands in a rule of a local function, of which the first token
-    /// stands at a place.
+    /// Notes what stands in a rule of a local function, whose first token
+    /// stands at this place.
     #[cycle(walk)]
     fn function_rule(
         &mut self,
@@ -574,7 +575,7 @@ impl<'t> Sites<'t> {
         self.right_side(alloc, inner, right)
     }
 
-    /// A definition, and what stands in its right side.
+    /// Notes a definition, and what stands in its right side.
     #[cycle(walk)]
     fn definition(
         &mut self,
@@ -597,7 +598,7 @@ impl<'t> Sites<'t> {
         Ok(())
     }
 
-    /// What stands in a rule of a top-level function.
+    /// Notes what stands in a rule of a top-level function.
     pub(crate) fn top_rule(&mut self, alloc: Global, rule: &Rule<'t>) -> Result<(), AllocError>
         ensures { (t : Text) → RuleIsOf t.owner t.names rule.now
             → OnOk result (Writes t self.old
@@ -619,7 +620,7 @@ impl<'t> Sites<'t> {
     ///
     /// # Errors
     ///
-    /// Want of memory.
+    /// An allocation failure.
     pub fn of_group(alloc: Global, group: &Group<'t>) -> Result<Sites<'t>, AllocError>
         ensures { (owner : NameId) (names : List (List ℕ)) (differ : AllDiffer names)
             → GroupIsOf owner names group.now
@@ -638,7 +639,7 @@ impl<'t> Sites<'t> {
     ///
     /// # Errors
     ///
-    /// Want of memory.
+    /// An allocation failure.
     pub fn of_goal(alloc: Global, goal: &'t GoalText) -> Result<Sites<'t>, AllocError>
         ensures { (owner : NameId) (names : List (List ℕ)) (differ : AllDiffer names)
             → GoalIsOf owner names goal.now

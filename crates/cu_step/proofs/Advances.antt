@@ -17,7 +17,7 @@ use Rattle.cu_step.proofs.Leaves.{left_answers, left_goes}
 use Rattle.cu_step.proofs.Looks.{shown_fits, shown_need}
 use Rattle.cu_step.proofs.Steps.{look_answers, look_met, next_argument, next_cost, next_lower, next_outcome}
 
--- ** A node is left
+-- ---- a node is left
 
 pub leave_answer : {E : Type 0} (truth : ConId) (graph : Graph) (f : Found) (frame : Frame) (r : Result (Option Needed) E) → frame.next ≡ length (looked_at graph frame.node)
     → IfOk r (λ answer. option_map need_of answer ≡ left_answer frame (node_at graph frame.node).kind frame.waits)
@@ -36,7 +36,7 @@ leave_goes truth graph f new frame (Ok None) fits last answers now =
     subst (λ (g : Found). Goes truth graph (with_frame f frame) g) (sym now) (left_goes truth graph f frame fits last (sym answers))
 leave_goes truth graph f new frame (Err e) fits last answers now = tt
 
--- ** The next argument
+-- ---- the next argument
 
 asked_at : (k : Kind) (args : List ℕ) (i : ℕ) → i < length (asked_of k args) → get_or (asked_of k args) i 0 ≡ get_or args i 0
 asked_at kind.Apply [] i within = refl

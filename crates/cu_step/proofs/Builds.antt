@@ -25,7 +25,7 @@ pub if_ok : {T E : Type 0} (r : Result T E) (P Q : T → Type 0) → ((x : T) �
 if_ok (Ok x) P Q f h = f x h
 if_ok (Err e) P Q f h = h
 
--- ** Two ways to build parts that agree on them
+-- ---- two ways to build parts that agree on them
 
 before_parts : ℕ → Built → BuiltParts → BuiltParts
 before_parts next one others = record { nodes = pushed one ++ others.nodes; ids = place_of next one ∷ others.ids }
@@ -72,7 +72,7 @@ expr_same f g q same program scope next e (Some (code.Free x body)) all =
 expr_same f g q same program scope next e (Some (code.Case mode kept scrutinee branches)) all =
     ap (case_over scope next mode e kept) (same scope next scrutinee (left_true (q scrutinee) true all))
 
--- ** More depth than an expression nests changes nothing
+-- ---- more depth than an expression nests changes nothing
 
 none_nests : (program : Code) (e : ExprId) → nests_within zero program e ≡ true → ⊥
 unfolding nests_within

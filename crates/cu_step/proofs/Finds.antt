@@ -68,7 +68,7 @@ first_met truth graph f new root l there acyclic below begins is answers now =
     ) in
     subst (λ (g : Found). Begun truth graph root g) (sym (now ∙ ap (λ g. met g l) begins ∙ ap (met begin) is)) begun
 
--- ** Marks are kept from now on
+-- ---- marks are kept from now on
 
 unseen : (count id : ℕ) → mark_at (replicate count mark.Unseen) id ≡ mark.Unseen
 unseen zero id = refl

@@ -26,7 +26,7 @@ flagged_none olds news count none is was =
     let empty : news ≡ [] = is ∙ ap (λ n. take (n - 1) olds) none in
     empty ∙ sym (ap flagged (was ∙ ap (λ fs. fs ++ []) empty))
 
--- ** What comes out
+-- ---- what comes out
 
 pub outside_append : (truth : ConId) (graph : Graph) (frames : List Frame) (frame : Frame) (n : Need)
     → needed_outside truth graph (frames ++ frame ∷ []) n ≡ needed_outside truth graph frames (needed_by truth graph frame n)
@@ -116,7 +116,7 @@ unfolding needed_outside flagged
 flagged_out truth graph ids [] = ap Wait (none_joined ids)
 flagged_out truth graph ids (frame ∷ frames) = ap (before (Wait ids)) (outside_flagged truth graph frame frames)
 
--- ** What the last node is
+-- ---- what the last node is
 
 pub in_append : (truth : ConId) (graph : Graph) (frames : List Frame) (frame : Frame) (n : Need)
     → need_in truth graph (frames ++ frame ∷ []) n ≡ need_in truth graph frames (marked_need (is_inside frame.ask) truth graph frame.node)
@@ -182,7 +182,7 @@ fit_waits truth graph so_far (x ∷ y ∷ []) n ids is fit =
 fit_waits truth graph so_far (x ∷ y ∷ z ∷ frames) n ids is fit =
     (frame_later truth graph so_far x (marked_need (is_inside y.ask) truth graph y.node) n fit.0, fit_waits truth graph so_far (y ∷ z ∷ frames) n ids is fit.1)
 
--- ** Which nodes are open
+-- ---- which nodes are open
 
 pub open_flagged : (inside : Bool) (id : ℕ) (frames : List Frame) → is_open inside id (flagged frames) ≡ is_open inside id frames
 unfolding is_open flagged
@@ -206,7 +206,7 @@ open_append inside id (x ∷ frames) frame =
     ap (λ b. (nat_eq x.node id && regards inside x.ask) || b) (open_append inside id frames frame)
     ∙ or_assoc (nat_eq x.node id && regards inside x.ask) (is_open inside id frames) (nat_eq frame.node id && regards inside frame.ask)
 
--- ** Costs
+-- ---- costs
 
 pub cost_flagged : (graph : Graph) (frames : List Frame) → frames_cost graph (flagged frames) ≡ frames_cost graph frames
 unfolding frames_cost frame_cost flagged

@@ -17,7 +17,7 @@ use Rattle.cu_step.proofs.Needs.{before_done}
 use Rattle.cu_step.proofs.Marks.{mark_shut, path_front, path_push, set_cases, stuck_told}
 use Rattle.cu_step.proofs.Walks.{by_fresh, cost_seen, fresh_fits, met_known, waits_outcome}
 
--- ** What was seen of all arguments
+-- ---- what was seen of all arguments
 
 all_seen : (truth : ConId) (graph : Graph) (told_so_far : Need) (frame : Frame) (fits : FrameFits truth graph told_so_far frame Done)
     → frame.next ≡ length (looked_at graph frame.node) → first (map (asked truth graph frame.ask frame.node) (looked_at graph frame.node)) ≡ fits.earlier
@@ -42,7 +42,7 @@ unfolding outcome
 last_out truth graph f frame n is =
     ap (before (so_far f)) (outside_append truth graph f.frames frame Done ∙ ap (needed_outside truth graph f.frames) is)
 
--- ** Marks of what is left
+-- ---- marks of what is left
 
 and_left : (a b : Bool) → (a && b) ≡ true → a ≡ true
 and_left true b is = refl
@@ -70,7 +70,7 @@ not_inside : (b : Bool) → not b ≡ true → b ≡ false
 not_inside true is = sym is
 not_inside false is = refl
 
--- ** Where an argument waits
+-- ---- where an argument waits
 
 waits_left : (truth : ConId) (graph : Graph) (f : Found) (frame : Frame) → Fits truth graph (with_frame f frame) Done
     → Waited (so_far f) (marked_need (is_inside frame.ask) truth graph frame.node) → Fits truth graph f (marked_need (is_inside frame.ask) truth graph frame.node)
@@ -124,7 +124,7 @@ goes_waiting truth graph f frame fits last waits =
       cost = λ marked. cost_left graph f frame;
     }
 
--- ** Where none does
+-- ---- where none does
 
 none_waits : (truth : ConId) (graph : Graph) (told_so_far : Need) (frame : Frame) (fits : FrameFits truth graph told_so_far frame Done)
     → frame.next ≡ length (looked_at graph frame.node) → frame.waits ≡ false → marked_need (is_inside frame.ask) truth graph frame.node ≡ then_at truth graph frame
@@ -247,7 +247,7 @@ goes_again truth graph f frame fits last waits is then =
       cost = λ marked. cost_again graph f frame is last;
     }
 
--- ** By kinds
+-- ---- by kinds
 
 then_answers : (truth : ConId) (graph : Graph) (id : ℕ) (k : Kind) (a : Ask) (args : List ℕ) (n : Need) → Some n ≡ left_need id k a → then_needed truth graph id k a args ≡ At id × (n ≡ At id)
 then_answers truth graph id (kind.Cons c) a args n is = let no : ⊥ = cc in absurd no

@@ -149,13 +149,13 @@ inside_shown truth graph id (kind.Part h) args =
 inside_shown truth graph id kind.Free args = refl
 inside_shown truth graph id _ args = refl
 
--- ** Which node a look shows
+-- ---- which node a look shows
 
 abbrev marked_as : Bool → ConId → Graph → ℕ → Kind → List ℕ → Need
 marked_as true truth graph id k args = waiting (free_at (free_within (length graph) graph) id k args)
 marked_as false truth graph id k args = whole_as truth graph id k args
 
--- it shows the head itself, and what this asks is what its need is told by
+-- a look at a head shows the head itself, whose need is told by what the look asks
 abbrev IsOf : ConId → Graph → ℕ → Kind → List ℕ → Look → Type 0
 IsOf truth graph id k args (look.Node other a) = (other ≡ id) × (marked_as (is_inside a) truth graph id k args ≡ entered_as truth graph id a k args)
 IsOf truth graph id k args (look.Free other) = (other ≡ id) × (waiting (free_at (free_within (length graph) graph) id k args) ≡ Wait (id ∷ []))
@@ -207,7 +207,7 @@ of_looked truth graph by ask.All id k args = of_all truth graph id k args
 of_looked truth graph by ask.Ground id k args = of_inside truth graph id k args
 of_looked truth graph by ask.Inside id k args = of_inside truth graph id k args
 
--- ** What is asked
+-- ---- what is asked
 
 is_shown : (truth : ConId) (graph : Graph) (id : ℕ) (l : Look) → IsOf truth graph id (node_at graph id).kind (node_at graph id).args l
     → shown truth graph (node_at graph id).kind (node_at graph id).args l ≡ look_need truth graph l

@@ -11,7 +11,7 @@ use Rattle.cu_step.specs.declared.need.Mark.TheVariants as mark
 use Rattle.cu_step.specs.Walk.{IsAbove, IsBelow, IsPath, MarkFits, Waited, flagged, height, is_open, mark_at, regards, told}
 use Rattle.cu_step.proofs.Needs.{none_joined, waited_later}
 
--- ** Marks
+-- ---- marks
 
 pub or_left : (a b : Bool) → (a || b) ≡ false → a ≡ false
 or_left true b none = none
@@ -44,7 +44,7 @@ set_cases marks id other m P none here elsewhere = go (nat_eq id other) refl
         let differs : other ≢ id = λ same. (let no : ⊥ = cc (eq-eqb id other (sym same)) in no) in
         subst P (sym (get_or-set_other marks id other m mark.Unseen differs)) (elsewhere is)
 
--- ** What was told
+-- ---- what was told
 
 pub stuck_told : (waits : Bool) (ids : List ℕ) → (waits ≡ false → ids ≡ []) → Wait ids ≡ before (told waits ids) (Wait [])
 stuck_told false ids none = ap Wait (none refl)
@@ -62,7 +62,7 @@ pub free_told : (waits : Bool) (ids : List ℕ) (id : ℕ) → (waits ≡ false 
 free_told false ids id none = ap (λ xs. Wait (joined xs (id ∷ []))) (none refl)
 free_told true ids id none = refl
 
--- ** Paths
+-- ---- paths
 
 pub path_flagged : (graph : Graph) (frames : List Frame) → IsPath graph frames → IsPath graph (flagged frames)
 unfolding IsPath IsAbove flagged

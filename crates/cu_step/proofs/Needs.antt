@@ -5,7 +5,7 @@ use Rattle.cu_machine.specs.Places.{joined}
 use Rattle.cu_machine.proofs.FirstLaws.{before_again, before_assoc, before_itself}
 use Rattle.cu_step.specs.Walk.{Seen, Waited, also}
 
--- ** First
+-- ---- first
 
 pub first_append : (xs ys : List Need) → first (xs ++ ys) ≡ before (first xs) (first ys)
 first_append [] ys = refl
@@ -42,7 +42,7 @@ ends_at Dead id there = cc
 ends_at Done id there = cc
 ends_at (Wait ids) id there = cc
 
--- ** Free variables
+-- ---- free variables
 
 pub all_pass : (xs : List ℕ) → joined [] xs ≡ xs
 all_pass [] = refl
@@ -61,7 +61,7 @@ pub waiting_all : (part : ℕ → List ℕ) (ids : List ℕ) → waiting (all_fr
 waiting_all part [] = refl
 waiting_all part (id ∷ ids) = waiting_joined (part id) (all_free part ids) ∙ ap (before (waiting (part id))) (waiting_all part ids)
 
--- ** What was told before
+-- ---- what was told before
 
 pub also_waits : (waits : Bool) (n : Need) → also waits (before (Wait []) n) ≡ also true n
 also_waits false (At id) = refl
@@ -120,7 +120,7 @@ same_unless so_far (At id) (At other) r same = same
 same_unless so_far (Wait ids) (Wait others) r same = same
 same_unless so_far _ _ r same = absurd same
 
--- ** What begins with a wait
+-- ---- what begins with a wait
 
 pub begins_before : (ids : List ℕ) (n r : Need) → before (Wait ids) n ≡ n → before (Wait ids) (before n r) ≡ before n r
 begins_before ids n r begins = sym (before_assoc (Wait ids) n r) ∙ ap (λ m. before m r) begins
@@ -144,7 +144,7 @@ told_again so_far ids =
     ∙ ap (before so_far) (ap Wait (none_joined ids) ∙ sym (before_itself (Wait ids)))
     ∙ sym (before_assoc so_far (Wait ids) (Wait ids))
 
--- ** What is known
+-- ---- what is known
 
 -- what adds nothing goes on to do so where more is told
 pub known_later : (so_far n more : Need) → before so_far n ≡ so_far → before (before so_far more) n ≡ before so_far more

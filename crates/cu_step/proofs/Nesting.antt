@@ -16,7 +16,7 @@ use Rattle.cu_machine.specs.Rewrite.{branch_for}
 use Rattle.cu_machine.proofs.Fuel.{all_follow, both_true, left_true, right_true}
 use Rattle.cu_step.specs.Inside.Building.{branch_nests, branches_nest, nests, nests_within, parts_of}
 
--- ** Tests
+-- ---- tests
 
 middle_true : (a b c : Bool) → (a && b && c) ≡ true → b ≡ true
 middle_true a b c all = right_true a b (left_true (a && b) c all)
@@ -40,7 +40,7 @@ cases_fit program well =
     let c = list_all (fits_case program) program.expressions in
     right_true (a && b) c (left_true (a && b && c) (has_special program) well)
 
--- ** What fits nests
+-- ---- what fits nests
 
 module _ (part : List ℕ → ExprId → Bool) (q : ExprId → Bool) (each : (scope : List ℕ) (e : ExprId) → part scope e ≡ true → q e ≡ true) where
   two_nest : (first second : List ℕ) (e f : ExprId) → (part first e && part second f) ≡ true → list_all q (e ∷ f ∷ []) ≡ true
@@ -72,7 +72,7 @@ fits_nests zero program scope e fit = let no : ⊥ = true≢false (sym fit) in a
 fits_nests (suc depth) program scope e fit =
     expr_nests (fits depth program) (nests_within depth program) (λ inner part. fits_nests depth program inner part) program scope (expr_of program e) fit
 
--- ** Bodies and branches
+-- ---- bodies and branches
 
 pub body_nests : (program : Code) (f : FunId) (params : List ℕ) (e : ExprId) → is_well_formed program ≡ true → body_of program f ≡ Some (code.Rule params e)
     → nests program e ≡ true
@@ -116,7 +116,7 @@ chosen_nests program p (branch ∷ branches) all =
     go true others = left_true (nests program branch.body) (branches_nest program branches) all
     go false others = others
 
--- ** What was read of the program
+-- ---- what was read of the program
 
 pub rule_nests : (program : Code) (f : FunId) (r : Option (Bor FlatBody)) (field : Bor FlatBody) (b : FlatBody) (params : List ℕ) (e : ExprId)
     → is_well_formed program ≡ true → option_map (λ (x : Bor FlatBody). body_meaning x.now) r ≡ body_of program f → r ≡ Some field → field.now ≡ b

@@ -1,5 +1,5 @@
--- A search looks at the arguments of each node once: a node that is met again reaches what is sought only by way of a
--- lower one, which is still to be looked at.
+-- A search looks at the arguments of each node once: a node that is met again reaches what is
+-- sought only by way of a lower one, which is still to be looked at.
 use Rattle.std.proofs.Common.{◌≡◌, ◌≢◌, ℕ, zero, suc, ◌+◌, ◌<◌, ◌≤◌, Bool, true, false, not, ◌&&◌, ◌||◌, List, [], ◌∷◌, ◌++◌, if◌then◌else◌, refl, ap, sym, ◌∙◌, subst, length, map, set, replicate, reverse, nat_eq, ltb, arith, append-nil, eq-eqb, eqb-true, get_or-set_other}
 use Rattle.std.specs.List.{list_all, list_any}
 use Rattle.std.proofs.lemmas.Bool.{lt-ltb, ltb-true}
@@ -23,7 +23,7 @@ use Rattle.cu_step.specs.Occurring.{Looks, are_reached, head_reaches, is_sought,
 use Rattle.cu_step.specs.Walk.{height, highest}
 use Rattle.cu_step.proofs.Heights.{head_lower, height_table}
 
--- ** Tests
+-- ---- tests
 
 or_split : (a b : Bool) {C : Type 0} → (a || b) ≡ true → (a ≡ true → C) → (b ≡ true → C) → C
 or_split true b so left right = left refl
@@ -80,7 +80,7 @@ all_reverse p (x ∷ xs) all =
     ∙ all_both p (reverse xs) (x ∷ []) (all_reverse p xs (right_true (p x) (list_all p xs) all))
     (both_true (p x) true (left_true (p x) (list_all p xs) all) refl)
 
--- ** Heights
+-- ---- heights
 
 pub any_part : (part : ℕ → Value) (args : List ℕ) → not (are_data (values_of (map part args))) ≡ list_any (λ id. not (is_data (part id))) args
 any_part part [] = refl
@@ -119,7 +119,7 @@ any_lower graph v top (id ∷ ids) high so =
     (both_true (reaches graph v id) (ltb (height graph id) top) here (lt-ltb (height graph id) top (omega arith))))
     (λ there. or_other (reaches graph v id && ltb (height graph id) top) (lower_reaches graph v top ids) (any_lower graph v top ids (omega arith) there))
 
--- ** One look
+-- ---- one look
 
 -- what is known where the last of the nodes to be looked at is taken, and others are put there
 pub record Taken (graph : Graph) (v : Sought) (id : ℕ) (more : List ℕ) (rest : List ℕ) : Type 0 where
@@ -171,7 +171,7 @@ looks_on graph v ids seen after rest more id arguments acyclic looks taken marke
     either true is so is_not = so is
     either false is so is_not = is_not is
 
--- ** What a head's kind says
+-- ---- what a head's kind says
 
 pub is_reached : (part : ℕ → Bool) (v : Sought) (id : ℕ) (k : Kind) (args : List ℕ) → is_sought v id k ≡ true → sought_at part v id k args ≡ true
 is_reached part (sought.Variable v) id kind.Free args so = so
@@ -202,7 +202,7 @@ leads_arguments part (sought.Variable v) id (kind.Cons c) args seen on = refl
 leads_arguments part sought.Part id (kind.Cons c) args seen on = refl
 leads_arguments part v id _ args seen on = let no : ⊥ = cc in absurd no
 
--- ** The walk
+-- ---- the walk
 
 unseen : (count id : ℕ) → seen_at (replicate count false) id ≡ false
 unseen zero id = refl
@@ -340,7 +340,7 @@ looks_after graph v ids seen after pending rest next id arguments acyclic was be
     looks_by graph v ids seen after pending rest next id (leads_on (node_at graph (head_of graph id)).kind (seen_at seen (head_of graph id))) arguments acyclic was before other
     refl marks adds
 
--- ** How long it takes
+-- ---- how long it takes
 
 cost_marked : (graph : Graph) (seen : List Bool) (id : ℕ) → id < length graph → length seen ≡ length graph → seen_at seen id ≡ false
     → unseen_arguments graph (set seen id true) + (length (node_at graph id).args + 1) ≡ unseen_arguments graph seen

@@ -1,11 +1,11 @@
--- Graphs in which each node stands behind its arguments have no cycle.
+-- Graphs in which each node stands after its arguments have no cycle.
 use Rattle.std.proofs.Common.{◌≡◌, ℕ, zero, suc, ◌<◌, ◌≤◌, true, List, [], ◌∷◌, length, ltb, arith}
 use Rattle.std.proofs.lemmas.Bool.{lt-ltb, ltb-true}
 use Rattle.cu_machine.specs.Graph.{Graph, node_at}
 use Rattle.cu_machine.specs.Validity.{AllFounded, ArgumentsThere, Founded, IsAcyclic, are_places, founded, more, none}
 use Rattle.cu_machine.proofs.Fuel.{all_follow, left_true, right_true}
 
--- the first nodes stand behind their arguments
+-- the first nodes stand after their arguments
 abbrev pub IsOrdered : Graph → ℕ → Type 0
 IsOrdered graph count = (id : ℕ) → id < count → are_places id (node_at graph id).args ≡ true
 

@@ -9,7 +9,7 @@ use Rattle.cu_machine.specs.Spell.{ordinal}
 abbrev further : ℕ → ℕ
 further n = elim n [ zero ↦ 0 | suc k ↦ suc k + 1 ]
 
--- ** One variable more
+-- ---- one variable more
 
 same_by : (b : Bool) (m n : ℕ) → (b ≡ false → m ≡ n) → (if b then 1 else further m) ≡ (if b then 1 else further n)
 same_by true m n same = refl
@@ -25,7 +25,7 @@ ordinal_later [] ys x held = let no : ⊥ = cc in absurd no
 ordinal_later (y ∷ xs) ys x held =
     same_by (nat_eq x y) (ordinal (xs ++ ys) x) (ordinal xs x) (λ differs. ordinal_later xs ys x (or_rest (nat_eq x y) (holds xs x) held differs))
 
--- and neither does another at the end
+-- another variable at the end changes no number
 ordinal_other : (xs : List ℕ) (y x : ℕ) → nat_eq x y ≡ false → ordinal (xs ++ y ∷ []) x ≡ ordinal xs x
 ordinal_other [] y x differs = ap (λ b. if b then 1 else 0) differs
 ordinal_other (z ∷ xs) y x differs =
@@ -69,7 +69,7 @@ place_absent (y ∷ xs) x absent =
     let rest = place_absent xs x both.1 in
     ap (λ b. cond (not b) (1 + position_or_len (nat_eq x) xs) 0) both.0 ∙ omega arith
 
--- ** A set that keeps the order of insertion
+-- ---- a set that keeps the order of insertion
 
 pub number_inserted : (xs after : List ℕ) (x index : ℕ) → after ≡ insert_key nat_eq xs x → index ≡ position_or_len (nat_eq x) xs → index + 1 ≡ ordinal after x
 number_inserted xs after x index inserted at = go (holds xs x) refl

@@ -17,7 +17,7 @@ use Rattle.cu_step.specs.declared.push.Unfinished.{Unfinished}
 use Rattle.cu_step.proofs.Reversals.{last_first}
 use Rattle.cu_step.specs.Inside.Pushing.{Work, all_fed, closed, fed, fed_by, given_to}
 
--- ** One argument more
+-- ---- one argument more
 
 pub given_last : (graph : Graph) (ids : List ℕ) (id : ℕ) → given_to graph ids id [] ≡ record { graph = graph; ids = ids ++ id ∷ []; unfinished = [] }
 unfolding given_to
@@ -35,7 +35,7 @@ pub given_close : (graph : Graph) (ids : List ℕ) (id : ℕ) (outer : Unfinishe
 unfolding given_to
 given_close graph ids id outer others last = rw last refl
 
--- ** Cells one after another
+-- ---- cells one after another
 
 abbrev work : Graph → List ℕ → List Unfinished → Work
 work graph ids unfinished = record { graph = graph; ids = ids; unfinished = unfinished }
@@ -148,7 +148,7 @@ pub one_fed : (v : Value) (graph : Graph)
     ≡ record { graph = graph ++ pushed (push_value (length graph) v); ids = place_of (length graph) (push_value (length graph) v) ∷ []; unfinished = [] }
 one_fed v graph = value_fed v graph [] [] ∙ given_last (graph ++ pushed (push_value (length graph) v)) [] (place_of (length graph) (push_value (length graph) v))
 
--- ** What the code keeps, whose lists of nodes to come have the innermost last
+-- ---- what the code keeps, whose lists of nodes to come have the innermost last
 
 pub gives_on : (graph : Graph) (ids more : List ℕ) (id : ℕ) (all rest new : List Unfinished) (outer less : Unfinished) (whole : Work) → all ≡ rest ++ outer ∷ []
     → more ≡ ids ++ id ∷ [] → 1 < outer.missing → less ≡ record { kind = outer.kind; count = outer.count; missing = outer.missing - 1 } → new ≡ rest ++ less ∷ []

@@ -29,7 +29,7 @@ use Rattle.cu_values.specs.Cells as spelling
 use Rattle.cu_values.specs.Cells.{IsOneSpelled, read_all, spell, spell_all}
 use Rattle.cu_values.proofs.CellLemmas.{read_all_one}
 
--- ** Several values
+-- ---- several values
 
 variables_append : (us vs : List Value) → variables_of_all (us ++ vs) ≡ joined (variables_of_all us) (variables_of_all vs)
 variables_append [] vs = sym (all_pass (variables_of_all vs))
@@ -66,7 +66,7 @@ cells_many : (part : ℕ → Value) (ids : List ℕ) → length ids ≤ cells_of
 cells_many part [] = omega arith
 cells_many part (id ∷ ids) = let one = cells_some (part id) in let rest = cells_many part ids in omega arith
 
--- ** Heads
+-- ---- heads
 
 count_values : (number : ℕ → ℕ) (part : ℕ → Value) (ids : List ℕ) → count (all_renumbered number (values_of (map part ids))) ≡ length ids
 count_values number part [] = refl
@@ -125,7 +125,7 @@ parts_there n (kind.Cons c) args there = there
 parts_there n (kind.Part h) args there = there
 parts_there n _ args there = refl
 
--- ** One value
+-- ---- one value
 
 -- the node that is taken next
 next_there : (graph : Graph) (id : ℕ) (variables : List ℕ) (room : ℕ) (written : List Cell) (rest : List ℕ) (limit : ℕ) (met : List ℕ) (x : ℕ)
@@ -275,7 +275,7 @@ one_spelled written v is = rw is (ap (λ vs. spell (spelling.first vs)) (read_al
 pub one_read : (written : List Cell) (v : Value) → written ≡ spell v → spelling.read written ≡ v
 one_read written v is = ap spelling.read is ∙ ap spelling.first (read_all_one v)
 
--- ** All of them
+-- ---- all of them
 
 behind : (a b : List ℕ) (x : ℕ) → holds b x ≡ true → holds (joined a b) x ≡ true
 behind a b x held = holds_joined a b x ∙ ap (λ c. holds a x || c) held ∙ or_true (holds a x)
@@ -337,7 +337,7 @@ read_more graph limit goals i bindings more room less met after goal v within is
       counts = omega arith;
     }
 
--- what is too large already, whatever comes behind
+-- what is too large already, whatever comes after
 pub large_goal : (graph : Graph) (limit : ℕ) (root : ℕ) (goals : List ℕ) (i : ℕ) (bindings : List Value) (room : ℕ) (met : List ℕ) (goal : ℕ)
     → i < length goals → goal ≡ get_or goals i 0 → AllRead graph limit (take i goals) bindings room met
     → ltb room (cells (spelled graph goal)) ≡ true → ltb limit (cells_of_all (spelled_all graph root goals)) ≡ true

@@ -23,7 +23,7 @@ use Rattle.cu_step.specs.declared.occurs.Sought.TheVariants as sought
 use Rattle.cu_step.specs.Occurring.{are_reached}
 use Rattle.cu_step.proofs.Occurrences.{any_part}
 
--- ** Reading the arguments
+-- ---- reading the arguments
 
 both_read : (b : Bool) (x y : next_def.Reading) (f : next_def.Reading → List Value) (vs ws : List Value) → Some x ≡ (if b then None else Some y) → vs ≡ f x → f y ≡ ws
     → Some vs ≡ (if b then None else Some ws)
@@ -50,7 +50,7 @@ module _ (graph : Graph) (limit : ℕ) where
       (both_read (nat_lt limit (cells_of_all (map (spelled graph) (others ++ last ∷ [])))) reading (read graph last others) (λ r. r.bindings ++ r.value ∷ []) values _ some all
       (read_maps (ordinal (variables_of_all (spelled_all graph last others))) graph others last))
 
--- ** Nodes of values
+-- ---- nodes of values
 
 count_whole : (k : Kind) (parts : BuiltParts) (n : ℕ) → length parts.nodes ≡ n → length (parts.nodes ++ record { kind = k; args = parts.ids } ∷ []) ≡ n + 1
 count_whole k parts n counts = length-append parts.nodes (record { kind = k; args = parts.ids } ∷ []) ∙ ap (λ (n : ℕ). n + 1) counts
@@ -122,7 +122,7 @@ large_call program limits f vs large =
     let whole = length-append parts.nodes (record { kind = kind_of_call f (body_of program f); args = parts.ids } ∷ []) in
     lt-ltb limits.nodes (length (parts.nodes ++ record { kind = kind_of_call f (body_of program f); args = parts.ids } ∷ [])) (omega arith)
 
--- ** Pushing the arguments
+-- ---- pushing the arguments
 
 -- what was pushed, and what is left, are the whole
 pub record Pushes (graph : Graph) (ids : List ℕ) (left : List Value) (all : List Value) : Type 0 where
@@ -166,7 +166,7 @@ drop_next xs i x below is =
     let next : suc i ≡ i + 1 = omega arith in
     drop-cons xs i x below ∙ ap (λ y. y ∷ drop (suc i) xs) (sym is) ∙ ap (λ (n : ℕ). x ∷ drop n xs) next
 
--- ** The search
+-- ---- the search
 
 -- the state in which a search begins
 pub begun_state : {B : Type 0} (f : B → State) (graph : Graph) (root : ℕ) (goals : List ℕ) (id : ℕ) (found : List Value) (front level : List B) (inner : B) (state : State)

@@ -40,7 +40,7 @@ no_set_call _ other = refl
 
 pub ruleset steps = (need_place)
 
--- ** Too large, or not
+-- ---- too large, or not
 
 module _ (program : Code) (limits : Limits) (graph : Graph) (root : ℕ) (goals : List ℕ) where
   pub next_large : is_above limits (length graph) ≡ true → next program limits (Branch graph root goals Idle) ≡ too_large limits
@@ -64,7 +64,7 @@ pub answer_large : (limits : Limits) (graph : Graph) (root : ℕ) (goals : List 
 answer_large limits graph root goals true stop is same = same
 answer_large limits graph root goals false stop is same = cc
 
--- ** Validity
+-- ---- validity
 
 pub branch_valid : (program : Code) (graph : Graph) (root : ℕ) (goals : List ℕ) → IsValid program (Branch graph root goals Idle)
     → IsValidBranch program graph root goals
@@ -106,7 +106,7 @@ module _ {S : Type 0} (content : S → Graph) (program : Code) (limits : Limits)
   follow_valid (outcome.Inner branch) is = go_valid (branch ∷ []) is
   follow_valid _ is = none_left _
 
--- ** Several graphs
+-- ---- several graphs
 
 module _ {S : Type 0} (content : S → Graph) (f : Graph → State) where
   -- the branches of graphs that are kept in stores, and whether one of them is large
@@ -135,7 +135,7 @@ module _ {S : Type 0} (content : S → Graph) (limits : Limits) (root : ℕ) (go
       ap Go (is ∙ sym (stores_map content (λ after. Branch after root goals Idle) stores))
       ∙ sym (ap (λ (b : Bool). if b then too_large limits else Go (map (λ after. Branch after root goals Idle) (map content stores))) any)
 
--- ** The start
+-- ---- the start
 
 rule_arity_of : (o : Option code.Function) → is_rule (elim o [ Some function ↦ Some function.body | None ↦ None ]) ≡ true
     → IsSome (elim o [ Some function ↦ Some function.arity | None ↦ None ])

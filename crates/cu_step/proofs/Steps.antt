@@ -17,7 +17,7 @@ use Rattle.cu_step.proofs.Needs.{before_done, first_append}
 use Rattle.cu_step.proofs.Marks.{below_lower, below_push, below_shut, mark_shut, path_front, path_push}
 use Rattle.cu_step.proofs.Walks.{Met, met_enter, met_free, met_known, met_stuck}
 
--- ** A look is met
+-- ---- a look is met
 
 -- a need that is known to be another
 need_is : (truth : ConId) (graph : Graph) (f g : Found) (n m : Need) → n ≡ m → Met truth graph f g m → Met truth graph f g n
@@ -69,7 +69,7 @@ look_answers truth graph f look.Dead n is = let same : n ≡ Dead = cc in same �
 look_answers truth graph f (look.At id) n is = let same : n ≡ At id = cc in same ∙ sym (outcome_at truth graph f id)
 look_answers truth graph f _ n is = let no : ⊥ = cc in absurd no
 
--- ** The next argument
+-- ---- the next argument
 
 one_more : (truth : ConId) (graph : Graph) (id : ℕ) (a : Ask) (i : ℕ) → i < length (looked_at graph id)
     → first (map (asked truth graph a id) (take (i + 1) (looked_at graph id)))

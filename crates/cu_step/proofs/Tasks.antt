@@ -18,7 +18,7 @@ use Rattle.cu_step.specs.declared.build.Task.TheVariants as task
 use Rattle.cu_step.specs.Inside.Building.{State, Works, all_done, all_weigh, argument, begun, bound_last, done, left_by, nests, own_weight, parts_of, performed, settled, task_nests, task_weight, tasks_of, weight, weight_within, with_free, with_node, with_value}
 use Rattle.cu_step.proofs.Builds.{build_fixed, parts_nest, weight_fixed}
 
--- ** Ends of lists
+-- ---- ends of lists
 
 front_of : {A : Type 0} (xs ys : List A) (n : ℕ) → length ys ≡ n → take (length (xs ++ ys) - n) (xs ++ ys) ≡ xs
 front_of xs ys n same = ap (λ k. take k (xs ++ ys)) (let all = length-append xs ys in omega arith) ∙ taken xs ys
@@ -41,7 +41,7 @@ last_of xs x = ap (slice_get (xs ++ x ∷ [])) (let all = length-append xs (x �
     got [] = refl
     got (y ∷ xs) = got xs
 
--- ** Nodes that are made, and values that are arguments
+-- ---- nodes that are made, and values that are arguments
 
 made : State → List Node → List ℕ → State
 made s nodes ids = record s { graph = s.graph ++ nodes; ids = s.ids ++ ids }
@@ -78,7 +78,7 @@ items_done program f each one (a ∷ items) s =
     ∙ ap (λ n. made after_first (others n).nodes (others n).ids) (length-append s.graph (pushed first))
     ∙ made_twice s (pushed first) (others next).nodes (place ∷ []) (others next).ids
 
--- ** Single values
+-- ---- single values
 
 node_settled : (t : Target) (s : State) (node : Node) → with_node t s node ≡ settled t s (build_alone node)
 node_settled target.Argument s node = ap (λ place. record s { graph = s.graph ++ node ∷ []; ids = s.ids ++ place ∷ [] }) (omega arith)
@@ -89,7 +89,7 @@ value_settled target.Argument s (Some id) = ap (λ graph. record s { graph = gra
 value_settled target.Root s (Some id) = ap (λ graph. record s { graph = put graph s.root (record { kind = kind.Ind; args = id ∷ [] }) }) (sym (append-nil s.graph))
 value_settled t s None = node_settled t s stuck
 
--- ** A node over arguments
+-- ---- a node over arguments
 
 finish_settled : (program : Code) (t : Target) (s : State) (k : Kind) (n : ℕ) (parts : BuiltParts) → length parts.ids ≡ n
     → done program (made s parts.nodes parts.ids) (task.Finish k n t) ≡ settled t s (build_node k parts)
@@ -133,7 +133,7 @@ node_done program t s k es =
     ∙ ap (λ after. all_done program after (task.Finish k (length es) t ∷ [])) (items_done program part argument (argument_made program) es s)
     ∙ finish_settled program t s k (length es) parts (parts_count (part s.scope) (length s.graph) es)
 
--- ** Bindings
+-- ---- bindings
 
 -- what was built after other nodes, in a scope that ends then
 body_settled : (program : Code) (t : Target) (s : State) (nodes : List Node) (bound : ℕ × ℕ) (built : Built)
@@ -184,7 +184,7 @@ free_done program t s x body =
     ap (λ n. done program (settled t (with_free s x) (part n body)) task.Unbind) (length-append s.graph (alone kind.Free ∷ []))
     ∙ body_settled program t s (alone kind.Free ∷ []) (x, length s.graph) (part (length s.graph + 1) body)
 
--- ** Case distinctions
+-- ---- case distinctions
 
 case_done : (program : Code) (t : Target) (s : State) (k : Kind) (scrutinee : ExprId) (kept : List ℕ)
     → (first : Built) → first ≡ build_within (length program.expressions) program s.scope (length s.graph) scrutinee
@@ -208,7 +208,7 @@ case_done program t s k scrutinee kept first is values are =
     ∙ made_twice s (pushed first) values.nodes (place ∷ []) values.ids)
     ∙ finish_settled program t s k (length kept + 1) (record { nodes = pushed first ++ values.nodes; ids = place ∷ values.ids }) count
 
--- ** Expressions
+-- ---- expressions
 
 none_left : (program : Code) (s : State) → all_done program s [] ≡ s
 unfolding all_done
@@ -239,7 +239,7 @@ performed_done program s (task.Finish k n t) nest = refl
 performed_done program s (task.Bind x) nest = refl
 performed_done program s task.Unbind nest = refl
 
--- ** What is left nests
+-- ---- what is left nests
 
 all_tasks : (program : Code) (each : ℕ → Task) → ((x : ℕ) → task_nests program (each x) ≡ true) → (xs : List ℕ) → list_all (task_nests program) (map each xs) ≡ true
 all_tasks program each nest [] = refl
@@ -277,7 +277,7 @@ left_nest program (task.Finish k n t) nest = refl
 left_nest program (task.Bind x) nest = refl
 left_nest program task.Unbind nest = refl
 
--- ** The root stays, and the graph grows
+-- ---- the root stays, and the graph grows
 
 node_there : (t : Target) (s : State) (node : Node) → s.root < length s.graph → (with_node t s node).root < length (with_node t s node).graph
 node_there target.Argument s node there = let more = length-append s.graph (node ∷ []) in omega arith
@@ -312,7 +312,7 @@ performed_there program s (task.Finish k n t) there =
 performed_there program s (task.Bind x) there = bound_there x s (slice_get s.ids (length s.ids - 1)) there
 performed_there program s task.Unbind there = there
 
--- ** The tasks that are left
+-- ---- the tasks that are left
 
 works_first : (program : Code) (s : State) (e : ExprId) → s.root < length s.graph → nests program e ≡ true
     → Works program s (task.Build e target.Root) s (task.Build e target.Root ∷ [])
@@ -357,7 +357,7 @@ unfolding all_done done
 works_ended program scope graph root e s left none works =
     ap (λ (s : State). s.graph) (ap (all_done program s) (sym none) ∙ works.comes)
 
--- ** How long it takes
+-- ---- how long it takes
 
 weight_append : (program : Code) (ts us : List Task) → weight program (ts ++ us) ≡ weight program ts + weight program us
 unfolding weight

@@ -16,7 +16,7 @@ use Rattle.cu_step.specs.Walk.{AllFit, Fits, Found, FrameFits, Marked, IsBelow, 
 use Rattle.cu_step.proofs.Frames.{cost_append, cost_flagged, fit_push, fit_waits, flagged_out, open_append, open_flagged, outside_append, wait_out}
 use Rattle.cu_step.proofs.Marks.{known_told, mark_later, mark_shut, free_told, or_left, path_flagged, path_push, set_cases, stuck_told}
 
--- ** The innermost node waits
+-- ---- the innermost node waits
 
 pub waits_fit : (truth : ConId) (graph : Graph) (f : Found) (n : Need) (xs ids : List ℕ) → Fits truth graph f n → n ≡ Wait xs → Wait ids ≡ before (so_far f) n
     → Fits truth graph (record f { frames = flagged f.frames; waits = true; ids = ids }) Done
@@ -70,7 +70,7 @@ met_known truth graph f n fits known = met_wait truth graph f n known.ids fits k
 pub met_stuck : (truth : ConId) (graph : Graph) (f : Found) → Fits truth graph f (Wait []) → Met truth graph f (waited f) (Wait [])
 met_stuck truth graph f fits = met_wait truth graph f (Wait []) [] fits refl (stuck_told f.waits f.ids fits.none)
 
--- ** A variable is waited for
+-- ---- a variable is waited for
 
 cost_free : (graph : Graph) (f : Found) (id : ℕ) → cost graph (waited_for f id) ≤ cost graph f
 unfolding cost
@@ -86,7 +86,7 @@ met_free truth graph f id fits =
       takes = λ marked. cost_free graph f id;
     }
 
--- ** A node is entered
+-- ---- a node is entered
 
 pub cost_seen : (graph : Graph) (marks : List Mark) (id : ℕ) (m : Mark) → (m ≡ mark.Unseen → ⊥) → unseen_cost graph (set marks id m) ≤ unseen_cost graph marks
 unfolding unseen_cost

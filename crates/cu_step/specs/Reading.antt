@@ -1,5 +1,5 @@
--- What a node adds to a value that is read: a cell, a variable that is met, and the nodes of which
--- more cells come. The variables that were met are listed in their order.
+-- What a head adds to a value that is read: a cell, a variable that is met, and the nodes whose
+-- cells follow. The variables that were met are listed in their order.
 use Rattle.std.specs.Prelude.{ℕ, List, [], ◌∷◌}
 use Rattle.cu_machine.specs.declared.Kind.{Kind}
 use Rattle.cu_machine.specs.declared.Kind.TheVariants as kind
@@ -8,16 +8,16 @@ use Rattle.cu_machine.specs.Spell.{ordinal}
 use Rattle.cu_values.specs.declared.cell.Cell.{Cell}
 use Rattle.cu_values.specs.declared.cell.Cell.TheVariants as cell
 
--- a variable is met
+-- the variables that were met, after one more is met
 abbrev pub with_variable : List ℕ → ℕ → List ℕ
 with_variable met id = joined met (id ∷ [])
 
--- a head is met
+-- the variables that were met, after a head is met
 abbrev pub with_head : List ℕ → ℕ → Kind → List ℕ
 with_head met id kind.Free = with_variable met id
 with_head met id _ = met
 
--- the cell of a head with so many arguments
+-- the cell of a head with n arguments
 abbrev pub cell_at : List ℕ → ℕ → Kind → ℕ → Cell
 cell_at variables id (kind.Cons c) n = cell.Con c n
 cell_at variables id (kind.Part h) n = cell.Part h n

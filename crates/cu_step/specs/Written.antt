@@ -1,4 +1,4 @@
--- What the reading of a value knows at each moment.
+-- The reading of a value: what is known at each moment of it.
 use Rattle.std.specs.Prelude.{◌≡◌, ℕ, ◌+◌, true, List, ◌++◌, length, map}
 use Rattle.cu_calculus.specs.Value.{Value, values_of}
 use Rattle.cu_machine.specs.Graph.{Graph}
@@ -12,13 +12,13 @@ use Rattle.cu_values.specs.Cells.{spell, spell_all}
 abbrev pub text : (ℕ → ℕ) → List Value → List Cell
 text number vs = spell_all (all_renumbered number (values_of vs))
 
--- the variables that were met where a node's value was read
+-- the variables that were met after a node's value was read, where these had been met before
 abbrev pub met_in : List ℕ → Graph → ℕ → List ℕ
 met_in variables graph id = joined variables (variables_in (spelled graph id))
 
--- What was written of a node's value, and the values of the nodes that are left, are the whole,
--- where these variables had been met. There was room for as many cells as the limit says, and there
--- is now for so many.
+-- The reading of a node's value is right at a moment, where these variables had been met before it:
+-- what was written and the values of the nodes that are left are the whole, and the room for cells,
+-- the limit, has shrunk by as much as was written.
 pub record Written (graph : Graph) (id : ℕ) (variables : List ℕ) (room : ℕ) (written : List Cell)
     (left : List ℕ) (limit : ℕ) (met : List ℕ) : Type 0 where
   pub there : are_places (length graph) left ≡ true
@@ -27,7 +27,7 @@ pub record Written (graph : Graph) (id : ℕ) (variables : List ℕ) (room : ℕ
       ≡ spell (renumbered (ordinal (met_in variables graph id)) (spelled graph id))
   pub counts : limit + cells_of_all (map (spelled graph) left) ≡ room + cells (spelled graph id)
 
--- What was read of the first goal variables.
+-- The values of the first goal variables were read, and these variables were met.
 pub record AllRead (graph : Graph) (limit : ℕ) (goals : List ℕ) (bindings : List Value) (room : ℕ)
     (met : List ℕ) : Type 0 where
   pub meets : met ≡ variables_of_all (map (spelled graph) goals)

@@ -13,7 +13,8 @@ use cu_flat::{FlatProgram, Head};
 use cu_graph::{Kind, Store};
 use std::alloc::{AllocError, Global};
 
-/// A head over more arguments: a partial application still, or a whole call.
+/// The node of a head over more arguments: a partial application still, or a
+/// whole call.
 fn extended<S: Store>(
     alloc: Global,
     program: &FlatProgram,
@@ -38,7 +39,8 @@ fn extended<S: Store>(
     moved::alone(alloc, store)
 }
 
-/// A partial application takes one argument more. Nothing else can be applied.
+/// The step of an application. A partial application takes one argument more;
+/// nothing else can be applied.
 pub(crate) fn applied<S: Store>(
     alloc: Global,
     program: &FlatProgram,

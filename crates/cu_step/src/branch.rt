@@ -24,9 +24,9 @@ pub struct Branch<S> {
 #[derive(Drop)]
 #[cycle(branches)]
 pub(crate) enum Search<S> {
-    /// None runs.
+    /// No search runs in the branch.
     Idle,
-    /// One runs.
+    /// A search runs in the branch.
     Running {
         /// The node that calls the set function.
         call: u32,
@@ -40,7 +40,7 @@ pub(crate) enum Search<S> {
 /// A branch in which a search runs, taken apart.
 #[derive(Drop)]
 pub struct Running<S> {
-    /// The branch's graph.
+    /// The graph of the branch.
     pub store: S,
     /// The node whose value is sought.
     pub root: u32,
@@ -55,7 +55,7 @@ pub struct Running<S> {
 }
 
 impl<S: Store> Branch<S> {
-    /// The branch's graph.
+    /// The graph of the branch.
     pub fn store(&self) -> &S
         ensures { S.content result.now ≡ graph_of (state_of S.content self.now) }
     {

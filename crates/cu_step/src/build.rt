@@ -11,7 +11,7 @@ use cu_flat::{Expr, ExprId, FlatBody, FlatProgram, FunId, Head, Prim};
 use cu_graph::{Kind, Store};
 use std::alloc::{AllocError, Global};
 
-/// The values of variables, each at the place beside it.
+/// The scope in which each variable has the value at the index beside it.
 pub(crate) fn scope_of(
     alloc: Global,
     variables: &[u32],
@@ -26,7 +26,7 @@ pub(crate) fn scope_of(
         .collect(alloc)
 }
 
-/// The node of a function's call. A built-in operation has a kind of its own.
+/// The kind of a function's call. A built-in operation has a kind of its own.
 pub(crate) fn kind_of_call(program: &FlatProgram, f: FunId) -> Kind
     ensures { result ≡ kind_of_call f (body_of program.now f) }
 {
@@ -38,7 +38,7 @@ pub(crate) fn kind_of_call(program: &FlatProgram, f: FunId) -> Kind
     }
 }
 
-/// The node of a head with all its arguments.
+/// The kind of a node for a head with all its arguments.
 pub(crate) fn kind_of_whole(program: &FlatProgram, head: Head) -> Kind
     ensures { result ≡ kind_of_whole program.now head }
 {
@@ -49,7 +49,7 @@ pub(crate) fn kind_of_whole(program: &FlatProgram, head: Head) -> Kind
     }
 }
 
-/// The place of a variable's value, where the last binding counts.
+/// The index of a variable's value in a scope, where the last binding counts.
 fn place_in(scope: &[(u32, u32)], x: u32) -> Option<u32>
     ensures { result ≡ place_in scope.now x }
 {
@@ -65,28 +65,28 @@ fn place_in(scope: &[(u32, u32)], x: u32) -> Option<u32>
 /// What a value is built for.
 #[derive(Clone, Copy)]
 enum Target {
-    /// It is an argument of a node that is made later.
+    /// The value is an argument of a node that is made later.
     Argument,
-    /// It is written over the root.
+    /// The value is written over the root.
     Root,
 }
 
-/// What is left to do.
+/// A task of a building.
 #[derive(Clone, Copy)]
 enum Task {
-    /// An expression is built.
+    /// Build an expression.
     Build(ExprId, Target),
-    /// The value of a variable is an argument.
+    /// Take the value of a variable as an argument.
     Take(u32),
-    /// A node of this kind is made over the last arguments, so many.
+    /// Make a node of this kind over the last arguments, so many.
     Finish(Kind, usize, Target),
-    /// The last argument is what a variable stands for.
+    /// Bind a variable to the last argument.
     Bind(u32),
-    /// The last binding ends.
+    /// End the last binding.
     Unbind,
 }
 
-/// Adds the building of arguments, of which the first is to come first.
+/// Pushes the tasks to build arguments, the first one on top.
 fn push_arguments(tasks: &mut Vec<Task>, parts: &[ExprId]) -> Result<(), AllocError>
     ensures { OnOk result (tasks.new.items ≡ tasks.old.items ++ reverse (map argument parts.now)) }
 {
@@ -98,8 +98,8 @@ fn push_arguments(tasks: &mut Vec<Task>, parts: &[ExprId]) -> Result<(), AllocEr
     Ok(())
 }
 
-/// Adds variables whose values are arguments, of which the first is to come
-/// first.
+/// Pushes the tasks to take the values of variables as arguments, the first one
+/// on top.
 fn push_variables(tasks: &mut Vec<Task>, variables: &[u32]) -> Result<(), AllocError>
     ensures { OnOk result (tasks.new.items
         ≡ tasks.old.items ++ reverse (map Task.Take variables.now)) }
@@ -115,19 +115,19 @@ fn push_variables(tasks: &mut Vec<Task>, variables: &[u32]) -> Result<(), AllocE
 /// An expression that is being built.
 #[derive(Drop)]
 struct Work {
-    /// The node that it is written over.
+    /// The node that the expression is written over.
     root: u32,
-    /// What is left to do. The last task comes first.
+    /// The tasks that are left, as a stack: the last one is on top.
     tasks: Vec<Task>,
-    /// The places of the values that are arguments of nodes to come.
+    /// The indices of the values that are arguments of nodes to come.
     ids: Vec<u32>,
-    /// The variables in scope and the places of their values. The last binding
+    /// The variables in scope and the indices of their values. The last binding
     /// of a variable counts.
     scope: Vec<(u32, u32)>,
 }
 
 impl Work {
-    /// A node without arguments is made.
+    /// Makes a node without arguments.
     fn make<S: Store>(
         &mut self,
         store: &mut S,
@@ -150,7 +150,7 @@ impl Work {
         }
     }
 
-    /// A node is made over the last arguments, so many.
+    /// Makes a node over the last arguments, so many.
     fn finish<S: Store>(
         &mut self,
         store: &mut S,
@@ -178,7 +178,7 @@ impl Work {
         Ok(())
     }
 
-    /// A variable's value is used. Where it has none, it is stuck.
+    /// Uses the value of a variable. Where it has none, that is a stuck node.
     fn take<S: Store>(&mut self, store: &mut S, x: u32, target: Target) -> Result<(), AllocError>
         requires { self.old.root < length (S.content store.old) }
         ensures state { OnOk result (state_of (S.content store.new) self.new
@@ -198,7 +198,7 @@ impl Work {
         }
     }
 
-    /// The last argument is what a variable stands for.
+    /// Binds a variable to the last argument.
     fn bind(&mut self, x: u32) -> Result<(), AllocError>
         ensures state { (graph : Graph) → OnOk result (state_of graph self.new
             ≡ bound_last x (state_of graph self.old)
@@ -211,7 +211,7 @@ impl Work {
         Ok(())
     }
 
-    /// A node over parts is left to do.
+    /// Pushes the tasks to make a node over parts.
     fn begin_node(&mut self, kind: Kind, parts: &[ExprId], target: Target) -> Result<(), AllocError>
         ensures state { (graph : Graph)
             → OnOk result (state_of graph self.new ≡ state_of graph self.old) }
@@ -222,8 +222,8 @@ impl Work {
         push_arguments(&mut self.tasks, parts)
     }
 
-    /// A case distinction over a scrutinee and the variables that it keeps is
-    /// left to do.
+    /// Pushes the tasks to make a case distinction over a scrutinee and the
+    /// variables that it keeps.
     fn begin_case(
         &mut self,
         kind: Kind,
@@ -243,7 +243,7 @@ impl Work {
         Ok(())
     }
 
-    /// A body in which one variable more is bound is left to do.
+    /// Pushes the tasks to build a body in which one variable more is bound.
     fn begin_body(&mut self, body: ExprId, target: Target) -> Result<(), AllocError>
         ensures state { (graph : Graph)
             → OnOk result (state_of graph self.new ≡ state_of graph self.old) }
@@ -255,8 +255,8 @@ impl Work {
         Ok(())
     }
 
-    /// A variable is bound to an expression's value, and then the body is left
-    /// to do.
+    /// Pushes the tasks to bind a variable to an expression's value, and then
+    /// to build the body.
     fn begin_let(
         &mut self,
         x: u32,
@@ -275,7 +275,8 @@ impl Work {
         Ok(())
     }
 
-    /// A variable is free, and the body is left to do.
+    /// Makes a free variable, and pushes the tasks to build the body in which
+    /// it is bound.
     fn begin_free<S: Store>(
         &mut self,
         store: &mut S,
@@ -293,8 +294,8 @@ impl Work {
         self.begin_body(body, target)
     }
 
-    /// An expression is built as far as it has no parts. Its parts are left to
-    /// do.
+    /// Builds an expression as far as it has no parts, and pushes the tasks for
+    /// its parts.
     fn begin<S: Store>(
         &mut self,
         program: &FlatProgram,
@@ -330,7 +331,7 @@ impl Work {
         }
     }
 
-    /// Does what comes first.
+    /// Does the task on top.
     fn perform<S: Store>(
         &mut self,
         program: &FlatProgram,
@@ -356,9 +357,9 @@ impl Work {
     }
 }
 
-/// Writes an expression over the node at a place. Its variables have values at
-/// the places that the scope says, in which the last binding of a variable
-/// counts.
+/// Builds an expression over the node with this index. Its variables have
+/// values at the indices that the scope says, in which the last binding of a
+/// variable counts.
 pub(crate) fn write<S: Store>(
     alloc: Global,
     program: &FlatProgram,

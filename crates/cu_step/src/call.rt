@@ -12,8 +12,8 @@ use cu_flat::{FlatBody, FlatProgram, FunId};
 use cu_graph::{Kind, Store};
 use std::alloc::{AllocError, Global};
 
-/// A call becomes its function's body, in which the parameters stand for the
-/// arguments.
+/// The step of a call, which becomes its function's right side, where the
+/// parameters stand for the arguments.
 pub(crate) fn unfolded<S: Store>(
     alloc: Global,
     program: &FlatProgram,
@@ -50,7 +50,7 @@ fn fork_in_two<S: Store>(store: S) -> Result<(S, S), AllocError>
     Ok((first, second))
 }
 
-/// A choice becomes its left argument, and its right one.
+/// The step of a choice, which becomes its left argument, and its right one.
 pub(crate) fn chosen<S: Store>(alloc: Global, store: S, id: u32) -> Result<Moved<S>, AllocError>
     requires { id < length (S.content store) }
     ensures { IfOk result (λ moved. move_of S.content moved

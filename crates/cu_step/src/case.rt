@@ -33,7 +33,7 @@ pub(crate) fn is_same_literal(l: Lit, m: Lit) -> bool
     }
 }
 
-/// Whether a head has the constructor or is the literal of a pattern.
+/// Whether a head has the constructor of a pattern or is its literal.
 fn takes_pattern(kind: Kind, pattern: &Pattern) -> bool
     ensures { result ≡ takes_pattern kind (pattern_meaning pattern.now) }
 {
@@ -49,7 +49,7 @@ fn takes_pattern(kind: Kind, pattern: &Pattern) -> bool
     }
 }
 
-/// The branch for a head.
+/// The branch that a head matches, if there is one.
 fn branch_for(branches: &[(Pattern, ExprId)], kind: Kind) -> Option<&(Pattern, ExprId)>
     ensures { option_map (λ branch. branch_meaning branch.now) result
         ≡ branch_for (takes_pattern kind) (map branch_meaning branches.now) }
@@ -62,8 +62,8 @@ fn branch_for(branches: &[(Pattern, ExprId)], kind: Kind) -> Option<&(Pattern, E
     None
 }
 
-/// A branch is written over the case distinction. The variables of its pattern
-/// stand for the scrutinee's arguments.
+/// The step into a branch, which is built over the case distinction. The
+/// variables of its pattern stand for the scrutinee's arguments.
 fn takes_branch<S: Store>(
     alloc: Global,
     program: &FlatProgram,
@@ -93,7 +93,7 @@ fn takes_branch<S: Store>(
     moved::alone(alloc, store)
 }
 
-/// The graph in which a free variable is what a pattern asks for.
+/// The graph in which a free variable became what a pattern asks for.
 fn bound_to<S: Store>(
     alloc: Global,
     mut store: S,
@@ -113,7 +113,8 @@ fn bound_to<S: Store>(
     Ok(store)
 }
 
-/// A free variable is bound once for each branch, in the branches' order.
+/// The step of narrowing: the free variable becomes what each branch asks for,
+/// in the branches' order.
 fn narrows<S: Store>(
     alloc: Global,
     store: S,
@@ -140,7 +141,7 @@ fn narrows<S: Store>(
     Ok(Moved::Become(stores))
 }
 
-/// What becomes of a case distinction by the head of its scrutinee.
+/// The step of a case distinction, by the head of its scrutinee.
 fn by_head<S: Store>(
     alloc: Global,
     program: &FlatProgram,
@@ -173,7 +174,7 @@ fn by_head<S: Store>(
     }
 }
 
-/// A case distinction.
+/// The step of a case distinction.
 pub(crate) fn distinguished<S: Store>(
     alloc: Global,
     program: &FlatProgram,

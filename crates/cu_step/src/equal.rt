@@ -11,7 +11,8 @@ use cu_flat::{Prim, Special};
 use cu_graph::{Kind, Store};
 use std::alloc::{AllocError, Global};
 
-/// `==` of two heads. On a partial application it has no value.
+/// The step of `==`, by the heads of its sides. On a partial application it
+/// fails.
 pub(crate) fn compared<S: Store>(
     alloc: Global,
     special: &Special,
@@ -58,7 +59,7 @@ fn is_true(special: &Special, kind: Kind) -> bool
     }
 }
 
-/// `&` of two heads.
+/// The step of `&`, by the heads of its sides.
 pub(crate) fn conjoined<S: Store>(
     alloc: Global,
     special: &Special,

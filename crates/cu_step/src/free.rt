@@ -9,7 +9,7 @@ use cu_flat::ConId;
 use cu_graph::{Kind, Store};
 use std::alloc::{AllocError, Global};
 
-/// Pushes free variables, and answers their places.
+/// Pushes free variables, and answers their indices.
 #[tactic(auto, using(crate::proofs::Frees::frees))]
 pub(crate) fn push<S: Store>(
     alloc: Global,
@@ -29,7 +29,7 @@ pub(crate) fn push<S: Store>(
     Ok(places)
 }
 
-/// A free variable becomes a constructor over new free variables, whose places
+/// Makes a free variable a constructor over new free variables, whose indices
 /// are answered.
 #[tactic(auto, using(crate::proofs::Frees::frees))]
 pub(crate) fn to_constructor<S: Store>(

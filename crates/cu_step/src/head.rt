@@ -6,8 +6,8 @@ ghost use Rattle.cu_step.specs.Head.{target_of};
 use crate::node;
 use cu_graph::{Kind, Store};
 
-/// The place of a node's head. As many nodes are visited as there are, which
-/// is enough wherever there is no cycle.
+/// The index of a node's head. As many nodes are visited as there are, which is
+/// enough wherever there is no cycle.
 pub(crate) fn find<S: Store>(store: &S, id: u32) -> u32
     ensures { result ≡ head_of (S.content store.now) id }
 {
@@ -21,7 +21,7 @@ pub(crate) fn find<S: Store>(store: &S, id: u32) -> u32
     head
 }
 
-/// Where an Ind leads.
+/// The index to which a node leads, where it is an Ind.
 fn target<S: Store>(store: &S, id: u32) -> Option<u32>
     ensures { result ≡ target_of (node_at (S.content store.now) id).kind
         (node_at (S.content store.now) id).args }

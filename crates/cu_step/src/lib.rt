@@ -55,22 +55,23 @@ use std::alloc::{AllocError, Global};
 /// What becomes of a branch in one step.
 #[derive(Drop)]
 pub enum Outcome<S> {
-    /// It goes on as these branches, from left to right.
+    /// The branch goes on as these branches, from left to right.
     Go(Vec<Branch<S>>),
-    /// Its value is there.
+    /// The branch's value is there.
     Answer(Reading),
-    /// It has no value.
+    /// The branch has no value.
     Fail,
-    /// It waits for these variables, or for ever where there are none.
+    /// The branch waits for these variables, or for ever where there are none.
     Wait(Vec<Waited>),
-    /// It meets a limit or an overflow, which ends the search.
+    /// A limit or an overflow ends the search.
     Stop(Stop),
-    /// It is as it was: a search runs in it, whose level is to be stepped.
+    /// The branch is given back: a search for all values runs in it, whose
+    /// level is to be stepped.
     Inner(Branch<S>),
 }
 
 /// The branch in which the search for a goal begins: a free variable for each
-/// of the goal's parameters, and its call on them.
+/// of the goal's parameters, and the call of the goal on them.
 pub fn start<S: Store>(
     alloc: Global,
     program: &FlatProgram,
@@ -101,7 +102,8 @@ fn is_too_large<S: Store>(store: &S, limits: &Limits) -> bool
     limits.nodes < store.len()
 }
 
-/// The end of a count of nodes or cells at one more than the limit.
+/// The stop for too many nodes or cells, whose count ends at one more than the
+/// limit.
 fn too_large(limits: &Limits) -> Stop
     ensures { Stops result ≡ too_large limits.now }
 {
@@ -161,8 +163,7 @@ fn branches<S: Store>(
     Ok(branches)
 }
 
-/// What becomes of a branch whose graph becomes these, whatever node was
-/// rewritten.
+/// What becomes of a branch whose graph becomes one of these.
 fn following<S: Store>(
     alloc: Global,
     graphs: Moved<S>,
@@ -187,7 +188,7 @@ fn following<S: Store>(
     }
 }
 
-/// What becomes of a branch where the node at a place is rewritten.
+/// What becomes of a branch where the node with this index is rewritten.
 fn rewritten<S: Store>(
     alloc: Global,
     program: &FlatProgram,
@@ -254,9 +255,9 @@ fn by_need<S: Store>(
     }
 }
 
-/// One step of a branch in which no search runs. A branch in which one runs is
-/// answered as it was. An `Err` says that memory ran out, or that a graph has
-/// 4,294,967,295 nodes and needs one more.
+/// One step of a branch in which no search runs. A branch in which a search
+/// runs is given back as it was. An `Err` says that memory ran out, or that a
+/// graph has 4,294,967,295 nodes and needs one more.
 pub fn step<S: Store>(
     alloc: Global,
     program: &FlatProgram,

@@ -8,10 +8,10 @@ use cu_flat::{Int, Prim, Special};
 use cu_graph::{Kind, Store};
 use std::alloc::{AllocError, Global};
 
-/// What becomes of a graph.
+/// What becomes of a graph in a step of one of its nodes.
 #[derive(Drop)]
 pub(crate) enum Moved<S> {
-    /// It goes on as these, from left to right.
+    /// These graphs follow, from left to right.
     Become(Vec<S>),
     /// An operation on these integers has a result that is no `Int`.
     Overflow(Prim, Int, Int),
@@ -26,7 +26,7 @@ pub(crate) fn alone<S: Store>(alloc: Global, store: S) -> Result<Moved<S>, Alloc
     Ok(Moved::Become(stores))
 }
 
-/// A node without arguments is put at a place.
+/// The step that puts a node without arguments in the place of a node.
 pub(crate) fn puts<S: Store>(
     alloc: Global,
     mut store: S,
@@ -41,7 +41,7 @@ pub(crate) fn puts<S: Store>(
     alone(alloc, store)
 }
 
-/// A node has no value.
+/// The step in which a node fails.
 pub(crate) fn fails<S: Store>(alloc: Global, store: S, id: u32) -> Result<Moved<S>, AllocError>
     requires { id < length (S.content store) }
     ensures { IfOk result (λ moved. move_of S.content moved ≡ fails (S.content store) id) }
@@ -49,7 +49,7 @@ pub(crate) fn fails<S: Store>(alloc: Global, store: S, id: u32) -> Result<Moved<
     puts(alloc, store, id, Kind::Fail)
 }
 
-/// A node is stuck.
+/// The step in which a node becomes stuck.
 pub(crate) fn sticks<S: Store>(alloc: Global, store: S, id: u32) -> Result<Moved<S>, AllocError>
     requires { id < length (S.content store) }
     ensures { IfOk result (λ moved. move_of S.content moved ≡ sticks (S.content store) id) }
@@ -57,7 +57,7 @@ pub(crate) fn sticks<S: Store>(alloc: Global, store: S, id: u32) -> Result<Moved
     puts(alloc, store, id, Kind::Stuck)
 }
 
-/// A node becomes True or False.
+/// The step in which a node becomes True or False.
 pub(crate) fn tells<S: Store>(
     alloc: Global,
     special: &Special,

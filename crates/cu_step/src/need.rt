@@ -1,4 +1,4 @@
-//! What the value of a node needs.
+//! The walk that finds what the value of a node needs.
 ghost use Rattle.std.specs.Prelude.{◌≡◌, ◌<◌, [], IfOk, IfSome, IfNone, OnOk, length, option_map, slice_set, false};
 ghost use Rattle.cu_machine.specs.Graph.{head_at, head_of, node_at};
 ghost use Rattle.cu_machine.specs.Need as need;
@@ -13,56 +13,59 @@ use cu_graph::{Kind, Store};
 use indexmap::IndexSet;
 use std::alloc::{AllocError, Global};
 
-/// What all of a node's value needs next.
+/// What the whole value of a node needs next.
 #[derive(Drop)]
 pub(crate) enum Needed {
-    /// Nothing: it is there.
+    /// The value needs nothing: it is there.
     Done,
-    /// It has no value.
+    /// The node has no value.
     Dead,
-    /// That one of these free variables is bound.
+    /// The value needs that one of these free variables is bound.
     Wait(IndexSet<u32>),
-    /// That the node at this place is rewritten.
+    /// The value needs that the node with this index is rewritten.
     At(u32),
 }
 
 /// What a node asks of its arguments.
 #[derive(Clone, Copy)]
 enum Ask {
-    /// That their heads are there.
+    /// The arguments are to have their heads.
     Head,
-    /// That their heads are there, and no free variables.
+    /// The arguments are to have their heads, and these are to be no free
+    /// variables.
     Bound,
-    /// That they are True.
+    /// The arguments are to be True.
     Truth,
-    /// That all of them is there.
+    /// The whole values of the arguments are to be there.
     All,
-    /// What a set function asks of arguments that are there: that no free
-    /// variables are in them.
+    /// The arguments of a set function, whose values are there, are to have no
+    /// free variables in them.
     Ground,
-    /// The same inside such an argument.
+    /// A part of a set function's argument is to have no free variables in it.
     Inside,
 }
 
-/// What is known of a node.
+/// What is known of a node's need.
 #[derive(Clone, Copy)]
 enum Mark {
-    /// Nothing yet.
+    /// Nothing is known of the node yet.
     Unseen,
-    /// What is asked of it is there.
+    /// What is asked of the node is there.
     There,
-    /// It waits. A node whose arguments are still looked at is held to wait.
+    /// The node waits. A node whose arguments are still looked at is held to
+    /// wait.
     Waits,
 }
 
-/// A node whose arguments are looked at from left to right.
+/// A frame of the walk: a node whose arguments are looked at from left to
+/// right.
 #[derive(Clone, Copy)]
 struct Frame {
     node: u32,
     ask: Ask,
-    /// The argument that is next.
+    /// The number of the argument that is looked at next.
     next: u32,
-    /// Whether one of those before it waits.
+    /// Whether one of the arguments before the next one waits.
     waits: bool,
 }
 
@@ -71,28 +74,29 @@ struct Frame {
 enum Look {
     /// What is asked is there.
     There,
-    /// It waits for ever.
+    /// The argument waits for ever.
     Stuck,
-    /// It is the free variable at this place, which is waited for.
+    /// The argument is the free variable with this index, which is waited for.
     Free(u32),
-    /// The node at this place asks something of its arguments.
+    /// The node with this index asks something of its arguments.
     Node(u32, Ask),
-    /// It has no value.
+    /// The argument has no value.
     Dead,
-    /// The node at this place is to be rewritten.
+    /// The node with this index is to be rewritten.
     At(u32),
 }
 
-/// What was found so far.
+/// What a walk found so far.
 #[derive(Drop)]
 struct Walk {
     /// The nodes whose arguments are being looked at, each below the one
     /// before it.
     frames: Vec<Frame>,
-    /// What is known of each node with regard to all of its value. It is empty
-    /// as long as no marks are kept.
+    /// What is known of each node with regard to its whole value. The list is
+    /// empty as long as no marks are kept.
     whole: Vec<Mark>,
-    /// The same with regard to free variables in it.
+    /// What is known of each node with regard to free variables in its value.
+    /// The list is empty as long as no marks are kept.
     inside: Vec<Mark>,
     /// Whether anything waits.
     waits: bool,
@@ -105,9 +109,9 @@ struct Walk {
 /// variables in it.
 const LOOKS_PER_NODE: usize = 4;
 
-/// What all of a node's value needs. Marks are kept from when a node must have
-/// been met twice. From then on a node's arguments are looked at once for all
-/// of its value, and once for the free variables in it where a set function
+/// What the whole value of a node needs. Marks are kept from when a node must
+/// have been met twice. From then on a node's arguments are looked at once for
+/// its whole value, and once for the free variables in it where a set function
 /// asks for them.
 pub(crate) fn find<S: Store>(
     alloc: Global,
@@ -153,7 +157,7 @@ fn look_at<S: Store>(store: &S, truth: ConId, node: u32, ask: Ask, arg: u32) -> 
     }
 }
 
-/// A look at what is to have its head.
+/// A look at a node that is to have its head.
 fn at_head<S: Store>(store: &S, id: u32, kind: Kind) -> Look
     ensures { result ≡ look_head id kind (node_at (S.content store.now) id).args }
 {
@@ -181,7 +185,8 @@ fn at_first<S: Store>(store: &S, id: u32, ask: Ask) -> Look
     }
 }
 
-/// A look at what is to have its head, which is no free variable.
+/// A look at a node that is to have its head, and this is to be no free
+/// variable.
 fn bound<S: Store>(store: &S, id: u32, kind: Kind) -> Look
     ensures { result ≡ look_bound id kind (node_at (S.content store.now) id).args }
 {
@@ -202,7 +207,7 @@ fn true_side<S: Store>(store: &S, truth: ConId, node: u32, id: u32, kind: Kind) 
     }
 }
 
-/// A look at what is to be there as a whole.
+/// A look at a node whose whole value is to be there.
 fn all<S: Store>(store: &S, id: u32, kind: Kind) -> Look
     ensures { result ≡ look_all id kind (node_at (S.content store.now) id).args }
 {
@@ -212,7 +217,7 @@ fn all<S: Store>(store: &S, id: u32, kind: Kind) -> Look
     }
 }
 
-/// A look at what is to have no free variables in it.
+/// A look at a node that is to have no free variables in its value.
 fn inside(id: u32, kind: Kind) -> Look
     ensures { result ≡ look_inside id kind }
 {
@@ -223,7 +228,7 @@ fn inside(id: u32, kind: Kind) -> Look
     }
 }
 
-/// What is known of a node.
+/// What is known of a node by these marks.
 fn mark_at(marks: &[Mark], id: u32) -> Mark
     ensures { result ≡ mark_at marks.now id }
 {
@@ -233,7 +238,7 @@ fn mark_at(marks: &[Mark], id: u32) -> Mark
     }
 }
 
-/// Keeps what is known of a node, if marks are kept.
+/// Keeps what is known of a node, where marks are kept.
 fn put_mark(marks: &mut Vec<Mark>, id: u32, mark: Mark)
     ensures { marks.new.items ≡ slice_set marks.old.items id mark }
 {
@@ -242,7 +247,7 @@ fn put_mark(marks: &mut Vec<Mark>, id: u32, mark: Mark)
     }
 }
 
-/// How many of its arguments a node asks something of.
+/// The number of a node's arguments of which it asks something.
 fn looked_at_count<S: Store>(store: &S, id: u32) -> u32
     requires { id < length (S.content store.now) }
     ensures { result ≡ length (looked_at (S.content store.now) id) }
@@ -296,7 +301,7 @@ impl Walk {
         Ok(self.needed())
     }
 
-    /// Takes what a look shows to the node that asked.
+    /// Takes what a look shows to the node that asked for it.
     fn meet(&mut self, look: Look) -> Result<Option<Needed>, AllocError>
         ensures answer { IfOk result (λ answer. option_map need_of answer ≡ at_once look) }
         ensures found { OnOk result (found self.new ≡ met (found self.old) look) }
@@ -320,7 +325,7 @@ impl Walk {
         }
     }
 
-    /// The node that asked waits.
+    /// Notes that the node that asked waits.
     fn wait(&mut self) -> Result<(), AllocError>
         ensures { OnOk result (found self.new ≡ waited (found self.old)) }
     {
@@ -334,7 +339,7 @@ impl Walk {
         Ok(())
     }
 
-    /// The node that asked waits for a variable.
+    /// Notes that the node that asked waits for a variable.
     #[tactic(auto, using(crate::proofs::Ordinals::numberings))]
     fn wait_for(&mut self, id: u32) -> Result<(), AllocError>
         ensures { OnOk result (found self.new ≡ waited_for (found self.old) id) }
@@ -343,7 +348,8 @@ impl Walk {
         self.wait()
     }
 
-    /// The node that asked waits if another does.
+    /// Looks at a node's arguments next. Where what it asks of them is known,
+    /// the node that asked for it waits if this one does.
     fn enter(&mut self, id: u32, ask: Ask) -> Result<(), AllocError>
         ensures { OnOk result (found self.new
             ≡ entered_at (found self.old) id ask (mark_of (found self.old) (is_inside ask) id)) }
@@ -364,7 +370,7 @@ impl Walk {
         }
     }
 
-    /// What is known of a node with regard to what it asks.
+    /// What is known of a node with regard to what it asks of its arguments.
     fn mark(&self, id: u32, ask: Ask) -> Mark
         ensures { result ≡ mark_of (found self.now) (is_inside ask) id }
     {
@@ -375,8 +381,8 @@ impl Walk {
         mark_at(marks, id)
     }
 
-    /// Keeps what is known of a node with regard to what it asks, if marks are
-    /// kept.
+    /// Keeps what is known of a node with regard to what it asks, where marks
+    /// are kept.
     fn set_mark(&mut self, id: u32, ask: Ask, mark: Mark)
         ensures { found self.new ≡ with_mark (found self.old) (is_inside ask) id mark }
     {
@@ -386,7 +392,8 @@ impl Walk {
         }
     }
 
-    /// Looks at a node's next argument, or leaves it where there is none.
+    /// Looks at the next argument of the innermost node, or leaves the node
+    /// where there is none.
     fn advance<S: Store>(
         &mut self,
         store: &S,

@@ -5,7 +5,7 @@ ghost use Rattle.cu_machine.specs.Graph.{node_at};
 use cu_graph::{Kind, Store};
 use std::alloc::{AllocError, Global};
 
-/// What a node is, where there is none the stuck one.
+/// The kind of a node, or that of a stuck node where there is none.
 pub(crate) fn kind_at<S: Store>(store: &S, id: u32) -> Kind
     ensures { result ≡ (node_at (S.content store.now) id).kind }
 {
@@ -40,7 +40,7 @@ pub(crate) fn args<S: Store>(alloc: Global, store: &S, id: u32) -> Result<Vec<u3
     Ok(args)
 }
 
-/// Adds a node, and answers its place. A full graph is out of memory.
+/// Adds a node, and answers its index. In a full graph it is out of memory.
 pub(crate) fn push<S: Store>(store: &mut S, kind: Kind, args: &[u32]) -> Result<u32, AllocError>
     ensures place { IfOk result (λ id. id ≡ length (S.content store.old)) }
     ensures content { OnOk result (S.content store.new

@@ -42,7 +42,8 @@ fn character_in(kind: Kind) -> Option<char>
     }
 }
 
-/// The integer that an operation computed from two, or an overflow.
+/// The step to the integer that an operation computed from two, or the
+/// overflow.
 fn counted<S: Store>(
     alloc: Global,
     store: S,
@@ -62,7 +63,7 @@ fn counted<S: Store>(
     }
 }
 
-/// An operation on two integers.
+/// The step of an operation on two integers.
 fn calculated<S: Store>(
     alloc: Global,
     special: &Special,
@@ -100,7 +101,7 @@ fn calculated<S: Store>(
     }
 }
 
-/// A character's number.
+/// The step from a character to its number, or the failure where there is none.
 fn on_character<S: Store>(
     alloc: Global,
     store: S,
@@ -120,7 +121,7 @@ fn on_character<S: Store>(
     }
 }
 
-/// A number's character.
+/// The step from a number to its character, or the failure where there is none.
 fn on_integer<S: Store>(
     alloc: Global,
     store: S,
@@ -140,7 +141,7 @@ fn on_integer<S: Store>(
     }
 }
 
-/// An operation on one head.
+/// The step of an operation on one operand, by its head.
 fn on_one<S: Store>(
     alloc: Global,
     store: S,
@@ -159,7 +160,7 @@ fn on_one<S: Store>(
     }
 }
 
-/// An operation on two heads.
+/// The step of an operation on two operands, by their heads.
 fn on_two<S: Store>(
     alloc: Global,
     special: &Special,
@@ -183,7 +184,8 @@ fn on_two<S: Store>(
     calculated(alloc, special, store, id, operation, m, n)
 }
 
-/// An operation on numbers or characters. On anything else it has no value.
+/// The step of an operation on numbers or characters. On anything else it
+/// fails.
 pub(crate) fn computed<S: Store>(
     alloc: Global,
     special: &Special,

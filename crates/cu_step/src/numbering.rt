@@ -14,7 +14,7 @@ pub(crate) struct Numbering {
 }
 
 impl Numbering {
-    /// No variable was met.
+    /// The numbering in which no variable was met.
     pub(crate) fn new(alloc: Global) -> Numbering
         ensures { result.variables.keys ≡ [] }
     {
@@ -23,7 +23,8 @@ impl Numbering {
         }
     }
 
-    /// The number of a variable, which is the next where it is new.
+    /// The number of a variable, which is the next number where the variable is
+    /// new.
     #[tactic(auto, using(crate::proofs::Ordinals::numberings))]
     pub(crate) fn number(&mut self, id: u32) -> Result<u32, AllocError>
         ensures number { IfOk result (λ number. number ≡ ordinal self.new.variables.keys id) }

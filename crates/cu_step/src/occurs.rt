@@ -9,21 +9,22 @@ use crate::{head, node, pending};
 use cu_graph::{Kind, Store};
 use std::alloc::{AllocError, Global};
 
-/// What is sought.
+/// What a search through values seeks.
 #[derive(Clone, Copy)]
 pub(crate) enum Sought {
-    /// The free variable at this place.
+    /// The free variable with this index.
     Variable(u32),
-    /// A partial application.
+    /// Any partial application.
     Part,
 }
 
-/// What is left of a search.
+/// What is left of a search through values.
 #[derive(Drop)]
 struct Search {
-    /// The nodes that are to be looked at. The last one comes first.
+    /// The nodes that are to be looked at, as a stack: the last one is on top.
     pending: Vec<u32>,
-    /// Which heads were looked at. It is empty as long as no marks are kept.
+    /// Which heads were looked at. The list is empty as long as no marks are
+    /// kept.
     seen: Vec<bool>,
 }
 

@@ -1,4 +1,4 @@
-//! What an operation's arguments are.
+//! The heads of an operation's arguments.
 ghost use Rattle.std.specs.Prelude.{◌≡◌, ◌<◌, IfOk, length, map};
 ghost use Rattle.cu_machine.specs.declared.Kind.TheVariants as kind;
 ghost use Rattle.cu_machine.specs.Graph.{head_at, head_of};
@@ -10,15 +10,15 @@ use std::alloc::{AllocError, Global};
 /// The head of an argument.
 #[derive(Drop)]
 pub(crate) struct Operand {
-    /// Its place.
+    /// The index of the head.
     pub id: u32,
-    /// What it is.
+    /// The kind of the head.
     pub kind: Kind,
-    /// The places of its arguments.
+    /// The indices of the head's arguments.
     pub args: Vec<u32>,
 }
 
-/// The head of the argument at a place.
+/// The head of the node with this index.
 pub(crate) fn at<S: Store>(alloc: Global, store: &S, id: u32) -> Result<Operand, AllocError>
     ensures id { IfOk result (λ operand. operand.id ≡ head_of (S.content store.now) id) }
     ensures kind { IfOk result (λ operand. operand.kind ≡ (head_at (S.content store.now) id).kind) }
@@ -40,7 +40,7 @@ pub(crate) fn at<S: Store>(alloc: Global, store: &S, id: u32) -> Result<Operand,
     })
 }
 
-/// What the heads of arguments are.
+/// The kinds of the heads of arguments.
 pub(crate) fn kinds<S: Store>(
     alloc: Global,
     store: &S,

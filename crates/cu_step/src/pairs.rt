@@ -21,8 +21,8 @@ fn push_each<S: Store>(store: &mut S, each: Kind, pairs: &[(u32, u32)]) -> Resul
     Ok(())
 }
 
-/// Joins the nodes from one place to another from the right, and answers the
-/// place of the outermost one.
+/// Joins the nodes from one index to another from the right, and answers the
+/// index of the outermost one.
 fn join<S: Store>(store: &mut S, joint: Kind, first: u32, last: u32) -> Result<u32, AllocError>
     requires { first ≤ last }
     ensures content { OnOk result (S.content store.new ≡ S.content store.old
@@ -40,7 +40,7 @@ fn join<S: Store>(store: &mut S, joint: Kind, first: u32, last: u32) -> Result<u
 }
 
 /// Pushes nodes over several pairs from the left, and writes in the place of
-/// another node what joins them from the right.
+/// another node the node that joins them from the right.
 fn write_several<S: Store>(
     store: &mut S,
     id: u32,
@@ -60,8 +60,8 @@ fn write_several<S: Store>(
     store.put(id, joint, &[first, others])
 }
 
-/// Writes a node over a single pair in the place of another, and with more
-/// pairs what joins nodes over them.
+/// Writes in the place of a node one over a single pair, or the node that joins
+/// those over more pairs.
 fn write<S: Store>(
     store: &mut S,
     id: u32,
@@ -81,8 +81,8 @@ fn write<S: Store>(
     write_several(store, id, each, joint, pairs)
 }
 
-/// A node becomes one over pairs of arguments. Where there are none it is
-/// True.
+/// The step in which a node becomes one over pairs of arguments, or True where
+/// there are none.
 pub(crate) fn in_pairs<S: Store>(
     alloc: Global,
     special: &Special,

@@ -1,11 +1,11 @@
-//! Work lists of nodes, of which the last is taken first.
+//! Stacks of nodes that are still to be looked at.
 ghost use Rattle.std.specs.Prelude.{◌≡◌, ◌<◌, ◌++◌, OnOk, length, reverse};
 ghost use Rattle.cu_machine.specs.Graph.{node_at};
 
 use cu_graph::Store;
 use std::alloc::AllocError;
 
-/// Adds the arguments of a node, of which the first is taken first.
+/// Pushes the arguments of a node, the first one on top.
 pub(crate) fn push_args<S: Store>(
     pending: &mut Vec<u32>,
     store: &S,

@@ -13,23 +13,23 @@ use std::alloc::{AllocError, Global};
 #[derive(Clone, Copy)]
 struct Unfinished {
     kind: Kind,
-    /// How many arguments it has.
+    /// How many arguments the node has.
     count: u32,
-    /// How many of them aren't there yet.
+    /// How many of the node's arguments aren't there yet.
     missing: u32,
 }
 
-/// Values of which some nodes are pushed.
+/// The state of a pushing: values of which some nodes are pushed.
 #[derive(Drop)]
 struct Pushing {
-    /// The places of nodes that are arguments of nodes to come.
+    /// The indices of nodes that are arguments of nodes to come.
     ids: Vec<u32>,
-    /// The nodes to come. The last one is within those before it.
+    /// The nodes to come. Each is an argument of the one before it.
     unfinished: Vec<Unfinished>,
 }
 
-/// Adds the nodes of a value, without sharing, and answers the place of its
-/// outermost one. What has no node of its own, a variable or Bottom, is stuck.
+/// Adds the nodes of a value, without sharing, and answers the index of its
+/// outermost one. A variable and Bottom become stuck nodes.
 pub fn push_value<S: Store>(alloc: Global, store: &mut S, value: &Value) -> Result<u32, AllocError>
     ensures place { IfOk result (λ id. id
         ≡ place_of (length (S.content store.old))
@@ -50,7 +50,7 @@ pub fn push_value<S: Store>(alloc: Global, store: &mut S, value: &Value) -> Resu
     }
 }
 
-/// What the node of a cell is.
+/// The kind of a cell's node.
 fn kind_of(cell: Cell) -> Kind
     ensures { result ≡ kind_of_cell cell }
 {
@@ -64,8 +64,8 @@ fn kind_of(cell: Cell) -> Kind
 }
 
 impl Pushing {
-    /// Takes a cell: a node without arguments is pushed, and one with arguments
-    /// is left open.
+    /// Takes a cell: pushes a node without arguments, and leaves one with
+    /// arguments open.
     fn take<S: Store>(&mut self, store: &mut S, cell: Cell) -> Result<(), AllocError>
         ensures { OnOk result (work_of (S.content store.new) self.new
             ≡ fed (work_of (S.content store.old) self.old) cell) }
@@ -84,7 +84,8 @@ impl Pushing {
         Ok(())
     }
 
-    /// A node is there, which may be the last argument of nodes to come.
+    /// Notes that a node is there, which may be the last argument of nodes to
+    /// come.
     fn give<S: Store>(&mut self, store: &mut S, id: u32) -> Result<(), AllocError>
         ensures { OnOk result (work_of (S.content store.new) self.new
             ≡ given (work_of (S.content store.old) self.old) id) }

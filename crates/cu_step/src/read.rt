@@ -25,17 +25,17 @@ pub struct Reading {
     pub value: Value,
 }
 
-/// What is left to a reading.
+/// The state of a reading.
 #[derive(Drop)]
 struct Reader {
-    /// The variables that were met.
+    /// The variables that were met so far.
     numbering: Numbering,
-    /// How many cells may follow.
+    /// How many cells may still follow.
     room: u32,
 }
 
-/// What the goal variables and the root stand for, unless they have more cells
-/// together than the limit.
+/// The values of the goal variables and of the root, unless they have more
+/// cells together than the limit.
 pub(crate) fn read<S: Store>(
     alloc: Global,
     store: &S,

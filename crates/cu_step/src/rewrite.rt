@@ -13,7 +13,7 @@ use cu_flat::{FlatProgram, Prim, Special};
 use cu_graph::{Kind, Store};
 use std::alloc::{AllocError, Global};
 
-/// `==` on its arguments.
+/// The step of `==` on its arguments.
 fn compared<S: Store>(
     alloc: Global,
     special: &Special,
@@ -33,7 +33,7 @@ fn compared<S: Store>(
     equal::compared(alloc, special, store, id, &left, &right)
 }
 
-/// `=:=` on its arguments.
+/// The step of `=:=` on its arguments.
 #[tactic(auto, using(crate::proofs::Operands::operands))]
 fn equated<S: Store>(
     alloc: Global,
@@ -56,7 +56,7 @@ fn equated<S: Store>(
     unify::equated(alloc, special, store, id, &left, &right)
 }
 
-/// `&` on its arguments.
+/// The step of `&` on its arguments.
 fn conjoined<S: Store>(
     alloc: Global,
     special: &Special,
@@ -76,7 +76,7 @@ fn conjoined<S: Store>(
     equal::conjoined(alloc, special, store, id, left, right)
 }
 
-/// A built-in operation on its arguments.
+/// The step of a built-in operation on its arguments.
 #[tactic(auto, using(crate::proofs::Operands::operands))]
 fn operated<S: Store>(
     alloc: Global,
@@ -100,8 +100,8 @@ fn operated<S: Store>(
     }
 }
 
-/// What becomes of a graph where the node at a place is rewritten. The call of
-/// a set function has a way of its own.
+/// What becomes of a graph where the node with this index is rewritten. The
+/// call of a set function is rewritten elsewhere, by `begin` of `set_call`.
 pub(crate) fn rewritten<S: Store>(
     alloc: Global,
     program: &FlatProgram,

@@ -50,7 +50,7 @@ fn arguments<S: Store>(
     Ok(Some(values))
 }
 
-/// The branch in which an inner search begins: the cells of the arguments, and
+/// The branch in which an inner search begins: the nodes of the arguments, and
 /// the call of the function on them.
 fn call_on<S: Store>(
     alloc: Global,
@@ -76,7 +76,7 @@ fn call_on<S: Store>(
     })
 }
 
-/// One branch alone follows.
+/// The outcome in which one branch alone follows.
 fn alone<S: Store>(alloc: Global, branch: Branch<S>) -> Result<Outcome<S>, AllocError>
     ensures next { IfOk result (λ outcome. next_of S.content outcome
         ≡ Go (state_of S.content branch ∷ [])) }
@@ -87,9 +87,9 @@ fn alone<S: Store>(alloc: Global, branch: Branch<S>) -> Result<Outcome<S>, Alloc
     Ok(Outcome::Go(branches))
 }
 
-/// What becomes of a branch where the call of a set function at a place is
-/// rewritten: the search for all values of the function begins. A partial
-/// application in an argument leaves the call stuck.
+/// What becomes of a branch where the call of a set function is rewritten: the
+/// search for all values of the function begins. A partial application in an
+/// argument leaves the call stuck.
 pub(crate) fn begin<S: Store>(
     alloc: Global,
     program: &FlatProgram,

@@ -15,7 +15,8 @@ use cu_flat::{ConId, Prim, Special};
 use cu_graph::{Kind, Store};
 use std::alloc::{AllocError, Global};
 
-/// Equations of arguments in pairs.
+/// The step of `=:=` on two like constructors: equations of their arguments in
+/// pairs.
 fn in_pairs<S: Store>(
     alloc: Global,
     special: &Special,
@@ -34,7 +35,8 @@ fn in_pairs<S: Store>(
     pairs::in_pairs(alloc, special, store, id, each, joint, pairs.as_slice())
 }
 
-/// A free variable becomes another name of a node, and the equation holds.
+/// The step in which a free variable becomes an Ind of a node, and the equation
+/// holds.
 fn renames<S: Store>(
     alloc: Global,
     special: &Special,
@@ -52,7 +54,8 @@ fn renames<S: Store>(
     moved::tells(alloc, special, store, id, true)
 }
 
-/// A free variable is equated with a constructor over arguments.
+/// The step of an equation of a free variable with a constructor over
+/// arguments.
 #[tactic(auto, using(crate::proofs::Imitations::imitations))]
 fn imitates<S: Store>(
     alloc: Global,
@@ -82,7 +85,8 @@ fn imitates<S: Store>(
     in_pairs(alloc, special, store, id, fresh.as_slice(), args)
 }
 
-/// `=:=` of two heads. A partial application equals nothing.
+/// The step of `=:=`, by the heads of its sides. A partial application equals
+/// nothing.
 pub(crate) fn equated<S: Store>(
     alloc: Global,
     special: &Special,

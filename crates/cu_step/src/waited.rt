@@ -9,8 +9,8 @@ use cu_graph::Store;
 use cu_machine::Waited;
 use std::alloc::{AllocError, Global};
 
-/// The names of free variables: the first goal variable that stands for each,
-/// and numbers from 1 for the others.
+/// The names of free variables: the number of the first goal variable that
+/// stands for each, and numbers from 1 for those without one.
 pub(crate) fn names<S: Store>(
     alloc: Global,
     store: &S,
@@ -33,7 +33,7 @@ pub(crate) fn names<S: Store>(
     Ok(names)
 }
 
-/// The places of the heads of nodes.
+/// The indices of the heads of nodes.
 fn heads<S: Store>(alloc: Global, store: &S, ids: &[u32]) -> Result<Vec<u32>, AllocError>
     ensures { IfOk result (λ heads. heads.items ≡ map (head_of (S.content store.now)) ids.now) }
 {
@@ -44,7 +44,8 @@ fn heads<S: Store>(alloc: Global, store: &S, ids: &[u32]) -> Result<Vec<u32>, Al
     Ok(heads)
 }
 
-/// The number of the first goal variable whose head is the node at a place.
+/// The number of the first goal variable whose head is the node with this
+/// index.
 fn goal_for(heads: &[u32], id: u32) -> Result<Option<u32>, AllocError>
     ensures { IfOk result (λ goal. goal ≡ position (λ head. nat_eq head id) heads.now) }
 {
@@ -54,14 +55,14 @@ fn goal_for(heads: &[u32], id: u32) -> Result<Option<u32>, AllocError>
     }
 }
 
-/// The first place at which a number stands.
+/// The first position of a number in a list.
 fn place_in(ids: &[u32], id: u32) -> Option<usize>
     ensures { result ≡ position (λ other. nat_eq other id) ids.now }
 {
     ids.iter().position(|other| *other == id)
 }
 
-/// A number that fits. A larger one is out of memory.
+/// The number as one of 32 bits. Where it is larger, memory has run out.
 pub(crate) fn to_u32(n: usize) -> Result<u32, AllocError>
     ensures { IfOk result (λ number. number ≡ n) }
 {

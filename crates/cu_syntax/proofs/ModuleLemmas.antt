@@ -1,4 +1,4 @@
--- Modules: the front, and then the parts of the block.
+-- Modules: what stands before the block, and then the parts of the block.
 use Rattle.std.specs.Prelude.{◌≡◌, ℕ, ◌+◌, true, List, [], Option, None, Some, Result, Ok, Err, drop, refl, take}
 use Rattle.std.specs.Option.{option_map}
 use Rattle.std.proofs.Common.{ap, subst, sym, ◌∙◌}

@@ -1,4 +1,4 @@
--- The tokens of a text stand one behind another.
+-- The tokens of a text stand one after another.
 use Rattle.std.specs.Prelude.{◌≡◌, ◌<◌, ℕ, zero, suc, ◌==◌, Bool, true, false, List, [], ◌∷◌, ◌++◌, Err, None, Ok, Option, Result, Some, if◌then◌else◌, length, nat_lt, refl}
 use Rattle.std.specs.List.{All}
 use Rattle.std.specs.Str.{byte, chars, is_utf8}

@@ -1,4 +1,5 @@
--- Where a part of a block ends decides what is left of the block, and the first brace decides the front of a module.
+-- Where a part of a block ends decides what is left of the block, and the first brace decides what
+-- stands before the block of a module.
 use Rattle.std.specs.Prelude.{◌≡◌, ℕ, suc, ◌+◌, Bool, true, false, ◌&&◌, List, [], ◌∷◌, Option, None, Some, drop, if◌then◌else◌, map, nat_eq, refl, take}
 use Rattle.std.specs.List.{drop-map, take-map}
 use Rattle.std.specs.Option.{option_map}

@@ -17,7 +17,7 @@ use Rattle.cu_syntax.specs.Reading.{Tree, goal_of, header_of, import_of, item_of
 use Rattle.cu_syntax.specs.Subtrees.{over}
 use Rattle.cu_syntax.specs.Syntax.{Goal, Header, ImportItem, Item, Module}
 
--- The tree over tokens of the definition.
+-- The tree over tokens of the definitions that a parse of the code stands for.
 abbrev pub tree_of : List (List ℕ) → Parsed → Tree
 tree_of names parsed = over (map (lexeme_of names) parsed.tokens.items) parsed.tree
 
@@ -44,35 +44,37 @@ module_meaning names found = record {
   items = items_meaning names found.items.items;
 }
 
--- The fault that an answer tells has this property. Want of memory says nothing.
+-- The fault that an answer tells has this property. An allocation failure says nothing.
 abbrev pub Tells : (Fault → Type 0) → ParseFault → Type 0
 Tells P (answer.Syntax line) = P (Syntax line)
 Tells P (answer.TooLong line) = P (TooLong line)
 Tells P answer.NoMemory = Unit {0}
 
--- What is found on the way
+-- ---- what is found while tokens are read
 
--- a header, or none, where it isn't wrong
+-- the header that was found before a module's block, or none, is the one that its tokens are read
+-- as
 abbrev pub FoundHeader : List (List ℕ) → List Lexeme → Option headers.Header → Type 0
 FoundHeader names tokens found = HeaderRead tokens (option_map (header_meaning names) found)
 
--- a wrong header
+-- the tokens before a module's block are no header, which is a fault at line 1
 abbrev pub NoHeader : List Lexeme → Fault → Type 0
 NoHeader tokens fault = (fault ≡ Syntax 1) × (¬ (tokens ≡ [])) × HasNone symbol.Header tokens
 
 abbrev pub part_with : Bool → ℕ → List Lexeme → Part
 part_with whole before tokens = record { before = before; tokens = tokens; whole = whole }
 
--- an item of a part, or that the part is empty
+-- the item that was found is what a part is read as; where none was found the part is empty
 abbrev pub FoundPart : List (List ℕ) → Bool → Part → Option text.Item → Type 0
 FoundPart names imports part None = part.tokens ≡ []
 FoundPart names imports part (Some found) = PartRead imports part (Ok (item_meaning names found))
 
--- no item of these tokens
+-- these tokens are read as no item
 abbrev pub IsNoItem : Bool → List Lexeme → Type 0
 IsNoItem imports tokens = (item : Item) → ¬ (ItemRead imports tokens item)
 
--- What was found is added to the items, and an import may stand behind it or not.
+-- What was found, if anything, was added to the items, and `behind` says whether an import may
+-- follow it.
 abbrev pub Adds : List (List ℕ) → Bool → List text.Item → List text.Item → Option text.Item → Bool
     → Type 0
 Adds names imports before after None behind = (after ≡ before) × (behind ≡ imports)

@@ -35,7 +35,7 @@ abbrev pub right_meaning : List (List ℕ) → RightSide → syntax.RightSide
 right_meaning names r =
     right_side r.body.symbol (tree_of names r.body) (where_block (tree_of names r.local))
 
--- what follows the equals sign or the arrow, without its place
+-- what follows the equals sign or the arrow: an expression or guards, without the place
 pub data Behind : Type 0 where
   One : syntax.Expression → Behind
   Guards : syntax.Guards → Behind
@@ -61,7 +61,7 @@ abbrev pub body_meaning : List (List ℕ) → Body → Behind
 body_meaning names (body.Plain e) = One (expression_meaning names e)
 body_meaning names (body.Guarded guards) = Guards (guards_meaning names guards.items)
 
--- what a node says of its right-hand side
+-- the right-hand side that a node of it stands for
 abbrev pub right_node : List (List ℕ) → RightSideNode → syntax.RightSide
 right_node names r = right_of (position_of r.place) (body_meaning names r.body)
     (declarations_meaning names r.local.items)
@@ -71,7 +71,7 @@ left_meaning names (left.Function name parameters) =
     OfFunction (name_meaning names name) (patterns_meaning names parameters.items)
 left_meaning names (left.Pattern pattern) = OfPattern (pattern_meaning names pattern)
 
--- what a node says of its declaration
+-- the declaration that a node of it stands for
 abbrev pub declaration_node : List (List ℕ) → DeclarationNode → syntax.Declaration
 declaration_node names (node.FreeVariables at variables) =
     syntax.FreeVariables (position_of at) (map (name_meaning names) variables.items)

@@ -24,7 +24,8 @@ use Rattle.cu_syntax.specs.Reading.{Tree, alternatives_of, operator_rest, qualif
 use Rattle.cu_syntax.specs.Subtrees.{is_empty, is_single, part_of}
 use Rattle.cu_syntax.specs.Syntax as syntax
 
--- whether an expression's tree is more than parentheses, or an operand or a function alone
+-- whether a tree is an expression of its own, and not another one in parentheses, an operand alone
+-- or a function without arguments
 abbrev pub is_bare_expression : Symbol → Tree → Bool
 is_bare_expression symbol.Exp tree = not (is_empty (part_of tree 0) && is_empty (part_of tree 2))
 is_bare_expression symbol.Application tree = not (is_single tree)
@@ -38,7 +39,7 @@ abbrev pub maybe_meaning : List (List ℕ) → Option Expression → syntax.Mayb
 maybe_meaning names None = syntax.Absent
 maybe_meaning names (Some e) = syntax.Present (expression_meaning names e)
 
--- an operator and its right operand before others
+-- an operator and its right operand, before further ones
 abbrev pub with_item : List (List ℕ) → OperatorItem → syntax.OperatorRest → syntax.OperatorRest
 with_item names item rest =
     syntax.ThenOperator (name_meaning names item.operator) (maybe_position item.minus)
@@ -57,7 +58,7 @@ items_meaning names items =
     syntax.Operators (position_of items.place) (maybe_position items.minus)
     (expression_meaning names items.first) (rest_meaning names items.rest.items)
 
--- an alternative before others
+-- an alternative, before further ones
 abbrev pub with_alternative : List (List ℕ) → Alternative → syntax.Alternatives
     → syntax.Alternatives
 with_alternative names a rest =
@@ -96,7 +97,7 @@ enumeration_meaning names at e =
     syntax.Enumeration at (expression_meaning names e.first) (maybe_meaning names e.second)
     (maybe_meaning names e.last)
 
--- what a node says of its expression
+-- the expression that a node of it stands for
 abbrev pub expression_node : List (List ℕ) → ExpressionNode → syntax.Expression
 expression_node names (node.Variable at name) =
     syntax.Variable (position_of at) (name_meaning names name)

@@ -1,4 +1,4 @@
--- How many parts the grammar asks a node to have.
+-- How many parts a node may have, by the grammar.
 use Rattle.std.specs.Prelude.{◌≡◌, ◌<◌, List, Option, None, Some, length}
 use Rattle.cu_syntax.specs.declared.expressions.ExpressionNode.{ExpressionNode}
 use Rattle.cu_syntax.specs.declared.expressions.ExpressionNode.TheVariants as expression
@@ -10,7 +10,7 @@ use Rattle.cu_syntax.specs.declared.types.TypeNode.TheVariants as type_term
 abbrev pub AreSome : {X : Type 0} → List X → Type 0
 AreSome xs = 0 < length xs
 
--- none, or two or more
+-- components of a tuple: none, or two or more
 abbrev pub AreComponents : {X : Type 0} → List X → Type 0
 AreComponents xs = ¬ (length xs ≡ 1)
 
@@ -23,7 +23,7 @@ PatternNodeIsFormed (pattern.Tuple place components) = AreComponents components.
 PatternNodeIsFormed (pattern.Operators items) = AreSome items.rest.items
 PatternNodeIsFormed _ = Unit {0}
 
--- Items without a minus before the first have an operator.
+-- Operands and operators without a minus before the first operand have an operator.
 abbrev pub HasOperator : {X Y : Type 0} → Option X → List Y → Type 0
 HasOperator None rest = AreSome rest
 HasOperator (Some minus) rest = Unit {0}

@@ -1,4 +1,4 @@
--- Which symbols stand for what kind of syntax.
+-- Which symbols of the grammar stand for what kind of syntax.
 use Rattle.std.specs.Prelude.{Bool, false, ◌||◌, List, [], ◌∷◌}
 use denote.Enum.Bare.{sameb}
 use Rattle.cu_syntax.specs.contracts.symbol.Symbol as symbols
@@ -9,7 +9,7 @@ abbrev pub is_among : List Symbol → Symbol → Bool
 is_among [] s = false
 is_among (t ∷ ts) s = sameb symbols.the_type t s || is_among ts s
 
--- types that are more than another type in parentheses
+-- whether a symbol's tree is a type that is more than another type in parentheses
 abbrev pub is_type_node : Symbol → Bool
 is_type_node =
     is_among (symbol.TypeExp ∷ symbol.TypeApplication ∷ symbol.QConId ∷ symbol.VarId ∷ symbol.Unit
@@ -18,7 +18,7 @@ is_type_node =
 abbrev pub is_type : Symbol → Bool
 is_type s = is_among (symbol.BType ∷ symbol.AType ∷ []) s || is_type_node s
 
--- patterns that are more than another pattern in parentheses
+-- whether a symbol's tree is a pattern that is more than another pattern in parentheses
 abbrev pub is_pattern_node : Symbol → Bool
 is_pattern_node =
     is_among (symbol.Pat ∷ symbol.NegativePat ∷ symbol.ConApplication ∷ symbol.AliasPat
@@ -28,7 +28,7 @@ is_pattern_node =
 abbrev pub is_pattern : Symbol → Bool
 is_pattern s = is_among (symbol.ConPat ∷ symbol.APat ∷ []) s || is_pattern_node s
 
--- expressions that are more than another expression in parentheses
+-- whether a symbol's tree is an expression that is more than another expression in parentheses
 abbrev pub is_expression_node : Symbol → Bool
 is_expression_node =
     is_among (symbol.Exp ∷ symbol.Lambda ∷ symbol.LetExp ∷ symbol.IfExp ∷ symbol.CaseExp
@@ -46,7 +46,7 @@ is_declaration = is_among (symbol.FreeDecl ∷ symbol.Signature ∷ symbol.Rule 
 abbrev pub is_rule : Symbol → Bool
 is_rule = is_among (symbol.Rule ∷ symbol.TopRule ∷ [])
 
--- items that are no imports
+-- whether a symbol's tree is an item that is no import
 abbrev pub is_item_node : Symbol → Bool
 is_item_node =
     is_among (symbol.FixityDecl ∷ symbol.DataDecl ∷ symbol.SynonymDecl ∷ symbol.Signature
@@ -55,14 +55,14 @@ is_item_node =
 abbrev pub is_constructor_node : Symbol → Bool
 is_constructor_node = is_among (symbol.InfixConDecl ∷ symbol.PrefixConDecl ∷ [])
 
--- left-hand sides of rules, and those without parentheses round them
+-- whether a symbol's tree is a left-hand side of a rule, in parentheses or not
 abbrev pub is_left_side : Symbol → Bool
 is_left_side = is_among (symbol.Lhs ∷ symbol.FunctionLhs ∷ [])
 
 abbrev pub is_left_node : Symbol → Bool
 is_left_node = is_among (symbol.InfixLhs ∷ symbol.PrefixLhs ∷ symbol.PatternLhs ∷ [])
 
--- the left-hand sides of a rule
+-- the symbol of the left-hand sides of a rule
 abbrev pub left_of : Symbol → Symbol
 left_of symbol.TopRule = symbol.FunctionLhs
 left_of s = symbol.Lhs
@@ -77,11 +77,11 @@ is_guard = is_among (symbol.GuardedExp ∷ symbol.GuardedAlt ∷ [])
 abbrev pub is_qualifier : Symbol → Bool
 is_qualifier = is_among (symbol.Generator ∷ symbol.LetQual ∷ symbol.Exp ∷ [])
 
--- the right-hand sides of rules and alternatives
+-- whether a symbol's tree is the right-hand side of a rule or an alternative, without `where`
 abbrev pub is_body : Symbol → Bool
 is_body = is_among (symbol.RhsBody ∷ symbol.AltBody ∷ [])
 
--- names and operators, in parentheses or backquotes too
+-- whether a symbol's tree is a name or an operator, maybe in parentheses or backquotes
 abbrev pub is_name : Symbol → Bool
 is_name = is_among (symbol.VarId ∷ symbol.ConId ∷ symbol.VarSym ∷ symbol.ConSym ∷ symbol.QVarId
     ∷ symbol.QConId ∷ symbol.QVarSym ∷ symbol.QConSym ∷

@@ -57,7 +57,7 @@ constructor_meaning names found =
       fields = types_meaning names found.fields.items;
     }
 
--- what a node says of its item
+-- the item that a node of it stands for
 abbrev pub item_node : List (List ℕ) → ItemNode → syntax.Item
 item_node names (node.Import found) = syntax.ImportItem (import_meaning names found)
 item_node names (node.Fixity at to level operators) =

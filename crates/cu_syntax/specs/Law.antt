@@ -8,12 +8,12 @@ use Rattle.cu_lex.specs.Tokens.{Lexeme, tokens}
 use Rattle.cu_syntax.specs.Parsing.{Fault, GoalRead, ModuleRead}
 use Rattle.cu_syntax.specs.Syntax.{Goal, Module}
 
--- The tokens of a module are read as one module, or have one fault.
+-- Tokens are read as one module at most, or have one fault.
 abbrev pub ModulesAreReadOnce : Type 0
 ModulesAreReadOnce = (tokens : List Lexeme) (outcome other : Result Module Fault)
     → ModuleRead tokens outcome → ModuleRead tokens other → outcome ≡ other
 
--- The same of goals.
+-- Tokens are read as one goal at most, or have one fault.
 abbrev pub GoalsAreReadOnce : Type 0
 GoalsAreReadOnce = (tokens : List Lexeme) (outcome other : Result Goal Fault)
     → GoalRead tokens outcome → GoalRead tokens other → outcome ≡ other
@@ -22,11 +22,11 @@ GoalsAreReadOnce = (tokens : List Lexeme) (outcome other : Result Goal Fault)
 abbrev pub IsBefore : Position → Position → Type 0
 IsBefore p q = (p.line < q.line) ⊎ ((p.line ≡ q.line) × (p.column < q.column))
 
--- Each of these is before those behind it.
+-- Each of these pieces stands before those that follow it.
 abbrev pub Rise : {X : Type 0} → List (Placed X) → Type 0
 Rise [] = Unit {0}
 Rise (x ∷ xs) = All (λ y. IsBefore x.at y.at) xs × Rise xs
 
--- So are the tokens of a text. No two of them are at one place.
+-- Each token of a text stands before those that follow it, so no two of them are at one place.
 abbrev pub PlacesRise : Type 0
 PlacesRise = (bytes : List ℕ) (found : List Lexeme) → tokens bytes ≡ Ok found → Rise found

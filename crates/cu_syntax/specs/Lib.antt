@@ -1,25 +1,53 @@
-pub mod Answer
-pub mod Declarations
-pub mod ExpressionMeaning
-pub mod Expressions
-pub mod Fits
-pub mod Formed
-pub mod Forms
-pub mod ItemSymbols
-pub mod Items
-pub mod Law
-pub mod Meaning
-pub mod NameTokens
-pub mod Names
-pub mod Owners
-pub mod Parsing
-pub mod Patterns
-pub mod Reading
-pub mod Scanning
-pub mod Sizes
-pub mod Smaller
-pub mod SubtreeMeaning
-pub mod Subtrees
+-- In the order in which to read them.
+
+-- The syntax of Curry modules and goals as trees.
 pub mod Syntax
+-- The grammar of Curry modules and goals, as a parsing expression grammar: a rule for each symbol.
 pub mod Table
+-- What the trees of the grammar mean, as syntax.
+pub mod Reading
+-- What the tokens of a module or a goal are read as, or the first fault in them.
+pub mod Parsing
+-- Laws of what tokens are read as.
+pub mod Law
+-- What names and literals of the syntax stand for, under a table of names.
+pub mod Names
+-- Parts of syntax whose tokens are those of a module, with names that a table has.
+pub mod Owners
+-- What parts of the trees that the parsers give stand for, and how they lie in these trees.
+pub mod Subtrees
+-- What a part of a tree stands for, under a table of names.
+pub mod SubtreeMeaning
+-- Where the parts of a module end, by numbers of tokens.
+pub mod Scanning
+-- What the parsers' answers stand for, under a table of names.
+pub mod Answer
+-- What types of the trees stand for, under a table of names.
 pub mod Types
+-- What patterns of the trees stand for, under a table of names.
+pub mod Patterns
+-- Which expression a part of a tree is, under a table of names.
+pub mod ExpressionMeaning
+-- What declarations of the trees stand for, under a table of names.
+pub mod Declarations
+-- What expressions of the trees stand for, under a table of names.
+pub mod Expressions
+-- What items of modules stand for, under a table of names.
+pub mod Items
+-- How many parts a node may have, by the grammar.
+pub mod Formed
+-- How large syntax is: the size of a whole is larger than that of each of its parts, so that a
+-- function may call itself on the parts.
+pub mod Sizes
+-- How large views are, and that what a view tells is smaller than the view.
+pub mod Smaller
+-- Which trees the grammar gives: a tree's parts are those that the rule of its symbol says.
+pub mod Fits
+-- Which symbols of the grammar stand for what kind of syntax.
+pub mod Forms
+-- The tokens of names and literals.
+pub mod NameTokens
+-- The symbols of a module's items.
+pub mod ItemSymbols
+-- What the rules of the program's table stand for.
+pub mod Meaning

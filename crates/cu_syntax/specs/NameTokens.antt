@@ -8,7 +8,7 @@ use Rattle.cu_syntax.specs.declared.symbol.Symbol.{Symbol}
 use Rattle.cu_syntax.specs.declared.symbol.Symbol.TheVariants as symbol
 use Rattle.cu_syntax.specs.Forms.{is_name}
 
--- the symbols of names, those of modules among them
+-- whether a symbol's tree has the token of a name, or of the name of a module
 abbrev pub has_name : Symbol → Bool
 has_name s = is_name s || sameb symbols.the_type symbol.ModuleName s
 

@@ -59,7 +59,7 @@ use Rattle.cu_syntax.specs.declared.types.TypeTerm.{TypeTerm}
 pub record IsOf (owner : NameId) (names : List (List ℕ)) (part : Subtree) : Type 0 where
   pub tokens : All (IsTokenOf owner names) part.tokens.now
 
--- Places and names (a literal has neither)
+-- ---- places and names (a literal has neither)
 
 abbrev pub PlaceIsOf : NameId → Place → Type 0
 PlaceIsOf owner place = place.«module» ≡ owner
@@ -80,7 +80,7 @@ abbrev pub LiteralIsNatural : Literal → Type 0
 LiteralIsNatural (literal.Int n) = IsNonNegative n
 LiteralIsNatural _ = Unit {0}
 
--- Views
+-- ---- views
 
 abbrev pub TypeIsOf : NameId → List (List ℕ) → TypeTerm → Type 0
 TypeIsOf owner names t = IsOf owner names t.tree
@@ -97,7 +97,7 @@ DeclarationIsOf owner names d = IsOf owner names d.tree
 abbrev pub RightSideIsOf : NameId → List (List ℕ) → RightSide → Type 0
 RightSideIsOf owner names right = IsOf owner names right.body × IsOf owner names right.local
 
--- What views say of themselves: each place, each name and each view in it
+-- ---- what views tell: each place, each name and each view in a node is of the module
 
 abbrev pub TypeNodeIsOf : NameId → List (List ℕ) → TypeNode → Type 0
 TypeNodeIsOf owner names (type_term.Variable name) = NameIsOf owner names name
@@ -227,7 +227,7 @@ DeclarationNodeIsOf owner names (declaration.FunctionRule place name parameters 
 DeclarationNodeIsOf owner names (declaration.PatternBinding place p right) =
     PlaceIsOf owner place × PatternIsOf owner names p × RightSideIsOf owner names right
 
--- Items, headers and goals
+-- ---- items, headers and goals
 
 abbrev pub ConstructorsAreOf : NameId → List (List ℕ) → Constructors → Type 0
 ConstructorsAreOf owner names constructors.None = Unit {0}

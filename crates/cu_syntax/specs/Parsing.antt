@@ -15,20 +15,21 @@ use Rattle.cu_syntax.specs.Reading.{goal_of, header_of, import_of, item_of}
 use Rattle.cu_syntax.specs.Syntax.{Goal, Header, ImportItem, Item, Module}
 use Rattle.cu_syntax.specs.Table.{number, rows}
 
--- The line of the first item that has no tree, or of the first that is too long.
+-- Why tokens are no module or goal: the line of the first item that has no tree, or of the first
+-- that is too long.
 pub data Fault : Type 0 where
   Syntax : ℕ → Fault
   TooLong : ℕ → Fault
 
--- the tokens have this tree, all of them
+-- all of the tokens have this tree, as one of the symbol
 abbrev pub Has : Symbol → List Lexeme → ParseTree Lexeme → Type 0
 Has s tokens tree = HasTree rows has (number s) tokens tree
 
--- they have no tree
+-- the tokens have no tree, as one of the symbol
 abbrev pub HasNone : Symbol → List Lexeme → Type 0
 HasNone s tokens = (tree : ParseTree Lexeme) → ¬ (Has s tokens tree)
 
--- Braces and semicolons, those of the layout too
+-- ---- braces and semicolons, those of the layout too
 
 abbrev pub opens : Kind → Bool
 opens (kind.Mark mark.OpenBrace) = true
@@ -45,24 +46,25 @@ separates (kind.Mark mark.Semicolon) = true
 separates (kind.Layout layout.Separator) = true
 separates _ = false
 
--- Lines and lengths
+-- ---- lines and lengths
 
--- whether a token stands in the text, and layout didn't put it in
+-- whether a token stands in the text itself, and wasn't put in by layout
 abbrev pub is_written : Kind → Bool
 is_written (kind.Layout m) = false
 is_written _ = true
 
--- the line of the last token of the text, after a token
+-- the line of the last token of the text so far, after one more token
 abbrev pub after : ℕ → Lexeme → ℕ
 after last token = if is_written token.what then token.at.line else last
 
--- the line of the first token of the text, if there is one, or the line before
+-- the line of the first token of the text among these, or the line before where there is none
 abbrev pub first_line : ℕ → List Lexeme → ℕ
 first_line before [] = before
 first_line before (token ∷ tokens) = if is_written token.what then token.at.line
     else first_line before tokens
 
--- a string counts as one more for each of its characters
+-- how much a token counts of an item's length: a string counts as one more for each of its
+-- characters
 abbrev pub token_length : Kind → ℕ
 token_length (kind.String characters) = length characters + 1
 token_length _ = 1
@@ -78,7 +80,7 @@ most = 4096
 abbrev pub is_long : List Lexeme → Bool
 is_long tokens = nat_lt most (item_length tokens)
 
--- The parts of a module
+-- ---- the parts of a module
 
 -- a part of the module's block, between semicolons, with the line of the last token of the text
 -- before it; or what stands where no item may stand
@@ -87,7 +89,8 @@ pub record Part : Type 0 where
   pub tokens : List Lexeme
   pub whole : Bool
 
--- the rest of a part, whether it ends at a semicolon or the block's brace, and the parts behind it
+-- what is left of a part, whether it ends at a semicolon or the block's brace (`whole`), and the
+-- parts that follow it
 pub record Split : Type 0 where
   pub first : List Lexeme
   pub whole : Bool
@@ -96,7 +99,8 @@ pub record Split : Type 0 where
 abbrev pub part_of : ℕ → Split → Part
 part_of before s = record { before = before; tokens = s.first; whole = s.whole }
 
--- tokens behind the block
+-- the part that tokens after the block make, where no item may stand; none where there are no
+-- tokens
 abbrev pub behind : ℕ → List Lexeme → List Part
 behind last [] = []
 behind last (token ∷ tokens) = (record { before = last; tokens = token ∷ tokens; whole = false })
@@ -105,12 +109,12 @@ behind last (token ∷ tokens) = (record { before = last; tokens = token ∷ tok
 abbrev pub with_token : Lexeme → Split → Split
 with_token token s = record { first = token ∷ s.first; whole = s.whole; others = s.others }
 
--- how many braces are open behind a token
+-- how many braces are open after a token
 abbrev pub depth_after : ℕ → Kind → ℕ
 depth_after depth k = if opens k then depth + 1 else if closes k then depth - 1 else depth
 
--- What is left of a block, inside so many braces of a part of it; `last` is the line of the last
--- token of the text before.
+-- What is left of a block, inside so many braces of one of its parts; `last` is the line of the
+-- last token of the text before.
 unfoldable pub split : ℕ → ℕ → List Lexeme → Split
 split depth last [] = record { first = []; whole = false; others = [] }
 split depth last (token ∷ tokens) =
@@ -128,8 +132,8 @@ split depth last (token ∷ tokens) =
 abbrev pub parts : ℕ → List Lexeme → List Part
 parts last tokens = let s = split 0 last tokens in part_of last s ∷ s.others
 
--- the tokens before the first brace, the line of the last token of the text before the block and
--- the block's tokens, if there is a brace
+-- what stands before the block of a module (the tokens of its header, and the line of the last
+-- token of the text), and the block's tokens, if there is a brace
 pub record Front : Type 0 where
   pub header : List Lexeme
   pub last : ℕ
@@ -164,7 +168,7 @@ pub data PartRead (imports : Bool) (part : Part) : Result Item Fault → Type 0 
   item : (found : Item) → is_long part.tokens ≡ false → part.whole ≡ true
       → ItemRead imports part.tokens found → PartRead imports part (Ok found)
 
--- whether an import may stand behind an item, where one may stand before it
+-- whether an import may follow an item, where one may stand before it
 abbrev pub imports_behind : Bool → Item → Bool
 imports_behind imports (ImportItem found) = imports
 imports_behind imports _ = false
@@ -186,13 +190,13 @@ pub data PartsRead : Bool → List Part → Result (List Item) Fault → Type 0 
       → PartsRead (imports_behind imports item) others (Err fault)
       → PartsRead imports (part ∷ others) (Err fault)
 
--- what stands before the block is read as
+-- what the tokens before a module's block are read as: a header, or none
 pub data HeaderRead : List Lexeme → Option Header → Type 0 where
   no_header : HeaderRead [] None
   header : (tokens : List Lexeme) (tree : ParseTree Lexeme) → ¬ (tokens ≡ [])
       → Has symbol.Header tokens tree → HeaderRead tokens (Some (header_of tree))
 
--- what the tokens of a module are read as
+-- what the tokens of a module are read as: the module, or its fault
 pub data ModuleRead (tokens : List Lexeme) : Result Module Fault → Type 0 where
   no_block : (front 1 tokens).block ≡ None → ModuleRead tokens (Err (Syntax 1))
   wrong_header : ¬ ((front 1 tokens).header ≡ []) → HasNone symbol.Header (front 1 tokens).header
@@ -208,7 +212,7 @@ pub data ModuleRead (tokens : List Lexeme) : Result Module Fault → Type 0 wher
       → PartsRead true (parts (front 1 tokens).last block) (Ok items)
       → ModuleRead tokens (Ok (record { header = found; items = items }))
 
--- what the tokens of a goal are read as
+-- what the tokens of a goal are read as: the goal, or its fault
 pub data GoalRead (tokens : List Lexeme) : Result Goal Fault → Type 0 where
   too_long : is_long tokens ≡ true → GoalRead tokens (Err (TooLong (first_line 1 tokens)))
   no_tree : is_long tokens ≡ false → HasNone symbol.Goal tokens

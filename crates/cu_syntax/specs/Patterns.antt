@@ -16,7 +16,7 @@ use Rattle.cu_syntax.specs.SubtreeMeaning.{tree_of}
 use Rattle.cu_syntax.specs.Subtrees.{is_empty, is_single, part_of}
 use Rattle.cu_syntax.specs.Syntax as syntax
 
--- whether a pattern's tree is more than parentheses, or operators without any, round another one
+-- whether a tree is a pattern of its own, and not another one in parentheses or without operators
 abbrev pub is_bare_pattern : Symbol → Tree → Bool
 is_bare_pattern symbol.Pat tree = not (is_empty (part_of tree 1))
 is_bare_pattern symbol.TuplePat tree = not (is_single (part_of tree 2))
@@ -42,7 +42,7 @@ patterns_from (p ∷ ps) = syntax.MorePatterns p (patterns_from ps)
 abbrev pub patterns_meaning : List (List ℕ) → List Pattern → syntax.Patterns
 patterns_meaning names ps = patterns_from (map (pattern_meaning names) ps)
 
--- an operator and its right operand before others
+-- a constructor operator and its right operand, before further ones
 abbrev pub with_item : List (List ℕ) → ConstructorItem → syntax.PatternRest → syntax.PatternRest
 with_item names item rest =
     syntax.ThenConstructor (name_meaning names item.operator)
@@ -61,7 +61,7 @@ pat_items_meaning names items =
     syntax.PatternOperators (position_of items.place) (pattern_meaning names items.first)
     (rest_meaning names items.rest.items)
 
--- what a node says of its pattern
+-- the pattern that a node of it stands for
 abbrev pub pattern_node : List (List ℕ) → PatternNode → syntax.Pattern
 pattern_node names (node.Variable name) = syntax.PatternVariable (name_meaning names name)
 pattern_node names (node.Alias name inner) =

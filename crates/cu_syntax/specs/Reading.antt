@@ -24,7 +24,7 @@ Tree = ParseTree Lexeme
 abbrev pub Trees : Type 0
 Trees = ParseTrees Lexeme
 
--- Tokens
+-- ---- tokens
 
 abbrev pub or_else : Option Lexeme → Option Lexeme → Option Lexeme
 or_else (Some x) other = Some x
@@ -44,7 +44,7 @@ abbrev mutual
 abbrev pub place : Tree → Position
 place tree = elim (first_token tree) [ Some x ↦ x.at | None ↦ first_position ]
 
--- whether something optional is there
+-- whether an optional part of a production was matched
 abbrev pub is_there : Tree → Bool
 is_there (Parts NoTree) = false
 is_there _ = true
@@ -77,7 +77,7 @@ abbrev pub names_of : Trees → List Name
 names_of NoTree = []
 names_of (MoreTrees tree trees) = name_of tree ∷ names_of trees
 
--- the names of a repeated row
+-- the names in the tree of a repeated symbol
 abbrev pub names_in : Tree → List Name
 names_in (Parts trees) = names_of trees
 names_in _ = []
@@ -94,12 +94,12 @@ literal_of tree = elim (first_token tree) [
   | None ↦ syntax.Int (pos 0)
 ]
 
--- Types
+-- ---- types
 
 abbrev pub no_type : TypeTerm
 no_type = syntax.TypeTuple first_position syntax.NoType
 
--- what stands in parentheses: one alone is itself
+-- the type that types between parentheses are: one alone is itself, and else they are a tuple
 abbrev pub type_tuple : Position → TypeTerms → TypeTerm
 type_tuple at (syntax.MoreTypes t syntax.NoType) = t
 type_tuple at types = syntax.TypeTuple at types
@@ -109,7 +109,7 @@ abbrev mutual
   type_of (Parts trees) = arrows trees
   type_of _ = no_type
 
-  -- function types associate to the right
+  -- the type of a row of types with arrows between them, which associate to the right
   pub arrows : Trees → TypeTerm
   arrows NoTree = no_type
   arrows (MoreTrees tree NoTree) = type_choice symbol.BType tree
@@ -146,7 +146,7 @@ abbrev mutual
   types_of NoTree = syntax.NoType
   types_of (MoreTrees tree trees) = syntax.MoreTypes (type_of tree) (types_of trees)
 
--- Patterns
+-- ---- patterns
 
 abbrev pub no_pattern : Pattern
 no_pattern = syntax.Wildcard first_position
@@ -215,7 +215,7 @@ abbrev mutual
   patterns_of NoTree = syntax.NoPattern
   patterns_of (MoreTrees tree trees) = syntax.MorePatterns (pattern_of tree) (patterns_of trees)
 
--- the patterns of a row that repeats arguments
+-- the patterns in the tree of a repeated argument
 abbrev pub arguments_in : Tree → Patterns
 arguments_in (Parts trees) = argument_patterns trees
 arguments_in _ = syntax.NoPattern
@@ -225,8 +225,9 @@ and_patterns syntax.NoPattern others = others
 and_patterns (syntax.MorePatterns p patterns) others =
     syntax.MorePatterns p (and_patterns patterns others)
 
--- the left-hand side of a rule
+-- ---- left-hand sides of rules
 
+-- the left-hand side of a rule: a function on parameters, or a pattern
 pub data LeftSide : Type 0 where
   OfFunction : Name → Patterns → LeftSide
   OfPattern : Pattern → LeftSide
@@ -256,14 +257,15 @@ abbrev mutual
       OfPattern (pattern_of pattern)
   left_as _ _ = OfPattern no_pattern
 
--- a variable alone, in parentheses too, is defined like a function without parameters
+-- the declaration that a rule is: a variable alone, in parentheses too, is defined like a function
+-- without parameters
 abbrev pub rule_of : Position → LeftSide → RightSide → Declaration
 rule_of at (OfFunction f parameters) right = syntax.FunctionRule at f parameters right
 rule_of at (OfPattern (syntax.PatternVariable x)) right =
     syntax.FunctionRule at x syntax.NoPattern right
 rule_of at (OfPattern p) right = syntax.PatternBinding at p right
 
--- Expressions and declarations
+-- ---- expressions and declarations
 
 abbrev pub no_expression : Expression
 no_expression = syntax.Tuple first_position syntax.NoExpression
@@ -287,7 +289,7 @@ abbrev pub count : Trees → ℕ
 count NoTree = 0
 count (MoreTrees tree trees) = count trees + 1
 
--- how many parts a repeated row has
+-- how many parts the tree of a repeated symbol has
 abbrev pub count_in : Tree → ℕ
 count_in (Parts trees) = count trees
 count_in _ = 0
@@ -412,7 +414,7 @@ abbrev mutual
   expressions_of (MoreTrees tree trees) =
       syntax.MoreExpressions (expression_of tree) (expressions_of trees)
 
-  -- empty alternatives and declarations are left out
+  -- the alternatives of a case distinction, of which empty ones are left out
   pub alternatives_of : Trees → Alternatives
   alternatives_of
       (MoreTrees
@@ -424,7 +426,7 @@ abbrev mutual
   alternatives_of (MoreTrees tree trees) = alternatives_of trees
   alternatives_of NoTree = syntax.NoAlternative
 
-  -- the body of a rule or an alternative, with what is local to it
+  -- the right-hand side of a rule or an alternative, with what is local to it
   pub right_side : Symbol → Tree → Declarations → RightSide
   right_side s (Chosen n tree) local = right_as (alternative s n) tree local
   right_side s _ local = syntax.Plain first_position no_expression local
@@ -499,9 +501,9 @@ abbrev mutual
       syntax.Condition (place (Parts trees)) (expression_parts trees)
   qualifier_as _ _ = syntax.Condition first_position no_expression
 
--- Items of a module
+-- ---- items of a module
 
--- what is optional: one tree, or none
+-- what an optional tree stands for, or none where it isn't there
 abbrev pub optional : {A : Type 0} → (Tree → A) → Tree → Option A
 optional f (Parts (MoreTrees tree NoTree)) = Some (f tree)
 optional f _ = None
@@ -532,7 +534,7 @@ abbrev pub each : {A : Type 0} → (Tree → A) → Trees → List A
 each f NoTree = []
 each f (MoreTrees tree trees) = f tree ∷ each f trees
 
--- what each part of a repeated row stands for
+-- what each part of the tree of a repeated symbol stands for
 abbrev pub each_in : {A : Type 0} → (Tree → A) → Tree → List A
 each_in f (Parts trees) = each f trees
 each_in f _ = []
@@ -546,7 +548,7 @@ export_of (Chosen n tree) = export_as (alternative symbol.Export n) tree
     export_as s other = syntax.EntityExport (entity_of other)
 export_of tree = syntax.EntityExport (entity_of tree)
 
--- an optional list between parentheses, which may be empty
+-- the exports that an optional list between parentheses names; the list may be empty
 abbrev pub exports_of : Tree → List Export
 exports_of (Parts (MoreTrees opening (MoreTrees list (MoreTrees closing NoTree)))) =
     unwrap_or (optional (each_in export_of) list) []
@@ -619,7 +621,7 @@ constructor_declaration (Chosen n tree) = constructor_as (alternative symbol.Con
 constructor_declaration tree =
     record { at = place tree; name = name_of tree; fields = syntax.NoType }
 
--- the declarations of constructors behind the equals sign
+-- the declarations of constructors after the equals sign
 abbrev pub constructors_of : Tree → List ConstructorDeclaration
 constructors_of (Parts (MoreTrees equals (MoreTrees list NoTree))) =
     each_in constructor_declaration list
@@ -645,7 +647,7 @@ abbrev pub item_of : Tree → Item
 item_of (Chosen n tree) = item_as (alternative symbol.Item n) tree
 item_of tree = syntax.DeclarationItem (syntax.FreeVariables first_position [])
 
--- the variables of all free declarations
+-- the variables that free declarations declare, in order
 abbrev pub free_names : Trees → List Name
 free_names (MoreTrees (Parts (MoreTrees (Parts names) (MoreTrees word NoTree))) trees) =
     names_of names ++ free_names trees

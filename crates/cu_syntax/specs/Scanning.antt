@@ -6,18 +6,18 @@ use Rattle.cu_syntax.specs.declared.scanning.PartEnd.{PartEnd}
 use Rattle.cu_syntax.specs.declared.scanning.PartEnd.TheVariants as end
 use Rattle.cu_syntax.specs.Parsing.{Front, Split, after, behind, closes, depth_after, opens, parts, separates}
 
--- the line of the last token of the text in some tokens, or the line before
+-- the line of the last token of the text among these, or the line before where there is none
 abbrev pub last_line : ℕ → List Lexeme → ℕ
 last_line before [] = before
 last_line before (token ∷ tokens) = last_line (after before token) tokens
 
--- the number of the first brace that opens
+-- the number of the first brace that opens, if there is one
 abbrev pub first_open : List Lexeme → Option ℕ
 first_open [] = None
 first_open (token ∷ tokens) = if opens token.what then Some 0
     else option_map suc (first_open tokens)
 
--- the front of a module whose first brace has this number
+-- what stands before a module's block and the block's tokens, where the first brace has this number
 abbrev pub front_to : ℕ → List Lexeme → Option ℕ → Front
 front_to last tokens (Some n) =
     record {
@@ -27,13 +27,13 @@ front_to last tokens (Some n) =
     }
 front_to last tokens None = record { header = tokens; last = last_line last tokens; block = None }
 
--- the end of a part, so many tokens further on
+-- the end of a part with so many tokens before it
 abbrev pub later : ℕ → PartEnd → PartEnd
 later n (end.Separator length) = end.Separator (n + length)
 later n (end.Close length) = end.Close (n + length)
 later n end.Missing = end.Missing
 
--- the end of a part, inside so many braces of it
+-- where a part ends, looked for inside so many braces of it
 abbrev pub part_end : ℕ → List Lexeme → PartEnd
 part_end depth [] = end.Missing
 part_end depth (token ∷ tokens) =
@@ -57,12 +57,12 @@ split_to last tokens (end.Close n) =
     }
 split_to last tokens end.Missing = record { first = tokens; whole = false; others = [] }
 
--- the tokens of an end are among so many
+-- an end of a part lies within so many tokens
 abbrev pub is_within : PartEnd → ℕ → Type 0
 is_within (end.Separator n) count = n < count
 is_within (end.Close n) count = n < count
 is_within end.Missing count = Unit {0}
 
--- the room that is left behind something of a length, if there is room for it
+-- the room that is left after something of a length, if there is room for it
 abbrev pub room_behind : ℕ → ℕ → Option ℕ
 room_behind room length = if nat_lt room length then None else Some (room - length)

@@ -1,4 +1,4 @@
--- How large syntax is: a number that is larger for a whole than for each part of it, so that a
+-- How large syntax is: the size of a whole is larger than that of each of its parts, so that a
 -- function may call itself on the parts.
 use Rattle.std.specs.Prelude.{ℕ, ◌+◌}
 use Rattle.cu_syntax.specs.Syntax as syntax
@@ -25,7 +25,7 @@ unfoldable mutual
   size_of_pattern (syntax.Constructed at name arguments) = 1 + size_of_patterns arguments
   size_of_pattern (syntax.PatternTuple at components) = 1 + size_of_patterns components
   size_of_pattern (syntax.PatternList at elements) = 1 + size_of_patterns elements
-  -- the items are a part of their own
+  -- the items, an operand and operators with operands, count as one more part
   size_of_pattern (syntax.PatternOperators at first rest) =
       2 + size_of_pattern first + size_of_pattern_rest rest
 
@@ -45,7 +45,7 @@ unfoldable mutual
   size_of_expression (syntax.LiteralExpression at value) = 1
   size_of_expression (syntax.Application at function arguments) =
       1 + size_of_expression function + size_of_expressions arguments
-  -- the items are a part of their own
+  -- the items, operands with operators between them, count as one more part
   size_of_expression (syntax.Operators at minus first rest) =
       2 + size_of_expression first + size_of_operator_rest rest
   size_of_expression (syntax.Lambda at parameters body) =
@@ -61,7 +61,7 @@ unfoldable mutual
   size_of_expression (syntax.LeftSection at operand operator) = 1 + size_of_expression operand
   size_of_expression (syntax.RightSection at operator operand) = 1 + size_of_expression operand
   size_of_expression (syntax.ListOf at elements) = 1 + size_of_expressions elements
-  -- so are the numbers
+  -- the numbers of an enumeration count as one more part
   size_of_expression (syntax.Enumeration at first second last) =
       2 + size_of_expression first + size_of_maybe second + size_of_maybe last
   size_of_expression (syntax.Comprehension at element qualifiers) =
@@ -86,7 +86,8 @@ unfoldable mutual
   size_of_alternatives (syntax.MoreAlternatives at pattern right others) =
       1 + size_of_pattern pattern + size_of_right right + size_of_alternatives others
 
-  -- what follows the equals sign or the arrow is a part of its own
+  -- the size of a right-hand side; what follows the equals sign or the arrow counts as one more
+  -- part
   pub size_of_right : RightSide → ℕ
   size_of_right (syntax.Plain at e local) = 2 + size_of_expression e + size_of_declarations local
   size_of_right (syntax.Guarded at guards local) =

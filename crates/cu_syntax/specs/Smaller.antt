@@ -49,7 +49,7 @@ declaration_size d = size_of_declaration (declaration_meaning [] d)
 unfoldable pub right_size : RightSide → ℕ
 right_size right = size_of_right (right_meaning [] right)
 
--- What is told with its parts
+-- ---- how large what a node tells is, with its parts
 
 abbrev pub size_if_there : Option Expression → ℕ
 size_if_there None = 0
@@ -85,7 +85,7 @@ abbrev pub body_size : Body → ℕ
 body_size (body.Plain e) = 1 + expression_size e
 body_size (body.Guarded guards) = 1 + most guard_size guards.items
 
--- What a node tells is smaller than this, each view and each element of a list of views
+-- ---- what a node tells is smaller than n: each view, and each element of a list of views
 
 abbrev pub TypeNodeIsBelow : ℕ → TypeNode → Type 0
 TypeNodeIsBelow n (type_term.Variable name) = Unit {0}

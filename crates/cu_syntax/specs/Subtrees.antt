@@ -1,5 +1,4 @@
--- What parts of the trees that the parsers give stand for, and how they lie in the trees around
--- them.
+-- What parts of the trees that the parsers give stand for, and how they lie in these trees.
 use Rattle.std.specs.Prelude.{◌≡◌, ℕ, zero, suc, Bool, true, false, List, [], ◌∷◌, Option, None, Some, is_none, is_some, slice_get}
 use Rattle.std.specs.List.{list_all}
 use Rattle.cu_lex.specs.Tokens.{Lexeme}
@@ -10,7 +9,7 @@ use Rattle.cu_syntax.specs.declared.symbol.Symbol.{Symbol}
 use Rattle.cu_syntax.specs.Reading.{Tree, Trees}
 use Rattle.cu_syntax.specs.Table.{Ahead, AtLeastOne, Choice, Many, NotAhead, Optional, Rule, SeparatedBy, Sequence, Token, alternative, rule_of}
 
--- the tree of a token (a number without a token leaves nothing)
+-- the tree of a token (where a number has no token there is a tree without parts)
 abbrev pub leaf_of : Option Lexeme → Tree
 leaf_of (Some x) = Leaf x
 leaf_of None = Parts NoTree
@@ -41,17 +40,17 @@ abbrev pub inner_of : ParseTree ℕ → ParseTree ℕ
 inner_of (Chosen n tree) = tree
 inner_of _ = Parts NoTree
 
--- the trees behind the first
+-- the trees after the first
 abbrev pub others_of : ParseTrees ℕ → ParseTrees ℕ
 others_of NoTree = NoTree
 others_of (MoreTrees tree trees) = trees
 
--- trees, as a list of them
+-- the trees of a list
 abbrev pub trees_from : List Tree → Trees
 trees_from [] = NoTree
 trees_from (tree ∷ trees) = MoreTrees tree (trees_from trees)
 
--- a symbol of a token
+-- whether a rule is that of a token
 abbrev pub is_leaf : Rule → Bool
 is_leaf (Token c) = true
 is_leaf _ = false
@@ -60,12 +59,12 @@ abbrev pub is_choice : Rule → Bool
 is_choice (Choice parts) = true
 is_choice _ = false
 
--- the symbols of a sequence
+-- the symbols that a rule says one after another, if it is a sequence
 abbrev pub sequence : Rule → List Symbol
 sequence (Sequence parts) = parts
 sequence _ = []
 
--- what is optional, or repeated, if a rule says so
+-- the symbol that a rule makes optional, if it does so
 abbrev pub optional_part : Rule → Option Symbol
 optional_part (Optional p) = Some p
 optional_part _ = None
@@ -76,13 +75,13 @@ repeated_part (AtLeastOne p) = Some p
 repeated_part (SeparatedBy p s) = Some p
 repeated_part _ = None
 
--- the tree of a number among others
+-- the tree of this number among others
 abbrev pub nth_tree : Trees → ℕ → Tree
 nth_tree NoTree n = Parts NoTree
 nth_tree (MoreTrees tree trees) zero = tree
 nth_tree (MoreTrees tree trees) (suc n) = nth_tree trees n
 
--- the part of a number of a tree
+-- the part of this number of a tree
 abbrev pub part_of : Tree → ℕ → Tree
 part_of (Parts trees) n = nth_tree trees n
 part_of _ n = Parts NoTree
@@ -101,14 +100,14 @@ abbrev pub is_single : Tree → Bool
 is_single (Parts (MoreTrees tree NoTree)) = true
 is_single _ = false
 
--- A tree is the alternative of this symbol, and has this tree.
+-- A tree is that of an alternative, chosen, and `inner` is the alternative's tree.
 pub record Takes (s : Symbol) (tree : Tree) (chosen : Symbol) (inner : Tree) : Type 0 where
   pub number : ℕ
   pub is : tree ≡ Chosen number inner
   pub symbol : alternative s number ≡ chosen
 
--- Whether a symbol's trees have a token. The parts of a block, and the constructors of a type that
--- are named, may all be missing.
+-- Whether each tree of a symbol has a token. The parts of a block, and the constructors of a type
+-- that are named, may all be missing.
 abbrev pub is_required : Symbol → Bool
 is_required p = is_none (optional_part (rule_of p))
 

@@ -1,13 +1,13 @@
--- The syntax of Curry modules and goals (Curry Report, "Lexical structure" and "Context-free
--- syntax") as trees. Names are texts. A node has the place of its first token, unless it begins
--- with the token of its name. Parentheses round one thing alone leave no node.
+-- The syntax of Curry modules and goals (Curry Report, appendix on syntax) as trees. Names are
+-- texts. A node has the place of its first token, unless it begins with the token of its name.
+-- Parentheses round one thing alone leave no node.
 use Rattle.std.specs.Prelude.{ℕ, ℤ, Bool, List, Option}
 use Rattle.cu_lex.specs.Located.{Position}
 use Rattle.cu_syntax.specs.declared.expressions.CaseWord.{CaseWord}
 use Rattle.cu_syntax.specs.declared.items.Side.{Side}
 
--- A name or an operator where it stands: its text, the qualifier in it, if it has one, the text
--- without that, and the place of its token, inside the parentheses or backquotes round it.
+-- A name or an operator where it stands: its text, its qualifier, if it has one, the text without
+-- the qualifier, and the place of its token, inside the parentheses or backquotes round it.
 pub record Name : Type 0 where
   pub text : List ℕ
   pub qualifier : Option (List ℕ)
@@ -30,7 +30,7 @@ mutual
     -- a type constructor on its arguments, or alone
     TypeNamed : Name → TypeTerms → TypeTerm
     Arrow : Position → TypeTerm → TypeTerm → TypeTerm
-    -- unit has no components
+    -- the type of tuples of these components, and unit where there are none
     TypeTuple : Position → TypeTerms → TypeTerm
     TypeList : Position → TypeTerm → TypeTerm
 
@@ -46,7 +46,7 @@ mutual
     PatternLiteral : Position → Literal → Pattern
     -- a constructor on its arguments, or alone
     Constructed : Position → Name → Patterns → Pattern
-    -- unit has no components
+    -- the tuple of these components, and unit where there are none
     PatternTuple : Position → Patterns → Pattern
     PatternList : Position → Patterns → Pattern
     -- patterns with constructor operators between them, not grouped
@@ -74,7 +74,7 @@ mutual
     Let : Position → Declarations → Expression → Expression
     If : Position → Expression → Expression → Expression → Expression
     Case : Position → CaseWord → Expression → Alternatives → Expression
-    -- unit has no components
+    -- the tuple of these components, and unit where there are none
     Tuple : Position → Expressions → Expression
     -- the constructor of tuples of so many components
     TupleConstructor : Position → ℕ → Expression
@@ -101,7 +101,7 @@ mutual
 
   pub data Alternatives : Type 0 where
     NoAlternative : Alternatives
-    -- a pattern, the right-hand side, and the alternatives behind it
+    -- a pattern, the right-hand side, and the alternatives after it
     MoreAlternatives : Position → Pattern → RightSide → Alternatives → Alternatives
 
   -- what follows the equals sign or the arrow, and the local declarations
@@ -111,7 +111,7 @@ mutual
 
   pub data Guards : Type 0 where
     NoGuard : Guards
-    -- a condition, its expression, and the guards behind it
+    -- a condition, its expression, and the guards after it
     MoreGuards : Position → Expression → Expression → Guards → Guards
 
   pub data Declarations : Type 0 where
@@ -134,7 +134,7 @@ mutual
     LocalDeclarations : Position → Declarations → Qualifier
     Condition : Position → Expression → Qualifier
 
--- which constructors come with a type
+-- which constructors an import or export list names with a type
 pub data ConstructorsNamed : Type 0 where
   NoneOfThem : ConstructorsNamed
   AllOfThem : ConstructorsNamed
@@ -187,8 +187,7 @@ pub record Goal : Type 0 where
   pub expression : Expression
   pub free : List Name
 
--- The place of a thing is that of its first token. Parentheses round the whole of it aren't its
--- own.
+-- ---- places: each is that of the first token, without parentheses round the whole
 
 abbrev pub type_position : TypeTerm → Position
 type_position (TypeVariable name) = name.at

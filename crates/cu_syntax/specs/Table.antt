@@ -1,4 +1,4 @@
--- The grammar of Curry modules and goals (Curry Report, "Context-free syntax"), as a parsing
+-- The grammar of Curry modules and goals (Curry Report, appendix on syntax), as a parsing
 -- expression grammar: a rule for each symbol.
 use Rattle.std.specs.Prelude.{ℕ, zero, suc, List, [], ◌∷◌, ◌++◌, map, slice_get, unwrap_or}
 use Rattle.cu_lex.specs.declared.token.Keyword.TheVariants as keyword
@@ -18,9 +18,9 @@ use denote.Enum.Declared.{tag_of}
 -- a parsing expression over symbols
 pub data Rule : Type 0 where
   Token : Class → Rule
-  -- one after another
+  -- these symbols, one after another
   Sequence : List Symbol → Rule
-  -- the first that matches
+  -- the first of these symbols that matches
   Choice : List Symbol → Rule
   Optional : Symbol → Rule
   Many : Symbol → Rule
@@ -29,7 +29,7 @@ pub data Rule : Type 0 where
   Ahead : Symbol → Rule
   NotAhead : Symbol → Rule
 
--- so many commas
+-- a row of so many commas
 abbrev commas : ℕ → List Symbol
 commas zero = []
 commas (suc n) = symbol.Comma ∷ commas n
@@ -405,7 +405,7 @@ symbols = tokens ++ names ++ headers ++ declarations ++ types ++ blocks ++ expre
 abbrev pub number : Symbol → ℕ
 number s = tag_of symbols_type.the_type s
 
--- a rule over the numbers of symbols
+-- the row of a rule, which names symbols by their numbers
 abbrev pub row_of : Rule → Row
 row_of (Token c) = row.Token c
 row_of (Sequence parts) = row.Sequence (map number parts)
@@ -417,7 +417,7 @@ row_of (SeparatedBy part separator) = row.SeparatedBy (number part) (number sepa
 row_of (Ahead part) = row.Ahead (number part)
 row_of (NotAhead part) = row.NotAhead (number part)
 
--- the grammar, by the numbers of its symbols
+-- the rows of the grammar, in the order of the numbers of the symbols
 abbrev pub rows : List Row
 rows = map row_of (map rule_of symbols)
 
@@ -425,6 +425,6 @@ abbrev nth : Rule → Symbol → ℕ → Symbol
 nth (Choice parts) s n = unwrap_or (slice_get parts n) s
 nth _ s n = s
 
--- the alternative of a number of a choice
+-- the symbol of the alternative of this number, where a symbol's rule is a choice
 abbrev pub alternative : Symbol → ℕ → Symbol
 alternative s n = nth (rule_of s) s n

@@ -13,7 +13,7 @@ use Rattle.cu_syntax.specs.SubtreeMeaning.{tree_of}
 use Rattle.cu_syntax.specs.Subtrees.{is_single, part_of}
 use Rattle.cu_syntax.specs.Syntax as syntax
 
--- whether a type's tree is more than parentheses, or a list of one type, round another one
+-- whether a tree is a type of its own, and not another one in parentheses or without an arrow
 abbrev pub is_bare_type : Symbol → Tree → Bool
 is_bare_type symbol.TypeExp tree = not (is_single tree)
 is_bare_type symbol.TupleType tree = not (is_single (part_of tree 2))
@@ -32,7 +32,7 @@ type_meaning names t = type_at t.tree.symbol (tree_of names t.tree)
 abbrev pub type_tree : List (List ℕ) → TypeTerm → Tree
 type_tree names t = tree_of names t.tree
 
--- the place of the first token of a parameter, which may be a parenthesis
+-- the place of the first token of a type that is a parameter; the token may be a parenthesis
 abbrev pub parameter_place : List (List ℕ) → TypeTerm → Position
 parameter_place names t = place (tree_of names t.tree)
 
@@ -48,7 +48,7 @@ function_type names [] result = result
 function_type names (t ∷ ts) result =
     syntax.Arrow (parameter_place names t) (type_meaning names t) (function_type names ts result)
 
--- what a node says of its type
+-- the type that a node of it stands for
 abbrev pub type_node : List (List ℕ) → TypeNode → syntax.TypeTerm
 type_node names (node.Variable name) = syntax.TypeVariable (name_meaning names name)
 type_node names (node.Named name arguments) =

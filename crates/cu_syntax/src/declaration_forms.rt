@@ -24,7 +24,7 @@ use crate::types::TypeTerm;
 use crate::{Name, pattern_forms};
 use std::alloc::{AllocError, Global};
 
-/// The left-hand side of a rule.
+/// The left-hand side of a rule: a function on parameters, or a pattern.
 #[derive(Debug, Drop)]
 enum Left<'t> {
     Function(Name, Vec<Pattern<'t>>),
@@ -107,7 +107,7 @@ fn right(tree: Subtree<'_>) -> RightSide<'_>
 }
 
 /// The left-hand side of a rule, which may stand in parentheses, with further
-/// parameters behind each.
+/// parameters after them.
 fn left_side(alloc: Global, tree: Subtree<'_>) -> Result<Left<'_>, AllocError>
     requires { is_left_side tree.symbol ≡ true }
     ensures meaning { (names : List (List ℕ))
@@ -155,7 +155,7 @@ fn bare_left_side(alloc: Global, tree: Subtree<'_>) -> Result<Left<'_>, AllocErr
     }
 }
 
-/// Further parameters of a function.
+/// A left-hand side with further parameters of its function.
 fn with_arguments<'t>(left: Left<'t>, arguments: Vec<Pattern<'t>>) -> Result<Left<'t>, AllocError>
     ensures meaning { (names : List (List ℕ))
         → IfOk result (λ found. left_meaning names found
@@ -173,7 +173,7 @@ fn with_arguments<'t>(left: Left<'t>, arguments: Vec<Pattern<'t>>) -> Result<Lef
     }
 }
 
-/// What follows the equals sign or the arrow.
+/// What follows the equals sign or the arrow: an expression, or guards.
 pub(crate) fn body(alloc: Global, tree: Subtree<'_>) -> Result<Body<'_>, AllocError>
     requires { is_right_node tree.symbol ≡ true }
     ensures meaning { (names : List (List ℕ)) (local : Declarations)
@@ -223,7 +223,7 @@ fn guard(tree: Subtree<'_>) -> Guard<'_>
     }
 }
 
-/// The declarations behind `where`, if it is there.
+/// The declarations after `where`, if it is there.
 pub(crate) fn local(alloc: Global, tree: Subtree<'_>) -> Result<Vec<Declaration<'_>>, AllocError>
     requires { tree.symbol ≡ symbol.OptionalWhere }
     ensures meaning { (names : List (List ℕ))

@@ -30,8 +30,7 @@ pub enum DeclarationNode<'t> {
     PatternBinding(Place, Pattern<'t>, RightSide<'t>),
 }
 
-/// What stands behind the left-hand side of a rule, or behind the pattern of an
-/// alternative.
+/// The right-hand side of a rule or of an alternative, as a view.
 #[derive(Clone, Copy, Debug)]
 pub struct RightSide<'t> {
     pub(crate) body: Subtree<'t>,
@@ -56,7 +55,7 @@ pub enum Body<'t> {
     Guarded(Vec<Guard<'t>>),
 }
 
-/// A condition, and the expression behind it.
+/// A condition, and the expression after it.
 #[derive(Clone, Copy, Debug)]
 pub struct Guard<'t> {
     pub place: Place,
@@ -82,7 +81,7 @@ impl<'t> Declaration<'t> {
         Declaration { tree }
     }
 
-    /// The place of its first token.
+    /// The place of the declaration's first token.
     pub fn place(self) -> Place
         ensures position { (names : List (List ℕ))
             → position_of result ≡ declaration_position (declaration_meaning names self.entry) }
@@ -92,11 +91,11 @@ impl<'t> Declaration<'t> {
         self.tree.place()
     }
 
-    /// What it is.
+    /// What the declaration is, with what is in it.
     ///
     /// # Errors
     ///
-    /// Want of memory.
+    /// An allocation failure.
     pub fn node(self, alloc: Global) -> Result<DeclarationNode<'t>, AllocError>
         ensures meaning { (names : List (List ℕ))
             → IfOk result (λ node. declaration_node names node
@@ -135,11 +134,11 @@ impl<'t> RightSide<'t> {
         RightSide { body, local }
     }
 
-    /// What it is.
+    /// What the right-hand side is, with what is in it.
     ///
     /// # Errors
     ///
-    /// Want of memory.
+    /// An allocation failure.
     pub fn node(self, alloc: Global) -> Result<RightSideNode<'t>, AllocError>
         ensures meaning { (names : List (List ℕ))
             → IfOk result (λ node. right_node names node ≡ right_meaning names self.entry) }

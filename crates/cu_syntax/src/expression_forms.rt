@@ -25,7 +25,7 @@ use crate::symbol::Symbol;
 use cu_names::Place;
 use std::alloc::{AllocError, Global};
 
-/// An expression inside the parentheses and the choices of the grammar round
+/// An expression, without the parentheses and the choices of the grammar round
 /// it.
 pub(crate) fn inside(tree: Subtree<'_>) -> Subtree<'_>
     requires { is_expression tree.symbol ≡ true }
@@ -105,7 +105,7 @@ fn wrapped(tree: Subtree<'_>) -> Option<Subtree<'_>>
     }
 }
 
-/// The operand, where there is no minus and no operator.
+/// The operand that an expression is, where it has no minus and no operator.
 fn lone_operand(tree: Subtree<'_>) -> Option<Subtree<'_>>
     requires { tree.symbol ≡ symbol.Exp }
     ensures symbol { IfSome result (λ inner. inner.symbol ≡ symbol.Operand) }
@@ -129,7 +129,7 @@ fn lone_operand(tree: Subtree<'_>) -> Option<Subtree<'_>>
     Some(tree.part(1, Symbol::Operand))
 }
 
-/// Operands with operators between them, or a minus before the first.
+/// An expression with operators between operands, or a minus before the first.
 fn operators(alloc: Global, tree: Subtree<'_>) -> Result<ExpressionNode<'_>, AllocError>
     requires symbol { tree.symbol ≡ symbol.Exp }
     requires more { (names : List (List ℕ)) → is_bare_expression tree.symbol (tree_of names tree)
@@ -160,7 +160,7 @@ fn minus(tree: Subtree<'_>) -> Option<Place>
     Some(minus.place())
 }
 
-/// The operators behind the first operand, with the operands behind them.
+/// The operators after the first operand, each with the operand after it.
 fn further(alloc: Global, tree: Subtree<'_>) -> Result<Vec<OperatorItem<'_>>, AllocError>
     requires { tree.symbol ≡ symbol.FurtherOperands }
     ensures meaning { (names : List (List ℕ))
@@ -254,7 +254,7 @@ fn word(tree: Subtree<'_>) -> CaseWord
     }
 }
 
-/// The alternatives that aren't empty.
+/// The alternatives of a case distinction that aren't empty.
 fn alternatives(alloc: Global, tree: Subtree<'_>) -> Result<Vec<Alternative<'_>>, AllocError>
     requires { tree.symbol ≡ symbol.AltList }
     ensures meaning { (names : List (List ℕ))
@@ -293,7 +293,7 @@ fn alternative_of(tree: Subtree<'_>) -> Alternative<'_>
     }
 }
 
-/// An expression on arguments.
+/// A function on arguments.
 fn application(alloc: Global, tree: Subtree<'_>) -> Result<ExpressionNode<'_>, AllocError>
     requires symbol { tree.symbol ≡ symbol.Application }
     requires more { (names : List (List ℕ)) → is_bare_expression tree.symbol (tree_of names tree)
@@ -437,7 +437,8 @@ fn qualifiers(alloc: Global, tree: Subtree<'_>) -> Result<Vec<Qualifier<'_>>, Al
     Ok(qualifiers)
 }
 
-/// A generator, declarations or a condition.
+/// A qualifier of a list comprehension: a generator, declarations or a
+/// condition.
 fn qualifier_of(alloc: Global, tree: Subtree<'_>) -> Result<Qualifier<'_>, AllocError>
     requires { is_qualifier tree.symbol ≡ true }
     ensures meaning { (names : List (List ℕ))

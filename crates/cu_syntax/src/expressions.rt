@@ -10,7 +10,7 @@ use crate::{Literal, Name};
 use cu_names::Place;
 use std::alloc::{AllocError, Global};
 
-/// An expression.
+/// An expression, as a view of its tree.
 #[derive(Clone, Copy, Debug)]
 pub struct Expression<'t> {
     pub(crate) tree: Subtree<'t>,
@@ -23,15 +23,15 @@ pub enum ExpressionNode<'t> {
     Variable(Place, Name),
     Constructor(Place, Name),
     Literal(Place, Literal<'t>),
-    /// An expression on one argument or more.
+    /// A function on one argument or more.
     Application(Place, Expression<'t>, Vec<Expression<'t>>),
     Operators(Items<'t>),
     Lambda(Place, Vec<Pattern<'t>>, Expression<'t>),
     Let(Place, Vec<Declaration<'t>>, Expression<'t>),
-    /// The condition, and what it chooses between.
+    /// The condition, the expression for `True`, and the one for `False`.
     If(Place, Expression<'t>, Expression<'t>, Expression<'t>),
     Case(Place, CaseWord, Expression<'t>, Vec<Alternative<'t>>),
-    /// The components; unit has none.
+    /// The components of a tuple. Unit has none.
     Tuple(Place, Vec<Expression<'t>>),
     /// The constructor of tuples of so many components.
     TupleConstructor(Place, usize),
@@ -53,7 +53,7 @@ pub struct Items<'t> {
     pub rest: Vec<OperatorItem<'t>>,
 }
 
-/// An operator, and the operand behind it.
+/// An operator, and the operand after it.
 #[derive(Clone, Copy, Debug)]
 pub struct OperatorItem<'t> {
     pub operator: Name,
@@ -115,7 +115,8 @@ impl<'t> Expression<'t> {
         Expression { tree }
     }
 
-    /// The place of its first token, inside the parentheses round it.
+    /// The place of the expression's first token, inside the parentheses round
+    /// it.
     pub fn place(self) -> Place
         ensures position { (names : List (List ℕ))
             → position_of result ≡ expression_position (expression_meaning names self.entry) }
@@ -125,11 +126,12 @@ impl<'t> Expression<'t> {
         inside(self.tree).place()
     }
 
-    /// What it is. Parentheses round one expression leave no node.
+    /// What the expression is, with the expressions in it. Parentheses round
+    /// one expression leave no node.
     ///
     /// # Errors
     ///
-    /// Want of memory.
+    /// An allocation failure.
     pub fn node(self, alloc: Global) -> Result<ExpressionNode<'t>, AllocError>
         ensures meaning { (names : List (List ℕ))
             → IfOk result (λ node. expression_node names node

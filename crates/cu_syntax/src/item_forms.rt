@@ -93,7 +93,7 @@ fn data(alloc: Global, tree: Subtree<'_>) -> Result<ItemNode<'_>, AllocError>
     Ok(ItemNode::Data(tree.place(), name, parameters, constructors))
 }
 
-/// The constructors behind the equals sign, if there are any.
+/// The constructors after the equals sign, if there are any.
 fn constructors(
     alloc: Global,
     tree: Subtree<'_>,
@@ -116,7 +116,8 @@ fn constructors(
     Ok(constructors)
 }
 
-/// The declaration of a constructor between two types, or before types.
+/// The declaration of a constructor, which stands between two types or before
+/// its types.
 fn constructor(alloc: Global, tree: Subtree<'_>) -> Result<ConstructorDeclaration<'_>, AllocError>
     requires { is_constructor_node tree.symbol ≡ true }
     ensures meaning { (names : List (List ℕ))

@@ -43,7 +43,7 @@ pub enum Entity {
     Type(Place, Name, Constructors),
 }
 
-/// Which constructors come with a type.
+/// Which constructors an import or export list names with a type.
 #[derive(Debug, Drop)]
 pub enum Constructors {
     None,

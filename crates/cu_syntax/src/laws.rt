@@ -2,13 +2,14 @@
 //! their contracts are the laws.
 ghost use Rattle.cu_syntax.specs.Law.{GoalsAreReadOnce, ModulesAreReadOnce, PlacesRise};
 
-/// The tokens of a module, and those of a goal, are read as one thing only.
+/// Tokens are read as one module at most, and as one goal at most, or have one
+/// fault.
 pub fn one_reading()
     ensures modules { ModulesAreReadOnce }
     ensures goals { GoalsAreReadOnce }
 {}
 
-/// Each token of a text stands behind those before it, so no two of them have
+/// Each token of a text stands after those before it, so no two of them have
 /// one place. What the layout rules put in has the place of a token.
 pub fn places_rise()
     ensures { PlacesRise }

@@ -25,13 +25,14 @@ use cu_names::{NameId, Place};
 /// A name or an operator where it stands.
 #[derive(Clone, Copy, Debug, PartialEq, Eq)]
 pub struct Name {
-    /// Its whole text: `Data.List.map`.
+    /// The whole text of the name: `Data.List.map`.
     pub text: NameId,
-    /// The qualifier in it, if it has one: `Data.List`.
+    /// The qualifier of the name, if it has one: `Data.List`.
     pub qualifier: Option<NameId>,
-    /// The text without that: `map`.
+    /// The text without the qualifier: `map`.
     pub base: NameId,
-    /// The place of its token, inside the parentheses or backquotes round it.
+    /// The place of the name's token, inside the parentheses or backquotes
+    /// round it.
     pub place: Place,
 }
 
@@ -121,7 +122,7 @@ impl<'t> Subtree<'t> {
         }
     }
 
-    /// The digit that a token is.
+    /// The digit that the tree's token is.
     pub(crate) fn digit(self) -> u32
         requires { self.symbol ≡ symbol.Digit }
         ensures { (names : List (List ℕ)) → result ≡ digit_of (tree_of names self.entry) }

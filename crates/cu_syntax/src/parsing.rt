@@ -99,8 +99,8 @@ fn read_header(
     }
 }
 
-/// The items of a block behind its brace. The last token of the text before
-/// stands on the line `last`.
+/// The items of a module's block, whose brace stands before these tokens. The
+/// last token of the text before them stands on the line `last`.
 fn read_parts(
     alloc: Global,
     grammar: &Grammar,
@@ -142,8 +142,7 @@ fn read_parts(
     }
 }
 
-/// Adds an item, if there is one. It gives whether an import may stand behind
-/// it.
+/// Adds an item, if there is one. Tells whether an import may follow it.
 fn add_item(items: &mut Vec<Item>, imports: bool, found: Option<Item>) -> Result<bool, AllocError>
     ensures items { (names : List (List ℕ))
         → IfOk result (Adds names imports items.old.items items.new.items found) }
@@ -161,7 +160,7 @@ fn add_item(items: &mut Vec<Item>, imports: bool, found: Option<Item>) -> Result
     }
 }
 
-/// Behind the block there is no token.
+/// Tells a fault, unless no token follows the block.
 fn nothing_behind(last: u32, tokens: &[Token]) -> Result<(), ParseFault>
     ensures nothing { OnOk result (tokens.now ≡ []) }
     ensures fault { (names : List (List ℕ)) (imports : Bool)

@@ -17,7 +17,7 @@ use crate::subtree::Subtree;
 use crate::symbol::Symbol;
 use std::alloc::{AllocError, Global};
 
-/// A pattern inside the parentheses and the choices of the grammar round it.
+/// A pattern, without the parentheses and the choices of the grammar round it.
 pub(crate) fn inside(tree: Subtree<'_>) -> Subtree<'_>
     requires { is_pattern tree.symbol ≡ true }
     ensures node { is_pattern_node result.symbol ≡ true }
@@ -112,7 +112,8 @@ fn operators(alloc: Global, tree: Subtree<'_>) -> Result<PatternNode<'_>, AllocE
     }))
 }
 
-/// The operators behind the first pattern, with the patterns behind them.
+/// The constructor operators after the first pattern, each with the pattern
+/// after it.
 fn further(alloc: Global, tree: Subtree<'_>) -> Result<Vec<ConstructorItem<'_>>, AllocError>
     requires { tree.symbol ≡ symbol.FurtherConPats }
     ensures meaning { (names : List (List ℕ))
@@ -142,7 +143,7 @@ fn constructor_item(tree: Subtree<'_>) -> ConstructorItem<'_>
     }
 }
 
-/// A number behind a minus.
+/// The number after a minus, as a pattern.
 fn negative(tree: Subtree<'_>) -> PatternNode<'_>
     requires { tree.symbol ≡ symbol.NegativePat }
     ensures meaning { (names : List (List ℕ)) → pattern_node names result
@@ -153,7 +154,7 @@ fn negative(tree: Subtree<'_>) -> PatternNode<'_>
     PatternNode::Negative(tree.place(), tree.part(1, Symbol::Int).number())
 }
 
-/// A constructor on its arguments.
+/// A constructor on its arguments, as a pattern.
 fn application(alloc: Global, tree: Subtree<'_>) -> Result<PatternNode<'_>, AllocError>
     requires { tree.symbol ≡ symbol.ConApplication }
     ensures meaning { (names : List (List ℕ))
@@ -167,7 +168,7 @@ fn application(alloc: Global, tree: Subtree<'_>) -> Result<PatternNode<'_>, Allo
     Ok(PatternNode::Constructed(tree.place(), name, arguments))
 }
 
-/// A variable, and the pattern that it stands for.
+/// A variable, and the pattern that it stands for, as a pattern.
 fn alias(tree: Subtree<'_>) -> PatternNode<'_>
     requires { tree.symbol ≡ symbol.AliasPat }
     ensures meaning { (names : List (List ℕ)) → pattern_node names result

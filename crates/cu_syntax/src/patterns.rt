@@ -9,7 +9,7 @@ use cu_int::Int;
 use cu_names::Place;
 use std::alloc::{AllocError, Global};
 
-/// A pattern.
+/// A pattern, as a view of its tree.
 #[derive(Clone, Copy, Debug)]
 pub struct Pattern<'t> {
     pub(crate) tree: Subtree<'t>,
@@ -24,11 +24,11 @@ pub enum PatternNode<'t> {
     Alias(Name, Pattern<'t>),
     Wildcard(Place),
     Literal(Place, Literal<'t>),
-    /// A number behind a minus.
+    /// A number after a minus.
     Negative(Place, Int),
     /// A constructor on its arguments, or alone.
     Constructed(Place, Name, Vec<Pattern<'t>>),
-    /// The components; unit has none.
+    /// The components of a tuple. Unit has none.
     Tuple(Place, Vec<Pattern<'t>>),
     List(Place, Vec<Pattern<'t>>),
     Operators(PatItems<'t>),
@@ -43,7 +43,7 @@ pub struct PatItems<'t> {
     pub rest: Vec<ConstructorItem<'t>>,
 }
 
-/// A constructor operator, and the pattern behind it.
+/// A constructor operator, and the pattern after it.
 #[derive(Clone, Copy, Debug)]
 pub struct ConstructorItem<'t> {
     pub operator: Name,
@@ -69,7 +69,7 @@ impl<'t> Pattern<'t> {
         Pattern { tree }
     }
 
-    /// The place of its first token, inside the parentheses round it.
+    /// The place of the pattern's first token, inside the parentheses round it.
     pub fn place(self) -> Place
         ensures position { (names : List (List ℕ))
             → position_of result ≡ pattern_position (pattern_meaning names self.entry) }
@@ -79,11 +79,12 @@ impl<'t> Pattern<'t> {
         inside(self.tree).place()
     }
 
-    /// What it is. Parentheses round one pattern leave no node.
+    /// What the pattern is, with the patterns in it. Parentheses round one
+    /// pattern leave no node.
     ///
     /// # Errors
     ///
-    /// Want of memory.
+    /// An allocation failure.
     pub fn node(self, alloc: Global) -> Result<PatternNode<'t>, AllocError>
         ensures meaning { (names : List (List ℕ))
             → IfOk result (λ node. pattern_node names node ≡ pattern_meaning names self.entry) }

@@ -43,7 +43,7 @@ impl Module {
 }
 
 impl Header {
-    /// The place of its first token.
+    /// The place of the header's first token.
     pub fn place(&self) -> Place
         ensures position { (names : List (List ℕ))
             → position_of result ≡ (header_meaning names self.now).at }
@@ -67,7 +67,7 @@ impl Header {
     ///
     /// # Errors
     ///
-    /// Want of memory.
+    /// An allocation failure.
     pub fn exports(&self, alloc: Global) -> Result<Option<Vec<Export>>, AllocError>
         ensures meaning { (names : List (List ℕ))
             → IfOk result
@@ -86,7 +86,7 @@ impl Item {
     ///
     /// # Errors
     ///
-    /// Want of memory.
+    /// An allocation failure.
     pub fn node(&self, alloc: Global) -> Result<ItemNode<'_>, AllocError>
         ensures meaning { (names : List (List ℕ))
             → IfOk result (λ node. item_node names node ≡ item_meaning names self.now) }
@@ -116,7 +116,7 @@ impl GoalText {
     ///
     /// # Errors
     ///
-    /// Want of memory.
+    /// An allocation failure.
     pub fn free_variables(&self, alloc: Global) -> Result<Vec<Name>, AllocError>
         ensures meaning { (names : List (List ℕ))
             → IfOk result (λ found. map (name_meaning names) found.items

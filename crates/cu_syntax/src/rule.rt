@@ -2,7 +2,8 @@
 use crate::symbol::Symbol;
 use cu_peg::Class;
 
-/// What a symbol stands for, over symbols.
+/// What a symbol of the grammar stands for: a token, or an expression over
+/// symbols.
 #[derive(Clone, Copy)]
 pub(crate) enum Rule {
     Token(Class),

@@ -70,7 +70,7 @@ pub(crate) fn first_line(before: u32, tokens: &[Token]) -> u32
     before
 }
 
-/// The tokens behind the one of a number.
+/// The tokens after the one of this number.
 pub(crate) fn tokens_behind(tokens: &[Token], number: usize) -> &[Token]
     requires { number < length tokens.now }
     ensures { result.now ≡ drop (number + 1) tokens.now }
@@ -78,7 +78,7 @@ pub(crate) fn tokens_behind(tokens: &[Token], number: usize) -> &[Token]
     &tokens[number + 1..]
 }
 
-/// The line of the last token of the text up to the one of a number, or the
+/// The line of the last token of the text up to the one of this number, or the
 /// line before.
 pub(crate) fn line_behind(before: u32, tokens: &[Token], number: usize) -> u32
     requires { number < length tokens.now }
@@ -132,7 +132,7 @@ fn is_longer(tokens: &[Token], limit: usize) -> bool
     false
 }
 
-/// What is left of some room behind a token, if there is room for it.
+/// The room that is left after a token, if there is room for it.
 fn room_behind(room: usize, kind: &TokenKind) -> Option<usize>
     ensures { (names : List (List ℕ)) → result
         ≡ room_behind room (token_length (kind_of names kind.now)) }
@@ -194,7 +194,7 @@ fn ends_part(depth: usize, kind: &TokenKind) -> bool
     depth == 0 && separates(kind)
 }
 
-/// How many braces are open behind a token.
+/// How many braces are open after a token.
 fn depth_after(depth: usize, kind: &TokenKind) -> usize
     requires { depth < 2 ^ 64 - 1 }
     ensures depth { (names : List (List ℕ)) → result ≡ depth_after depth (kind_of names kind.now) }

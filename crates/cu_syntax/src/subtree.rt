@@ -20,7 +20,7 @@ use std::alloc::{AllocError, Global};
 pub(crate) struct Subtree<'t> {
     pub(crate) symbol: Symbol,
     pub(crate) tokens: &'t [Token],
-    /// Its nodes, in prefix order.
+    /// The nodes of the tree, in prefix order.
     pub(crate) nodes: &'t [Node],
     ghost spelled: { spelled (read nodes.now) ≡ nodes.now },
     ghost fits: { (names : List (List ℕ))
@@ -82,7 +82,7 @@ impl<'t> Subtree<'t> {
         }
     }
 
-    /// The nodes of the parts of what is neither a leaf nor a choice.
+    /// The nodes of the parts of a tree that is neither a leaf nor a choice.
     fn parts(self) -> &'t [Node]
         requires leaf { is_leaf (rule_of self.symbol) ≡ false }
         requires choice { is_choice (rule_of self.symbol) ≡ false }
@@ -112,7 +112,7 @@ impl<'t> Subtree<'t> {
         }
     }
 
-    /// The tree of what is optional, if it is there.
+    /// The tree of what an optional symbol stands for, if it is there.
     pub(crate) fn optional(self, symbol: Symbol) -> Option<Subtree<'t>>
         requires { optional_part (rule_of self.symbol) ≡ Some symbol }
         ensures symbol { IfSome result (λ part. part.symbol ≡ symbol) }
@@ -136,7 +136,7 @@ impl<'t> Subtree<'t> {
         })
     }
 
-    /// The only tree of what is repeated, where there is one alone.
+    /// The tree of a repeated symbol, where it stands once alone.
     pub(crate) fn single(self, symbol: Symbol) -> Option<Subtree<'t>>
         requires { repeated_part (rule_of self.symbol) ≡ Some symbol }
         ensures symbol { IfSome result (λ part. part.symbol ≡ symbol) }
@@ -164,7 +164,7 @@ impl<'t> Subtree<'t> {
         })
     }
 
-    /// Whether nothing is repeated.
+    /// Whether a repeated symbol stands nowhere in the tree.
     pub(crate) fn is_empty(self) -> bool
         requires { is_repeated (rule_of self.symbol) ≡ true }
         ensures { (names : List (List ℕ)) → result ≡ is_empty (tree_of names self.entry) }
@@ -172,7 +172,7 @@ impl<'t> Subtree<'t> {
         self.parts().is_empty()
     }
 
-    /// How many trees are repeated.
+    /// How often a repeated symbol stands in the tree.
     pub(crate) fn count(self) -> usize
         requires { is_repeated (rule_of self.symbol) ≡ true }
         ensures count { (names : List (List ℕ)) → result ≡ count_in (tree_of names self.entry) }
@@ -187,7 +187,7 @@ impl<'t> Subtree<'t> {
         count
     }
 
-    /// The trees of what is repeated.
+    /// The trees of a repeated symbol.
     pub(crate) fn repeated(
         self,
         alloc: Global,

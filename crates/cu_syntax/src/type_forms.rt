@@ -17,7 +17,7 @@ use crate::symbol::Symbol;
 use crate::types::{TypeNode, TypeTerm};
 use std::alloc::{AllocError, Global};
 
-/// A type inside the parentheses and the choices of the grammar round it.
+/// A type, without the parentheses and the choices of the grammar round it.
 pub(crate) fn inside(tree: Subtree<'_>) -> Subtree<'_>
     requires { is_type tree.symbol ≡ true }
     ensures node { is_type_node result.symbol ≡ true }
@@ -82,7 +82,7 @@ pub(crate) fn node(alloc: Global, tree: Subtree<'_>) -> Result<TypeNode<'_>, All
     }
 }
 
-/// Function types, of two types or more.
+/// A function type, of two types or more.
 fn function(alloc: Global, tree: Subtree<'_>) -> Result<TypeNode<'_>, AllocError>
     requires symbol { tree.symbol ≡ symbol.TypeExp }
     requires more { (names : List (List ℕ)) → is_bare_type tree.symbol (tree_of names tree) ≡ true }

@@ -8,7 +8,7 @@ use crate::type_forms::{inside, node};
 use cu_names::Place;
 use std::alloc::{AllocError, Global};
 
-/// A type.
+/// A type, as a view of its tree.
 #[derive(Clone, Copy, Debug)]
 pub struct TypeTerm<'t> {
     pub(crate) tree: Subtree<'t>,
@@ -24,7 +24,7 @@ pub enum TypeNode<'t> {
     /// The type of the first parameter, those of further ones, and that of the
     /// result.
     Function(TypeTerm<'t>, Vec<TypeTerm<'t>>, TypeTerm<'t>),
-    /// The components; unit has none.
+    /// The components of a tuple. Unit has none.
     Tuple(Place, Vec<TypeTerm<'t>>),
     List(Place, TypeTerm<'t>),
 }
@@ -48,7 +48,7 @@ impl<'t> TypeTerm<'t> {
         TypeTerm { tree }
     }
 
-    /// The place of its first token, inside the parentheses round it.
+    /// The place of the type's first token, inside the parentheses round it.
     pub fn place(self) -> Place
         ensures position { (names : List (List ℕ))
             → position_of result ≡ type_position (type_meaning names self.entry) }
@@ -58,11 +58,12 @@ impl<'t> TypeTerm<'t> {
         inside(self.tree).place()
     }
 
-    /// What it is. Parentheses round one type leave no node.
+    /// What the type is, with the types in it. Parentheses round one type leave
+    /// no node.
     ///
     /// # Errors
     ///
-    /// Want of memory.
+    /// An allocation failure.
     pub fn node(self, alloc: Global) -> Result<TypeNode<'t>, AllocError>
         ensures meaning { (names : List (List ℕ))
             → IfOk result (λ node. type_node names node ≡ type_meaning names self.entry) }

@@ -22,7 +22,7 @@ flattens_at program flat _ (lowered.too_big made f function flattens there big b
 pub flattens_of : (program flat : Program) → Lowering program (Ok flat) → Flattens program flat
 flattens_of program flat low = flattens_at program flat (Ok flat) low refl
 
--- ** The goal's function
+-- ---- the goal's function
 
 -- a function that is there, with rules
 record HasRules (found : Option kernel.Function) : Type 0 where
@@ -40,7 +40,7 @@ plain_at : (program : Kernel) (k : ℕ) (function : kernel.Function) → slice_g
 unfolding program_of
 plain_at program k function e = slice_get-map plain_function program.functions k ∙ ap (option_map plain_function) e
 
--- ** Its rule
+-- ---- its rule
 
 -- lists of one length have the same places
 also_there : (xs ys : List Function) (k : ℕ) (x : Function) → length ys ≡ length xs → slice_get xs k ≡ Some x

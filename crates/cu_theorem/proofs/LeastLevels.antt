@@ -1,12 +1,13 @@
--- A program that has levels has least ones. Begin with 0 for each function, and give each again and again what its rules ask for
--- by the levels so far: these rise and stay below all levels, and where they stay as they are they are levels.
+-- A program that has levels has least ones. Begin with 0 for each function, and give each again and
+-- again what its rules ask for by the levels so far: these rise and stay below all levels, and
+-- where they stay as they are they are levels.
 use Rattle.std.proofs.Common.{◌≡◌, ℕ, zero, suc, ◌+◌, ◌-◌, ◌<◌, ◌≤◌, ◌⊎◌, inl, inr, List, [], ◌∷◌, length, map, Some, slice_get, slice_index, refl, ap, sym, ◌∙◌, subst, arith}
 use Rattle.std.proofs.lemmas.Bool.{cases_order}
 use Rattle.std.proofs.lemmas.List.{length-map}
 use Rattle.cu_calculus.specs.Claims.{Allows, AreLeastLevels, AreLevels, Collected, Mention, Plain, body_mentions, level_of}
 use Rattle.cu_calculus.specs.Program.{Function, Program}
 
--- ** Lists of numbers
+-- ---- lists of numbers
 
 -- at each place at most the other's number
 abbrev pub Below : List ℕ → List ℕ → Type 0
@@ -48,7 +49,7 @@ rises_or_stays (x ∷ xs) (y ∷ ys) e b = by (cases_order x y) (rises_or_stays 
     by (inr (inl less)) other = inr (omega (arith, rest))
     by (inr (inr more)) other = absurd (omega (arith, first))
 
--- ** What mentions ask for
+-- ---- what mentions ask for
 
 abbrev needed : List ℕ → Mention → ℕ
 needed levels (Plain f) = level_of levels f
@@ -95,7 +96,7 @@ most_rises xs ys b (m ∷ ms) =
     let rest : most xs ms ≤ most ys ms = most_rises xs ys b ms in
     omega arith
 
--- ** The levels that functions ask for
+-- ---- the levels that functions ask for
 
 abbrev asked : List ℕ → Function → ℕ
 asked levels function = most levels (body_mentions function.body)
@@ -195,7 +196,7 @@ least_levels program levels are =
       record { are_levels = are_levels_by program (levels_after program found.0) (after_length program found.0) found.1; least = λ others k each. after_below program others each found.0 k },
     )
 
--- ** A function that mentions nothing
+-- ---- a function that mentions nothing
 
 -- By least levels it has the level 0: what functions ask for by levels are levels too.
 pub lowest : (program : Program) (levels : List ℕ) (k : ℕ) (function : Function) → AreLeastLevels program levels

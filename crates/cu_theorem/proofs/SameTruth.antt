@@ -1,4 +1,5 @@
--- Two programs in which the same calls have the same values, over claims of either, have the same true claims.
+-- Two programs in which the same calls have the same values, over claims of either, have the same
+-- true claims.
 use Rattle.std.proofs.Common.{ℕ, zero, suc, List, [], ◌∷◌, inl, inr, ◌↔◌, IsTrue, refl}
 use Rattle.std.specs.List.{list_all}
 use Rattle.cu_calculus.specs.declared.FunId.{FunId}

@@ -1,4 +1,4 @@
-//! Set levels.
+//! A law of set levels.
 ghost use Rattle.std.specs.Prelude.{List, ℕ};
 ghost use Rattle.cu_calculus.specs.Claims.{AreLeastLevels, AreLevels};
 ghost use Rattle.cu_calculus.specs.Program.{Program};

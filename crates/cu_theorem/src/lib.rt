@@ -1,6 +1,6 @@
 //! Laws of what runs list: the answers of a goal are its solutions by the rules
-//! of the modules, and none is missed where there is no more. The crate
-//! computes nothing.
+//! of the modules, and a listing that is exhausted misses no ground solution.
+//! The crate computes nothing.
 #![tactic(auto)]
 
 mod levels;

@@ -1,4 +1,4 @@
-//! What is listed of goals in modules.
+//! Laws of what is listed of goals in modules.
 ghost use Rattle.std.specs.Prelude.{◌≡◌, List, Some, ℕ};
 ghost use Rattle.cu_calculus.specs.Program.{Program};
 ghost use Rattle.cu_front.specs.Compiling.{Held};
@@ -36,9 +36,9 @@ pub fn answers_are_derived()
     listed_answers_derive();
 }
 
-/// Nothing is missed: where the listing of a goal ends for want of more to
-/// search, and no branch waits, each ground solution that the goal has by the
-/// rules of its program is an instance of an answer that is listed.
+/// Nothing is missed: where the listing of a goal ends with no more, and no
+/// branch waits, each ground solution that the goal has by the rules of its
+/// program is an instance of an answer that is listed.
 pub fn exhausted_listings_cover_solutions()
     ensures { (program : Kernel) (flat : Program) (goal : Goal) (limits : SearchLimits)
         → IsLowered program flat → program.goal ≡ Some goal
@@ -54,8 +54,8 @@ pub fn exhausted_listings_cover_solutions()
 }
 
 /// What is listed of a goal in a module are its solutions by the rules of the
-/// modules and the goal: no other answer is listed, and none is missed where
-/// there is no more.
+/// modules and the goal. No other answer is listed; and where the listing ends
+/// with no more, and no branch waits, no ground solution is missed.
 pub fn solutions_are_listed()
     ensures { (held : Held) (root text : List ℕ) (limits : SearchLimits)
         → ListsSolutions held root text limits }

@@ -1,4 +1,4 @@
-//! True claims of programs and of their flat programs.
+//! A law of lowering: true claims of a program and of its flat program.
 ghost use Rattle.std.specs.Prelude.{◌↔◌, ℕ, List};
 ghost use Rattle.cu_calculus.specs.declared.FunId.{FunId};
 ghost use Rattle.cu_calculus.specs.Claims.{AreTrue, DerivesAt};

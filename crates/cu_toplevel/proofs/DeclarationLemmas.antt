@@ -1,4 +1,4 @@
--- Entities, and behind them those of a part of a module.
+-- Entities, and after them those of a part of a module.
 use Rattle.std.proofs.Common.{◌≡◌, ◌∙◌, ℕ, ◌+◌, ◌<◌, ◌≤◌, Bool, true, false, List, [], ◌∷◌, ◌++◌, map, take, take_all, get_or, length, refl, sym, ap, ap₂, subst, append-nil, append_assoc, arith, if◌then◌else◌}
 use Rattle.std.proofs.lemmas.List.{flat_map_more, length-map, map-append, map_more}
 use Rattle.std.specs.List.{All, flat_map}

@@ -1,4 +1,4 @@
--- Fixity declarations, one more behind others.
+-- Fixity declarations, one more after others.
 use Rattle.std.proofs.Common.{◌≡◌, ◌∙◌, ◌+◌, ◌<◌, ℕ, List, [], ◌∷◌, ◌++◌, Some, refl, sym, ap, subst, append-nil, append_assoc, get_or, length, map, take}
 use Rattle.std.proofs.lemmas.List.{flat_map_more, map-append, map_more}
 use Rattle.std.specs.List.{All, flat_map}

@@ -14,7 +14,7 @@ pub record Lists : Type 0 where
 abbrev pub no_lists : Lists
 no_lists = record { types = []; constructors = []; synonyms = []; functions = [] }
 
--- these, and behind them what a module declares
+-- the entities of these lists, and after them what one more module declares
 abbrev pub and_module : Named → Lists → Lists
 and_module m l = record {
   types = l.types ++ types_in m;
@@ -23,7 +23,7 @@ and_module m l = record {
   functions = l.functions ++ functions_in m;
 }
 
--- all that modules declare
+-- the entities that modules declare, by their kinds
 abbrev pub all_lists : List Named → Lists
 all_lists modules = record {
   types = all_types modules;
@@ -32,7 +32,7 @@ all_lists modules = record {
   functions = all_functions modules;
 }
 
--- These entities are listed.
+-- The entities of each kind that the code has are those of these lists.
 pub record AreListed (names : List (List ℕ)) (l : Lists) (d : Declarations) : Type 0 where
   pub types : IsListing names l.types d.types
   pub constructors : IsListing names l.constructors d.constructors

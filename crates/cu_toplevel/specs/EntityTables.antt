@@ -12,7 +12,8 @@ use Rattle.cu_toplevel.specs.TupleTables.{AreTuples}
 use Rattle.cu_translation.specs.Numbered.{Declared, declared}
 use Rattle.cu_translation.specs.Parts.{counts}
 
--- names of set functions, the first for functions of so many parameters, the next for one more
+-- the declarations of set functions of these names, the first for functions of n parameters, the
+-- next for one more
 abbrev pub sets_from : ℕ → List (List ℕ) → List Declared
 sets_from n [] = []
 sets_from n (name ∷ names) = declared set_functions_name name n ∷ sets_from (n + 1) names
@@ -25,7 +26,7 @@ pub record IsText (names : List (List ℕ)) (id : NameId) (text : List ℕ) : Ty
   pub known : IsKnown names id
   pub is : text_of names id ≡ text
 
--- These are the modules.
+-- The entities and fixities that the code has are those of these modules.
 pub record AreEntities (names : List (List ℕ)) (modules : List Named) (e : Entities) : Type 0 where
   pub differ : AllDiffer names
   pub declared : AreListed names (all_lists modules) e.declarations

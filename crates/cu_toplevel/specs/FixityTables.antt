@@ -17,17 +17,17 @@ is_declared name d = bytes_eq d.operator name
 abbrev pub is_named : List ℕ → Named → Bool
 is_named name m = bytes_eq m.name name
 
--- the fixity of the first of these that is declared
+-- the fixity that the first declaration of an operator gives it, if there is one
 abbrev pub first_declared : List ℕ → List Declared → Option Fixity
 first_declared name ds = option_map (λ (d : Declared). d.fixity) (find (is_declared name) ds)
 
--- Look-ups give the first fixity of each operator.
+-- Look-ups give each operator the fixity of its first declaration.
 pub record GivesFixities
     (names : List (List ℕ)) (ds : List Declared) (found : NameId → Option Fixity) : Type 0
   where
     pub each : (id : NameId) → IsKnown names id → found id ≡ first_declared (text_of names id) ds
 
--- These are the declarations.
+-- The fixities that the code has of a module are those of these declarations.
 pub record Declares (names : List (List ℕ)) (ds : List Declared) (f : ModuleFixities) : Type 0 where
   pub gives : GivesFixities names ds (get eq-value.it f.of)
 
@@ -35,7 +35,7 @@ abbrev pub fixity_there : Option ModuleFixities → NameId → Option Fixity
 fixity_there None id = None
 fixity_there (Some f) id = get eq-value.it f.of id
 
--- Look-ups give the fixities of the first module of each name.
+-- Look-ups give, by the name of a module, the fixities of the first module of that name.
 pub record GivesModules
     (names : List (List ℕ)) (modules : List Named) (found : NameId → Option ModuleFixities) : Type 0
   where
@@ -45,7 +45,7 @@ pub record GivesModules
         → fixity_there (found owner) id
         ≡ fixity_declared (text_of names id) (find (is_named (text_of names owner)) modules)
 
--- These are the modules.
+-- The table of fixities is that of these modules.
 pub record AreFixities (names : List (List ℕ)) (modules : List Named)
     (t : FixityTable) : Type 0 where
   pub gives : GivesModules names modules (get eq-value.it t.modules)

@@ -7,7 +7,7 @@ use Rattle.cu_uses.specs.Binders.{texts}
 use Rattle.cu_translation.specs.ModuleNames.{id_of}
 use Rattle.cu_translation.specs.Numbered.{all_functions}
 
--- the goal behind modules: its function has the next number
+-- the goal of a program of these modules: its function has the number after theirs
 abbrev pub goal_in : List (List ℕ) → List Named → Goal → kernel.Goal
 goal_in table modules goal = record {
   function = record { 0 = length (all_functions modules) };

@@ -13,7 +13,7 @@ pub record Head : Type 0 where
   pub name : List ℕ
   -- how many parameters the function takes
   pub arity : ℕ
-  -- the place of its first token
+  -- the place of the first token of the function's first rule
   pub at : Position
 
 abbrev pub head_of_rule : Rule → Head
@@ -26,12 +26,12 @@ abbrev pub head_meaning : List (List ℕ) → FunctionHead → Head
 head_meaning names h =
     record { name = text_of names h.name; arity = h.arity; at = position_of h.place }
 
--- It is of a module, and a table has its name.
+-- The place of a function's head is of this module, and the table has its name.
 pub record HeadIsOf (owner : NameId) (names : List (List ℕ)) (h : FunctionHead) : Type 0 where
   pub name : IsKnown names h.name
   pub place : PlaceIsOf owner h.place
 
--- These are the functions of a module that have these rules.
+-- The heads that the code found are those of the functions that have these rules, in their order.
 pub record AreHeads
     (owner : NameId) (names : List (List ℕ)) (groups : List Group)
     (heads : List FunctionHead) : Type 0

@@ -22,7 +22,7 @@ pub record DeclaredIsKnown (names : List (List ℕ)) (d : code.Declared) : Type 
   pub owner : IsKnown names d.owner
   pub name : IsKnown names d.name
 
--- Look-ups give the first of each name.
+-- Look-ups give the number of the first entity of each name.
 pub record GivesFirst
     (names : List (List ℕ)) (listed : List Declared) (found : Key
     → Option code_numbers.Numbered) : Type 0
@@ -31,7 +31,7 @@ pub record GivesFirst
         → option_map numbered_meaning (found k)
         ≡ numbered (text_of names k.owner) (text_of names k.name) listed
 
--- These entities are listed.
+-- The listing of the code has these entities, in this order.
 pub record IsListing (names : List (List ℕ)) (listed : List Declared) (l : Listing) : Type 0 where
   pub are : map (declared_meaning names) l.list.items ≡ listed
   pub known : All (DeclaredIsKnown names) l.list.items

@@ -7,7 +7,7 @@ use Rattle.cu_toplevel.specs.declared.reading.Reading as code
 use Rattle.cu_toplevel.specs.Surrounding.{TellsNames}
 use Rattle.cu_translation.specs.ModuleTypes.{Reading}
 
--- It is the module of a reading, under the reading's table of names.
+-- The code's `Reading` stands for this one, under its table of names.
 pub record IsReading (names : List (List ℕ)) (meant : Reading) (r : code.Reading) : Type 0 where
   pub table : meant.table ≡ names
   pub top : TellsNames names meant.names r.top

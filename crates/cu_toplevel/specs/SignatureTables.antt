@@ -14,19 +14,20 @@ use Rattle.cu_syntax.specs.Types.{type_meaning}
 use Rattle.cu_toplevel.specs.declared.signature_table.Signatures.{Signatures}
 use Rattle.cu_translation.specs.LocalFunctions.{or_else}
 
--- what is told of each name, and behind it the type of one
+-- the types told of names, with one more: the type of a name of which nothing is told yet
 abbrev pub and_one :
     List ℕ → TypeTerm → (List ℕ → Option TypeTerm) → List ℕ → Option TypeTerm
 and_one name t told text = or_else (told text) (if bytes_eq name text then Some t else None)
 
--- the same with the type of several
+-- the types told of names, with one more, that of several names, for those of which nothing is told
+-- yet
 abbrev pub and_several :
     List Name → TypeTerm → (List ℕ → Option TypeTerm) → List ℕ → Option TypeTerm
 and_several names t told text =
     or_else (told text)
     (if list_any (λ (x : Name). bytes_eq x.text text) names then Some t else None)
 
--- Look-ups give the types that are told, each of which is of a module.
+-- Look-ups give the types that are told of names, each of which is of the module.
 pub record GivesSignatures
     (owner : NameId) (names : List (List ℕ)) (told : List ℕ → Option TypeTerm)
     (found : NameId → Option code.TypeTerm) : Type 0
@@ -35,7 +36,7 @@ pub record GivesSignatures
         → option_map (type_meaning names) (found id) ≡ told (text_of names id)
     pub owned : (id : NameId) → IsKnown names id → IfSome (found id) (TypeIsOf owner names)
 
--- These types are declared.
+-- The signatures that the code has are the types that are told.
 pub record AreSignatures
     (owner : NameId) (names : List (List ℕ)) (told : List ℕ → Option TypeTerm)
     (s : Signatures) : Type 0

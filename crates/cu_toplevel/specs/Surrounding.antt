@@ -17,7 +17,8 @@ type_text built_in.Int = codes "Int"
 type_text built_in.Char = codes "Char"
 type_text built_in.Bool = codes "Bool"
 
--- Names refer to what they refer to in a module, and places are those of the owner.
+-- The code's `TopNames` tells of names what they refer to in a module, and its owner is the one to
+-- which places belong.
 pub record TellsNames (names : List (List ℕ)) (top : Names) (t : TopNames) : Type 0 where
   pub modules : List Named
   pub entities : AreEntities names modules t.entities.now

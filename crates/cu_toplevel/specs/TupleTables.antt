@@ -6,11 +6,11 @@ use Rattle.cu_modules.specs.BuiltInEntities.{commas}
 use Rattle.cu_names.specs.declared.names.NameId.{NameId}
 use Rattle.cu_toplevel.specs.declared.tuples.TupleNames.{TupleNames}
 
--- so many commas in parentheses
+-- the text of so many commas in parentheses
 abbrev pub tuple_text : ℕ → List ℕ
 tuple_text n = codes "(" ++ (commas n ++ codes ")")
 
--- A number is that of a text, or a table lacks the text.
+-- The number that was found is that of the text, and where none was found the table lacks the text.
 pub record IsFound (names : List (List ℕ)) (text : List ℕ) (found : Option NameId) : Type 0 where
   pub is : IfSome found (λ id. slice_get names id.0 ≡ Some text)
   pub absent : found ≡ None → ¬ (Contains names text)

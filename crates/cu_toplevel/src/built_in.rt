@@ -13,7 +13,7 @@ use cu_translation::BuiltIn;
 #[derive(Clone, Copy, Debug, PartialEq, Eq)]
 pub enum BuiltInType {
     List,
-    /// The type of tuples of so many components; unit is that of none.
+    /// The type of tuples of so many components. Unit is that of none.
     Tuple(usize),
     Int,
     Char,
@@ -27,8 +27,8 @@ pub(crate) fn named(names: &Names, text: &str) -> Option<NameId>
     names.find(text)
 }
 
-/// The number of a name that was looked for, or how many names the table has,
-/// where it lacks that.
+/// The number of a name, where it was found, or how many names the table has,
+/// where it lacks the name.
 pub(crate) fn number_of(names: &Names, found: Option<NameId>) -> NameId
     ensures { (text : List ℕ) → IsFound names.now text found → result ≡ id_of names.now text }
 {

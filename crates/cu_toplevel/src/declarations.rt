@@ -31,7 +31,7 @@ pub(crate) struct Declarations {
 }
 
 impl Declarations {
-    /// Those of no module.
+    /// The declarations of no module.
     pub(crate) fn new(alloc: Global) -> Declarations
         ensures { (names : List (List ℕ)) → AreListed names no_lists result }
     {
@@ -43,11 +43,11 @@ impl Declarations {
         }
     }
 
-    /// Adds those of the next module.
+    /// Adds what the next module declares.
     ///
     /// # Errors
     ///
-    /// Want of memory. The declarations are of no use then.
+    /// An allocation failure. The declarations are of no use then.
     pub(crate) fn add_module(
         &mut self,
         alloc: Global,
@@ -65,7 +65,7 @@ impl Declarations {
         self.add_functions(alloc, module)
     }
 
-    /// Adds those that the Prelude has without a declaration, if this is its name.
+    /// Adds what the Prelude has without a declaration, if this is its name.
     fn add_given(&mut self, names: &Names, owner: NameId) -> Result<(), AllocError>
         requires built_in { HasBuiltIn names.now }
         requires known { IsKnown names.now owner }
@@ -79,7 +79,7 @@ impl Declarations {
         Ok(())
     }
 
-    /// Adds those that the Prelude has without a declaration.
+    /// Adds what the Prelude has without a declaration.
     fn add_first(&mut self, names: &Names, owner: NameId) -> Result<(), AllocError>
         requires built_in { HasBuiltIn names.now }
         requires known { IsKnown names.now owner }
@@ -107,7 +107,7 @@ impl Declarations {
         Ok(())
     }
 
-    /// Adds what an item declares, but no function.
+    /// Adds what an item declares, but no functions.
     fn add_item(&mut self, alloc: Global, owner: NameId, item: &Item) -> Result<(), AllocError>
         ensures { (names : List (List ℕ)) (before : Lists)
             → AllDiffer names → IsKnown names owner → ItemIsOf owner names item.now

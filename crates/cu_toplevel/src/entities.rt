@@ -37,7 +37,7 @@ pub struct Entities {
     /// The names of the functions that give all values of calls.
     pub(crate) set_functions: Listing,
     pub(crate) fixities: FixityTable,
-    /// How many there are before each module.
+    /// How many entities of each kind there are before each module.
     pub(crate) starts: Vec<Counts>,
     pub(crate) tuples: TupleNames,
     pub(crate) prelude: NameId,
@@ -49,7 +49,7 @@ impl Entities {
     ///
     /// # Errors
     ///
-    /// Want of memory.
+    /// An allocation failure.
     pub fn of(alloc: Global, names: &Names, modules: &[Module]) -> Result<Entities, AllocError>
         requires built_in { HasBuiltIn names.now }
         requires has { All (HasModule names.now) modules.now }
@@ -62,7 +62,7 @@ impl Entities {
         Ok(entities)
     }
 
-    /// Those of no module.
+    /// The entities of no module.
     fn new(alloc: Global, names: &Names) -> Result<Entities, AllocError>
         requires built_in { HasBuiltIn names.now }
         ensures { IfOk result (AreEntities names.now []) }
@@ -83,7 +83,7 @@ impl Entities {
         })
     }
 
-    /// Adds those of the next module.
+    /// Adds the entities and fixities of the next module.
     fn add_module(
         &mut self,
         alloc: Global,
@@ -103,7 +103,7 @@ impl Entities {
         Ok(())
     }
 
-    /// How many entities and modules there are.
+    /// How many entities of each kind, and how many modules, there are.
     pub fn counts(&self) -> Counts
         ensures { (names : List (List ℕ)) (modules : List Named)
             → AreEntities names modules self.now → result ≡ counts modules }
@@ -117,8 +117,8 @@ impl Entities {
         }
     }
 
-    /// How many there are before the module of a number, or in all where there
-    /// is none.
+    /// How many entities of each kind there are before the module of a number,
+    /// or in all where there is no such module.
     pub fn counts_before(&self, module: u32) -> Counts
         ensures { (names : List (List ℕ)) (modules : List Named)
             → AreEntities names modules self.now → result ≡ counts (take «module» modules) }
@@ -129,7 +129,8 @@ impl Entities {
         }
     }
 
-    /// What the module of a name declares under a name.
+    /// What the module `owner` declares under a name among functions and
+    /// constructors.
     pub(crate) fn value_of(&self, owner: NameId, name: NameId) -> Referent
         ensures { (names : List (List ℕ)) (modules : List Named)
             → IsKnown names owner → IsKnown names name → AreEntities names modules self.now
@@ -142,7 +143,7 @@ impl Entities {
         }
     }
 
-    /// The function that the module of a name declares under a name.
+    /// The function that the module `owner` declares under a name.
     fn function_of(&self, owner: NameId, name: NameId) -> Referent
         ensures { (names : List (List ℕ)) (modules : List Named)
             → IsKnown names owner → IsKnown names name → AreEntities names modules self.now
@@ -156,7 +157,7 @@ impl Entities {
         }
     }
 
-    /// The name of set functions that a name is in the module of a name.
+    /// The set functions of which a name is the name in the module `owner`.
     fn set_function_of(&self, owner: NameId, name: NameId) -> Referent
         ensures { (names : List (List ℕ)) (modules : List Named)
             → IsKnown names owner → IsKnown names name → AreEntities names modules self.now
@@ -169,7 +170,7 @@ impl Entities {
         }
     }
 
-    /// The type that the module of a name declares under a name.
+    /// The type that the module `owner` declares under a name.
     pub(crate) fn type_of(&self, owner: NameId, name: NameId) -> TypeName
         ensures { (names : List (List ℕ)) (modules : List Named)
             → IsKnown names owner → IsKnown names name → AreEntities names modules self.now
@@ -181,7 +182,7 @@ impl Entities {
         }
     }
 
-    /// The synonym that the module of a name declares under a name.
+    /// The synonym that the module `owner` declares under a name.
     fn synonym_of(&self, owner: NameId, name: NameId) -> TypeName
         ensures { (names : List (List ℕ)) (modules : List Named)
             → IsKnown names owner → IsKnown names name → AreEntities names modules self.now
@@ -194,8 +195,8 @@ impl Entities {
         }
     }
 
-    /// The fixity of what the module of a name declares under a name; that of
-    /// `:` is built in.
+    /// The fixity of what the module `owner` declares under a name. That of `:`
+    /// is built in.
     pub(crate) fn fixity_of(&self, owner: NameId, name: NameId) -> Fixity
         ensures { (names : List (List ℕ)) (modules : List Named)
             → IsKnown names owner → IsKnown names name → AreEntities names modules self.now
@@ -207,7 +208,8 @@ impl Entities {
         self.fixities.find(owner, name)
     }
 
-    /// Whether it is the constructor between a list's first element and the others.
+    /// Whether the name is that of `:` in the Prelude, the constructor that
+    /// stands between a list's first element and the others.
     fn is_cons(&self, owner: NameId, name: NameId) -> bool
         ensures { result
             ≡ (nat_eq owner.0 self.now.prelude.0 && nat_eq name.0 self.now.cons.0) }
@@ -216,7 +218,7 @@ impl Entities {
     }
 }
 
-/// A constructor of a number.
+/// The constructor of a number, as what a name refers to.
 fn constructor(found: Numbered) -> Referent
     ensures { (other : meant.Referent)
         → referent_meaning result ≡ constructor_referent (Some (numbered_meaning found)) other }
@@ -227,7 +229,7 @@ fn constructor(found: Numbered) -> Referent
     )
 }
 
-/// A function of a number.
+/// The function of a number, as what a name refers to.
 fn function(found: Numbered) -> Referent
     ensures { (other : meant.Referent)
         → referent_meaning result ≡ function_referent (Some (numbered_meaning found)) other }

@@ -49,7 +49,7 @@ fn from_two_to(
     arrow(alloc, called(alloc, top, from), from_second)
 }
 
-/// The type of tests of two values of any type.
+/// The type of the tests that compare two values of any type.
 fn on_any(alloc: Global, top: &TopNames<'_>) -> Result<TypeTerm, AllocError>
     ensures { (names : List (List ℕ)) (around : meant.Names) → TellsNames names around top.now
         → IfOk result (λ made. type_of made ≡ on_any around) }
@@ -63,7 +63,7 @@ fn on_any(alloc: Global, top: &TopNames<'_>) -> Result<TypeTerm, AllocError>
 ///
 /// # Errors
 ///
-/// Want of memory.
+/// An allocation failure.
 #[tactic(auto, using(cu_kernel::specs::TypesOf::types_of_variants))]
 pub fn external_type(
     alloc: Global,

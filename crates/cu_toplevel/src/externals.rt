@@ -60,7 +60,7 @@ fn arity(operation: Prim) -> u32
 ///
 /// # Errors
 ///
-/// Want of memory. The listing is of no use then.
+/// An allocation failure. The listing is of no use then.
 pub(crate) fn add_externals(
     names: &Names,
     owner: NameId,
@@ -99,7 +99,7 @@ fn function(alloc: Global, names: &Names, text: &str, operation: Prim) -> TopFun
     }
 }
 
-/// Operations as functions.
+/// The operations that are built in, as functions.
 fn functions(
     alloc: Global,
     names: &Names,
@@ -143,7 +143,7 @@ fn mark(
     })
 }
 
-/// What is known of operations beside what they compute.
+/// What is known of the operations that are built in, beside what they compute.
 fn marks(
     alloc: Global,
     reading: &Reading<'_>,
@@ -165,7 +165,7 @@ fn marks(
 ///
 /// # Errors
 ///
-/// Want of memory.
+/// An allocation failure.
 pub(crate) fn external_functions(
     alloc: Global,
     reading: &Reading<'_>,
@@ -181,11 +181,12 @@ pub(crate) fn external_functions(
     }
 }
 
-/// What is known of these functions beside what they compute.
+/// What is known of the functions that a module has without rules, beside what
+/// they compute.
 ///
 /// # Errors
 ///
-/// Want of memory.
+/// An allocation failure.
 pub(crate) fn external_marks(alloc: Global, reading: &Reading<'_>) -> Result<Vec<Mark>, AllocError>
     ensures { (names : List (List ℕ)) (r : meant.Reading) → IsReading names r reading.now
         → IfOk result (λ found. map mark_meaning found.items

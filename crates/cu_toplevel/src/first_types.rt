@@ -29,7 +29,7 @@ fn first_variables(alloc: Global, count: u32) -> Result<Vec<TypeTerm>, AllocErro
     Ok(variables)
 }
 
-/// The type of tuples of so many components; unit is that of none.
+/// The type of tuples of so many components. Unit is that of none.
 fn tuple_type(alloc: Global, reading: &Reading<'_>, components: u32) -> Result<DataType, AllocError>
     ensures { (names : List (List ℕ)) (r : meant.Reading) → IsReading names r reading.now
         → IfOk result (λ made. type_meaning made ≡ tuple_type r components) }
@@ -97,7 +97,7 @@ fn add_tuples(
 ///
 /// # Errors
 ///
-/// Want of memory.
+/// An allocation failure.
 pub(crate) fn first_types(alloc: Global, reading: &Reading<'_>) -> Result<Vec<DataType>, AllocError>
     ensures { (names : List (List ℕ)) (r : meant.Reading) → IsReading names r reading.now
         → IfOk result (λ made. map type_meaning made.items ≡ first_types r) }

@@ -35,7 +35,7 @@ pub(crate) struct FixityTable {
     pub(crate) modules: IndexMap<NameId, ModuleFixities>,
 }
 
-/// What was found, or else another.
+/// The fixity that was found, or else the other.
 fn found_or(found: Option<&Fixity>, other: Fixity) -> Fixity
     ensures { result ≡ unwrap_or (option_copied found.entry) other }
 {
@@ -46,7 +46,7 @@ fn found_or(found: Option<&Fixity>, other: Fixity) -> Fixity
 }
 
 impl ModuleFixities {
-    /// No fixity.
+    /// No declarations of fixities.
     fn new(alloc: Global) -> ModuleFixities
         ensures { (names : List (List ℕ)) → Declares names [] result }
     {
@@ -55,7 +55,7 @@ impl ModuleFixities {
         }
     }
 
-    /// Adds the next declaration.
+    /// Adds the next declaration of a fixity.
     fn add(&mut self, operator: NameId, fixity: Fixity) -> Result<(), AllocError>
         ensures { (names : List (List ℕ)) (before : List meant.Declared)
             → AllDiffer names → IsKnown names operator → Declares names before self.old
@@ -67,7 +67,7 @@ impl ModuleFixities {
         Ok(())
     }
 
-    /// Adds one declaration of several operators.
+    /// Adds a declaration of one fixity for several operators.
     fn add_all(&mut self, operators: &[Name], fixity: Fixity) -> Result<(), AllocError>
         ensures { (owner : NameId) (names : List (List ℕ)) (before : List meant.Declared)
             → AllDiffer names → All (NameIsOf owner names) operators.now
@@ -82,7 +82,7 @@ impl ModuleFixities {
         Ok(())
     }
 
-    /// Adds what an item declares.
+    /// Adds the fixities that an item declares.
     fn add_item(&mut self, alloc: Global, item: &Item) -> Result<(), AllocError>
         ensures { (owner : NameId) (names : List (List ℕ)) (before : List meant.Declared)
             → AllDiffer names → ItemIsOf owner names item.now → Declares names before self.old
@@ -120,11 +120,12 @@ impl FixityTable {
         }
     }
 
-    /// Adds those of the next module. Of two of one name the first counts.
+    /// Adds the fixities of the next module. Of two modules of one name the
+    /// first counts.
     ///
     /// # Errors
     ///
-    /// Want of memory. The table is of no use then.
+    /// An allocation failure. The table is of no use then.
     pub(crate) fn add(&mut self, alloc: Global, module: &Module) -> Result<(), AllocError>
         ensures { (names : List (List ℕ)) (before : List Named)
             → AllDiffer names → HasModule names «module».now → AreFixities names before self.old
@@ -140,7 +141,8 @@ impl FixityTable {
         Ok(())
     }
 
-    /// The fixity of what the module of a name declares under a name.
+    /// The fixity that the module `owner` declares for what it has under a
+    /// name.
     pub(crate) fn find(&self, owner: NameId, name: NameId) -> Fixity
         ensures { (names : List (List ℕ)) (modules : List Named)
             → IsKnown names owner → IsKnown names name → AreFixities names modules self.now

@@ -23,9 +23,9 @@ use std::alloc::{AllocError, Global};
 #[derive(Clone, Copy, Debug)]
 pub struct FunctionHead {
     pub name: NameId,
-    /// How many parameters it takes.
+    /// How many parameters the function takes.
     pub arity: usize,
-    /// The place of its first token.
+    /// The place of the first token of the function's first rule.
     pub place: Place,
 }
 
@@ -34,7 +34,7 @@ pub struct FunctionHead {
 ///
 /// # Errors
 ///
-/// Want of memory.
+/// An allocation failure.
 pub fn heads(alloc: Global, module: &Module) -> Result<Vec<FunctionHead>, AllocError>
     ensures { (names : List (List ℕ)) → AllDiffer names → HasModule names «module».now
         → IfOk result (λ found. AreHeads «module».now.name names
@@ -81,7 +81,7 @@ fn add_head(
     Ok(Some(head.name))
 }
 
-/// What a rule tells of its function.
+/// What an item tells of its function, if it is a rule.
 fn head_of(alloc: Global, item: &Item) -> Result<Option<FunctionHead>, AllocError>
     ensures meaning { (names : List (List ℕ))
         → IfOk result (λ found. option_map (head_meaning names) found

@@ -74,7 +74,7 @@ fn function_mark(
 ///
 /// # Errors
 ///
-/// Want of memory.
+/// An allocation failure.
 pub(crate) fn marks(alloc: Global, reading: &Reading<'_>) -> Result<Vec<Mark>, AllocError>
     ensures { (names : List (List ℕ)) (r : meant.Reading) → IsReading names r reading.now
         → IfOk result (λ found. map mark_meaning found.items

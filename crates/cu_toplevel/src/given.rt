@@ -33,7 +33,8 @@ pub(crate) const FIRST_TYPES: [(&str, usize); 18] = [
     ("Char", 0),
 ];
 
-/// Their constructors, with the numbers of their fields.
+/// The constructors of the types that the Prelude has without a declaration,
+/// with the numbers of their fields.
 pub(crate) const FIRST_CONSTRUCTORS: [(&str, usize); 17] = [
     ("[]", 0),
     (":", 2),
@@ -67,7 +68,7 @@ pub(crate) const SET_FUNCTIONS: [(&str, usize); 8] = [
     ("set7", 7),
 ];
 
-/// The name of a text that the table has.
+/// The number of a text that the table has.
 pub(crate) fn found(names: &Names, text: &str) -> NameId
     requires { Contains names.now text.now }
     ensures { slice_get names.now result.0 ≡ Some text.now }
@@ -82,7 +83,7 @@ pub(crate) fn found(names: &Names, text: &str) -> NameId
 ///
 /// # Errors
 ///
-/// Want of memory. The listing is of no use then.
+/// An allocation failure. The listing is of no use then.
 pub(crate) fn add_given(
     names: &Names,
     owner: NameId,

@@ -38,12 +38,12 @@ pub(crate) fn goal_mark(top: &TopNames<'_>, root: u32, goal: &GoalText) -> Mark
     }
 }
 
-/// The goal of a program of these entities: its function stands behind all
+/// The goal of a program of these entities: its function stands after all
 /// others, and takes the goal's free variables.
 ///
 /// # Errors
 ///
-/// Want of memory.
+/// An allocation failure.
 pub(crate) fn goal_in(
     alloc: Global,
     entities: &Entities,

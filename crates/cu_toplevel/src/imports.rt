@@ -12,7 +12,7 @@ use cu_names::NameId;
 use indexmap::IndexSet;
 use std::alloc::{AllocError, Global};
 
-/// Names, each once and where it stands first.
+/// The names of a list, each once and where it stands first.
 fn each_once(alloc: Global, names: &[NameId]) -> Result<Vec<NameId>, AllocError>
     ensures { (table : List (List ℕ)) → AllDiffer table → All (IsKnown table) names.now
         → IfOk result (λ found. found.items
@@ -29,7 +29,7 @@ fn each_once(alloc: Global, names: &[NameId]) -> Result<Vec<NameId>, AllocError>
 ///
 /// # Errors
 ///
-/// Want of memory.
+/// An allocation failure.
 pub(crate) fn imports_in(
     alloc: Global,
     module: &Module,

@@ -19,8 +19,8 @@ pub(crate) struct Declared {
     pub(crate) arity: usize,
 }
 
-/// A number, from 0, and how many parameters, fields or arguments what has it
-/// takes.
+/// The number of an entity among those of its kind, from 0, and how many
+/// parameters, fields or arguments it takes.
 #[derive(Clone, Copy, Debug)]
 pub struct Numbered {
     pub number: usize,
@@ -42,7 +42,7 @@ pub(crate) struct Listing {
     pub(crate) first: IndexMap<Key, Numbered>,
 }
 
-/// What was found, or else another.
+/// The number that was found, or else the other.
 fn found_or(found: Option<&Numbered>, other: Numbered) -> Numbered
     ensures { result ≡ unwrap_or (option_copied found.entry) other }
 {
@@ -53,7 +53,7 @@ fn found_or(found: Option<&Numbered>, other: Numbered) -> Numbered
 }
 
 impl Listing {
-    /// No entity.
+    /// The listing without entities.
     pub(crate) fn new(alloc: Global) -> Listing
         ensures { (names : List (List ℕ)) → IsListing names [] result }
     {
@@ -63,11 +63,11 @@ impl Listing {
         }
     }
 
-    /// Adds an entity behind the others.
+    /// Adds an entity after the others.
     ///
     /// # Errors
     ///
-    /// Want of memory. The listing is of no use then.
+    /// An allocation failure. The listing is of no use then.
     pub(crate) fn add(&mut self, entity: Declared) -> Result<(), AllocError>
         ensures { (names : List (List ℕ)) (before : List numbers.Declared)
             → AllDiffer names → DeclaredIsKnown names entity → IsListing names before self.old
@@ -88,7 +88,8 @@ impl Listing {
         Ok(())
     }
 
-    /// The number of what a module declares under a name.
+    /// The number of what the module `owner` declares under a name, if it
+    /// declares it.
     pub(crate) fn find(&self, owner: NameId, name: NameId) -> Option<Numbered>
         ensures { (names : List (List ℕ)) (listed : List numbers.Declared)
             → IsKnown names owner → IsKnown names name → IsListing names listed self.now

@@ -174,7 +174,7 @@ fn given_types(alloc: Global, reading: &Reading<'_>) -> Result<Vec<DataType>, Al
 ///
 /// # Errors
 ///
-/// Want of memory.
+/// An allocation failure.
 pub fn types_in(alloc: Global, reading: &Reading<'_>) -> Result<Vec<DataType>, AllocError>
     ensures { (names : List (List ℕ)) (r : meant.Reading) → IsReading names r reading.now
         → IfOk result (λ made. map kernel.type_meaning made.items ≡ types_in r) }
@@ -190,7 +190,7 @@ pub fn types_in(alloc: Global, reading: &Reading<'_>) -> Result<Vec<DataType>, A
 ///
 /// # Errors
 ///
-/// Want of memory.
+/// An allocation failure.
 pub fn synonyms_in(alloc: Global, reading: &Reading<'_>) -> Result<Vec<Synonym>, AllocError>
     ensures { (names : List (List ℕ)) (r : meant.Reading) → IsReading names r reading.now
         → IfOk result (λ made. map kernel.synonym_meaning made.items

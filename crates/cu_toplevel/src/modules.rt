@@ -16,7 +16,7 @@ use std::alloc::{AllocError, Global};
 ///
 /// # Errors
 ///
-/// Want of memory.
+/// An allocation failure.
 pub(crate) fn module_info(alloc: Global, reading: &Reading<'_>) -> Result<ModuleInfo, AllocError>
     ensures { (names : List (List ℕ)) (r : meant.Reading) → IsReading names r reading.now
         → IfOk result (λ found. module_meaning found ≡ module_info r) }

@@ -17,7 +17,7 @@ use cu_syntax as syntax;
 use cu_syntax::{Item, ItemNode, Name};
 use std::alloc::{AllocError, Global};
 
-/// The side of a declaration, as programs have it.
+/// The side to which a fixity declaration groups, as programs have it.
 fn grouped_to(side: syntax::Side) -> Side
     ensures { result ≡ grouped_to side }
 {
@@ -32,7 +32,7 @@ fn grouped_to(side: syntax::Side) -> Side
 ///
 /// # Errors
 ///
-/// Want of memory.
+/// An allocation failure.
 pub fn fixity_declarations(alloc: Global, module: &Module) -> Result<Vec<Operator>, AllocError>
     ensures { (names : List (List ℕ)) → AllDiffer names → HasModule names «module».now
         → IfOk result (λ found. found.items
@@ -45,7 +45,7 @@ pub fn fixity_declarations(alloc: Global, module: &Module) -> Result<Vec<Operato
     Ok(operators)
 }
 
-/// Adds what an item declares.
+/// Adds the fixity declarations of an item.
 fn add_item(alloc: Global, item: &Item, operators: &mut Vec<Operator>) -> Result<(), AllocError>
     ensures { (owner : NameId) (names : List (List ℕ))
         → AllDiffer names → ItemIsOf owner names item.now
@@ -60,7 +60,7 @@ fn add_item(alloc: Global, item: &Item, operators: &mut Vec<Operator>) -> Result
     }
 }
 
-/// Adds one declaration of several operators.
+/// Adds a declaration of one fixity for several operators.
 fn add_all(
     declared: &[Name],
     side: syntax::Side,

@@ -24,12 +24,12 @@ use cu_kernel::{LocalParts, TopFunction};
 use cu_syntax::GoalText;
 use std::alloc::{AllocError, Global};
 
-/// The part of a program that a module is translated to, where these are its
-/// functions that have rules, in the order of their numbers.
+/// The part of a program that a module is translated to. `functions` are those
+/// of its functions that have rules, in the order of their numbers.
 ///
 /// # Errors
 ///
-/// Want of memory.
+/// An allocation failure.
 pub fn module_part(
     alloc: Global,
     reading: &Reading<'_>,
@@ -64,11 +64,11 @@ pub fn module_part(
 }
 
 /// The part of a program that a goal in the module of a number is translated
-/// to, where this is its function, and names are those of the goal.
+/// to, of its function and its variables. Names are those of the goal.
 ///
 /// # Errors
 ///
-/// Want of memory.
+/// An allocation failure.
 pub fn goal_part(
     alloc: Global,
     top: &TopNames<'_>,

@@ -34,14 +34,15 @@ pub struct Reading<'a> {
     pub(crate) exports: &'a [Entity],
 }
 
-/// Whether an entity is the one that a module declares under a name.
+/// Whether an entity is the one that the module `owner` declares under a name.
 fn is_own(entity: Entity, owner: NameId, space: Space, name: NameId) -> bool
     ensures { result ≡ is_own owner space name entity }
 {
     entity.owner == owner && entity.name == name && space == entity.sort.space()
 }
 
-/// Whether one of these is the entity that a module declares under a name.
+/// Whether one of these entities is the one that the module `owner` declares
+/// under a name.
 fn has_own(entities: &[Entity], owner: NameId, space: Space, name: NameId) -> bool
     ensures { result ≡ list_any (is_own owner space name) entities.now }
 {
@@ -84,7 +85,8 @@ impl<'a> Reading<'a> {
         self.top
     }
 
-    /// Whether the module exports what it declares under the name of a number.
+    /// Whether the module exports what it declares under the name of this
+    /// number.
     pub(crate) fn is_public(&self, space: Space, name: NameId) -> bool
         ensures { (names : List (List ℕ)) (r : meant.Reading) (text : List ℕ)
             → IsReading names r self.now → name ≡ id_of names text

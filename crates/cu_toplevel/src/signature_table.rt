@@ -29,7 +29,7 @@ pub(crate) struct Signatures<'t> {
     pub(crate) of: IndexMap<NameId, TypeTerm<'t>>,
 }
 
-/// What was found, or else another.
+/// The type that was found, or else the other.
 fn found_or<'t>(found: Option<&TypeTerm<'t>>, other: TypeTerm<'t>) -> TypeTerm<'t>
     ensures { result ≡ unwrap_or (option_copied found.entry) other.entry }
 {
@@ -40,7 +40,7 @@ fn found_or<'t>(found: Option<&TypeTerm<'t>>, other: TypeTerm<'t>) -> TypeTerm<'
 }
 
 impl<'t> Signatures<'t> {
-    /// No signature.
+    /// No signatures.
     fn new(alloc: Global) -> Signatures<'t>
         ensures { (owner : NameId) (names : List (List ℕ))
             → AreSignatures owner names (λ text. None) result }
@@ -64,7 +64,7 @@ impl<'t> Signatures<'t> {
         Ok(())
     }
 
-    /// Adds the type of several functions.
+    /// Adds one type for several functions, except those that have one.
     fn add_all(&mut self, functions: &[Name], declared: TypeTerm<'t>) -> Result<(), AllocError>
         ensures { (owner : NameId) (names : List (List ℕ))
             (told : List ℕ → Option meant.TypeTerm)
@@ -80,7 +80,7 @@ impl<'t> Signatures<'t> {
         Ok(())
     }
 
-    /// Adds what a declaration declares.
+    /// Adds the types that a declaration declares.
     fn add_declaration(
         &mut self,
         alloc: Global,
@@ -101,7 +101,7 @@ impl<'t> Signatures<'t> {
         }
     }
 
-    /// Adds what an item declares.
+    /// Adds the types that an item declares.
     fn add_item(&mut self, alloc: Global, item: &'t Item) -> Result<(), AllocError>
         ensures { (owner : NameId) (names : List (List ℕ))
             (told : List ℕ → Option meant.TypeTerm)
@@ -120,7 +120,7 @@ impl<'t> Signatures<'t> {
     ///
     /// # Errors
     ///
-    /// Want of memory.
+    /// An allocation failure.
     pub(crate) fn of(alloc: Global, module: &'t Module) -> Result<Signatures<'t>, AllocError>
         ensures { (names : List (List ℕ)) → AllDiffer names → HasModule names «module».now
             → IfOk result (AreSignatures «module».now.name names
@@ -133,7 +133,7 @@ impl<'t> Signatures<'t> {
         Ok(signatures)
     }
 
-    /// The type that a signature declares of a function.
+    /// The type that a signature declares of a function, if there is one.
     pub(crate) fn find(&self, function: NameId) -> Option<TypeTerm<'t>>
         ensures meaning { (owner : NameId) (names : List (List ℕ))
             (told : List ℕ → Option meant.TypeTerm)

@@ -29,7 +29,7 @@ fn has_text(names: &[Name], text: NameId) -> bool
     names.iter().any(|name| name.text == text)
 }
 
-/// Adds a name, unless one of its text is there.
+/// Adds a name, unless one with its text is there.
 fn add_variable(name: Name, variables: &mut Vec<Name>) -> Result<(), AllocError>
     ensures { (owner : NameId) (table : List (List ℕ))
         → AllDiffer table → NameIsOf owner table name
@@ -87,12 +87,12 @@ fn add_all(
     Ok(())
 }
 
-/// The type that a signature declares. Its variables are its own, numbered in
-/// the order in which they first stand in it.
+/// The type that a signature declares. Its type variables are its own, numbered
+/// in the order in which they first stand in it.
 ///
 /// # Errors
 ///
-/// Want of memory.
+/// An allocation failure.
 pub fn signature_type(
     alloc: Global,
     top: &TopNames<'_>,

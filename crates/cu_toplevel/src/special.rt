@@ -27,7 +27,8 @@ fn constructor_alone(referent: Referent) -> Option<ConId>
     }
 }
 
-/// The function that a name refers to, or the first, if it is none.
+/// The function that a name refers to, or the first function, if it refers to
+/// none.
 fn function_in(referent: Referent) -> FunId
     ensures { result ≡ function_in (referent_meaning referent) }
 {
@@ -37,7 +38,7 @@ fn function_in(referent: Referent) -> FunId
     }
 }
 
-/// A constructor, or the first, if there is none.
+/// The constructor that was found, or the first constructor, if none was found.
 fn or_first(found: Option<ConId>) -> ConId
     ensures { result ≡ unwrap_or found (record { 0 = 0 }) }
 {
@@ -77,8 +78,8 @@ impl Entities {
         }
     }
 
-    /// The function that the Prelude declares under a text, or the first, if it
-    /// declares none.
+    /// The function that the Prelude declares under a text, or the first
+    /// function, if it declares none.
     fn prelude_function(&self, names: &Names, text: &str) -> FunId
         ensures { (modules : List Named) → AreEntities names.now modules self.now
             → result ≡ function_in (value_of modules prelude_name text.now) }

@@ -36,12 +36,12 @@ pub struct TopNames<'a> {
     pub(crate) names: &'a Names,
     /// The module, by its place among the modules.
     pub(crate) module: u32,
-    /// The name of the module, or that of goals.
+    /// The name of the module, or the name `goal` where the text is a goal.
     pub(crate) owner: NameId,
 }
 
-/// The number of the name of goals, or how many names the table has, where it
-/// lacks that.
+/// The number of the name `goal`, which owns the places of a goal, or how many
+/// names the table has, where it lacks that name.
 fn goal_owner(names: &Names) -> NameId
     ensures { result ≡ id_of names.now goal_name }
 {
@@ -75,8 +75,8 @@ impl<'a> TopNames<'a> {
         }
     }
 
-    /// What names refer to in a goal in the module of a number: the same as in
-    /// the module, but its places are its own.
+    /// What names refer to in a goal in the module of a number. They refer to
+    /// what they do in the module, but the places are of the goal.
     pub fn of_goal(
         entities: &'a Entities,
         scopes: &'a Scopes,
@@ -101,7 +101,7 @@ impl<'a> TopNames<'a> {
         }
     }
 
-    /// The entity that a name alone means.
+    /// The entity that a name means, where it means one alone.
     fn entity(&self, space: Space, name: Name) -> Option<Entity>
         ensures meaning { (owner : NameId) (names : List (List ℕ)) (modules : List Named)
             → AreScopes names modules self.now.scopes.now → self.now.«module» < length modules
@@ -152,7 +152,7 @@ impl<'a> TopNames<'a> {
         }
     }
 
-    /// What the Prelude has.
+    /// What the Prelude has under one of the names that the translation uses.
     pub fn prelude(&self, what: BuiltIn) -> Referent
         ensures { (names : List (List ℕ)) (top : meant.Names) → TellsNames names top self.now
             → referent_meaning result ≡ top.prelude (built_in_text what) }
@@ -163,7 +163,8 @@ impl<'a> TopNames<'a> {
         }
     }
 
-    /// A type that the Prelude has.
+    /// The type that the Prelude has under one of the names that the
+    /// translation uses.
     pub fn prelude_type(&self, what: BuiltInType) -> TypeName
         ensures { (names : List (List ℕ)) (top : meant.Names) → TellsNames names top self.now
             → result ≡ top.prelude_type (type_text what) }
@@ -175,7 +176,7 @@ impl<'a> TopNames<'a> {
     }
 
     /// The number of the name of what the Prelude has, or how many names the
-    /// table has, where it lacks that.
+    /// table has, where it lacks the name.
     pub(crate) fn value_number(&self, what: BuiltIn) -> NameId
         ensures { (names : List (List ℕ)) (top : meant.Names) → TellsNames names top self.now
             → result ≡ id_of names (built_in_text what) }
@@ -184,7 +185,7 @@ impl<'a> TopNames<'a> {
     }
 
     /// The number of the name of a type that the Prelude has, or how many names
-    /// the table has, where it lacks that.
+    /// the table has, where it lacks the name.
     pub(crate) fn type_number(&self, what: BuiltInType) -> NameId
         ensures { (names : List (List ℕ)) (top : meant.Names) → TellsNames names top self.now
             → result ≡ id_of names (type_text what) }
@@ -195,7 +196,8 @@ impl<'a> TopNames<'a> {
         )
     }
 
-    /// The number of the name of the text's module, or of that of goals.
+    /// The number of the name of the text's module, or of the name `goal` where
+    /// the text is a goal.
     pub fn owner(&self) -> NameId
         ensures { (names : List (List ℕ)) (top : meant.Names) → TellsNames names top self.now
             → result ≡ top.owner }

@@ -11,14 +11,14 @@ use indexmap::IndexMap;
 use std::alloc::{AllocError, Global};
 
 /// The names of tuples in a table of names, by the numbers of commas in them.
-/// The one without a comma is that of unit.
+/// The name without a comma is that of unit.
 #[derive(Drop)]
 pub(crate) struct TupleNames {
     pub(crate) by_commas: IndexMap<usize, NameId>,
 }
 
-/// A number of commas, where a closing parenthesis is behind them, and nothing
-/// else.
+/// The number of commas that were read, where a closing parenthesis follows
+/// them, and nothing else.
 fn closed(byte: u8, commas: usize, others: usize) -> Option<usize>
     ensures { (rest : List ℕ) → others ≡ length rest → result ≡ closed commas byte rest }
 {
@@ -53,11 +53,11 @@ fn commas_of(text: &str) -> Option<usize>
 }
 
 impl TupleNames {
-    /// Those of a table.
+    /// The names of tuples in a table.
     ///
     /// # Errors
     ///
-    /// Want of memory.
+    /// An allocation failure.
     pub(crate) fn of(alloc: Global, names: &Names) -> Result<TupleNames, AllocError>
         ensures { IfOk result (AreTuples names.now) }
     {

@@ -25,11 +25,11 @@ use cu_syntax as syntax;
 use cu_syntax::{Name, TypeNode};
 use std::alloc::{AllocError, Global};
 
-/// A number for which there is room. A larger one is out of memory.
+/// A number in 32 bits. A larger one counts as an allocation failure.
 ///
 /// # Errors
 ///
-/// Want of memory.
+/// An allocation failure.
 pub(crate) fn to_u32(count: usize) -> Result<u32, AllocError>
     ensures { IfOk result (λ found. found ≡ count) }
 {
@@ -46,8 +46,8 @@ fn place_in(names: &[Name], text: NameId) -> Option<usize>
     names.iter().position(|name| name.text == text)
 }
 
-/// The place of a text among those of names, or their count, where it is none
-/// of them.
+/// The place of a text among those of these names, or their count, where it is
+/// none of them.
 fn place_among(names: &[Name], text: NameId) -> usize
     ensures { (owner : NameId) (table : List (List ℕ))
         → AllDiffer table → IsKnown table text → All (NameIsOf owner table) names.now
@@ -60,7 +60,7 @@ fn place_among(names: &[Name], text: NameId) -> usize
     }
 }
 
-/// A type variable, by its place among these names.
+/// The type variable of a name, by its place among these names.
 fn variable(variables: &[Name], name: Name) -> Result<TypeTerm, AllocError>
     ensures { (owner : NameId) (table : List (List ℕ))
         → AllDiffer table → NameIsOf owner table name → All (NameIsOf owner table) variables.now
@@ -76,7 +76,7 @@ fn variable(variables: &[Name], name: Name) -> Result<TypeTerm, AllocError>
 ///
 /// # Errors
 ///
-/// Want of memory.
+/// An allocation failure.
 #[tactic(auto, using(cu_kernel::specs::TypesOf::types_of_variants))]
 pub(crate) fn arrow(alloc: Global, from: TypeTerm, to: TypeTerm) -> Result<TypeTerm, AllocError>
     ensures { IfOk result (λ found. kernel.type_of found
@@ -87,7 +87,8 @@ pub(crate) fn arrow(alloc: Global, from: TypeTerm, to: TypeTerm) -> Result<TypeT
     Ok(TypeTerm::Arrow(from, to))
 }
 
-/// The type of functions from several types, one after another.
+/// The type of functions of several parameters, of these types, one after
+/// another.
 fn arrows(alloc: Global, parameters: Vec<TypeTerm>, to: TypeTerm) -> Result<TypeTerm, AllocError>
     ensures { IfOk result (λ found. kernel.type_of found
         ≡ arrows (map kernel.type_of parameters.items) (kernel.type_of to)) }
@@ -100,7 +101,8 @@ fn arrows(alloc: Global, parameters: Vec<TypeTerm>, to: TypeTerm) -> Result<Type
     Ok(whole)
 }
 
-/// The same, of at least one parameter.
+/// The type of functions of one parameter or more: the first, and the further
+/// ones.
 fn function(
     alloc: Global,
     first: TypeTerm,
@@ -118,7 +120,7 @@ fn function(
 ///
 /// # Errors
 ///
-/// Want of memory.
+/// An allocation failure.
 pub(crate) fn list_of(
     alloc: Global,
     top: &TopNames<'_>,
@@ -143,12 +145,12 @@ fn tuple_of(top: &TopNames<'_>, components: Vec<TypeTerm>) -> TypeTerm
     TypeTerm::Named(name, components)
 }
 
-/// The type that a type of a text stands for. A type variable is its place among
-/// these names.
+/// The type that a type of a text stands for. A type variable stands for its
+/// place among these names.
 ///
 /// # Errors
 ///
-/// Want of memory.
+/// An allocation failure.
 #[cycle(types)]
 pub(crate) fn type_of(
     alloc: Global,
@@ -189,7 +191,7 @@ pub(crate) fn type_of(
 ///
 /// # Errors
 ///
-/// Want of memory.
+/// An allocation failure.
 #[cycle(types)]
 pub(crate) fn types_of(
     alloc: Global,

@@ -13,19 +13,20 @@ use Rattle.cu_translation.specs.declared.fault.Wrong.TheVariants as kind
 use Rattle.cu_translation.specs.FaultOrder.{Arity, Fault, FixityClash, NonLinear, RecursiveLocal, SetName, TooLong, Wrong, fault}
 use Rattle.cu_translation.specs.Translation.{Outcome, Refused, Translated}
 
--- A text of a module is refused at a place of it.
+-- A text of a module is refused for this fault, at this place of the module.
 pub record IsRefused (owner : NameId) (wrong : Wrong) (place : Place) (result : Outcome) : Type 0
   where
     pub owned : place.«module» ≡ owner
     pub refused : result ≡ Refused (fault wrong (position_of place))
 
--- A text is refused for too many rules, at a line.
+-- A text is refused for too many rules of a function, at a place on this line.
 pub record IsTooLong (line : ℕ) (result : Outcome) : Type 0 where
   pub at : Position
   pub on_line : at.line ≡ line
   pub refused : result ≡ Refused (fault TooLong at)
 
--- The fault that an answer tells is that of a text of a module. Want of memory says nothing.
+-- The fault that an answer tells is that of a text of the module. An allocation failure says
+-- nothing.
 abbrev pub Tells : NameId → DesugarFault → Outcome → Type 0
 Tells owner (answer.FixityClash place) result = IsRefused owner FixityClash place result
 Tells owner (answer.Arity place) result = IsRefused owner Arity place result

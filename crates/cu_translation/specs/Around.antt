@@ -14,7 +14,7 @@ use Rattle.cu_fixity.specs.Pieces.{undeclared}
 use Rattle.cu_modules.specs.BuiltInEntities.{commas}
 use Rattle.cu_translation.specs.LocalNames.{Binder, Local, LocalFunction, LocalVariable, Scope, local_named}
 
--- what a name refers to
+-- what a name refers to where it stands
 pub data Referent : Type 0 where
   -- a variable, by its number
   Variable : ℕ → Referent
@@ -22,7 +22,7 @@ pub data Referent : Type 0 where
   Callable : LocalHead → ℕ → Referent
   -- the name of the set functions of functions of so many parameters
   SetFunction : ℕ → Referent
-  -- nothing
+  -- nothing: the name is none of these
   Nothing : Referent
 
 -- what the names of top level refer to in a module, where no local name hides them
@@ -37,8 +37,8 @@ pub record Names : Type 0 where
   -- the number of the module's name
   pub owner : NameId
 
--- the numbers inside one top-level function, and which of its variables have to be defined before
--- which
+-- the numbers of the variables and local functions of one top-level function, and which of its
+-- variables have to be defined before which
 pub record Numbers : Type 0 where
   pub variable : Binder → ℕ
   -- the place, among the local functions, of the one whose first token stands here
@@ -62,12 +62,12 @@ local_or_else around None name = around.names.value name
 abbrev pub referent : Around → Scope → Name → Referent
 referent around scope name = local_or_else around (local_named scope name) name
 
--- the constructor of tuples of so many components; unit is that of none
+-- the name of tuples of so many components; unit is that of none
 abbrev pub tuple_name : ℕ → List ℕ
 tuple_name zero = codes "()"
 tuple_name (suc n) = codes "(" ++ (commas n ++ codes ")")
 
--- what an expression refers to, if it is a name alone
+-- what an expression refers to, if it is a name and nothing else
 abbrev pub name_alone : Around → Scope → Expression → Option Referent
 name_alone around scope (syntax.Variable at name) = Some (referent around scope name)
 name_alone around scope (syntax.Constructor at name) = Some (around.names.value name)
@@ -79,7 +79,7 @@ abbrev pub fixity_unless_local : Names → Option Local → Name → Fixity
 fixity_unless_local names (Some local) name = undeclared
 fixity_unless_local names None name = names.fixity name
 
--- the fixity of an operator where it stands; one that is a local name has no declaration
+-- the fixity of an operator where it stands; an operator that is a local name has no declaration
 abbrev pub fixity_at : Names → Scope → Name → Fixity
 fixity_at names scope name = fixity_unless_local names (local_named scope name) name
 

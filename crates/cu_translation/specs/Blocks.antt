@@ -1,5 +1,5 @@
--- Blocks of local declarations: the free variables, and inside these the others, each behind those
--- on which it depends.
+-- Blocks of local declarations: the free variables, and inside these the other variables, each
+-- after those on which its definition depends.
 use Rattle.std.specs.Prelude.{ℕ, zero, suc, Bool, not, List, [], ◌∷◌, ◌++◌, Option, None, Some, find, length, map}
 use Rattle.std.specs.List.{filter, list_any}
 use Rattle.cu_kernel.specs.LocalTerm.{Free, Let, LocalTerm, MoreTerms, NoTerm, Variable, Whole}
@@ -19,7 +19,8 @@ pub record Bound : Type 0 where
 abbrev pub bound : Binder → LocalTerm → Bound
 bound variable definition = record { variable = variable; definition = definition }
 
--- A variable of a pattern is the call, on the whole value, of the function that selects it.
+-- A variable of a pattern is defined by a call, on the pattern's whole value, of the function that
+-- selects the variable.
 abbrev pub selection : Around → Pattern → Name → Bound
 selection around p x =
     bound (At x.at)
@@ -31,7 +32,7 @@ selections around p = map (selection around p) (pattern_variables p)
 
 -- ---- the order of definitions
 
--- whether a variable depends on none of these
+-- whether the definition of a variable depends on none of these definitions
 abbrev pub depends_on_none : (Binder → Binder → Bool) → List Bound → Bound → Bool
 depends_on_none depends left b = not (list_any (λ (c : Bound). depends b.variable c.variable) left)
 
@@ -71,7 +72,7 @@ with_lets around [] t = t
 with_lets around (b ∷ bounds) t =
     Let (around.numbers.variable b.variable) b.definition (with_lets around bounds t)
 
--- a term inside the declarations of a block, of which the local variables have these definitions
+-- a term inside the declarations of a block, whose local variables have these definitions
 abbrev pub block : Around → Declarations → List Bound → LocalTerm → LocalTerm
 block around ds bounds t =
     with_free around (frees ds) (with_lets around (ordered around.numbers.depends bounds) t)

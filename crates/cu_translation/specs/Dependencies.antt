@@ -59,7 +59,7 @@ is_innermost f (at ∷ functions) = same_place f at
 abbrev pub own_uses : List Node → Position → List Local
 own_uses nodes f = flat_map used_by (filter (λ (n : Node). is_innermost f n.spot.functions) nodes)
 
--- the functions that they use
+-- the functions that the rules of a local function use, those of the functions inside it apart
 abbrev pub called : List Node → Position → List Position
 called nodes f = flat_map function_in (own_uses nodes f)
 
@@ -90,11 +90,12 @@ captures_within (suc n) nodes f b =
     not (binds nodes f b) &&
     (uses nodes f b || list_any (λ g. captures_within n nodes g b) (called nodes f))
 
--- all functions that are used
+-- all local functions that are used in a text
 abbrev pub all_called : List Node → List Position
 all_called nodes = flat_map function_in (flat_map used_by nodes)
 
--- Whether a local function captures a variable. No more functions are on the way than are used.
+-- Whether a local function captures a variable. On the way from it to the use of the variable there
+-- are no more functions than are used in the text.
 abbrev pub captures : List Node → Position → Binder → Bool
 captures nodes f b = captures_within (suc (length (all_called nodes))) nodes f b
 
@@ -105,7 +106,7 @@ pub record Definition : Type 0 where
   pub variable : Binder
   pub used : List Local
 
--- what stands in a text here, and not in a function inside it
+-- whether a node stands in a text at this spot, and not in a function inside it
 abbrev pub stands_in : Spot → Node → Bool
 stands_in spot n = nat_eq (length n.spot.functions) (length spot.functions)
 
@@ -113,12 +114,12 @@ abbrev pub is_bound_outside : List Binder → Local → Bool
 is_bound_outside inner (LocalVariable b) = not (is_among inner b)
 is_bound_outside inner (LocalFunction at count) = true
 
--- what a definition that has these nodes uses and doesn't bind
+-- what a definition with these nodes in it uses and doesn't bind
 abbrev pub used_in : Spot → List Node → List Local
 used_in spot nodes =
     filter (is_bound_outside (all_binders nodes)) (flat_map used_by (filter (stands_in spot) nodes))
 
--- A variable of a pattern is defined by the pattern's whole value.
+-- The definition of a variable of a pattern uses the pattern's whole value.
 abbrev pub selected : Binder → Name → Definition
 selected whole x = record { variable = At x.at; used = LocalVariable whole ∷ [] }
 
@@ -155,7 +156,7 @@ pub data DependsOn (nodes : List Node) (y : Binder) : Binder → Type 0 where
   further : (x : Binder) (d : Definition) → Contains (definitions nodes) d
       → depends nodes x d.variable ≡ true → DependsOn nodes y d.variable → DependsOn nodes y x
 
--- whether it does in at most so many steps
+-- whether the definition of x depends on y by a chain of at most n definitions
 abbrev pub depends_within : ℕ → List Node → Binder → Binder → Bool
 depends_within zero nodes x y = false
 depends_within (suc n) nodes x y =
@@ -164,6 +165,7 @@ depends_within (suc n) nodes x y =
     (λ (d : Definition). depends nodes x d.variable && depends_within n nodes d.variable y)
     (definitions nodes)
 
--- Whether a local variable depends on itself. No more variables are on the way than are defined.
+-- Whether a local variable depends on itself. The chain of definitions has no more of them than the
+-- text has.
 abbrev pub is_recursive : List Node → Binder → Bool
 is_recursive nodes x = depends_within (suc (length (definitions nodes))) nodes x x

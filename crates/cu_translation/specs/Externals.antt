@@ -35,12 +35,13 @@ externals =
 abbrev pub type_called : Names → List ℕ → TypeExpr
 type_called names text = Named (names.prelude_type text) NoType
 
--- of two integers, of two values of one type, and of two truth values
+-- the type of the operations on two integers with a result of this type
 abbrev pub on_integers : Names → List ℕ → TypeExpr
 on_integers names to =
     Arrow (type_called names (codes "Int"))
     (Arrow (type_called names (codes "Int")) (type_called names to))
 
+-- the type of the comparisons of two values of any one type
 abbrev pub on_any : Names → TypeExpr
 on_any names = Arrow (Variable 0) (Arrow (Variable 0) (type_called names (codes "Bool")))
 

@@ -15,7 +15,7 @@ pub data Wrong : Type 0 where
   RecursiveLocal : Wrong
   -- a set function's name without the name of a function of its arity, or with too many arguments
   SetName : Wrong
-  -- a rule behind the most that a function may have
+  -- a rule after the most that a function may have
   TooLong : Wrong
 
 pub record Fault : Type 0 where

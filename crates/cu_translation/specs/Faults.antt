@@ -25,13 +25,13 @@ abbrev pub has_tree : {T : Type 0} → Option T → Bool
 has_tree None = false
 has_tree (Some t) = true
 
--- a clash at a place, unless there is a tree
+-- the fault that operators have no grouped tree, unless there is one
 abbrev pub clash_unless : {T : Type 0} → Position → Option T → List Fault
 clash_unless at None = fault FixityClash at ∷ []
 clash_unless at (Some t) = []
 
 abbrev mutual
-  -- the constructor operators of a pattern are those of top level
+  -- the clashes of constructor operators in a pattern, which are those of top level
   pub pattern_clashes : Names → Pattern → List Fault
   pattern_clashes names (syntax.PatternVariable x) = []
   pattern_clashes names (syntax.As x p) = pattern_clashes names p
@@ -54,7 +54,7 @@ abbrev mutual
   clashes_behind names (syntax.ThenConstructor c p rest) =
       pattern_clashes names p ++ clashes_behind names rest
 
--- the tree of an expression with operators, where it stands
+-- the grouped tree of an expression with operators, where it stands
 abbrev pub tree_of : Names → Scope → Expression → Option (Tree Expression Operator)
 tree_of names scope e = grouped_tree (fixity_with (fixity_at names scope)) (expression_items e)
 
@@ -98,7 +98,8 @@ abbrev mutual
   all_constructor_faults names (syntax.MorePatterns p ps) =
       constructor_faults names p ++ all_constructor_faults names ps
 
-  -- one between two patterns has these two
+  -- the faults of constructor operators, each of which is a constructor on the two patterns beside
+  -- it
   pub operator_faults : Names → PatternRest → List Fault
   operator_faults names syntax.NoConstructor = []
   operator_faults names (syntax.ThenConstructor c p rest) =
@@ -129,7 +130,7 @@ length_faults g = too_long (drop most_rules (rules_of g))
 -- ---- names of set functions
 
 -- Whether the arguments of the name of the set functions of functions of n parameters are right:
--- the first is the name of such a function of top level, and at most n follow it.
+-- the first is the name of such a function of top level, and at most n others follow it.
 abbrev pub is_set_call : ℕ → List (Option Referent) → Bool
 is_set_call n (Some (Callable (head.Global (global.Fun f)) arity) ∷ others) =
     nat_eq arity n && nat_le (length others) n
@@ -143,7 +144,7 @@ abbrev pub use_faults : Referent → Name → List (Option Referent) → List Fa
 use_faults (SetFunction n) name arguments = set_name_unless (is_set_call n arguments) name
 use_faults _ name arguments = []
 
--- the name that the tree of an operand is, if it is one alone
+-- what the tree of an operand refers to, if it is a name and nothing else
 abbrev pub leaf_name : Around → Scope → Tree Expression Operator → Option Referent
 leaf_name around scope (Leaf e) = name_alone around scope e
 leaf_name around scope _ = None
@@ -153,7 +154,7 @@ operation_faults around scope (Minus at) arguments = []
 operation_faults around scope (Named name) arguments =
     use_faults (referent around scope name) name arguments
 
--- the same of operators between operands
+-- the faults of the names of set functions among the operators of a grouped tree
 abbrev pub tree_faults : Around → Scope → Tree Expression Operator → List Fault
 tree_faults around scope (Leaf e) = []
 tree_faults around scope (Applied o t) = tree_faults around scope t
@@ -183,7 +184,8 @@ faults_at around scope _ = []
 abbrev pub faults_of : Around → Node → List Fault
 faults_of around n = faults_at around n.spot.scope n.site
 
--- a variable that depends on itself, at its declaration; the whole value of a pattern is never told
+-- the fault of a variable that depends on itself, at its declaration; the whole value of a pattern
+-- is never told
 abbrev pub recursive_at : List Node → Binder → List Fault
 recursive_at nodes (At p) = if is_recursive nodes (At p) then fault RecursiveLocal p ∷ [] else []
 recursive_at nodes _ = []

@@ -16,7 +16,8 @@ use Rattle.cu_translation.specs.Sites.{Node, nodes_on, rules_nodes}
 use Rattle.cu_translation.specs.Table.{term}
 use Rattle.cu_calculus.specs.Term as calculus
 
--- the numbers inside a function that has these nodes, and behind their variables these
+-- the numbers inside a function that has these nodes: its variables are numbered first, and after
+-- them those of `last`
 abbrev pub numbers_in : List Node → List Binder → Numbers
 numbers_in nodes last = record {
   variable = binder_number (all_binders nodes ++ last);
@@ -35,7 +36,7 @@ group_nodes g = rules_nodes (rules_of g)
 abbrev pub around_group : Names → Group → Around
 around_group names g = around_in names (group_nodes g) []
 
--- a function by its rules
+-- a top-level function, by its rules
 abbrev pub top_function : List (List ℕ) → Names → Group → TopFunction
 top_function table names g = record {
   name = id_of table g.first.name.text;
@@ -53,7 +54,7 @@ external_function table e = record {
   locals = [];
 }
 
--- ---- goals: a function whose parameters are the goal's variables, declared behind all others
+-- ---- goals: a function whose parameters are the goal's variables, declared after all others
 
 abbrev pub goal_scope : Goal → Scope
 goal_scope goal = variable_entries goal.free

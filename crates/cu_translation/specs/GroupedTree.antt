@@ -1,11 +1,12 @@
--- The tree of items whose operands fit their operators: of all trees of the items, the one that is
--- grouped.
+-- The tree of a list of items whose operands fit their operators: of all trees of the items, the
+-- one that is grouped.
 use Rattle.std.specs.Prelude.{List, [], ◌∷◌, Option, find, flat_map, map}
 use Rattle.cu_fixity.specs.declared.fixity.Fixity.{Fixity}
 use Rattle.cu_fixity.specs.Grouping.{Applied, Between, Infix, Item, Leaf, Operand, Prefix, Tree, is_grouped}
 
--- What comes before the items of a tree takes the whole tree, or only the left operand of the
--- operator at its top, or only the left one of that, and so on.
+-- The trees of a list of items, of which a first part takes an operand from the tree of the others:
+-- the whole tree, or only the left operand of the operator at its top, or only the left operand of
+-- that, and so on.
 abbrev pub in_front : {A O : Type 0} → (Tree A O → Tree A O) → Tree A O → List (Tree A O)
 in_front taking (Leaf a) = taking (Leaf a) ∷ []
 in_front taking (Applied o t) = taking (Applied o t) ∷ []

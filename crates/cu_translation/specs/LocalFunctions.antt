@@ -20,7 +20,7 @@ use Rattle.cu_translation.specs.Table.{comprehension, right_term, term}
 use Rattle.cu_translation.specs.Terms.{list}
 use Rattle.cu_translation.specs.TypeTable.{signature_type}
 
--- a rule of a function
+-- a rule of a function, as a rule before lifting
 abbrev pub rule_of : Around → Scope → Rule → LocalRule
 rule_of around scope r = record {
   params = patterns around At r.parameters;
@@ -47,7 +47,7 @@ abbrev pub or_else : Option TypeTerm → Option TypeTerm → Option TypeTerm
 or_else (Some t) other = Some t
 or_else None other = other
 
--- the signature that a block has of a name
+-- the type that a block's signature declares for a name, if there is one
 abbrev pub signature_of : List ℕ → Declarations → Option TypeTerm
 signature_of name syntax.NoDeclaration = None
 signature_of name (syntax.MoreDeclarations d ds) =
@@ -63,7 +63,8 @@ block_function around scope block g = record {
 
 -- ---- functions of comprehensions
 
--- `\x -> rest`, and `\z -> case z of {p -> rest; _ -> []}` where the pattern is no variable
+-- the function of a qualifier with a list: `\x -> rest`, or `\z -> case z of {p -> rest; _ -> []}`
+-- where the pattern is no variable
 abbrev pub generator_function : Around → Position → Pattern → LocalTerm → LocalFunction
 generator_function around at (syntax.PatternVariable x) rest =
     new_function around at (pattern around At (syntax.PatternVariable x) ∷ []) rest
@@ -75,7 +76,7 @@ generator_function around at p rest =
     (MoreAlternatives (calculus.Any (around.numbers.variable (Otherwise (pattern_position p))))
     (list around.names []) NoAlternative)))
 
--- the rest of a comprehension behind a qualifier
+-- the term of the rest of a comprehension after a qualifier
 abbrev pub rest_of : Around → Scope → Expression → Qualifiers → LocalTerm
 rest_of around scope element qualifiers =
     comprehension around
@@ -83,7 +84,7 @@ rest_of around scope element qualifiers =
 
 -- ---- functions that select variables
 
--- `s p = x`
+-- the function that selects a variable of a pattern: `s p = x`
 abbrev pub selector : Around → Pattern → Name → LocalFunction
 selector around p x =
     new_function around x.at (pattern around (Selected x.at) p ∷ [])

@@ -14,7 +14,7 @@ pub data Binder : Type 0 where
   -- the fresh variable for the whole value of the pattern at a place, of a declaration or a
   -- qualifier
   Whole : Position → Binder
-  -- the wildcard of the alternative behind the pattern at a place, of a qualifier
+  -- the wildcard of the alternative that follows the pattern at a place, of a qualifier
   Otherwise : Position → Binder
   -- the variable or the wildcard at the second place, in the function that selects the variable at
   -- the first
@@ -41,7 +41,7 @@ pub record Entry : Type 0 where
   pub text : List ℕ
   pub means : Local
 
--- The local names in scope, inner ones first. An inner one hides the outer ones of its text.
+-- The local names in scope, inner ones first. An inner name hides the outer ones of its text.
 abbrev pub Scope : Type 0
 Scope = List Entry
 
@@ -52,7 +52,7 @@ abbrev pub entry_called : List ℕ → Scope → Option Local
 entry_called text scope =
     option_map (λ (e : Entry). e.means) (find (λ (e : Entry). bytes_eq e.text text) scope)
 
--- what a name means, if it is local; one with a qualifier isn't
+-- what a name means, if it is a local name; a name with a qualifier isn't
 abbrev pub local_named : Scope → Name → Option Local
 local_named scope name = if is_none name.qualifier then entry_called name.text scope else None
 
@@ -64,7 +64,7 @@ variable_entry x = entry x.text (LocalVariable (At x.at))
 abbrev pub variable_entries : List Name → Scope
 variable_entries names = map variable_entry names
 
--- what a rule that is the first of its name declares in a block
+-- what the first rule of a name declares in a block
 abbrev pub rule_entry : Position → Name → Patterns → Entry
 rule_entry at name syntax.NoPattern = variable_entry name
 rule_entry at name (syntax.MorePatterns p ps) =
@@ -83,11 +83,11 @@ entries_behind begun syntax.NoDeclaration = []
 entries_behind begun (syntax.MoreDeclarations d ds) =
     declaration_entries begun d ++ entries_behind (begun_in begun d) ds
 
--- what a block brings into the scope of its declarations, and of what it belongs to
+-- what a block brings into scope in its declarations, and in the expression that it belongs to
 abbrev pub block_entries : Declarations → Scope
 block_entries ds = entries_behind None ds
 
--- what a qualifier brings into the scope of those behind it, and of the element
+-- what a qualifier brings into scope in the qualifiers after it, and in the element
 abbrev pub qualifier_entries : Qualifier → Scope
 qualifier_entries (syntax.Generator at p list) = variable_entries (pattern_variables p)
 qualifier_entries (syntax.LocalDeclarations at ds) = block_entries ds

@@ -43,7 +43,7 @@ function_referent (Some f) other =
     Callable (head.Global (global.Fun (record { 0 = f.number }))) f.arity
 function_referent None other = other
 
--- what the module of a name declares under a name
+-- what the module `owner` declares under a name among functions and constructors
 abbrev pub value_of : List Named → List ℕ → List ℕ → Referent
 value_of modules owner name =
     constructor_referent (numbered owner name (all_constructors modules))
@@ -89,14 +89,14 @@ fixity_declared name (Some m) =
     option_map (λ (d : Declared). d.fixity)
     (find (λ (d : Declared). bytes_eq d.operator name) (fixities_in m))
 
--- the fixity of what the module of a name declares under a name; that of `:` is built in
+-- the fixity of what the module `owner` declares under a name; that of `:` is built in
 abbrev pub fixity_of : List Named → List ℕ → List ℕ → Fixity
 fixity_of modules owner name =
     if bytes_eq owner prelude_name && bytes_eq name (codes ":") then fixities.cons
     else unwrap_or (fixity_declared name (find (λ (m : Named). bytes_eq m.name owner) modules))
     undeclared
 
--- ---- in a module
+-- ---- names in a module
 
 abbrev pub no_module : Named
 no_module = record { name = []; syntax = record { header = None; items = [] } }
@@ -114,7 +114,7 @@ abbrev pub entity_meant : List Named → ℕ → Space → Name → Option Entit
 entity_meant modules number space name =
     alone (meant (scope (interfaces_before modules number) (module_at modules number)) space name)
 
--- what holds of the entity that a name means, and something else where it means none
+-- what `means` gives for the entity that a name means, and `otherwise` where it means none
 abbrev pub of_entity : {A : Type 0} → (List ℕ → List ℕ → A) → A → Option Entity → A
 of_entity means otherwise (Some e) = means e.owner e.name
 of_entity means otherwise None = otherwise

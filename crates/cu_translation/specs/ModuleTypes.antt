@@ -50,7 +50,7 @@ data_type reading name arity constructors = record {
   constructors = constructors;
 }
 
--- the type variables from a number on
+-- so many type variables, from number n on
 abbrev pub variables_from : ℕ → ℕ → List TypeExpr
 variables_from zero n = []
 variables_from (suc count) n = expr.Variable n ∷ variables_from count (n + 1)

@@ -26,7 +26,7 @@ declared owner name arity = record { owner = owner; name = name; arity = arity }
 abbrev pub in_prelude : List ℕ → ℕ → Declared
 in_prelude name arity = declared prelude_name name arity
 
--- what the Prelude has without a declaration, and nothing in other modules
+-- a list for the Prelude, and the empty list for other modules
 abbrev pub only_in_prelude : {A : Type 0} → List ℕ → List A → List A
 only_in_prelude owner built_in = if bytes_eq owner prelude_name then built_in else []
 
@@ -101,7 +101,8 @@ external e = in_prelude e.name (external_arity e.operation)
 abbrev pub groups_in : Named → List Group
 groups_in m = groups (map rule_in_item m.syntax.items)
 
--- a function takes as many arguments as its first rule has patterns
+-- the declaration of a function of a module: it takes as many arguments as its first rule has
+-- patterns
 abbrev pub function : List ℕ → Group → Declared
 function owner g = declared owner g.first.name.text (pattern_count g.first.parameters)
 
@@ -114,7 +115,7 @@ all_functions modules = flat_map functions_in modules
 
 -- ---- numbers
 
--- a number, and how many arguments what has it takes
+-- the number of an entity among those of its kind, and how many arguments it takes
 pub record Numbered : Type 0 where
   pub number : ℕ
   pub arity : ℕ

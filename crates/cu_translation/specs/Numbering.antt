@@ -1,5 +1,5 @@
 -- The variables and the local functions of a top-level function, each once, in the order of the
--- text. The number of one is its place among them. They are told apart by the places of tokens,
+-- text. The number of each is its place among them. They are told apart by the places of tokens,
 -- which differ in one text.
 use Rattle.std.specs.Prelude.{ℕ, List, [], ◌∷◌, ◌++◌, map}
 use Rattle.std.specs.List.{flat_map, position_or_len}
@@ -33,12 +33,13 @@ abbrev mutual
 abbrev pub at_name : Name → Binder
 at_name x = At x.at
 
--- The variables of the function that selects a variable of a pattern are its own.
+-- The variables of the function that selects a variable of a pattern: each such function has its
+-- own.
 abbrev pub selected : Pattern → Name → List Binder
 selected p x = map (Selected x.at) (declared_places p)
 
--- the fresh variables of a qualifier; the function of one whose pattern is a variable has that as
--- its parameter
+-- the fresh variables of a qualifier; where its pattern is a variable, its function has that as its
+-- parameter, and no fresh one
 abbrev pub generated : Pattern → List Binder
 generated (syntax.PatternVariable x) = []
 generated p = Whole (pattern_position p) ∷ Otherwise (pattern_position p) ∷ []
@@ -57,8 +58,8 @@ binders_at (Bound p right) =
     flat_map (selected p) (pattern_variables p)
 binders_at (Free names) = map at_name names
 
--- The places of the first tokens of the local functions at a site. That of a function that selects
--- a variable is the variable in the pattern.
+-- The places of the first tokens of the local functions at a site. A function that selects a
+-- variable of a pattern has the place of that variable.
 abbrev pub functions_at : Site → List Position
 functions_at (Use name arguments) = []
 functions_at (Operation e) = []
@@ -76,14 +77,14 @@ binders_of n = binders_at n.site
 abbrev pub functions_of : Node → List Position
 functions_of n = functions_at n.site
 
--- all variables and all local functions
+-- all variables of a text, in its order
 abbrev pub all_binders : List Node → List Binder
 all_binders nodes = flat_map binders_of nodes
 
 abbrev pub all_functions : List Node → List Position
 all_functions nodes = flat_map functions_of nodes
 
--- the place of a variable among others, and of a local function
+-- the place of a variable among others, or their number where it is none of them
 abbrev pub binder_number : List Binder → Binder → ℕ
 binder_number binders b = position_or_len (same_binder b) binders
 

@@ -40,7 +40,7 @@ abbrev pub signature_by : List ℕ → Item → Option TypeTerm
 signature_by name (syntax.DeclarationItem d) = signature_in name d
 signature_by name _ = None
 
--- the signature that items have of a name
+-- the type that a signature among items declares for a name, if there is one
 abbrev pub signature_of : List ℕ → List Item → Option TypeTerm
 signature_of name [] = None
 signature_of name (i ∷ items) = or_else (signature_by name i) (signature_of name items)
@@ -56,7 +56,7 @@ function_mark reading g = record {
   place = place_at reading.names g.first.at;
 }
 
--- What is built in stands at the first place of a text.
+-- What is known of an operation that is built in. Its place is the first of a text.
 abbrev pub external_mark : Reading → External → kernel.Mark
 external_mark reading e = record {
   «module» = reading.number;
@@ -80,12 +80,12 @@ operator table d = record {
   level = d.fixity.level;
 }
 
--- texts without those that stand before
+-- texts without those that stand earlier in the list, or among `seen`
 abbrev pub each_once : List (List ℕ) → List (List ℕ) → List (List ℕ)
 each_once seen [] = []
 each_once seen (x ∷ xs) = if is_among seen x then each_once seen xs else x ∷ each_once (x ∷ seen) xs
 
--- the modules that a module imports, each once
+-- the modules that a module imports, each once, in the order of the text
 abbrev pub imports_in : Named → List (List ℕ)
 imports_in m = each_once [] (map (λ (i : syntax.Import). i.name.text) (imports_of m))
 
@@ -116,8 +116,8 @@ abbrev pub constructor_alone : Referent → Option ConId
 constructor_alone (Callable (head.Global (global.Con c)) arity) = Some c
 constructor_alone _ = None
 
--- the built-in entities; the constructor of the values of set functions is there where the module
--- SetFunctions is
+-- the built-in entities of these modules; the constructor of the values of set functions is there
+-- where the module SetFunctions is
 abbrev pub special : List Named → Special
 special modules = record {
   falsity = constructor_of (value_of modules prelude_name (codes "False"));
@@ -159,7 +159,7 @@ part_of modules r = record {
 abbrev pub module_part : List (List ℕ) → List Named → ℕ → LocalKernel
 module_part table modules number = part_of modules (reading table modules number)
 
--- what names refer to in a goal: the same as in its module, but its places are its own
+-- what names refer to in a goal: what they refer to in its module, but the places are of the goal
 abbrev pub goal_names : List (List ℕ) → List Named → ℕ → Names
 goal_names table modules root =
     record (names_in table modules root) { owner = id_of table goal_name }
@@ -173,7 +173,7 @@ goal_mark names root goal = record {
   place = place_at names (expression_position goal.expression);
 }
 
--- the part of a goal in the module of a number: a function that stands behind all others
+-- the part of a goal in the module of a number: a function that stands after all others
 abbrev pub goal_part : List (List ℕ) → List Named → ℕ → Goal → LocalKernel
 goal_part table modules root goal = record {
   start = counts modules;

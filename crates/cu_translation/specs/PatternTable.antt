@@ -1,5 +1,5 @@
--- What patterns of the source stand for. A wildcard is a variable of its own; a name before `@`
--- names the whole value too.
+-- What patterns of the source stand for. Each wildcard is a variable of its own, and a name before
+-- `@` names the whole value too.
 use Rattle.std.specs.Prelude.{ℕ, pos, List, [], ◌∷◌, Option, None, Some, codes, map}
 use Rattle.cu_calculus.specs.Term as calculus
 use Rattle.cu_calculus.specs.declared.Lit.TheVariants as lit
@@ -14,7 +14,7 @@ use Rattle.cu_translation.specs.LocalNames.{Binder}
 use Rattle.cu_translation.specs.Rules.{pattern_count}
 use Rattle.cu_translation.specs.Terms.{constant, constructor_of}
 
--- what is refused, as a pattern
+-- the pattern for what is refused
 abbrev pub no_pattern : calculus.Pattern
 no_pattern = calculus.Exactly (lit.Int (pos 0))
 

@@ -7,7 +7,7 @@ use Rattle.cu_syntax.specs.Syntax as syntax
 use Rattle.cu_syntax.specs.Syntax.{Declaration, Declarations, Expression, Expressions, Item, Name, Pattern, Patterns, RightSide}
 
 pub record Rule : Type 0 where
-  -- the place of its first token
+  -- the place of the rule's first token
   pub at : Position
   pub name : Name
   pub parameters : Patterns
@@ -36,7 +36,7 @@ abbrev pub rules_in : Declarations → List (Option Rule)
 rules_in syntax.NoDeclaration = []
 rules_in (syntax.MoreDeclarations d ds) = rule_in d ∷ rules_in ds
 
--- the rules of a name at the head of declarations
+-- the rules of this name with which declarations begin
 abbrev pub leading : List ℕ → List (Option Rule) → List Rule
 leading name (Some r ∷ ds) = if bytes_eq name r.name.text then r ∷ leading name ds else []
 leading name _ = []
@@ -52,18 +52,19 @@ abbrev pub goes_on : Option Begun → Name → Bool
 goes_on None name = false
 goes_on (Some begun) name = bytes_eq begun.name name.text
 
--- the function to which a rule belongs
+-- the function to which a rule belongs: the one before, where it has the rule's name, or one that
+-- begins here
 abbrev pub begun_by : Option Begun → Name → Position → Begun
 begun_by (Some begun) name at =
     if bytes_eq begun.name name.text then begun else record { name = name.text; at = at }
 begun_by None name at = record { name = name.text; at = at }
 
--- the same of a declaration
+-- the function whose rules may go on after this declaration
 abbrev pub begun_in : Option Begun → Declaration → Option Begun
 begun_in begun (syntax.FunctionRule at name parameters right) = Some (begun_by begun name at)
 begun_in begun _ = None
 
--- the functions whose rules stand among declarations, behind what went before
+-- the functions whose rules stand among declarations, where the rules of `begun` may go on
 abbrev pub groups_behind : Option Begun → List (Option Rule) → List Group
 groups_behind begun [] = []
 groups_behind begun (None ∷ ds) = groups_behind None ds
@@ -92,7 +93,7 @@ abbrev pub expressions : Expressions → List Expression
 expressions syntax.NoExpression = []
 expressions (syntax.MoreExpressions e es) = e ∷ expressions es
 
--- Whether a rule in a block is a function's: one without parameters that follows no rule of its
--- name is that of a variable.
+-- Whether a rule in a block is that of a function. One without parameters that follows no rule of
+-- its name is that of a variable.
 abbrev pub is_of_function : Option Begun → Name → Patterns → Bool
 is_of_function begun name parameters = has_parameters parameters || goes_on begun name

@@ -1,5 +1,4 @@
--- Small texts as trees, in a module behind a Prelude of a few functions and the module
--- SetFunctions.
+-- Small texts as trees, in a module after a Prelude of a few functions and the module SetFunctions.
 use Rattle.std.specs.Prelude.{ℕ, zero, suc, pos, ◌+◌, false, List, [], ◌∷◌, Option, None, codes}
 use Rattle.cu_lex.specs.Located.{Position}
 use Rattle.cu_syntax.specs.declared.items.Side.TheVariants.{Neither}
@@ -46,7 +45,7 @@ named text column = syntax.PatternVariable (name text column)
 abbrev pub constant : List ℕ → ℕ → Pattern
 constant text column = syntax.Constructed (at column) (name text column) NoPattern
 
--- the right side of this expression without a block, behind a sign at a place
+-- the right-hand side of this expression without a block, whose sign stands in this column
 abbrev pub is : ℕ → Expression → RightSide
 is column e = syntax.Plain (at column) e NoDeclaration
 
@@ -54,7 +53,7 @@ abbrev pub block : List Declaration → Declarations
 block [] = NoDeclaration
 block (d ∷ ds) = MoreDeclarations d (block ds)
 
--- the definition of a local variable, whose name stands at a place
+-- the definition of a local variable, whose name stands in this column
 abbrev pub defined : List ℕ → ℕ → Expression → Declaration
 defined text column e =
     syntax.FunctionRule (at column) (name text column) NoPattern (is (column + 2) e)
@@ -83,14 +82,15 @@ abbrev pub wildcards : ℕ → List Pattern
 wildcards zero = []
 wildcards (suc n) = syntax.Wildcard (at (n + 2)) ∷ wildcards n
 
--- a function of so many parameters
+-- the item of a function of so many parameters, all of them wildcards
 abbrev pub function : List ℕ → ℕ → Item
 function text arity = item (rule 1 text (wildcards arity) (number 0 20))
 
 abbrev pub declared_constructor : List ℕ → syntax.TypeTerms → syntax.ConstructorDeclaration
 declared_constructor text fields = record { at = at 1; name = name text 1; fields = fields }
 
--- `data Bool = False | True`, `infix 4 ==`, and functions with the numbers 15 to 18
+-- the Prelude of the samples: `data Bool = False | True`, `infix 4 ==`, and functions with the
+-- numbers 15 to 18
 abbrev pub prelude : Named
 prelude = record {
   name = codes "Prelude";
@@ -106,7 +106,7 @@ prelude = record {
   };
 }
 
--- `data Values a = Values [a]`
+-- the module SetFunctions of the samples: `data Values a = Values [a]`
 abbrev pub set_functions : Named
 set_functions = record {
   name = codes "SetFunctions";
@@ -120,7 +120,8 @@ set_functions = record {
   };
 }
 
--- `import SetFunctions` and a function k of one parameter, with the number 19
+-- the samples' own module M: `import SetFunctions`, and a function k of one parameter, with the
+-- number 19
 abbrev pub own : Named
 own = record {
   name = codes "M";
@@ -140,7 +141,7 @@ own = record {
 abbrev pub modules : List Named
 modules = prelude ∷ set_functions ∷ own ∷ []
 
--- the table of names
+-- the table of names of the samples
 abbrev pub table : List (List ℕ)
 table =
     codes "goal" ∷ codes "f" ∷ codes "Values" ∷ codes "SetFunctions" ∷ codes "Prelude" ∷ codes "M" ∷
@@ -148,7 +149,7 @@ table =
 
 -- ---- what texts are translated to
 
--- a function by its rules
+-- the function that rules in the module M are translated to
 abbrev pub translated : Rule → List Rule → TopFunction
 translated first others =
     top_function table (names_in table modules 2) (record { first = first; others = others })
@@ -159,11 +160,11 @@ goal e = record { expression = e; free = [] }
 abbrev pub translated_open : Goal → TopFunction
 translated_open g = goal_function table (goal_names table modules 2) g
 
--- a goal without free variables
+-- the function that a goal without free variables is translated to
 abbrev pub translated_goal : Expression → TopFunction
 translated_goal e = goal_function table (goal_names table modules 2) (goal e)
 
--- the same, or its first fault
+-- the outcome of a goal without free variables: what it is translated to, or its first fault
 abbrev pub goal_outcome : Expression → Outcome
 goal_outcome e = goal_translation table modules 2 (goal e)
 

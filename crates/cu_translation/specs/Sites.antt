@@ -23,7 +23,7 @@ pub data Site : Type 0 where
   -- expression or a qualifier
   Matched : Patterns → Site
   Lambda : Position → Patterns → Expression → Site
-  -- the place of a qualifier's first token, its pattern, the qualifiers behind it, and the element
+  -- the place of a qualifier's first token, its pattern, the qualifiers after it, and the element
   Generated : Position → Pattern → Qualifiers → Expression → Site
   -- a local function, and the block that may have its signature
   Function : Declarations → Group → Site
@@ -42,21 +42,21 @@ node spot site = record { spot = spot; site = site }
 
 -- ---- spots
 
--- behind names that are declared
+-- the spot after names that are declared, which are in scope there
 abbrev pub with : List Name → Spot → Spot
 with names spot =
     record { functions = spot.functions; scope = variable_entries names ++ spot.scope }
 
--- in a rule of a local function, behind its variables
+-- the spot in a rule of a local function, where its variables are in scope
 abbrev pub in_function : Position → List Name → Spot → Spot
 in_function at names spot =
     record { functions = at ∷ spot.functions; scope = variable_entries names ++ spot.scope }
 
--- where the names of a block are in scope
+-- the spot in a block, where its names are in scope
 abbrev pub in_block : Declarations → Spot → Spot
 in_block ds spot = record { functions = spot.functions; scope = block_entries ds ++ spot.scope }
 
--- Behind a qualifier. What stands behind a pattern with its list is inside a function.
+-- The spot after a qualifier. What follows a pattern with its list is inside a function.
 abbrev pub past : Qualifier → Spot → Spot
 past (syntax.Generator at p list) spot = in_function at (pattern_variables p) spot
 past (syntax.LocalDeclarations at ds) spot = in_block ds spot
@@ -76,7 +76,7 @@ first_rule spot block begun others r =
     (record { first = r; others = leading r.name.text (rules_in others) })) ∷ []
 
 abbrev mutual
-  -- in an expression on these arguments
+  -- what stands in an expression on these arguments
   pub nodes_on : List Expression → Spot → Expression → List Node
   nodes_on arguments spot (syntax.Variable at name) = node spot (Use name arguments) ∷ []
   nodes_on arguments spot (syntax.Constructor at name) = []
@@ -140,13 +140,13 @@ abbrev mutual
   guards_nodes spot (syntax.MoreGuards at condition e guards) =
       nodes_on [] spot condition ++ (nodes_on [] spot e ++ guards_nodes spot guards)
 
-  -- in declarations of a block, behind those of it that went before
+  -- what stands in declarations of a block, where the rules of `begun` may go on
   pub declarations_nodes : Spot → Declarations → Option Begun → Declarations → List Node
   declarations_nodes spot block begun syntax.NoDeclaration = []
   declarations_nodes spot block begun (syntax.MoreDeclarations d ds) =
       declaration_nodes spot block begun ds d ++ declarations_nodes spot block (begun_in begun d) ds
 
-  -- in a declaration, of which others follow
+  -- what stands in a declaration, of which others follow
   pub declaration_nodes : Spot → Declarations → Option Begun → Declarations → Declaration
       → List Node
   declaration_nodes spot block begun others (syntax.FreeVariables at names) =
@@ -167,7 +167,7 @@ abbrev mutual
   qualifiers_nodes spot element (syntax.MoreQualifiers q qs) =
       qualifier_nodes spot element qs q ++ qualifiers_nodes (past q spot) element qs
 
-  -- in a qualifier, which others follow
+  -- what stands in a qualifier, which others follow
   pub qualifier_nodes : Spot → Expression → Qualifiers → Qualifier → List Node
   qualifier_nodes spot element others (syntax.Generator at p list) =
       node spot (Generated at p others element) ∷
@@ -177,7 +177,7 @@ abbrev mutual
       declarations_nodes (in_block ds spot) ds None ds
   qualifier_nodes spot element others (syntax.Condition at condition) = nodes_on [] spot condition
 
--- in rules of a top-level function
+-- what stands in a rule of a top-level function
 abbrev pub rule_nodes : Rule → List Node
 rule_nodes r =
     let spot = with (variables r.parameters) (record { functions = []; scope = [] }) in

@@ -1,4 +1,5 @@
--- The table: what each form of an expression stands for, as a term before lifting.
+-- The table: what each form of an expression stands for, as a term before lifting (Curry Report,
+-- section on expressions; Haskell Report, section 3).
 use Rattle.std.specs.Prelude.{ℤ, List, [], ◌∷◌, ◌++◌, Option, None, Some, codes, if◌then◌else◌}
 use Rattle.cu_calculus.specs.declared.Mode.{Mode}
 use Rattle.cu_calculus.specs.declared.Mode.TheVariants.{Flex, Rigid}
@@ -25,7 +26,7 @@ use Rattle.cu_translation.specs.Terms.{Operand, built_in, called, if_then_else, 
 
 -- ---- operators
 
--- an operator where it stands: its fixity, and what it refers to
+-- an operator of an expression: its fixity, and what it refers to
 pub record Operation : Type 0 where
   pub fixity : Fixity
   pub means : Referent
@@ -34,7 +35,7 @@ abbrev pub operation : Around → Scope → Name → Operation
 operation around scope name =
     record { fixity = fixity_at around.names scope name; means = referent around scope name }
 
--- the minus before an operand
+-- the minus before an operand, as an operator
 abbrev pub negation : Names → Operation
 negation names = record { fixity = minus; means = names.prelude (codes "negate") }
 
@@ -42,7 +43,8 @@ abbrev pub operand_items : Names → Option Position → Operand → List (Item 
 operand_items names None o = items.Operand o ∷ []
 operand_items names (Some at) o = Prefix (negation names) ∷ items.Operand o ∷ []
 
--- an operator between two operands is its call on these
+-- the operand that a grouped tree of operators makes: an operator between two operands is its call
+-- on these
 abbrev pub tree_operand : Names → Tree Operand Operation → Operand
 tree_operand names (Leaf o) = o
 tree_operand names (Applied o t) = plain (negated names (tree_operand names t))
@@ -56,7 +58,7 @@ tree_term names (Some t) = (tree_operand names t).term
 abbrev pub grouped : Names → List (Item Operand Operation) → LocalTerm
 grouped names parts = tree_term names (grouped_tree (λ (o : Operation). o.fixity) parts)
 
--- the number that an expression is as it is written
+-- the number that an expression is, if it is written as one
 abbrev pub number_alone : Expression → Option ℤ
 number_alone (syntax.LiteralExpression at (syntax.Int n)) = Some n
 number_alone _ = None
@@ -67,7 +69,8 @@ operand around scope e t =
 
 -- ---- enumerations and comprehensions
 
--- from a number, by the step to a second one, if it is there, and up to a last one, if it is there
+-- the call for numbers from a first one, by the step to a second one, if it is there, and up to a
+-- last one, if it is there
 abbrev pub enumeration : Names → LocalTerm → Option LocalTerm → Option LocalTerm → LocalTerm
 enumeration names first None None = built_in names (codes "enumFrom") (first ∷ [])
 enumeration names first None (Some last) = built_in names (codes "enumFromTo") (first ∷ last ∷ [])
@@ -76,7 +79,7 @@ enumeration names first (Some second) None =
 enumeration names first (Some second) (Some last) =
     built_in names (codes "enumFromThenTo") (first ∷ second ∷ last ∷ [])
 
--- the local function whose first token stands here, without arguments
+-- the term of the local function whose first token stands here, without arguments
 abbrev pub local_function : Around → Position → LocalTerm
 local_function around at = local.Part (head.Local (around.numbers.function at)) local.NoTerm
 
@@ -157,14 +160,14 @@ abbrev mutual
       (right_term around (variable_entries (pattern_variables p) ++ scope) right)
       (distinguished around scope alternatives)
 
-  -- Each qualifier is around those behind it, and the element, which is given the names in scope
-  -- behind all of them.
+  -- The term of a comprehension. Each qualifier is around those after it and around the element,
+  -- which is given the names in scope after all of them.
   pub comprehension : Around → (Scope → LocalTerm) → Scope → Qualifiers → LocalTerm
   comprehension around element scope syntax.NoQualifier = element scope
   comprehension around element scope (syntax.MoreQualifiers q qs) =
       qualified around scope (comprehension around element (qualifier_entries q ++ scope) qs) q
 
-  -- a qualifier before the rest of a comprehension
+  -- the term of a qualifier before the rest of a comprehension
   pub qualified : Around → Scope → LocalTerm → Qualifier → LocalTerm
   qualified around scope rest (syntax.Condition at condition) =
       if_then_else around.names (term around scope condition) rest (list around.names [])
@@ -175,7 +178,7 @@ abbrev mutual
       built_in around.names (codes "concatMap")
       (local_function around at ∷ term around scope e ∷ [])
 
-  -- what stands behind `=` or `->`: the block behind `where` is around the guards
+  -- the term of what follows `=` or `->`: the block after `where` is around the guards
   pub right_term : Around → Scope → RightSide → LocalTerm
   right_term around scope (syntax.Plain at e ds) =
       let inner = block_entries ds ++ scope
@@ -184,7 +187,8 @@ abbrev mutual
       let inner = block_entries ds ++ scope
       in block around ds (lets around inner None ds) (guarded around inner guards)
 
-  -- the expression of the first condition that is True, and `failed` where there is none
+  -- the term of guards: the expression of the first condition that is True, and `failed` where
+  -- there is none
   pub guarded : Around → Scope → Guards → LocalTerm
   guarded around scope syntax.NoGuard = built_in around.names (codes "failed") []
   guarded around scope (syntax.MoreGuards at condition e guards) =

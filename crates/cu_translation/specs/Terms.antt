@@ -12,7 +12,7 @@ use Rattle.cu_syntax.specs.Syntax as syntax
 use Rattle.cu_translation.specs.Around as around
 use Rattle.cu_translation.specs.Around.{Names, Referent, tuple_name}
 
--- What is refused stands for a distinction without alternatives, which has no value.
+-- The term for what is refused: a case distinction without alternatives, which has no value.
 abbrev pub no_term : LocalTerm
 no_term = Case Rigid (Literal (lit.Int (pos 0))) NoAlternative
 
@@ -22,20 +22,20 @@ abbrev pub terms : List LocalTerm → LocalTerms
 terms [] = NoTerm
 terms (t ∷ ts) = MoreTerms t (terms ts)
 
--- a term on arguments, from the left
+-- a term applied to arguments, from the left
 abbrev pub applied : LocalTerm → List LocalTerm → LocalTerm
 applied f [] = f
 applied f (t ∷ ts) = applied (Apply f t) ts
 
--- A head that takes so many arguments, on some: a part of a call where they are fewer, and else a
--- whole call, which is applied to those that are left.
+-- A head that takes so many arguments, applied to some: a partial application where there are
+-- fewer, and else a whole call, which is applied to those that are left.
 abbrev pub call : LocalHead → ℕ → List LocalTerm → LocalTerm
 call h count ts =
     if nat_lt (length ts) count then Part h (terms ts)
     else applied (Whole h (terms (take count ts))) (drop count ts)
 
--- a term, what it refers to where it is a name alone, and its number where it is one as it is
--- written
+-- the term of an operand, what it refers to where it is a name and nothing else, and its number
+-- where it is written as one
 pub record Operand : Type 0 where
   pub term : LocalTerm
   pub name : Option Referent
@@ -47,8 +47,8 @@ plain t = record { term = t; name = None; number = None }
 abbrev pub terms_of : List Operand → List LocalTerm
 terms_of operands = map (λ (o : Operand). o.term) operands
 
--- `setN f` on arguments is the set function of f on these. The first argument has to be the name of
--- a function of top level.
+-- The call of `setN f` on arguments: that of the set function of f. The first argument has to be
+-- the name of a function of top level, f.
 abbrev pub set_call_of : ℕ → Option Referent → List LocalTerm → LocalTerm
 set_call_of count (Some (around.Callable (head.Global (global.Fun f)) arity)) ts =
     call (head.Global (global.Set f)) count ts
@@ -58,7 +58,7 @@ abbrev pub set_call : ℕ → List Operand → LocalTerm
 set_call count [] = no_term
 set_call count (f ∷ operands) = set_call_of count f.name (terms_of operands)
 
--- what a name refers to, on arguments
+-- what a name refers to, applied to arguments
 abbrev pub referred : Referent → List Operand → LocalTerm
 referred (around.Variable x) operands = applied (Variable x) (terms_of operands)
 referred (around.Callable h count) operands = call h count (terms_of operands)
@@ -69,17 +69,17 @@ abbrev pub by_name : Option Referent → LocalTerm → List Operand → LocalTer
 by_name (Some r) f operands = referred r operands
 by_name None f operands = applied f (terms_of operands)
 
--- an expression on arguments: a call, where it is a name alone
+-- the term of an expression on arguments: a call, where the expression is a name and nothing else
 abbrev pub called : Operand → List Operand → LocalTerm
 called f operands = by_name f.name f.term operands
 
 -- ---- what the Prelude has
 
--- a function or a constructor of the Prelude on arguments
+-- a function or a constructor of the Prelude, applied to arguments
 abbrev pub built_in : Names → List ℕ → List LocalTerm → LocalTerm
 built_in names text ts = referred (names.prelude text) (map plain ts)
 
--- a list of terms
+-- the term of the list of these terms
 abbrev pub list : Names → List LocalTerm → LocalTerm
 list names [] = built_in names (codes "[]") []
 list names (t ∷ ts) = built_in names (codes ":") (t ∷ list names ts ∷ [])
@@ -90,7 +90,7 @@ tuple names ts = built_in names (tuple_name (length ts)) ts
 abbrev pub character : ℕ → LocalTerm
 character c = Literal (lit.Char c)
 
--- a string is the list of its characters
+-- the term of a literal; a string is the list of its characters
 abbrev pub literal : Names → syntax.Literal → LocalTerm
 literal names (syntax.Int n) = Literal (lit.Int n)
 literal names (syntax.Char c) = Literal (lit.Char c)
@@ -100,7 +100,7 @@ abbrev pub negation : Option ℤ → LocalTerm → LocalTerm
 negation (Some n) otherwise = Literal (lit.Int (neg_ℤ n))
 negation None otherwise = otherwise
 
--- the negation of an operand: of a number as it is written the negative number, and else a call of
+-- the negation of an operand: the negative of a number that is written as one, and else a call of
 -- `negate`
 abbrev pub negated : Names → Operand → LocalTerm
 negated names operand =
@@ -108,7 +108,7 @@ negated names operand =
 
 -- ---- distinctions
 
--- the constructor that a name refers to
+-- the constructor that a name refers to, or the first constructor where it refers to none
 abbrev pub constructor_of : Referent → ConId
 constructor_of (around.Callable (head.Global (global.Con c)) count) = c
 constructor_of _ = record { 0 = 0 }

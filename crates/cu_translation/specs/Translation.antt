@@ -21,8 +21,8 @@ outcome (Some clash) other part = Refused clash
 outcome None (Some other) part = Refused other
 outcome None None part = Translated part
 
--- What the module of a number is translated to, among modules each of which stands behind those
--- that it imports and in which nothing is wrong with names, under a table of names.
+-- What the module of a number is translated to, under a table of names. Each of the modules stands
+-- after those that it imports, and nothing is wrong with names in them.
 abbrev pub translation : List (List ℕ) → List Named → ℕ → Outcome
 translation table modules number =
     outcome (first_fault

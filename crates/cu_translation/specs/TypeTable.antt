@@ -17,7 +17,8 @@ abbrev pub types : List TypeExpr → TypeExprs
 types [] = kernel.NoType
 types (t ∷ ts) = kernel.MoreTypes t (types ts)
 
--- A type variable is its place among these names.
+-- The type that a type of the source stands for. A type variable stands for its place among these
+-- names.
 abbrev mutual
   pub type_of : Names → List (List ℕ) → TypeTerm → TypeExpr
   type_of names variables (syntax.TypeVariable x) =
@@ -43,7 +44,7 @@ fields_of names variables syntax.NoType = []
 fields_of names variables (syntax.MoreTypes t ts) =
     type_of names variables t ∷ fields_of names variables ts
 
--- the type that a signature declares; its variables are its own, in the order in which they first
--- stand in it
+-- the type that a signature declares; its type variables are its own, in the order in which they
+-- first stand in it
 abbrev pub signature_type : Names → TypeTerm → TypeExpr
 signature_type names t = type_of names (texts (once [] (type_variables t))) t

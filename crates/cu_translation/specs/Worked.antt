@@ -39,7 +39,7 @@ cons t ts = Whole (constructor_head 1) (terms (t ∷ ts ∷ []))
 abbrev pub pattern_of : ℕ → List calculus.Pattern → calculus.Pattern
 pattern_of c ps = Built (record { 0 = c }) (patterns_of ps)
 
--- False and True have the numbers 17 and 18, and pairs the number 3
+-- the term of True, which has the number 18, and False the number 17; pairs have the number 3
 abbrev pub truth : LocalTerm
 truth = value 18
 
@@ -52,7 +52,7 @@ if_true condition chosen other =
 abbrev pub clause : List calculus.Pattern → LocalTerm → LocalRule
 clause ps t = record { params = patterns_of ps; body = t }
 
--- a function f, which has the name 1
+-- a function f, whose name has the number 1
 abbrev pub function_f : ℕ → List LocalRule → TopFunction
 function_f arity rules =
     record { name = record { 0 = 1 }; arity = arity; body = Rules rules; locals = [] }
@@ -94,7 +94,7 @@ guard_term =
     function_f 1 (clause (Any 0 ∷ [])
     (if_true (Variable 0) (int 1) (Whole (function_head 14) NoTerm)) ∷ [])
 
--- `f x = x`, behind `f x y = x`
+-- `f x = x`, after `f x y = x`
 abbrev pub one_parameter : Rule
 one_parameter = rule 2 (codes "f") (named (codes "x") 3 ∷ []) (variable (codes "x") 7)
 

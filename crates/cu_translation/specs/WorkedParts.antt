@@ -1,4 +1,4 @@
--- What the modules of the samples are translated to: SetFunctions, and the module behind it.
+-- What the modules of the samples are translated to: SetFunctions, and the module M after it.
 use Rattle.std.specs.Prelude.{ℕ, true, [], ◌∷◌, None, Some}
 use Rattle.cu_calculus.specs.Term.{Any}
 use Rattle.cu_calculus.specs.declared.ConId.{ConId}
@@ -30,7 +30,8 @@ values_type = record {
   constructors = record { name = name_id 2; public = true; fields = list_of_first ∷ [] } ∷ [];
 }
 
--- False and True, `[]` and `:`, `&&`, and the constructor of the values of set functions
+-- the built-in entities: False and True, `[]` and `:`, `&&`, and the constructor of the values of
+-- set functions
 abbrev pub special : Special
 special = record {
   falsity = constructor_id 17;
@@ -41,7 +42,8 @@ special = record {
   values = Some (constructor_id 19);
 }
 
--- behind a Prelude of 19 types, of which 18 are built in, with 19 constructors and 19 functions
+-- the part of SetFunctions, after a Prelude of 19 types, of which 18 are built in, with 19
+-- constructors and 19 functions
 abbrev pub set_functions_part : LocalKernel
 set_functions_part = record {
   start = record { types = 19; constructors = 19; functions = 19; synonyms = 0; modules = 1 };

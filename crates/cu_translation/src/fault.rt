@@ -22,7 +22,7 @@ pub enum DesugarFault {
     /// of them.
     #[error("a wrong number of patterns at {}:{}", .0.line, .0.column)]
     Arity(Place),
-    /// A variable that stands in the same patterns before.
+    /// A variable that stands a second time in the same patterns.
     #[error("a variable stands twice in patterns at {}:{}", .0.line, .0.column)]
     NonLinear(Place),
     /// The declaration of a local variable that depends on itself.
@@ -47,7 +47,8 @@ impl From<AllocError> for DesugarFault {
     }
 }
 
-/// What is wrong, in the order in which faults at one place are told.
+/// What is wrong with a text, in the order in which faults at one place are
+/// told.
 #[derive(Clone, Copy, Debug, PartialEq, Eq)]
 pub enum Wrong {
     FixityClash,
@@ -95,7 +96,7 @@ impl Fault {
         self.wrong.rank() < other.wrong.rank()
     }
 
-    /// The earlier of this fault and one that may be told already.
+    /// The earlier of this fault and one that was told already, if one was.
     pub fn earlier(self, told: Option<Fault>) -> Fault
         ensures { fault_meaning result
             ≡ earlier (fault_meaning self) (option_map fault_meaning told) }

@@ -28,19 +28,21 @@ ghost use Rattle.cu_translation.specs.WorkedFaults.{refused};
 ghost use Rattle.cu_translation.specs.WorkedBlocks as more;
 ghost use Rattle.cu_translation.specs.WorkedParts as parts;
 
-/// Rules of functions, with parameters and with guards.
+/// Sample functions are translated as worked out by hand: with parameters, and
+/// with guards.
 pub fn functions_are_translated()
     ensures parameters { translated worked.first_of_two [] ≡ worked.first_of_two_term }
     ensures guards { translated worked.guard [] ≡ worked.guard_term }
 {}
 
-/// Where a block stands behind guards, it is around them.
+/// A block after guards is translated to be around them, in a sample worked out
+/// by hand.
 pub fn blocks_behind_guards_are_translated()
     ensures { translated more.where_guard [] ≡ more.where_guard_term }
 {}
 
-/// Definitions stand behind those on which they depend, by way of functions
-/// too.
+/// Definitions stand after those on which they depend, also by way of
+/// functions, in samples worked out by hand.
 pub fn definitions_are_ordered()
     ensures captured { translated_goal more.captured ≡ more.captured_term }
     ensures by_function { translated_goal more.by_function ≡ more.by_function_term }
@@ -49,7 +51,8 @@ pub fn definitions_are_ordered()
     ensures through_pattern { goal_outcome more.through_pattern ≡ refused RecursiveLocal 11 }
 {}
 
-/// Heads with as many arguments as they take, with more, and other terms.
+/// Sample applications are translated as worked out by hand: heads with as many
+/// arguments as they take, heads with more, and other terms.
 pub fn applications_are_translated()
     ensures more_arguments { translated_goal more.more_arguments ≡ more.more_arguments_term }
     ensures other_term { translated_goal more.other_term ≡ more.other_term_term }
@@ -57,8 +60,9 @@ pub fn applications_are_translated()
     ensures set_operator { translated_goal more.set_operator ≡ worked.set_call_term }
 {}
 
-/// Patterns of alternatives and qualifiers, functions inside functions, and
-/// the variables of goals.
+/// Samples with names in scope are translated as worked out by hand: patterns
+/// of alternatives and qualifiers, functions inside functions, and the
+/// variables of goals.
 pub fn scopes_are_translated()
     ensures alternatives { translated_goal more.alternatives ≡ more.alternatives_term }
     ensures nested_lambda { translated_goal more.nested_lambda ≡ more.nested_lambda_term }
@@ -66,7 +70,7 @@ pub fn scopes_are_translated()
     ensures open_goal { translated_open more.open_goal ≡ more.open_goal_term }
 {}
 
-/// Forms without local names.
+/// Samples without local names are translated as worked out by hand.
 pub fn closed_forms_are_translated()
     ensures conditional { translated_goal worked.conditional ≡ worked.conditional_term }
     ensures left_section { translated_goal worked.left_section ≡ worked.left_section_term }
@@ -77,8 +81,9 @@ pub fn closed_forms_are_translated()
     ensures set_call { translated_goal worked.set_call ≡ worked.set_call_term }
 {}
 
-/// Blocks: definitions stand in the order of their dependencies, and the
-/// variables of a pattern are selected from its whole value.
+/// Sample blocks are translated as worked out by hand: definitions stand in the
+/// order of their dependencies, and the variables of a pattern are selected
+/// from its whole value.
 pub fn blocks_are_translated()
     ensures dependent { translated_goal worked.dependent ≡ worked.dependent_term }
     ensures binding { translated_goal worked.binding ≡ worked.binding_term }
@@ -86,19 +91,22 @@ pub fn blocks_are_translated()
     ensures closure { translated_goal worked.closure ≡ worked.closure_term }
 {}
 
-/// Lambda expressions, and comprehensions whose pattern may fail.
+/// Sample lambda expressions, and comprehensions whose pattern may fail, are
+/// translated as worked out by hand.
 pub fn new_functions_are_translated()
     ensures lambda { translated_goal worked.lambda ≡ worked.lambda_term }
     ensures comprehension { translated_goal worked.comprehension ≡ worked.comprehension_term }
 {}
 
-/// Modules behind others, with their types, functions and marks.
+/// Sample modules after others are translated as worked out by hand, with their
+/// types, functions and marks.
 pub fn modules_are_translated()
     ensures set_functions { translation table modules 1 ≡ Translated parts.set_functions_part }
     ensures own { translation table modules 2 ≡ Translated parts.own_part }
 {}
 
-/// What is refused, and where.
+/// Samples that are refused have the faults, at the places, that were worked
+/// out by hand.
 pub fn faults_are_told()
     ensures clash { goal_outcome refusals.chained ≡ refused FixityClash 1 }
     ensures recursive { goal_outcome refusals.recursive ≡ refused RecursiveLocal 7 }
@@ -109,8 +117,8 @@ pub fn faults_are_told()
     ensures constructor { rule_fault worked.too_few [] ≡ Some (fault Arity (at 4)) }
 {}
 
-/// The tree of items is the one that is grouped, and there is none exactly
-/// where a list of items has no grouped tree.
+/// `grouped_tree` finds the tree of items that is grouped, and finds none
+/// exactly where a list of items has no grouped tree.
 pub fn grouped_trees_are_found<A, O>()
     ensures found { (fixity : O → Fixity) (items : List (Item A O)) (tree : Tree A O)
         → Grouped fixity items tree ↔ (grouped_tree fixity items ≡ Some tree) }
@@ -126,8 +134,8 @@ pub fn local_functions_are_numbered()
         ≡ map (place_at around.names) (all_functions nodes) }
 {}
 
-/// What a local function captures is the least set of its rule, and a variable
-/// is recursive exactly where it depends on itself in one step or more.
+/// `captures` decides the least set of captured variables, and `is_recursive`
+/// holds exactly where a variable depends on itself in one step or more.
 pub fn captures_are_least()
     ensures captures { (nodes : List Node) (b : Binder) (f : Position)
         → (captures nodes f b ≡ true) ↔ Captures nodes b f }
@@ -156,7 +164,8 @@ pub fn parts_follow()
 {}
 
 /// Where the Prelude is the first module, its part begins with the types that
-/// every program begins with, and the list's constructors are theirs.
+/// every program begins with, and its `[]` and `:` are the constructors of
+/// lists among them.
 pub fn first_types_stand_first()
     ensures { (table : List (List ℕ)) (text : Module) (others : List Named)
         → has_first_types (special (record { name = prelude_name; syntax = text } ∷ others))

@@ -10,8 +10,8 @@ pub enum Binder {
     /// The fresh variable for the whole value of the pattern at a place, of a
     /// declaration or a qualifier.
     Whole(Position),
-    /// The wildcard of the alternative behind the pattern at a place, of a
-    /// qualifier.
+    /// The wildcard of the alternative that follows the pattern at a place, of
+    /// a qualifier.
     Otherwise(Position),
     /// The variable or the wildcard at the second place, in the function that
     /// selects the variable at the first.

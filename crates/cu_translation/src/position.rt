@@ -5,8 +5,8 @@ ghost use Rattle.cu_translation.specs.Meaning.{position_meaning};
 
 use cu_names::Place;
 
-/// A place of a text, whatever module that is of. Lines and columns count from
-/// 1, columns in characters.
+/// A place of a text, whatever the text's module is. Lines and columns count
+/// from 1, columns in characters.
 #[derive(Clone, Copy, Debug, PartialEq, Eq, Hash)]
 pub struct Position {
     pub line: u32,

@@ -1,7 +1,7 @@
 //! What names refer to.
 use cu_kernel::LocalHead;
 
-/// What a name refers to.
+/// What a name refers to where it stands.
 #[derive(Clone, Copy, Debug, PartialEq, Eq)]
 pub enum Referent {
     /// A variable, by its number.
@@ -20,7 +20,7 @@ pub enum BuiltIn {
     False,
     Nil,
     Cons,
-    /// The constructor of tuples of so many components; unit is that of none.
+    /// The constructor of tuples of so many components. Unit is that of none.
     Tuple(usize),
     Negate,
     Flip,

@@ -13,7 +13,8 @@ use cu_syntax::Name;
 /// top level refer to, and how the function's variables and local functions are
 /// numbered.
 pub trait Surroundings {
-    /// What this stands for, for a text of a module under a table of names.
+    /// What the surroundings stand for, of a text of a module and under a table
+    /// of names.
     ghost tells: { Self → Setting → Type 0 };
 
     /// What a name of top level refers to, where no local name hides it.
@@ -26,7 +27,7 @@ pub trait Surroundings {
         ensures { (w : Setting) → tells self.now w → NameIsOf w.owner w.names name
             → result ≡ w.around.names.fixity (name_meaning w.names name) };
 
-    /// What the Prelude has.
+    /// What the Prelude has under one of the names that the translation uses.
     fn prelude(&self, what: BuiltIn) -> Referent
         ensures { (w : Setting) → tells self.now w
             → referent_meaning result ≡ w.around.names.prelude (built_in_text what) };

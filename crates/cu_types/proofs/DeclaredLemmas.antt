@@ -1,4 +1,5 @@
--- The variables of a function's declared type are its own, so that it has this type behind the types of what it captured.
+-- The variables of a function's declared type are its own, so that it has this type after the types
+-- of what it captured.
 use Rattle.std.proofs.Common.{◌≡◌, ◌≢◌, ℕ, zero, suc, ◌+◌, ◌-◌, ◌<◌, ◌≤◌, ◌⊎◌, inl, inr, Bool, false, ◌||◌, not, cond, IsTrue, List, [], ◌∷◌, Option, Some, drop, length, map, max, min, nat_eq, nat_lt, option_map, slice_get, take, refl, sym, ap, ◌∙◌, subst, arith, eq-eqb}
 use Rattle.std.specs.List.{position_or_len}
 use Rattle.std.proofs.lemmas.Bool.{cases_eq, eqb-true, le-ltb, lt-ltb, ne_eqb}

@@ -1,4 +1,4 @@
--- The types of what is built in and of constructors. All their variables are generalised.
+-- The types of what is built in and of constructors. All their type variables are generalised.
 use Rattle.std.specs.Prelude.{ℕ, zero, suc, ◌+◌, List, [], ◌∷◌, Option, None, Some, map, slice_get}
 use Rattle.cu_calculus.specs.declared.ConId.{ConId}
 use Rattle.cu_calculus.specs.declared.Lit.{Lit}
@@ -16,19 +16,19 @@ use Rattle.cu_types.specs.Synonyms.{expanded}
 abbrev pub data_type : ℕ → List TypeExpr → TypeExpr
 data_type place ts = type.Named (name.Data (record { 0 = place })) (type_list ts)
 
--- Int and Char come last of the types that every program begins with
+-- the types Int and Char, which come last of the types that every program begins with
 abbrev pub int : TypeExpr
 int = data_type 16 []
 
 abbrev pub char : TypeExpr
 char = data_type 17 []
 
--- the functions that take arguments of these types, one after another
+-- the type of functions of parameters of these types, one after another, with this result
 abbrev pub arrows : List TypeExpr → TypeExpr → TypeExpr
 arrows [] result = result
 arrows (t ∷ ts) result = type.Arrow t (arrows ts result)
 
--- so many type variables, from a number on
+-- so many type variables, from number x on
 abbrev pub variables_from : ℕ → ℕ → List TypeExpr
 variables_from x zero = []
 variables_from x (suc count) = type.Variable x ∷ variables_from (x + 1) count
@@ -37,7 +37,7 @@ abbrev pub literal_type : Lit → TypeExpr
 literal_type (lit.Int n) = int
 literal_type (lit.Char c) = char
 
--- the type of a constructor, which takes its fields
+-- how many parameters a data type has
 abbrev parameters_of : Option DataType → ℕ
 parameters_of None = 0
 parameters_of (Some t) = t.arity
@@ -48,6 +48,7 @@ constructor_type_of kernel (Some c) =
     arrows (map (expanded kernel) c.constructor.fields)
     (data_type c.of_type (variables_from 0 (parameters_of (slice_get kernel.types c.of_type))))
 
+-- the type of a constructor, as a function of its fields
 abbrev pub constructor_type : Kernel → ConId → TypeExpr
 constructor_type kernel c = constructor_type_of kernel (constructor_at kernel.types c)
 
@@ -56,25 +57,29 @@ abbrev type_with : Option Placed → List TypeExpr → TypeExpr
 type_with None ts = type.Variable 0
 type_with (Some c) ts = data_type c.of_type ts
 
--- Bool is the type of `True`.
+-- The type Bool, which is that of the constructor `True`.
 abbrev pub bool : Kernel → TypeExpr
 bool kernel = type_with (constructor_at kernel.types kernel.special.truth) []
 
--- all values of a type: the type of what set functions give
+-- the type of all values of a type, by the constructor of the values of set functions, if the
+-- program has it
 abbrev values_by : Kernel → Option ConId → TypeExpr → TypeExpr
 values_by kernel None t = type.Variable 0
 values_by kernel (Some c) t = type_with (constructor_at kernel.types c) (t ∷ [])
 
+-- the type of all values of a type, which set functions give
 abbrev pub values : Kernel → TypeExpr → TypeExpr
 values kernel t = values_by kernel kernel.special.values t
 
--- what a built-in operation takes and gives
+-- the type of arithmetic on two integers
 abbrev arithmetic : TypeExpr
 arithmetic = arrows (int ∷ int ∷ []) int
 
+-- the type of comparisons of two values of a type
 abbrev comparison : Kernel → TypeExpr → TypeExpr
 comparison kernel t = arrows (t ∷ t ∷ []) (bool kernel)
 
+-- the type of a built-in operation
 abbrev pub external_type : Kernel → Primitive → TypeExpr
 external_type kernel prim.Add = arithmetic
 external_type kernel prim.Sub = arithmetic

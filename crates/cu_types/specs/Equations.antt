@@ -28,7 +28,7 @@ above x zero = x + 1
 above zero bound = bound
 above (suc x) (suc bound) = above x bound + 1
 
--- the least number above all of a list
+-- the least number above all numbers of a list
 abbrev pub above_all : List ℕ → ℕ
 above_all [] = 0
 above_all (x ∷ xs) = above x (above_all xs)
@@ -37,14 +37,15 @@ above_all (x ∷ xs) = above x (above_all xs)
 abbrev pub breadth : TypeExpr → ℕ
 breadth t = above_all (variables_in t)
 
--- an instance of a type, whose variables are new from a number on
+-- a type with its variables renamed, so that they are new from number `next` on
 abbrev pub renamed : ℕ → TypeExpr → TypeExpr
 renamed next t = apply (λ x. type.Variable (next + x)) t
 
 pub data Scheme : Type 0 where
-  -- the same type at each use
+  -- a type that is the same at each use
   Monomorphic : TypeExpr → Scheme
-  -- an instance at each use, behind arguments whose types are the same at each use
+  -- a type of which each use has an instance, after the types of captured variables, which are the
+  -- same at each use
   Polymorphic : List TypeExpr → TypeExpr → Scheme
 
 abbrev pub instance : ℕ → Scheme → TypeExpr
@@ -59,34 +60,35 @@ scheme_breadth (Polymorphic fixed t) = breadth t
 pub record Assumptions : Type 0 where
   pub function : FunId → Scheme
   pub constructor : ConId → TypeExpr
-  -- how many arguments a set function takes: those of its function
+  -- how many arguments a set function takes: as many as its function
   pub arity : FunId → ℕ
-  -- the type of all values of a type
+  -- the type of all values of a type, which set functions give
   pub values : TypeExpr → TypeExpr
 
--- ---- equations asked for, in order, and the number from which on type variables are in none of them
+-- ---- equations that are asked for, in order, and the next type variable
 
 pub record Asked : Type 0 where
   pub next : ℕ
   pub equations : List Equation
 
--- so many type variables are taken: those from the next one on
+-- so many more type variables are taken, those from the next one on
 abbrev pub taking : ℕ → Asked → Asked
 taking count asked = record { next = asked.next + count; equations = asked.equations }
 
--- two types shall be the same
+-- one more equation is asked for: the two types shall be the same
 abbrev pub asking : TypeExpr → TypeExpr → Asked → Asked
 asking s t asked =
     record { next = asked.next; equations = asked.equations ++ record { left = s; right = t } ∷ [] }
 
 -- ---- heads
 
--- The instance of a scheme is of this type.
+-- The equation is asked for that an instance of the scheme is this type.
 abbrev pub scheme_asks : Scheme → TypeExpr → Asked → Asked
 scheme_asks scheme t asked =
     taking (scheme_breadth scheme) (asking (instance asked.next scheme) t asked)
 
--- A set function takes the arguments of its function, and gives all values of what that gives.
+-- The equation is asked for that the type of a set function is this one: it takes the arguments of
+-- its function, and gives all values of what the function gives.
 abbrev pub set_asks : Assumptions → FunId → TypeExpr → Asked → Asked
 set_asks assumptions f t asked =
     let arguments = variables_from asked.next (assumptions.arity f) in
@@ -95,7 +97,7 @@ set_asks assumptions f t asked =
     (asking (arrows arguments (assumptions.values result)) t
     (taking (assumptions.arity f + 1) asked))
 
--- a head has a type
+-- the equations are asked for that make a head's type this one
 abbrev pub head_asks : Assumptions → Head → TypeExpr → Asked → Asked
 head_asks assumptions (head.Fun f) t asked = scheme_asks (assumptions.function f) t asked
 head_asks assumptions (head.Con c) t asked =
@@ -104,23 +106,24 @@ head_asks assumptions (head.Set f) t asked = set_asks assumptions f t asked
 
 -- ---- patterns and terms: each variable, each pattern and each term has a type variable
 
--- the type variables of variables
+-- the type variable of each variable
 abbrev pub Environment : Type 0
 Environment = ℕ → ℕ
 
 abbrev pub bind : Environment → ℕ → ℕ → Environment
 bind env x t y = if nat_eq x y then t else env y
 
--- variables get type variables, one after another
+-- an environment in which variables get type variables, one after another from `next` on
 abbrev pub bind_from : Environment → ℕ → List ℕ → Environment
 bind_from env next [] = env
 bind_from env next (x ∷ xs) = bind_from (bind env x next) (next + 1) xs
 
--- two type variables shall be the same
+-- the equation is asked for that two type variables are the same
 abbrev pub asking_same : ℕ → ℕ → Asked → Asked
 asking_same x y asked = asking (type.Variable x) (type.Variable y) asked
 
--- a head with arguments that have so many type variables from a number on, and what it gives then
+-- the equations are asked for of a head with arguments that have the type variables from `first`
+-- on, where the result has the type variable t
 abbrev pub call_asks : Assumptions → Head → ℕ → ℕ → ℕ → Asked → Asked
 call_asks assumptions h first count t asked =
     head_asks assumptions h (arrows (variables_from first count) (type.Variable t)) asked
@@ -137,13 +140,14 @@ abbrev mutual
   pattern_asks assumptions env t (term.Named x p) asked =
       pattern_asks assumptions env t p (asking_same (env x) t asked)
 
-  -- type variables one after another
+  -- the equations of patterns, whose types are type variables one after another
   pub patterns_ask : Assumptions → Environment → ℕ → Patterns → Asked → Asked
   patterns_ask assumptions env first term.NoPattern asked = asked
   patterns_ask assumptions env first (term.MorePatterns p ps) asked =
       patterns_ask assumptions env (first + 1) ps (pattern_asks assumptions env first p asked)
 
--- A variable of a Let has one type, as any variable.
+-- The equations of a term, whose type is the type variable t. A variable of a Let has one type, as
+-- any variable.
 abbrev mutual
   pub term_asks : Assumptions → Environment → ℕ → Term → Asked → Asked
   term_asks assumptions env t (term.Variable x) asked = asking_same (env x) t asked
@@ -173,13 +177,14 @@ abbrev mutual
       alternatives_ask assumptions env asked.next t alternatives
       (term_asks assumptions env asked.next a (taking 1 asked))
 
-  -- type variables one after another
+  -- the equations of terms, whose types are type variables one after another
   pub terms_ask : Assumptions → Environment → ℕ → Terms → Asked → Asked
   terms_ask assumptions env first term.NoTerm asked = asked
   terms_ask assumptions env first (term.MoreTerms t ts) asked =
       terms_ask assumptions env (first + 1) ts (term_asks assumptions env first t asked)
 
-  -- patterns are of the first type, and what stands behind them is of the second
+  -- the equations of alternatives: the patterns have the type variable s, and the terms after them
+  -- t
   pub alternatives_ask : Assumptions → Environment → ℕ → ℕ → Alternatives → Asked → Asked
   alternatives_ask assumptions env s t term.NoAlternative asked = asked
   alternatives_ask assumptions env s t (term.MoreAlternatives p a alternatives) asked =
@@ -190,14 +195,15 @@ abbrev mutual
 
 -- ---- functions of a group
 
--- A function of a group. Its parameters have the type variables from `first` on, its result has the
--- next one, and what its declared type takes are those behind.
+-- A function of a dependency group. Its parameters have the type variables from `first` on, its
+-- result has the next one, and its declared type has those after that.
 pub record Member : Type 0 where
   pub function : FunId
   pub arity : ℕ
-  -- how many of its first parameters are variables that it captured as a local function
+  -- how many of the function's parameters, the first ones, are variables that it captured as a
+  -- local function
   pub captured : ℕ
-  -- the type of the parameters that it didn't capture, and of its result
+  -- the declared type of the parameters that weren't captured and of the result, if there is one
   pub declared : Option TypeExpr
   pub body : Body
   pub first : ℕ
@@ -208,15 +214,15 @@ parameters m = variables_from m.first m.arity
 abbrev pub result : Member → ℕ
 result m = m.first + m.arity
 
--- where the variables of its declared type begin
+-- where the variables of a member's declared type begin
 abbrev pub first_declared : Member → ℕ
 first_declared m = m.first + m.arity + 1
 
 abbrev pub member_type : Member → TypeExpr
 member_type m = arrows (parameters m) (type.Variable (result m))
 
--- Where its type is declared, each use in its own group has an instance too; captured variables
--- have one type there.
+-- The scheme that a member of a group has in its own group. Where its type is declared, each use
+-- there has an instance too, and captured variables have one type.
 abbrev pub scheme_by : Member → Option TypeExpr → Scheme
 scheme_by m None = Monomorphic (member_type m)
 scheme_by m (Some t) = Polymorphic (take m.captured (parameters m)) t
@@ -226,7 +232,7 @@ scheme_in [] other f = other
 scheme_in (m ∷ ms) other f = if nat_eq m.function.0 f.0 then scheme_by m m.declared
     else scheme_in ms other f
 
--- a rule of the function
+-- the equations that a rule of a member asks for
 abbrev pub rule_asks : Assumptions → Member → Rule → Asked → Asked
 rule_asks assumptions m rule asked =
     let env = bind_from (λ x. 0) asked.next (all_variables rule.params) in
@@ -244,7 +250,7 @@ body_asks kernel assumptions m (calculus.Rules rules) asked = rules_ask assumpti
 body_asks kernel assumptions m (calculus.External operation) asked =
     scheme_asks (Polymorphic [] (external_type kernel operation)) (member_type m) asked
 
--- its declared type
+-- the equation that a member's declared type asks for, if it has one
 abbrev pub signature_asks : Member → Option TypeExpr → Asked → Asked
 signature_asks m None asked = asked
 signature_asks m (Some t) asked =
@@ -289,11 +295,11 @@ abbrev pub declared_breadth : Option TypeExpr → ℕ
 declared_breadth None = 0
 declared_breadth (Some t) = breadth t
 
--- the first type variable behind those of a function
+-- the first type variable after those of a member
 abbrev pub end_of : Member → ℕ
 end_of m = first_declared m + declared_breadth m.declared
 
--- functions, whose type variables follow one another
+-- the members of a group that these functions are, whose type variables follow one another
 abbrev pub members_from : Kernel → ℕ → List FunId → List Member
 members_from kernel first [] = []
 members_from kernel first (f ∷ fs) =
@@ -306,7 +312,8 @@ abbrev pub end_of_all : ℕ → List Member → ℕ
 end_of_all first [] = first
 end_of_all first (m ∷ ms) = end_of_all (end_of m) ms
 
--- Functions outside the group have a type each, which is generalised.
+-- What is known of heads in a group. Functions outside the group have a type each, which is
+-- generalised.
 abbrev pub assumptions_of : Kernel → List TypeExpr → List Member → Assumptions
 assumptions_of kernel interface ms = record {
   function = λ f. scheme_in ms (Polymorphic [] (slice_index_or interface f.0 (type.Variable 0))) f;
@@ -315,7 +322,7 @@ assumptions_of kernel interface ms = record {
   values = values kernel;
 }
 
--- the equations of a group, where a type is known of each function outside it that it mentions
+-- the equations of a group, where a type is known of each function that it mentions outside it
 unfoldable pub equations : Kernel → List TypeExpr → List FunId → List Equation
 equations kernel interface group =
     let ms = members kernel group in

@@ -15,7 +15,7 @@ use Rattle.cu_types.specs.Unification.{IsMostGeneral, Solves}
 
 -- ---- solutions that keep to the declared types
 
--- a type variable of this member's declared type
+-- x is a type variable of this member's declared type
 pub record IsDeclared (m : Member) (x : ℕ) : Type 0 where
   pub type : TypeExpr
   pub is_type : m.declared ≡ Some type
@@ -23,15 +23,15 @@ pub record IsDeclared (m : Member) (x : ℕ) : Type 0 where
   pub below : variable < breadth type
   pub place : x ≡ first_declared m + variable
 
--- a type variable of a declared type of the group
+-- x is a type variable of the declared type of a member of the group
 pub record IsOfGroup (ms : List Member) (x : ℕ) : Type 0 where
   pub place : ℕ
   pub member : Member
   pub is_member : slice_get ms place ≡ Some member
   pub declared : IsDeclared member x
 
--- The variables of declared types are rigid: those of a group stay distinct variables, and none of
--- a function's stands in the type of what the function captured.
+-- A solution keeps to the declared types of a group, whose variables are rigid: they stay distinct
+-- variables, and none of a function's stands in the type of what the function captured.
 pub record KeepsDeclared (σ : Substitution) (ms : List Member) : Type 0 where
   pub variable : (x : ℕ) → IsOfGroup ms x → (y : ℕ) × (σ x ≡ type.Variable y)
   pub distinct : (x y : ℕ) → IsOfGroup ms x → IsOfGroup ms y → σ x ≡ σ y → x ≡ y
@@ -45,7 +45,7 @@ pub record KeepsDeclared (σ : Substitution) (ms : List Member) : Type 0 where
 abbrev pub type_in : List TypeExpr → FunId → TypeExpr
 type_in interface f = slice_index_or interface f.0 (type.Variable 0)
 
--- An interface has the types that a solution gives to the functions of a group, each with its
+-- An interface has the types that a solution gives to the members of a group, each with its
 -- variables numbered.
 abbrev pub HasTypes : List TypeExpr → Substitution → List Member → Type 0
 HasTypes interface σ ms = (k : ℕ) (m : Member) → slice_get ms k ≡ Some m
@@ -58,8 +58,8 @@ pub record IsTyped (kernel : Kernel) (interface : List TypeExpr) (group : List F
   pub keeps : KeepsDeclared solution (members kernel group)
   pub types : HasTypes interface solution (members kernel group)
 
--- They are most general: what solves the equations is an instance of the solution that they come
--- from.
+-- The types of a group's functions are principal: every solution of the group's equations is an
+-- instance of the one that they come from, which keeps to the declared types.
 pub record HasPrincipalTypes (kernel : Kernel) (interface : List TypeExpr)
     (group : List FunId) : Type 0 where
   pub solution : Substitution
@@ -67,13 +67,13 @@ pub record HasPrincipalTypes (kernel : Kernel) (interface : List TypeExpr)
   pub keeps : KeepsDeclared solution (members kernel group)
   pub types : HasTypes interface solution (members kernel group)
 
--- each function of the program has its type
+-- each function of the program has a type that solves the equations of its group
 pub record Typed (kernel : Kernel) (interface : List TypeExpr) : Type 0 where
   pub each : length interface ≡ length kernel.functions
   pub groups : (group : List FunId) → IsGroup (program_of kernel) group
       → IsTyped kernel interface group
 
--- and the most general one that its group's equations have
+-- each function of the program has the most general type that the equations of its group have
 pub record PrincipallyTyped (kernel : Kernel) (interface : List TypeExpr) : Type 0 where
   pub typed : Typed kernel interface
   pub general : (group : List FunId) → IsGroup (program_of kernel) group
@@ -81,7 +81,7 @@ pub record PrincipallyTyped (kernel : Kernel) (interface : List TypeExpr) : Type
 
 -- ---- declared types
 
--- a function of the program with a declared type
+-- the program has this declared type of a function
 pub record Declares (kernel : Kernel) (f : FunId) (type : TypeExpr) : Type 0 where
   pub function : Function
   pub mark : Mark
@@ -89,8 +89,8 @@ pub record Declares (kernel : Kernel) (f : FunId) (type : TypeExpr) : Type 0 whe
   pub is_mark : slice_get kernel.marks f.0 ≡ Some mark
   pub is_declared : mark.declared ≡ Some type
 
--- A function has its declared type behind the types of what it captured, so many. The variables of
--- the declared type are none of theirs.
+-- A function has its declared type, after so many types of what it captured. The variables of the
+-- declared type are none of those of these types.
 pub record HasDeclaredType (kernel : Kernel) (interface : List TypeExpr) (f : FunId) (captured : ℕ)
     (declared : TypeExpr) : Type 0 where
   pub types : List TypeExpr
@@ -101,7 +101,7 @@ pub record HasDeclaredType (kernel : Kernel) (interface : List TypeExpr) (f : Fu
 
 -- ---- goals
 
--- a function type stands in a type
+-- whether a function type stands in a type
 abbrev mutual
   pub holds_function : TypeExpr → Bool
   holds_function (type.Variable x) = false
@@ -112,25 +112,27 @@ abbrev mutual
   some_hold_function type.NoType = false
   some_hold_function (type.MoreTypes t ts) = holds_function t || some_hold_function ts
 
--- a function type stands in the type of one of so many parameters, or of the result behind them
+-- whether a function type stands in the type of one of the first parameters, or of the result after
+-- them
 abbrev pub takes_function : ℕ → TypeExpr → Bool
 takes_function zero t = holds_function t
 takes_function (suc count) (type.Arrow a b) = holds_function a || takes_function count b
 takes_function (suc count) _ = false
 
--- a goal's parameters are its variables
+-- whether the type of a goal, or of one of its variables, holds functions; the goal's variables are
+-- the parameters of its function
 abbrev pub is_functional : List TypeExpr → Option Goal → Bool
 is_functional interface None = false
 is_functional interface (Some g) = takes_function (length g.names) (type_in interface g.function)
 
 -- ---- what inference answers
 
--- the types of all functions, where the goal and its variables are data
+-- the interface has the types of all functions, and the goal and its variables are data
 pub record IsInferred (kernel : Kernel) (interface : List TypeExpr) : Type 0 where
   pub types : PrincipallyTyped kernel interface
   pub data_goal : is_functional interface kernel.goal ≡ false
 
--- Inference comes to a group: the groups before it have their types.
+-- Inference comes to a group: the groups before it have their types, and it is the next one.
 pub record ComesTo (kernel : Kernel) (interface : List TypeExpr) (group : List FunId) : Type 0 where
   pub groups : List (List FunId)
   pub are_groups : AreGroups (program_of kernel) groups
@@ -139,7 +141,7 @@ pub record ComesTo (kernel : Kernel) (interface : List TypeExpr) (group : List F
   pub before : (k : ℕ) (other : List FunId) → k < place → slice_get groups k ≡ Some other
       → HasPrincipalTypes kernel interface other
 
--- its equations have solutions, and none keeps to the declared types
+-- the equations of a group have solutions, and none keeps to the declared types
 pub record BreaksSignature (kernel : Kernel) (interface : List TypeExpr)
     (group : List FunId) : Type 0 where
   pub solution : Substitution

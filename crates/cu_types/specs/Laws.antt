@@ -35,14 +35,14 @@ abbrev pub ClashesLeaveNoSolution : Type 0
 ClashesLeaveNoSolution = (kernel : Kernel) (f : FunId) (c : Clash) → HasClash kernel f c
     → HasNoSolution kernel f
 
--- a program has one interface
+-- a program has one interface at most
 abbrev pub InterfacesAgree : Type 0
 InterfacesAgree = (kernel : Kernel) (i j : List TypeExpr) → PrincipallyTyped kernel i
     → PrincipallyTyped kernel j → i ≡ j
 
--- A program is one of these at most: its functions have types and its goal is data, they have types
--- and its goal is functional, the equations of a first group have no solution, they have none that
--- keeps to the declared types.
+-- A program is one of these at most: its functions have types and its goal is data; they have types
+-- and its goal is functional; the equations of a first group have no solution; they have solutions,
+-- and none that keeps to the declared types.
 pub record AnswersExclude : Type 0 where
   pub solutions : (kernel : Kernel) (i : List TypeExpr) (f : FunId) → PrincipallyTyped kernel i
       → HasNoSolution kernel f → ⊥
@@ -52,11 +52,11 @@ pub record AnswersExclude : Type 0 where
       → HasFunctionalGoal kernel → ⊥
   pub group : (kernel : Kernel) (f g : FunId) → HasNoSolution kernel f
       → HasBrokenSignature kernel g → ⊥
-  -- so that only want of memory stands beside an interface
+  -- beside an interface a program has no fault but an allocation failure
   pub faults : (kernel : Kernel) (i : List TypeExpr) (a : TypeFault) → IsInferred kernel i
       → IsTypeFault kernel a → a ≡ fault.NoMemory
 
--- Two faults are of one kind, and of one group. Want of memory stands beside any.
+-- Two faults are of one kind, and of one group. An allocation failure is like any fault.
 abbrev pub AreAlike : TypeFault → TypeFault → Type 0
 AreAlike fault.NoMemory b = Unit {0}
 AreAlike a fault.NoMemory = Unit {0}
@@ -65,7 +65,8 @@ AreAlike (fault.Signature f) (fault.Signature g) = f ≡ g
 AreAlike fault.GoalFunctional fault.GoalFunctional = Unit {0}
 AreAlike a b = ⊥
 
--- The first group that can't be typed begins with one function, so faults of a program are alike.
+-- Two faults of a program are alike, since one group is the first that can't be typed, and one
+-- function is its first.
 pub record FaultsAgree : Type 0 where
   pub solutions : (kernel : Kernel) (f g : FunId) → HasNoSolution kernel f
       → HasNoSolution kernel g → f ≡ g
@@ -74,8 +75,8 @@ pub record FaultsAgree : Type 0 where
   pub faults : (kernel : Kernel) (a b : TypeFault) → IsTypeFault kernel a → IsTypeFault kernel b
       → AreAlike a b
 
--- Functions have their declared types, with synonyms expanded and variables numbered: local ones
--- behind the types of what they captured.
+-- Functions have their declared types, with synonyms expanded and variables numbered. The declared
+-- type of a local function follows the types of what it captured.
 pub record DeclaredTypesHold : Type 0 where
   pub functions : (kernel : Kernel) (interface : List TypeExpr) (f : FunId) (t : TypeExpr)
       (is : Declares kernel f t) → Typed kernel interface → is.mark.captured ≡ 0

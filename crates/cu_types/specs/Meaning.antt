@@ -21,11 +21,11 @@ equation_of e = record { left = type_of e.left; right = type_of e.right }
 abbrev pub types_of_subst : Subst → List Shape
 types_of_subst s = map shape_of s.types.items
 
--- where a variable's type stands in the table
+-- the place in the table of the type that a variable has, if it has one
 abbrev pub place_in : Subst → ℕ → Option ℕ
 place_in s x = option_and_then (slice_get s.places.items) (get nat_eq s.variables x)
 
--- the type at a place, or the variable itself
+-- the type at a place, or the variable itself where there is no place
 abbrev pub type_at : List Shape → ℕ → Option ℕ → TypeExpr
 type_at ss x None = type.Variable x
 type_at ss x (Some p) = at (trees ss) p
@@ -34,7 +34,7 @@ type_at ss x (Some p) = at (trees ss) p
 abbrev pub subst_of : Subst → Substitution
 subst_of s x = type_at (types_of_subst s) x (place_in s x)
 
--- the places of variables are places of the table
+-- the places of variables' types are places of the table
 abbrev pub HasPlaces : Subst → Type 0
 HasPlaces s = (x p : ℕ) → place_in s x ≡ Some p → p < length (types_of_subst s)
 
@@ -46,7 +46,7 @@ pub record Clashes (equations : List Equation) (c : Clash) : Type 0 where
   pub clash : IsClash equations (at (trees (map shape_of c.types.items)) c.left)
       (at (trees (map shape_of c.types.items)) c.right)
 
--- why equations have no solution; that there is no memory left is free
+-- the fault is why the equations have no solution; an allocation failure says nothing
 abbrev pub IsUnifyFault : List Equation → UnifyFault → Type 0
 IsUnifyFault equations (fault.Clash c) = Clashes equations c
 IsUnifyFault equations fault.NoMemory = Unit {0}

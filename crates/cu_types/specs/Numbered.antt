@@ -17,7 +17,7 @@ abbrev mutual
   variables_in_all type.NoType = []
   variables_in_all (type.MoreTypes t ts) = variables_in t ++ variables_in_all ts
 
--- a list to which a number is added where it isn't there
+-- a list with a number at its end, where the number isn't in it yet
 abbrev pub noted : List ℕ → ℕ → List ℕ
 noted xs x = if holds x xs then xs else xs ++ x ∷ []
 
@@ -25,10 +25,11 @@ abbrev pub all_noted : List ℕ → List ℕ → List ℕ
 all_noted xs [] = xs
 all_noted xs (y ∷ ys) = all_noted (noted xs y) ys
 
--- a variable becomes that of its place in a list
+-- the substitution that puts in place of a variable the one that has its place in a list as its
+-- number
 abbrev pub by_place : List ℕ → Substitution
 by_place xs x = type.Variable (position_or_len (nat_eq x) xs)
 
--- the type with its variables numbered
+-- a type with its variables numbered
 unfoldable pub numbered : TypeExpr → TypeExpr
 numbered t = apply (by_place (all_noted [] (variables_in t))) t

@@ -86,7 +86,7 @@ special = record {
   values = Some (con 19);
 }
 
--- type String = [Char], type Strings = [String]
+-- the synonyms of the samples: `type String = [Char]` and `type Strings = [String]`
 abbrev synonyms : List Synonym
 synonyms =
     record { name = a_name; «module» = 0; public = true; arity = 0; body = list_of char }
@@ -131,11 +131,11 @@ mark declared captured = record {
   place = record { «module» = a_name; line = 1; column = 1 };
 }
 
--- ==, 0
+-- function 0: `==`
 abbrev equal : Function
 equal = record { name = a_name; arity = 2; body = calculus.External prim.Equal }
 
--- not, 1
+-- function 1: `not`
 abbrev negation : Function
 negation = function 1
     (record {
@@ -148,15 +148,15 @@ negation = function 1
     }
     ∷ [])
 
--- not 'a', 2
+-- function 2: `not 'a'`
 abbrev wrong_goal : Function
 wrong_goal = function 0 (record { params = term.NoPattern; body = call 1 (argument an_a) } ∷ [])
 
--- f x = x, 3, and with the type a -> Int, 5
+-- function 3, and with the declared type `a -> Int` function 5: `f x = x`
 abbrev identity : Function
 identity = function 1 (record { params = one (term.Any 0); body = term.Variable 0 } ∷ [])
 
--- (f 1, f 'a'), 4
+-- function 4: `(f 1, f 'a')`
 abbrev pair_goal : Function
 pair_goal =
     function 0 (record {
@@ -164,7 +164,8 @@ pair_goal =
       body = pair (call 3 (argument a_one)) (call 3 (argument an_a));
     } ∷ [])
 
--- g x y = case x of { True -> y }, 6, which has captured x, with the type b -> b of y alone
+-- function 6: `g x y = case x of { True -> y }`, which has captured x, with the declared type `b ->
+-- b` of y alone
 abbrev choice : Function
 choice = function 2 (record {
   params = term.MorePatterns (term.Any 0) (one (term.Any 1));
@@ -173,14 +174,14 @@ choice = function 2 (record {
       (term.Variable 1) term.NoAlternative);
 } ∷ [])
 
--- h x y = x, 7, which has captured x, with the type b -> b of y alone
+-- function 7: `h x y = x`, which has captured x, with the declared type `b -> b` of y alone
 abbrev captive : Function
 captive = function 2 (record {
   params = term.MorePatterns (term.Any 0) (one (term.Any 1));
   body = term.Variable 0;
 } ∷ [])
 
--- the set function of f on 1, 8
+-- function 8: the set function of f on 1
 abbrev set_goal : Function
 set_goal =
     function 0 (record {
@@ -188,7 +189,7 @@ set_goal =
       body = term.Whole (head.Set (fun 3)) (argument a_one);
     } ∷ [])
 
--- p x = p [x], 9, with the type a -> Strings
+-- function 9: `p x = p [x]`, with the declared type `a -> Strings`
 abbrev nested : Function
 nested = function 1 (record {
   params = one (term.Any 0);
@@ -196,14 +197,14 @@ nested = function 1 (record {
       (term.MoreTerms (term.Variable 0) (argument (term.Whole (head.Con (con 0)) term.NoTerm)))));
 } ∷ [])
 
--- twice f x = f (f x), 10
+-- function 10: `twice f x = f (f x)`
 abbrev twice : Function
 twice = function 2 (record {
   params = term.MorePatterns (term.Any 0) (one (term.Any 1));
   body = term.Apply (term.Variable 0) (term.Apply (term.Variable 0) (term.Variable 1));
 } ∷ [])
 
--- even 0 = True, even n = odd n, 11, and odd n = even n, 12: one group
+-- functions 11 and 12, which are one group: `even 0 = True`, `even n = odd n` and `odd n = even n`
 abbrev even : Function
 even = function 1
     (record {
@@ -219,7 +220,7 @@ odd = function 1 (record {
   body = call 11 (argument (term.Variable 0));
 } ∷ [])
 
--- s x = x x, 13
+-- function 13: `s x = x x`
 abbrev to_itself : Function
 to_itself = function 1 (record {
   params = one (term.Any 0);
@@ -273,7 +274,7 @@ whole_types = type.Arrow (var 0) (var 0) ∷ type.Arrow (var 0) (var 0) ∷ []
 
 -- ---- equations
 
--- the types that are known of `==`, not and f
+-- the types that are known of `==`, `not` and f, as an interface
 abbrev pub known : List TypeExpr
 known = type.Arrow (var 0) (type.Arrow (var 0) bool) ∷ type.Arrow bool bool ∷ bool
     ∷ type.Arrow (var 0) (var 0) ∷ []
@@ -284,7 +285,7 @@ both s t = record { left = s; right = t }
 abbrev pub asked_of : ℕ → List Equation
 asked_of f = equations sample known (fun f ∷ [])
 
--- what each function asks for
+-- the equations that each sample asks for
 pub record SamplesAsk : Type 0 where
   pub equal : asked_of 0
       ≡ both (type.Arrow (var 3) (type.Arrow (var 3) bool))
@@ -346,23 +347,23 @@ pub record SamplesAsk : Type 0 where
       ∷ both (type.Arrow (var 3) (var 1)) (var 4) ∷ both (var 2) (var 4) ∷ both (var 2) (var 3)
       ∷ []
 
--- ---- what they are answered
+-- ---- what the samples are answered
 
--- where f, the choice and the pair have their types too
+-- the types known where those of f, the choice and the pair are known too
 abbrev pub known_too : List TypeExpr
 known_too =
     type.Arrow (var 0) (type.Arrow (var 0) bool) ∷ type.Arrow bool bool ∷ bool
     ∷ type.Arrow (var 0) (var 0) ∷ pair_of int char ∷ bool
     ∷ type.Arrow bool (type.Arrow (var 0) (var 0)) ∷ []
 
--- where the functions behind them have theirs, but for h, which has none
+-- the types known where those of the functions after these are known too, but for h, which has none
 abbrev pub known_even : List TypeExpr
 known_even =
     known_too ++ var 0 ∷ values_of int ∷ type.Arrow (var 0) (list_of (list_of char))
     ∷ type.Arrow (type.Arrow (var 0) (var 0)) (type.Arrow (var 0) (var 0))
     ∷ type.Arrow int bool ∷ type.Arrow int bool ∷ []
 
--- where f has a type that isn't its most general one
+-- the types known where f has a type that isn't its most general one
 abbrev pub known_narrow : List TypeExpr
 known_narrow =
     type.Arrow (var 0) (type.Arrow (var 0) bool) ∷ type.Arrow bool bool ∷ bool ∷ type.Arrow int int

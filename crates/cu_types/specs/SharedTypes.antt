@@ -4,7 +4,7 @@ use Rattle.cu_kernel.specs.TypeExpr.{TypeExpr}
 use Rattle.cu_types.specs.Table.{IsTable, at, shape_of, trees}
 use Rattle.cu_types.specs.declared.shared.SharedType.TheInside.{Inside}
 
--- the type at the place
+-- the type that a type in a table of its own stands for
 abbrev pub shared : Inside → TypeExpr
 shared t = at (trees (map shape_of t.types.items)) t.place
 

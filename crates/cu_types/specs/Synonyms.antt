@@ -8,16 +8,16 @@ use Rattle.cu_kernel.specs.declared.type_term.TypeName.TheVariants as name
 use Rattle.cu_kernel.specs.declared.type_term.TypeName.{TypeName}
 use Rattle.cu_types.specs.Types.{Substitution, apply, listed}
 
--- a type stands for each parameter
+-- the substitution that puts a type in place of each parameter
 abbrev pub for_parameters : List TypeExpr → Substitution
 for_parameters ts x = slice_index_or ts x (type.Variable x)
 
--- a name with arguments, where it is told what the synonyms stand for
+-- the type of a name on arguments, where it is told what the synonyms stand for
 abbrev named : (ℕ → TypeExpr) → TypeName → TypeExprs → TypeExpr
 named body (name.Data t) ts = type.Named (name.Data t) ts
 named body (name.Synonym s) ts = apply (for_parameters (listed ts)) (body s.0)
 
--- a type without synonyms, where it is told what they stand for
+-- a type in which synonyms are expanded, where it is told what they stand for
 abbrev mutual
   pub expanded_by : (ℕ → TypeExpr) → TypeExpr → TypeExpr
   expanded_by body (type.Variable x) = type.Variable x
@@ -29,7 +29,7 @@ abbrev mutual
   all_expanded_by body (type.MoreTypes t ts) =
       type.MoreTypes (expanded_by body t) (all_expanded_by body ts)
 
--- the type behind a synonym as it is declared
+-- the type on the right of a synonym, as it is declared
 abbrev declared_body : Option Synonym → TypeExpr
 declared_body None = type.Variable 0
 declared_body (Some s) = s.body
@@ -37,13 +37,13 @@ declared_body (Some s) = s.body
 abbrev pub body_of : Kernel → ℕ → TypeExpr
 body_of kernel s = declared_body (slice_get kernel.synonyms s)
 
--- What synonyms stand for, where they are named by one another at most so deep.
+-- What each synonym stands for, where they are named by one another at most so deep.
 abbrev pub bodies : Kernel → ℕ → ℕ → TypeExpr
 bodies kernel zero s = type.Variable 0
 bodies kernel (suc depth) s = expanded_by (bodies kernel depth) (body_of kernel s)
 
--- a type of the program without synonyms: where none leads to itself they are nested at most as
--- deep as there are synonyms
+-- a type of the program with synonyms expanded: where none leads to itself they are nested at most
+-- as deep as there are synonyms
 unfoldable pub expanded : Kernel → TypeExpr → TypeExpr
 expanded kernel t = expanded_by (bodies kernel (length kernel.synonyms)) t
 
@@ -53,7 +53,7 @@ abbrev is_synonym : ℕ → TypeName → Bool
 is_synonym s (name.Data t) = false
 is_synonym s (name.Synonym r) = nat_eq r.0 s
 
--- a type names a synonym
+-- whether a type names this synonym
 abbrev mutual
   pub names_synonym : ℕ → TypeExpr → Bool
   names_synonym s (type.Variable x) = false
@@ -64,26 +64,28 @@ abbrev mutual
   some_name_synonym s type.NoType = false
   some_name_synonym s (type.MoreTypes t ts) = names_synonym s t || some_name_synonym s ts
 
--- what a synonym stands for names another one, or one that leads to it
+-- a synonym leads to another by the names in what it stands for, in one step or more
 pub data LeadsTo (kernel : Kernel) : ℕ → ℕ → Type 0 where
   at_once : (r s : ℕ) → IsTrue (names_synonym s (body_of kernel r)) → LeadsTo kernel r s
   further : (r q s : ℕ) → IsTrue (names_synonym q (body_of kernel r)) → LeadsTo kernel q s
       → LeadsTo kernel r s
 
--- how many arguments a type's name takes, where the program has it
+-- whether a data type takes so many arguments, if the program has it
 abbrev data_arity : Option DataType → ℕ → Bool
 data_arity None count = false
 data_arity (Some t) count = nat_eq count t.arity
 
+-- whether a synonym takes so many arguments, if the program has it
 abbrev synonym_arity : Option Synonym → ℕ → Bool
 synonym_arity None count = false
 synonym_arity (Some s) count = nat_eq count s.arity
 
+-- whether the data type or the synonym of a name takes so many arguments, if the program has it
 abbrev pub takes_arguments : Kernel → TypeName → ℕ → Bool
 takes_arguments kernel (name.Data t) count = data_arity (slice_get kernel.types t.0) count
 takes_arguments kernel (name.Synonym s) count = synonym_arity (slice_get kernel.synonyms s.0) count
 
--- each type name in a type has its number of arguments
+-- whether each type name in a type has as many arguments as it takes
 abbrev mutual
   pub is_applied : Kernel → TypeExpr → Bool
   is_applied kernel (type.Variable x) = true
@@ -105,7 +107,7 @@ abbrev has_applied_signature : Kernel → Option TypeExpr → Bool
 has_applied_signature kernel None = true
 has_applied_signature kernel (Some t) = is_applied kernel t
 
--- Each type name in the program has its number of arguments, and no synonym leads to itself.
+-- Each type name in the program has as many arguments as it takes, and no synonym leads to itself.
 pub record DeclaresTypes (kernel : Kernel) : Type 0 where
   pub fields : IsTrue (list_all (has_applied_constructors kernel) kernel.types)
   pub synonyms : IsTrue (list_all (λ s. is_applied kernel s.body) kernel.synonyms)

@@ -40,7 +40,7 @@ pub record HasFunctionalGoal (kernel : Kernel) : Type 0 where
   pub types : PrincipallyTyped kernel interface
   pub functional : is_functional interface kernel.goal ≡ true
 
--- that there is no memory left is free
+-- the fault is why inference gives no interface; an allocation failure says nothing
 abbrev pub IsTypeFault : Kernel → TypeFault → Type 0
 IsTypeFault kernel (fault.TypeClash f c) = HasClash kernel f c
 IsTypeFault kernel (fault.Signature f) = HasBrokenSignature kernel f

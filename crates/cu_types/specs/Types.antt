@@ -9,7 +9,7 @@ abbrev pub listed : TypeExprs → List TypeExpr
 listed type.NoType = []
 listed (type.MoreTypes t ts) = t ∷ listed ts
 
--- what stands at the top of a type that is no variable
+-- the head at the top of a type, if it is no variable
 abbrev pub head_of : TypeExpr → Option TypeHead
 head_of (type.Variable x) = None
 head_of (type.Arrow a b) = Some head.Arrow
@@ -27,11 +27,11 @@ pub record HaveOneHead (s t : TypeExpr) : Type 0 where
   pub right : head_of t ≡ Some head
   pub count : length (arguments s) ≡ length (arguments t)
 
--- a type for each type variable
+-- a substitution: a type for each type variable
 abbrev pub Substitution : Type 0
 Substitution = ℕ → TypeExpr
 
--- a type in which each variable is replaced
+-- a type in which each variable is replaced by the type that a substitution has for it
 abbrev mutual
   pub apply : Substitution → TypeExpr → TypeExpr
   apply σ (type.Variable x) = σ x

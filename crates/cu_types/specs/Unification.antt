@@ -4,7 +4,7 @@ use Rattle.std.specs.Prelude.{◌≡◌, ℕ, List, [], ◌∷◌, Some, slice_g
 use Rattle.cu_kernel.specs.TypeExpr.{TypeExpr}
 use Rattle.cu_types.specs.Types.{HaveOneHead, Substitution, apply, arguments}
 
--- two types that shall be the same
+-- an equation: two types that shall be the same
 pub record Equation : Type 0 where
   pub left : TypeExpr
   pub right : TypeExpr
@@ -13,12 +13,12 @@ pub record Equation : Type 0 where
 abbrev pub Unifies : Substitution → TypeExpr → TypeExpr → Type 0
 Unifies σ s t = apply σ s ≡ apply σ t
 
--- it makes both sides of each equation the same
+-- a substitution solves equations: it makes both sides of each the same
 abbrev pub Solves : Substitution → List Equation → Type 0
 Solves σ equations = (k : ℕ) (e : Equation) → slice_get equations k ≡ Some e
     → Unifies σ e.left e.right
 
--- a substitution is another one, followed by a third
+-- a substitution is an instance of another: it is that one, followed by a third
 abbrev pub IsInstance : Substitution → Substitution → Type 0
 IsInstance τ σ = (ρ : Substitution) × ((x : ℕ) → τ x ≡ apply ρ (σ x))
 
@@ -44,14 +44,14 @@ mutual
     whole : (s t : TypeExpr) → HaveOneHead s t → AllMadeEqual equations (arguments s) (arguments t)
         → MadeEqual equations s t
 
-  -- types are made equal in pairs
+  -- the types of two lists are made equal in pairs
   pub data AllMadeEqual (equations : List Equation) : List TypeExpr → List TypeExpr → Type 0 where
     none : AllMadeEqual equations [] []
     more : (s t : TypeExpr) (ss ts : List TypeExpr) → MadeEqual equations s t
         → AllMadeEqual equations ss ts
         → AllMadeEqual equations (s ∷ ss) (t ∷ ts)
 
--- two types that equations make equal, and that no substitution makes the same
+-- a clash: two types that the equations make equal, and that no substitution makes the same
 pub record IsClash (equations : List Equation) (left right : TypeExpr) : Type 0 where
   pub made_equal : MadeEqual equations left right
   pub apart : (σ : Substitution) → Unifies σ left right → ⊥

@@ -18,12 +18,13 @@ use crate::{SharedType, TypeHead};
 use cu_kernel::{Lit, TypeId, TypeName};
 use std::alloc::{AllocError, Global};
 
-/// Equations between types.
+/// Equations that are asked for, with the table of the types in them and the
+/// next type variable.
 #[derive(Drop)]
 pub(crate) struct Asking {
-    /// The types.
+    /// The table of types.
     pub(crate) reader: Reader,
-    /// The places of both sides of each equation.
+    /// The places in the table of both sides of each equation.
     pub(crate) pairs: Vec<Pair>,
     /// The number from which on no type variable is taken.
     pub(crate) next: u32,
@@ -40,7 +41,7 @@ fn literal_place(literal: Lit) -> usize
 }
 
 impl Asking {
-    /// No equation, where the type variables below a number are taken.
+    /// No equations, where the type variables below a number are taken.
     pub(crate) fn new(alloc: Global, next: u32) -> Asking
         ensures reader { IsReader result.reader }
         ensures asked { IsAsking result (record { next = next; equations = [] }) }
@@ -52,8 +53,8 @@ impl Asking {
         }
     }
 
-    /// Takes so many type variables. Gives the first one; where the numbers
-    /// run out, memory would too.
+    /// Takes so many type variables. Gives the first one. Where the numbers run
+    /// out it is an allocation failure.
     pub(crate) fn take(&mut self, count: u32) -> Result<u32, AllocError>
         requires { IsReader self.old.reader }
         ensures first { IfOk result (λ first. first ≡ self.old.next) }
@@ -76,7 +77,7 @@ impl Asking {
         self.reader.variable(x)
     }
 
-    /// The types at two places shall be the same.
+    /// Asks that the types at two places are the same.
     pub(crate) fn ask(&mut self, left: usize, right: usize) -> Result<(), AllocError>
         ensures same { self.new.reader ≡ self.old.reader }
         ensures asks { OnOk result ((s t : TypeExpr) → IsReader self.old.reader
@@ -87,7 +88,7 @@ impl Asking {
         Ok(())
     }
 
-    /// Two type variables shall be the same.
+    /// Asks that two type variables are the same.
     pub(crate) fn same(&mut self, x: u32, y: u32) -> Result<(), AllocError>
         requires { IsReader self.old.reader }
         ensures { OnOk result (Asks self.old self.new (asking_same x y)) }
@@ -107,7 +108,7 @@ impl Asking {
         self.reader.apply(head, Vec::new(alloc))
     }
 
-    /// A literal is of a type variable's type.
+    /// Asks that the type of a literal is this type variable.
     pub(crate) fn literal(&mut self, alloc: Global, literal: Lit, t: u32) -> Result<(), AllocError>
         requires { IsReader self.old.reader }
         ensures { OnOk result (Asks self.old self.new
@@ -119,7 +120,7 @@ impl Asking {
         Ok(())
     }
 
-    /// Adds the functions from one type to another.
+    /// Adds the type of functions from one type to another.
     fn arrow(&mut self, alloc: Global, left: usize, right: usize) -> Result<usize, AllocError>
         requires reader { IsReader self.old.reader }
         requires left { left < length (shapes self.old.reader) }
@@ -135,8 +136,7 @@ impl Asking {
         Ok(place)
     }
 
-    /// Adds the functions that take a type variable before what stands at a
-    /// place.
+    /// Adds the type of functions from a type variable to the type at a place.
     fn taking_variable(&mut self, alloc: Global, x: u32, place: usize) -> Result<usize, AllocError>
         requires reader { IsReader self.old.reader }
         requires within { place < length (shapes self.old.reader) }
@@ -148,8 +148,8 @@ impl Asking {
         Ok(whole)
     }
 
-    /// Adds the functions that take so many type variables, from a number on,
-    /// before what stands at a place.
+    /// Adds the type of functions of so many type variables, from a number on,
+    /// to the type at a place.
     pub(crate) fn arrows(
         &mut self,
         alloc: Global,
@@ -172,7 +172,8 @@ impl Asking {
         Ok(whole)
     }
 
-    /// The functions from one type variable to another are of a third one.
+    /// Asks that the type of functions from one type variable to another is a
+    /// third one.
     pub(crate) fn function(
         &mut self,
         alloc: Global,
@@ -191,8 +192,8 @@ impl Asking {
         Ok(())
     }
 
-    /// Adds an instance of a type, whose variables have the numbers from one
-    /// on.
+    /// Adds an instance of a type, whose variables have the numbers from this
+    /// one on.
     pub(crate) fn instance(
         &mut self,
         alloc: Global,
@@ -206,8 +207,8 @@ impl Asking {
         Ok(place)
     }
 
-    /// Adds the functions that take so many type variables, from a number on,
-    /// before what stands at a place, where the numbers don't run out.
+    /// Adds the type of functions of so many type variables, from a number on,
+    /// to the type at a place, where the numbers don't run out.
     pub(crate) fn arrows_to(
         &mut self,
         alloc: Global,
@@ -229,8 +230,8 @@ impl Asking {
         }
     }
 
-    /// The functions that take so many type variables, from a number on, and
-    /// give the next one, are of the type at a place.
+    /// Asks that the type of functions of so many type variables, from a number
+    /// on, to the next one, is the type at a place.
     fn fixed(
         &mut self,
         alloc: Global,
@@ -251,8 +252,8 @@ impl Asking {
         Ok(())
     }
 
-    /// An instance of a type, behind so many type variables from a number on,
-    /// is of the type at a place.
+    /// Asks that an instance of a type, after so many type variables from a
+    /// number on, is the type at a place.
     fn general(
         &mut self,
         alloc: Global,
@@ -276,7 +277,7 @@ impl Asking {
         Ok(())
     }
 
-    /// A type variable of its own is of the type at a place.
+    /// Asks that a new type variable is the type at a place.
     fn unknown(&mut self, whole: usize) -> Result<(), AllocError>
         requires { IsReader self.old.reader }
         ensures { OnOk result ((t : TypeExpr) → StandsAt self.old whole t → Asks self.old self.new
@@ -288,7 +289,7 @@ impl Asking {
         Ok(())
     }
 
-    /// The type of a head is that at a place.
+    /// Asks that the type of a head is the type at a place.
     pub(crate) fn scheme(
         &mut self,
         alloc: Global,

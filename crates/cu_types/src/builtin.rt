@@ -30,11 +30,11 @@ pub(crate) enum Simple {
 /// What a built-in operation takes and gives.
 #[derive(Clone, Copy)]
 pub(crate) enum Signature {
-    /// It takes nothing.
+    /// The operation takes nothing: it is a value of this type.
     Value(Simple),
-    /// It takes an argument, and gives a result.
+    /// The operation takes an argument, and gives a result.
     Unary(Simple, Simple),
-    /// It takes two arguments of one type, and gives a result.
+    /// The operation takes two arguments of one type, and gives a result.
     Binary(Simple, Simple),
 }
 
@@ -96,7 +96,7 @@ fn signature_of(program: &Program, operation: Primitive) -> Signature
 }
 
 impl Reader {
-    /// Adds the functions from one type to another.
+    /// Adds the type of functions from one type to another.
     fn arrow(&mut self, alloc: Global, left: usize, right: usize) -> Result<usize, AllocError>
         requires reader { IsReader self.old }
         requires left { left < length (shapes self.old) }
@@ -132,7 +132,7 @@ impl Reader {
         }
     }
 
-    /// Adds the functions that take an argument.
+    /// Adds the type of functions that take one argument.
     fn unary(&mut self, alloc: Global, argument: Simple, value: Simple) -> Result<usize, AllocError>
         requires { IsReader self.old }
         ensures reader { OnOk result (IsReader self.new) }
@@ -145,7 +145,7 @@ impl Reader {
         Ok(place)
     }
 
-    /// Adds the functions that take two arguments of one type.
+    /// Adds the type of functions that take two arguments of one type.
     fn binary(
         &mut self,
         alloc: Global,
@@ -202,7 +202,7 @@ impl Reader {
         Ok(places)
     }
 
-    /// Adds a data type with its parameters.
+    /// Adds the type of a data type on its parameters.
     fn parameterized(
         &mut self,
         alloc: Global,
@@ -219,7 +219,8 @@ impl Reader {
         Ok(place)
     }
 
-    /// Adds types without synonyms, where it is told what these stand for.
+    /// Adds types with synonyms expanded, where it is told what these stand
+    /// for.
     fn expand_terms(
         &mut self,
         alloc: Global,
@@ -239,7 +240,7 @@ impl Reader {
         Ok(places)
     }
 
-    /// Adds the functions that take arguments of these types, one after
+    /// Adds the type of functions that take arguments of these types, one after
     /// another.
     fn functions(
         &mut self,
@@ -283,7 +284,7 @@ fn constructor_type(
     Ok(reader.into_shared(place))
 }
 
-/// Adds the types of constructors of one data type.
+/// Adds the types of the constructors of one data type.
 fn push_constructors(
     alloc: Global,
     found: &mut Vec<SharedType>,
@@ -303,7 +304,7 @@ fn push_constructors(
     Ok(())
 }
 
-/// The types of all constructors of the data types from the first one on.
+/// The types of the constructors of all of these data types.
 fn made_types(
     alloc: Global,
     synonyms: &[SharedType],

@@ -9,15 +9,15 @@ use std::alloc::{AllocError, Global};
 /// Disjoint classes of the numbers below a bound.
 #[derive(Drop)]
 pub(crate) struct Classes {
-    /// The parent of each number; a root's is itself.
+    /// The parent of each number. The parent of a root is the root itself.
     pub(crate) parents: Vec<usize>,
-    /// A bound on the height of what stands under each number. A number of
-    /// rank r has nearly 2^r others under it.
+    /// A bound on the height of the tree under each number. A number of rank r
+    /// has nearly 2^r others under it.
     pub(crate) ranks: Vec<u8>,
 }
 
 impl Classes {
-    /// Each number below a bound in a class of its own.
+    /// The classes in which each number below a bound is alone.
     pub(crate) fn new(alloc: Global, count: usize) -> Result<Classes, AllocError>
         ensures sized { IfOk result (λ classes. length classes.parents.items ≡ count) }
         ensures forest { IfOk result

@@ -20,7 +20,7 @@ pub(crate) enum Outcome {
     Apart(Pair),
 }
 
-/// Adds pairs of arguments to those that shall be joined.
+/// Adds the pairs of arguments to the pairs that shall be joined.
 fn push_arguments(
     pending: &mut Vec<Pair>,
     left: &[usize],
@@ -38,8 +38,9 @@ fn push_arguments(
 }
 
 impl Classes {
-    /// Two representatives, the one first that is put under the other: a
-    /// variable under what is none, and else one of no greater rank.
+    /// Two representatives, in the order in which the first is put under the
+    /// second: a variable is put under what is none, and else the one of no
+    /// greater rank under the other.
     fn oriented(&self, pair: Pair, left: &Node, right: &Node) -> Pair
         requires left { pair.left < length self.now.ranks.items }
         requires right { pair.right < length self.now.ranks.items }
@@ -104,8 +105,9 @@ impl Classes {
         self.put_under(pair.left, pair.right)
     }
 
-    /// Joins the classes of two places, and leaves their arguments to be
-    /// joined. Answers the representatives where they don't meet.
+    /// Joins the classes of two places, and leaves the pairs of their arguments
+    /// to be joined. Answers the representatives where their heads or numbers
+    /// of arguments differ.
     fn join(
         &mut self,
         nodes: &[Node],

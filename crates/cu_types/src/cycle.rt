@@ -14,12 +14,13 @@ use std::alloc::{AllocError, Global};
 pub(crate) struct Member {
     /// The class, by its representative.
     class: usize,
-    /// The type.
+    /// The place of the type.
     place: usize,
 }
 
 impl Member {
-    /// Arguments, with this type in place of those of its class.
+    /// The places of arguments, with that of this type in place of those of its
+    /// class.
     fn put_into(
         self,
         alloc: Global,
@@ -38,7 +39,7 @@ impl Member {
         Ok(found)
     }
 
-    /// A type, with this one in place of its arguments of this one's class.
+    /// A type, with this type in place of its arguments of this type's class.
     fn wrapped(self, alloc: Global, classes: &[usize], node: &Node) -> Result<Node, AllocError>
         requires { (k a : ℕ) → slice_get (places (shape_of node.now)) k ≡ Some a
             → a < length classes.now }
@@ -56,7 +57,7 @@ impl Member {
 }
 
 /// Adds a type of a class that is built round a type of a class that it uses.
-/// Gives its place.
+/// Gives the place of the new type.
 fn wrap(
     alloc: Global,
     nodes: &mut Vec<Node>,
@@ -80,7 +81,7 @@ fn wrap(
 }
 
 /// Builds a type of the first type's class round the first type, along the
-/// classes that are to be left. Gives its place.
+/// classes that are to be left. Gives the place of the type that was built.
 pub(crate) fn unfold(
     alloc: Global,
     nodes: &mut Vec<Node>,

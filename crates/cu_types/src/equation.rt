@@ -1,11 +1,11 @@
 //! Equations between types.
 use cu_kernel::TypeTerm;
 
-/// Two types that shall be the same.
+/// An equation: two types that shall be the same.
 #[derive(Drop)]
 pub struct Equation {
-    /// One of them.
+    /// One of the two types.
     pub left: TypeTerm,
-    /// The other.
+    /// The other type.
     pub right: TypeTerm,
 }

@@ -14,7 +14,7 @@ use std::alloc::{AllocError, Global};
 enum Top {
     /// The functions from the type at one place to that at another.
     Arrow(usize, usize),
-    /// Something else.
+    /// Any other type.
     Other,
 }
 
@@ -74,7 +74,7 @@ fn at_top(node: &Node) -> Top
     }
 }
 
-/// The functions from the first of two types to the second.
+/// What a function type with arguments at these places is, seen from its top.
 fn pair_of(arguments: &[usize]) -> Top
     ensures { result ≡ pair_top arguments.now }
 {
@@ -84,8 +84,8 @@ fn pair_of(arguments: &[usize]) -> Top
     }
 }
 
-/// Whether a function type stands in the type of one of so many parameters,
-/// or of the result behind them.
+/// Whether a function type stands in the type of one of so many parameters, or
+/// of the result after them.
 fn takes(types: &[Node], holds: &[bool], place: usize, count: usize) -> bool
     requires table { IsTable (map shape_of types.now) }
     requires within { place < length types.now }

@@ -29,29 +29,29 @@ use crate::{Clash, SharedType, Subst};
 use cu_kernel::{FunId, Program, TypeTerm};
 use std::alloc::{AllocError, Global};
 
-/// What stays the same while types are inferred.
+/// What stays the same while the types of a program are inferred.
 #[derive(Clone, Copy)]
 pub(crate) struct Inference<'p> {
     /// Where memory comes from.
     pub(crate) alloc: Global,
     /// The program.
     pub(crate) program: &'p Program,
-    /// The types behind its synonyms.
+    /// The types that the program's synonyms stand for.
     pub(crate) synonyms: &'p [SharedType],
-    /// The types of its constructors.
+    /// The types of the program's constructors.
     pub(crate) constructors: &'p [SharedType],
-    /// The place of the type of what set functions give.
+    /// The place of the data type that set functions give, if there is one.
     pub(crate) values: Option<usize>,
 }
 
-/// What comes of a group.
+/// What comes of inferring the types of a group.
 #[derive(Drop)]
 pub(crate) enum Outcome {
-    /// Its functions have their types.
+    /// The group's functions have their types.
     Typed,
-    /// Its rules make two types equal that can't be the same.
+    /// The group's rules make two types equal that can't be the same.
     Clash(Clash),
-    /// Its rules have types, but not the declared ones.
+    /// The group's rules have types, but not the declared ones.
     Broken,
 }
 
@@ -71,7 +71,7 @@ fn declared_breadth(alloc: Global, declared: &Option<SharedType>) -> Result<u32,
     }
 }
 
-/// The first type variable behind those of a function.
+/// The first type variable after those of a function.
 fn end_of(alloc: Global, m: &Member) -> Result<u32, AllocError>
     ensures { IfOk result (λ end. end
         ≡ m.now.first + m.now.arity + 1 + asked.declared_breadth m.now.declared) }
@@ -88,7 +88,7 @@ fn end_of(alloc: Global, m: &Member) -> Result<u32, AllocError>
 }
 
 impl Inference<'_> {
-    /// A declared type without synonyms, its variables numbered.
+    /// A declared type with synonyms expanded and its variables numbered.
     fn declared_by(&self, declared: &Option<TypeTerm>) -> Result<Option<SharedType>, AllocError>
         requires { IsInference self.now }
         ensures { IfOk result (λ made. made ≡ option_map
@@ -105,7 +105,8 @@ impl Inference<'_> {
         }
     }
 
-    /// A function of the group, whose type variables begin with a number.
+    /// A function of the group as its member, whose type variables begin with
+    /// this number.
     fn member(&self, f: FunId, first: u32) -> Result<Member, AllocError>
         requires { IsInference self.now }
         ensures { IfOk result (λ m. m ≡ plain_member (asked.member self.now.program.now first f)) }
@@ -131,7 +132,7 @@ impl Inference<'_> {
     }
 
     /// Makes the functions of a group its members. Gives the first type
-    /// variable behind theirs.
+    /// variable after theirs.
     fn enter(&self, known: &mut [Known], group: &[FunId]) -> Result<u32, AllocError>
         requires tables { IsInference self.now }
         requires within { AreWithin group.now (length known.old) }

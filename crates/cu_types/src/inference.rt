@@ -36,7 +36,7 @@ pub enum TypeFault {
     /// The goal, or a variable of it, is of a type that holds functions.
     #[error("the goal holds functions")]
     GoalFunctional,
-    /// There is no memory left.
+    /// There is no memory left, or no number for a type variable.
     #[error("no memory left")]
     NoMemory,
 }
@@ -75,7 +75,7 @@ fn kept_types(alloc: Global, known: Vec<Known>) -> Result<Vec<SharedType>, Alloc
     Ok(types)
 }
 
-/// Nothing is known of so many functions.
+/// What is known of so many functions at first: nothing.
 fn nothing_known(alloc: Global, count: usize) -> Result<Vec<Known>, AllocError>
     ensures { IfOk result (λ known. known.items ≡ replicate count kind.Nothing) }
 {
@@ -129,7 +129,8 @@ impl Inference<'_> {
     }
 }
 
-/// The types of a program's functions, where there is memory.
+/// The types of a program's functions, or why there are none, unless memory
+/// runs out.
 fn principal(
     alloc: Global,
     program: &Program,
@@ -174,8 +175,8 @@ fn data_types(
     Ok(Ok(Interface::new(types)))
 }
 
-/// The types of a program's functions, where its goal is data and there is
-/// memory.
+/// The types of a program's functions, where its goal is data, or why there are
+/// none, unless memory runs out.
 fn inferred(alloc: Global, program: &Program) -> Result<Result<Interface, TypeFault>, AllocError>
     ensures { IfOk result (λ outcome.
         MatchResult outcome (IsInferred program.now) (IsTypeFault program.now)) }
@@ -187,14 +188,14 @@ fn inferred(alloc: Global, program: &Program) -> Result<Result<Interface, TypeFa
     }
 }
 
-/// The types of a program's functions, group by group, each group behind
-/// those that it calls: a declared function has its declared type, and others
-/// have the most general types that their rules allow. The variables of each
-/// type are numbered from 0 in the order in which they come first.
+/// The types of a program's functions, group by group, each group after those
+/// that it calls: a declared function has its declared type, and others have
+/// the most general types that their rules allow. The variables of each type
+/// are numbered from 0 in the order in which they come first.
 ///
-/// Where there is memory, no other answer would do: a program has one
-/// interface at most (`interfaces_agree`), none beside a fault
-/// (`answers_exclude`), and faults of one kind and one group (`faults_agree`).
+/// Where there is memory, no other answer would do: a program has one interface
+/// at most (`interfaces_agree`), none beside a fault (`answers_exclude`), and
+/// faults of one kind and one group (`faults_agree`).
 ///
 /// Type variables have numbers below 2^32, and types are as large as memory
 /// allows: where either runs out, the answer is `NoMemory`.

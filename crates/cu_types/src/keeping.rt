@@ -65,7 +65,7 @@ fn rigid(
     Ok(Some(found))
 }
 
-/// Adds numbers to a set. Gives whether all of them were new.
+/// Adds numbers to a set. Tells whether all of them were new.
 fn join(seen: &mut IndexSet<u32>, numbers: &[u32]) -> Result<bool, AllocError>
     ensures { IfOk result (λ new. Told new seen.new.keys (joined seen.old.keys numbers.now)) }
 {
@@ -182,8 +182,8 @@ fn captured_meets(
 }
 
 impl Member {
-    /// Where the variables of its declared type begin, where the numbers
-    /// don't run out.
+    /// Where the variables of the member's declared type begin, unless the
+    /// numbers run out.
     fn first_declared(&self) -> Option<u32>
         ensures { IfSome result (λ x. x ≡ self.now.first + self.now.arity + 1) }
     {
@@ -196,8 +196,9 @@ impl Member {
         Some(first)
     }
 
-    /// Adds the variables that those of its declared type became, unless some
-    /// stand in what it captured. Gives whether they were added, each new.
+    /// Adds the variables that those of the member's declared type became,
+    /// unless some of them stand in what it captured. Tells whether all were
+    /// added, and each was new.
     fn keeps_variables(
         &self,
         alloc: Global,
@@ -218,7 +219,9 @@ impl Member {
         Ok(kept)
     }
 
-    /// The same, if all became variables.
+    /// Adds the variables that those of the member's declared type became, if
+    /// all became variables and none stands in what it captured. Tells whether
+    /// all were added, and each was new.
     fn keeps_became(
         &self,
         alloc: Global,
@@ -241,7 +244,8 @@ impl Member {
         }
     }
 
-    /// Whether it keeps to its declared type, beside the members before it.
+    /// Whether the member keeps to this declared type, beside the members
+    /// before it.
     fn keeps_type(
         &self,
         alloc: Global,
@@ -266,7 +270,8 @@ impl Member {
         Ok(kept)
     }
 
-    /// The same, where its type may be declared.
+    /// Whether the member keeps to its declared type, if it has one, beside the
+    /// members before it.
     fn keeps(
         &self,
         alloc: Global,
@@ -289,7 +294,8 @@ impl Member {
 }
 
 impl Known {
-    /// The same of a function of the group.
+    /// Whether a function keeps to its declared type, if it is a member of the
+    /// group and has one, beside the members before it.
     fn keeps(
         &self,
         alloc: Global,
@@ -313,7 +319,8 @@ impl Known {
     }
 }
 
-/// The same by its number.
+/// Whether the function of this number keeps to its declared type, if it is a
+/// member of the group and has one, beside the members before it.
 fn known_keeps(
     alloc: Global,
     known: &[Known],

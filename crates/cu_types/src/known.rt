@@ -10,15 +10,15 @@ use crate::SharedType;
 use cu_kernel::{ConId, FunId, Program};
 use std::alloc::AllocError;
 
-/// A function of the group. Its parameters have the type variables from
-/// `first` on, its result has the next one, and what its declared type takes
-/// are those behind.
+/// A function of the group that is inferred. Its parameters have the type
+/// variables from `first` on, its result has the next one, and its declared
+/// type has those after that.
 #[derive(Drop)]
 pub(crate) struct Member {
-    /// How many parameters it has.
+    /// How many parameters the function has.
     pub(crate) arity: u32,
-    /// How many of them, the first ones, are variables that it captured as a
-    /// local function.
+    /// How many of the parameters, the first ones, are variables that the
+    /// function captured as a local one.
     pub(crate) captured: u32,
     /// The type of the other parameters and of the result, if it is declared.
     pub(crate) declared: Option<SharedType>,
@@ -29,24 +29,24 @@ pub(crate) struct Member {
 /// What is known of a function.
 #[derive(Drop)]
 pub(crate) enum Known {
-    /// Its group wasn't met yet.
+    /// The function's group wasn't visited yet.
     Nothing,
-    /// Its type, of which each use has an instance.
+    /// The function's type, of which each use has an instance.
     Typed(SharedType),
-    /// It is of the group.
+    /// The function is of the group that is being inferred.
     Member(Member),
 }
 
-/// The type of a head.
+/// The type of a head, as terms use it.
 #[derive(Clone, Copy)]
 pub(crate) enum Scheme<'s> {
     /// A type variable of its own at each use.
     Unknown,
-    /// The functions that take so many type variables, from a number on, and
-    /// give the next one: the same type at each use.
+    /// The type of functions of so many type variables, from a number on, to
+    /// the next one, which is the same type at each use.
     Monomorphic(u32, u32),
-    /// An instance at each use, behind so many type variables, from a number
-    /// on, which are the same at each use.
+    /// A type of which each use has an instance, after so many type variables,
+    /// from a number on, which are the same at each use.
     Polymorphic(u32, u32, &'s SharedType),
 }
 
@@ -55,21 +55,21 @@ pub(crate) enum Scheme<'s> {
 pub(crate) struct Signing<'p> {
     /// The program.
     pub(crate) program: &'p Program,
-    /// The types of its constructors.
+    /// The types of the program's constructors.
     pub(crate) constructors: &'p [SharedType],
-    /// What is known of its functions.
+    /// What is known of the program's functions.
     pub(crate) known: &'p [Known],
-    /// The place of the type of what set functions give.
+    /// The place of the data type that set functions give, if there is one.
     pub(crate) values: Option<usize>,
 }
 
 /// Where the type variables of a function of the group begin, and how many
-/// its parameters have.
+/// parameters it has.
 #[derive(Clone, Copy)]
 pub(crate) struct Numbers {
     /// The type variable of the first parameter.
     pub(crate) first: u32,
-    /// How many parameters it has.
+    /// How many parameters the function has.
     pub(crate) arity: u32,
 }
 
@@ -84,8 +84,8 @@ pub(crate) fn arity_of(program: &Program, f: FunId) -> u32
 }
 
 impl Member {
-    /// The type variable of its result. Where the numbers run out, memory
-    /// would too.
+    /// The type variable of the function's result. Where the numbers run out it
+    /// is an allocation failure.
     pub(crate) fn right(&self) -> Result<u32, AllocError>
         ensures { IfOk result (λ right. right ≡ self.now.first + self.now.arity) }
     {
@@ -95,7 +95,7 @@ impl Member {
         }
     }
 
-    /// Its type, as a term of its group sees it.
+    /// The function's type, as a term of its own group sees it.
     fn scheme(&self) -> Scheme<'_>
         ensures { scheme_of result ≡ scheme_known (Some (kind.Member self.now)) }
     {
@@ -122,7 +122,7 @@ impl Known {
 }
 
 impl Known {
-    /// The type variables of a function of the group.
+    /// The type variables of the function, if it is of the group.
     fn numbers(&self) -> Option<Numbers>
         ensures { result ≡ numbers_of (Some self.now) }
     {

@@ -44,7 +44,7 @@ pub fn faults_agree()
     ensures { FaultsAgree }
 {}
 
-/// A declared function has its declared type, behind the types of what it
+/// A declared function has its declared type, after the types of what it
 /// captured.
 pub fn declared_types_hold()
     ensures { DeclaredTypesHold }
@@ -60,7 +60,7 @@ pub fn samples_ask()
     ensures { SamplesAsk }
 {}
 
-/// The answers for some of them are those that were worked out by hand.
+/// The answers for some functions are those that were worked out by hand.
 pub fn samples_are_answered()
     ensures { SamplesAnswered }
 {}

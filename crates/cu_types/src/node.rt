@@ -26,7 +26,7 @@ pub enum Node {
 }
 
 impl Node {
-    /// The places of the arguments.
+    /// The places of the type's arguments.
     pub fn arguments(&self) -> &[usize]
         ensures { result.now ≡ places (shape_of self.now) }
     {
@@ -46,8 +46,8 @@ impl Node {
         }
     }
 
-    /// Whether two types may have the same head and as many arguments: one
-    /// is a variable, or both have.
+    /// Whether two types may have the same head and as many arguments: one is a
+    /// variable, or both have.
     pub(crate) fn meets(&self, other: &Node) -> bool
         ensures { IsTrue result ↔ Meet (shape_of self.now) (shape_of other.now) }
     {

@@ -46,7 +46,7 @@ fn push_tasks(tasks: &mut Vec<Task>, place: usize, arguments: &[usize]) -> Resul
 }
 
 impl Numbering {
-    /// No variable has a number.
+    /// The walk before it begins, in which no variable has a number.
     fn new(alloc: Global) -> Numbering
         ensures made { IsReader result.made }
         ensures variables { result.variables.keys ≡ [] }
@@ -61,7 +61,7 @@ impl Numbering {
         }
     }
 
-    /// Makes a variable by its number.
+    /// Makes the type of a variable by its number.
     fn variable(&mut self, x: u32) -> Result<(), AllocError>
         requires { IsReader self.old.made }
         ensures pushes { OnOk result (Pushes self.old self.new self.old.places.items
@@ -78,7 +78,8 @@ impl Numbering {
         Ok(())
     }
 
-    /// Makes the type of a place, of the types that were made last, so many.
+    /// Makes the type of a place of the types that were made last, `count` of
+    /// them.
     fn join(&mut self, place: usize, head: TypeHead, count: usize) -> Result<(), AllocError>
         requires reader { IsReader self.old.made }
         requires count { count ≤ length self.old.places.items }
@@ -95,7 +96,7 @@ impl Numbering {
     }
 
     /// Enters a place: its type was made before, is a variable, or is made
-    /// behind its arguments.
+    /// after its arguments.
     fn enter(
         &mut self,
         tasks: &mut Vec<Task>,
@@ -144,7 +145,7 @@ impl Numbering {
         }
     }
 
-    /// Does one task.
+    /// Does one task of the walk.
     fn step(&mut self, tasks: &mut Vec<Task>, types: &[Node], task: Task) -> Result<(), AllocError>
         requires table { IsTable (map shape_of types.now) }
         requires goes { (root : ℕ) × (final : List ℕ) × Goes (map shape_of types.now) root final

@@ -1,5 +1,5 @@
-//! Classes in an order in which each stands behind the classes of its
-//! arguments, where there is one.
+//! Classes in an order in which each stands after the classes of its arguments,
+//! where there is such an order.
 ghost use Rattle.std.specs.Prelude.{◌≡◌, ◌<◌, ◌++◌, ◌∷◌, [], ℕ, IfOk, MatchOption, None, OnOk, Some, length, map, replicate, reverse, slice_get, slice_set};
 ghost use Rattle.cu_types.specs.Inside.Ordering.{AreWithin, IsCyclic, IsWalk, Steps, class_of, place_of, placed_shape, state_of};
 ghost use Rattle.cu_types.specs.Table.{IsTable, places, shape_of};
@@ -9,18 +9,18 @@ ghost use Rattle.cu_types.specs.declared.order.Task.TheVariants as task;
 use crate::Node;
 use std::alloc::{AllocError, Global};
 
-/// What is known of a class.
+/// The state of a class in the walk.
 #[derive(Clone, Copy, Debug, PartialEq, Eq)]
 pub(crate) enum State {
-    /// It wasn't met yet.
+    /// The class wasn't visited yet.
     Unseen,
-    /// Its arguments are being placed.
+    /// The class's arguments are being placed.
     Open,
-    /// It stands at this place.
+    /// The class stands at this place.
     Placed(usize),
 }
 
-/// What is still to do.
+/// What a walk has still to do.
 #[derive(Clone, Copy, Debug, PartialEq, Eq)]
 pub(crate) enum Task {
     /// To place the class of a type.
@@ -81,7 +81,7 @@ impl Walk {
         Ok(found)
     }
 
-    /// A class's type, whose arguments are placed.
+    /// The type of a class, whose arguments are placed.
     fn placed(&self, alloc: Global, classes: &[usize], node: &Node) -> Result<Node, AllocError>
         requires arguments { (k a : ℕ) → slice_get (places (shape_of node.now)) k ≡ Some a
             → a < length classes.now }
@@ -144,7 +144,7 @@ impl Walk {
         self.enter_all(node.arguments())
     }
 
-    /// Places a class behind its arguments.
+    /// Places a class after its arguments.
     fn place(
         &mut self,
         alloc: Global,
@@ -170,7 +170,7 @@ impl Walk {
         Ok(())
     }
 
-    /// Enters a place. Answers it where its class uses itself.
+    /// Enters a place. Answers the place where its class uses itself.
     fn enter(
         &mut self,
         nodes: &[Node],
@@ -196,7 +196,7 @@ impl Walk {
         }
     }
 
-    /// Leaves a class.
+    /// Leaves a class: places it, since its arguments are placed.
     fn leave(
         &mut self,
         alloc: Global,
@@ -216,7 +216,7 @@ impl Walk {
         Ok(())
     }
 
-    /// Does one task. Answers a place whose class uses itself, where it
+    /// Does one task. Answers a place whose class uses itself, if the task
     /// meets one.
     fn step(
         &mut self,
@@ -242,8 +242,8 @@ impl Walk {
         }
     }
 
-    /// Places all classes. Answers a place whose class uses itself, where
-    /// there is one.
+    /// Places all classes. Answers a place whose class uses itself, if there is
+    /// one.
     pub(crate) fn run(
         &mut self,
         alloc: Global,

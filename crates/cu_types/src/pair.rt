@@ -1,10 +1,10 @@
-//! Pairs of places.
+//! Pairs of places in a table.
 
 /// Two places of a table whose types shall be the same.
 #[derive(Clone, Copy, Debug, PartialEq, Eq)]
 pub(crate) struct Pair {
-    /// One of them.
+    /// The place of one of the types.
     pub(crate) left: usize,
-    /// The other.
+    /// The place of the other type.
     pub(crate) right: usize,
 }

@@ -34,22 +34,23 @@ fn hash_of(head: TypeHead, arguments: &[usize]) -> usize {
     hash
 }
 
-/// Types that are read into a table by hash consing: a type with a head is
+/// Types that are read into a table by hash consing. A type with a head is
 /// looked for by a hash of its head and of its arguments' places before it is
-/// added, so that equal types share one place.
+/// added, so that equal types share one place, unless another type with the
+/// hash was added since.
 #[derive(Drop)]
 pub(crate) struct Reader {
     /// The table.
     pub(crate) nodes: Vec<Node>,
     /// Where each variable stands.
     pub(crate) variables: IndexMap<u32, usize>,
-    /// Where a type with a hash was added last. It is a hint: what stands
-    /// there is compared.
+    /// Where the last type with a hash was added. This is a hint: the type
+    /// there is compared with the one that is looked for.
     pub(crate) added: IndexMap<usize, usize>,
 }
 
 impl Reader {
-    /// No type is read.
+    /// The reader of an empty table.
     pub(crate) fn new(alloc: Global) -> Reader
         ensures { IsReader result }
     {
@@ -60,7 +61,7 @@ impl Reader {
         }
     }
 
-    /// The place of a type variable, which is added where it isn't there.
+    /// The place of a type variable, which is added where the table lacks it.
     pub(crate) fn variable(&mut self, x: u32) -> Result<usize, AllocError>
         requires { IsReader self.old }
         ensures reader { OnOk result (IsReader self.new) }
@@ -75,8 +76,8 @@ impl Reader {
         Ok(place)
     }
 
-    /// The place of a type with this head and these arguments, if the last
-    /// type with this hash is one.
+    /// The place of a type with this head and these arguments, if the last type
+    /// with this hash is such a type.
     fn place_of(&self, hash: usize, head: TypeHead, arguments: &[usize]) -> Option<usize>
         ensures { IfSome result (λ place. slice_get (shapes self.now) place
             ≡ Some (shape.Applied head arguments.now)) }

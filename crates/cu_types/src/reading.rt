@@ -17,7 +17,7 @@ use std::alloc::{AllocError, Global};
 pub(crate) enum Reading<'t> {
     /// To read a type.
     Read(&'t TypeTerm),
-    /// To apply a head to the types that were made last, so many.
+    /// To apply a head to the types that were made last, so many of them.
     Apply(TypeHead, usize),
 }
 
@@ -32,7 +32,8 @@ fn push_types<'t>(tasks: &mut Vec<Reading<'t>>, types: &'t [TypeTerm]) -> Result
     Ok(())
 }
 
-/// Takes the places that were added last, the last one first.
+/// Takes off the places that were added last, so many of them, the last one
+/// first.
 fn take_last(alloc: Global, places: &mut Vec<usize>, count: usize) -> Result<Vec<usize>, AllocError>
     requires { count ≤ length places.old.items }
     ensures taken { IfOk result (λ taken. taken.items ≡ take count (reverse places.old.items)) }
@@ -103,7 +104,7 @@ impl Reader {
         Ok(())
     }
 
-    /// Does one task.
+    /// Does one task of reading.
     fn go_on<'t>(
         &mut self,
         alloc: Global,
@@ -132,7 +133,7 @@ impl Reader {
         }
     }
 
-    /// Reads a type. Gives its place.
+    /// Reads a type into the table. Gives its place.
     pub(crate) fn read(&mut self, alloc: Global, term: &TypeTerm) -> Result<usize, AllocError>
         requires { IsReader self.old }
         ensures reader { OnOk result (IsReader self.new) }

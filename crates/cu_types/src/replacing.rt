@@ -17,7 +17,8 @@ use std::alloc::{AllocError, Global};
 pub(crate) enum Replacing<'r> {
     /// The variable whose number is greater by so much.
     Shift(u32),
-    /// The type at the place that a list has for it, or itself.
+    /// The type at the place that a list has for the variable, or the variable
+    /// itself where it has none.
     Parameters(&'r [usize]),
 }
 
@@ -53,7 +54,8 @@ impl Reader {
         Ok(place)
     }
 
-    /// Adds the type that a list of places has for a variable, or itself.
+    /// Adds the type at the place that a list has for a variable, or the
+    /// variable itself where it has none.
     pub(crate) fn parameter(&mut self, x: u32, places: &[usize]) -> Result<usize, AllocError>
         requires reader { IsReader self.old }
         requires stands { (k p : ℕ) → slice_get places.now k ≡ Some p
@@ -83,8 +85,8 @@ impl Reader {
         }
     }
 
-    /// Adds a type of another table, where the places are known at which the
-    /// types before it were added.
+    /// Adds a type of another table. The places are known at which the types
+    /// before it were added.
     fn add_node(
         &mut self,
         alloc: Global,
@@ -142,7 +144,7 @@ impl Reader {
         Ok(places)
     }
 
-    /// Adds a type.
+    /// Adds a type of another table.
     pub(crate) fn add(
         &mut self,
         alloc: Global,

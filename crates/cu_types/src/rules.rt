@@ -19,8 +19,9 @@ use cu_kernel::{Body, FunId, Rule};
 use std::alloc::AllocError;
 
 impl Walk<'_> {
-    /// A rule whose parameters have the type variables from one on, and whose
-    /// right side has another one.
+    /// Reads off the equations of a rule whose parameters have the type
+    /// variables from `first` on, and whose right-hand side has the type
+    /// variable `right`.
     fn rule(&mut self, first: u32, right: u32, rule: &Rule) -> Result<(), AllocError>
         requires { IsReader self.old.asking.reader }
         ensures { OnOk result (Walks self.old self.new
@@ -41,7 +42,7 @@ impl Walk<'_> {
         Ok(())
     }
 
-    /// The rules of a function.
+    /// Reads off the equations of the rules of a function.
     fn rules(&mut self, first: u32, right: u32, rules: &[Rule]) -> Result<(), AllocError>
         requires { IsReader self.old.asking.reader }
         ensures { OnOk result (Walks self.old self.new (rules_between (heads self.old)
@@ -53,7 +54,7 @@ impl Walk<'_> {
         Ok(())
     }
 
-    /// A built-in operation.
+    /// Reads off the equations of a built-in operation.
     fn external(&mut self, m: &Member, operation: Primitive) -> Result<(), AllocError>
         requires { IsReader self.old.asking.reader }
         ensures { OnOk result (Walks self.old self.new
@@ -69,7 +70,7 @@ impl Walk<'_> {
         Ok(())
     }
 
-    /// What a function computes.
+    /// Reads off the equations of what a function computes.
     fn body(&mut self, m: &Member, body: &Body) -> Result<(), AllocError>
         requires { IsReader self.old.asking.reader }
         ensures { OnOk result (Walks self.old self.new
@@ -85,8 +86,8 @@ impl Walk<'_> {
         }
     }
 
-    /// The declared type of a function is that of its parameters behind those
-    /// that it captured, and of its result.
+    /// Asks that the declared type of a function is that of its parameters
+    /// after those that it captured, and of its result.
     fn declared(&mut self, m: &Member, declared: &SharedType) -> Result<(), AllocError>
         requires { IsReader self.old.asking.reader }
         ensures { OnOk result (Walks self.old self.new (asking (arrows
@@ -111,7 +112,8 @@ impl Walk<'_> {
         Ok(())
     }
 
-    /// The declared type of a function, if it has one.
+    /// Reads off the equation of the declared type of a function, if it has
+    /// one.
     fn signature(&mut self, m: &Member) -> Result<(), AllocError>
         requires { IsReader self.old.asking.reader }
         ensures { OnOk result (Walks self.old self.new (declared_asks m.now m.now.declared)) }
@@ -122,7 +124,8 @@ impl Walk<'_> {
         }
     }
 
-    /// A function of the group, with what it computes.
+    /// Reads off the equations of a function of the group, with what it
+    /// computes.
     fn member(&mut self, m: &Member, body: &Body) -> Result<(), AllocError>
         requires { IsReader self.old.asking.reader }
         ensures { OnOk result (Walks self.old self.new
@@ -133,7 +136,7 @@ impl Walk<'_> {
         self.body(m, body)
     }
 
-    /// A function of the group.
+    /// Reads off the equations of a function of the group, by its number.
     fn member_at(&mut self, f: FunId, m: &Member) -> Result<(), AllocError>
         requires { IsReader self.old.asking.reader }
         ensures { OnOk result (Walks self.old self.new
@@ -147,7 +150,8 @@ impl Walk<'_> {
         }
     }
 
-    /// A function, of which this is known.
+    /// Reads off the equations of a function of which this is known: there are
+    /// none where it isn't of the group.
     fn known(&mut self, f: FunId, known: &Known) -> Result<(), AllocError>
         requires { IsReader self.old.asking.reader }
         ensures { OnOk result (Walks self.old self.new
@@ -162,7 +166,7 @@ impl Walk<'_> {
         }
     }
 
-    /// A function, where it is of the group.
+    /// Reads off the equations of a function, if it is of the group.
     fn function(&mut self, f: FunId) -> Result<(), AllocError>
         requires { IsReader self.old.asking.reader }
         ensures { OnOk result (Walks self.old self.new
@@ -176,7 +180,7 @@ impl Walk<'_> {
         }
     }
 
-    /// The functions of a group.
+    /// Reads off the equations of the functions of a group.
     pub(crate) fn members(&mut self, group: &[FunId]) -> Result<(), AllocError>
         requires { IsReader self.old.asking.reader }
         ensures { OnOk result (Walks self.old self.new

@@ -6,7 +6,8 @@ use crate::Node;
 use std::marker::Model;
 
 /// A type in a table of its own that was made by hash consing, so that a type
-/// that stands at several places is kept once. Contracts see the type.
+/// that stands at several places is kept once as a rule. Contracts see the
+/// type.
 #[derive(Drop)]
 pub struct SharedType {
     types: Vec<Node>,
@@ -28,12 +29,12 @@ impl Model for SharedType {
     ghost invariant = { IsShared };
 }
 
-/// The type at a place of a table.
+/// A table of types, and the place of one type in it.
 #[derive(Clone, Copy, Debug)]
 pub struct Opened<'t> {
     /// The table. The arguments of each type stand before it.
     pub types: &'t [Node],
-    /// The place of the type.
+    /// The place of the type in the table.
     pub place: usize,
 }
 

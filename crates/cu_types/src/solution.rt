@@ -11,7 +11,7 @@ use crate::{Node, Subst, TypeHead};
 use std::alloc::{AllocError, Global};
 
 impl Subst {
-    /// Adds a type that has its arguments in the table.
+    /// Adds a type whose arguments stand in the table.
     fn add(&mut self, node: Node) -> Result<usize, AllocError>
         requires table { IsTable (types_of_subst self.old) }
         requires places { HasPlaces self.old }
@@ -24,8 +24,8 @@ impl Subst {
         Ok(place)
     }
 
-    /// The place of a variable's type, which is added where the variable
-    /// stands for itself.
+    /// The place of a variable's type, which is added where the variable stands
+    /// for itself.
     pub(crate) fn place_or_add(&mut self, x: u32) -> Result<usize, AllocError>
         requires table { IsTable (types_of_subst self.old) }
         requires places { HasPlaces self.old }
@@ -40,7 +40,7 @@ impl Subst {
         }
     }
 
-    /// Adds the functions from one type to another.
+    /// Adds the type of functions from one type to another.
     fn arrow(&mut self, alloc: Global, left: usize, right: usize) -> Result<usize, AllocError>
         requires table { IsTable (types_of_subst self.old) }
         requires places { HasPlaces self.old }
@@ -57,7 +57,7 @@ impl Subst {
         Ok(place)
     }
 
-    /// Adds the functions that take a variable's type before the type at a
+    /// Adds the type of functions from a variable's type to the type at a
     /// place.
     fn taking(&mut self, alloc: Global, x: u32, place: usize) -> Result<usize, AllocError>
         requires table { IsTable (types_of_subst self.old) }
@@ -71,8 +71,8 @@ impl Subst {
         Ok(whole)
     }
 
-    /// Adds the functions that take the types of so many variables, from a
-    /// number on, before the type at a place.
+    /// Adds the type of functions of the types of so many variables, from a
+    /// number on, to the type at a place.
     fn arrows(
         &mut self,
         alloc: Global,

@@ -17,15 +17,15 @@ use std::alloc::{AllocError, Global};
 /// What equations between types of a table come to.
 #[derive(Drop)]
 pub(crate) enum Solved {
-    /// A most general solution: for each type the place of what it becomes,
-    /// in a table of its own.
+    /// A most general solution: for each type the place of what it becomes, in
+    /// a table of its own.
     Solution(Vec<usize>, Vec<Node>),
     /// Two types that the equations make equal and that no substitution makes
-    /// the same. The table has the given types and perhaps more behind them.
+    /// the same. The table has the given types, and maybe more after them.
     Clash(Vec<Node>, Pair),
 }
 
-/// Puts classes in an order in which each stands behind the classes of its
+/// Puts classes in an order in which each stands after the classes of its
 /// arguments.
 fn arrange(alloc: Global, mut nodes: Vec<Node>, classes: &[usize]) -> Result<Solved, AllocError>
     requires table { IsTable (map shape_of nodes.items) }

@@ -16,7 +16,7 @@ use cu_kernel::{Program, Synonym, SynonymId, TypeName, TypeTerm};
 use std::alloc::{AllocError, Global};
 
 impl Reader {
-    /// Adds what a synonym with arguments stands for.
+    /// Adds what a synonym on arguments stands for.
     fn expand_synonym(
         &mut self,
         alloc: Global,
@@ -44,7 +44,8 @@ impl Reader {
         }
     }
 
-    /// Adds a name with arguments that name no synonym.
+    /// Adds the type of a name on arguments that name no synonym, with the name
+    /// expanded if it is a synonym.
     fn expand_name(
         &mut self,
         alloc: Global,
@@ -72,7 +73,8 @@ impl Reader {
         }
     }
 
-    /// Adds a head with arguments that name no synonym.
+    /// Adds the type of a head on arguments that name no synonym, with the head
+    /// expanded if it is a synonym.
     fn expand_head(
         &mut self,
         alloc: Global,
@@ -101,8 +103,8 @@ impl Reader {
         }
     }
 
-    /// Adds a type of another table without synonyms, where the places are
-    /// known at which the types before it were added so.
+    /// Adds a type of another table with synonyms expanded. The places are
+    /// known at which the types before it were added.
     fn expand_node(
         &mut self,
         alloc: Global,
@@ -132,7 +134,7 @@ impl Reader {
         }
     }
 
-    /// Adds the types of a table without synonyms, where it is told what
+    /// Adds the types of a table with synonyms expanded, where it is told what
     /// these stand for.
     pub(crate) fn expand_all(
         &mut self,
@@ -154,7 +156,8 @@ impl Reader {
         Ok(places)
     }
 
-    /// Adds a type without synonyms, where it is told what these stand for.
+    /// Adds a type with synonyms expanded, where it is told what these stand
+    /// for.
     pub(crate) fn expand(
         &mut self,
         alloc: Global,
@@ -172,7 +175,7 @@ impl Reader {
         Ok(places[place])
     }
 
-    /// The type at a place.
+    /// The type at a place of the table that was read.
     pub(crate) fn into_shared(self, place: usize) -> SharedType
         requires reader { IsReader self }
         requires within { place < length (shapes self) }
@@ -182,7 +185,7 @@ impl Reader {
     }
 }
 
-/// A type without synonyms, where it is told what these stand for.
+/// A type with synonyms expanded, where it is told what these stand for.
 pub(crate) fn expanded(
     alloc: Global,
     synonyms: &[SharedType],
@@ -196,7 +199,7 @@ pub(crate) fn expanded(
     Ok(reader.into_shared(place))
 }
 
-/// The types behind synonyms, where it is told what the synonyms in them
+/// What synonyms stand for, where it is told what the synonyms named by them
 /// stand for.
 fn expanded_bodies(
     alloc: Global,
@@ -253,7 +256,7 @@ fn is_same_node(left: &Node, right: &Node) -> bool
     }
 }
 
-/// Whether two tables are the same.
+/// Whether two tables have the same types at the same places.
 fn is_same_table(left: &[Node], right: &[Node]) -> bool
     ensures { IsTrue result → map shape_of left.now ≡ map shape_of right.now }
 {

@@ -19,11 +19,12 @@ use thiserror::Error;
 /// with one entry for all types that the equations make equal.
 #[derive(Drop)]
 pub struct Subst {
-    /// The numbers of the variables that have a type.
+    /// The variables that have a type, each with a number by which the type's
+    /// place is found.
     pub(crate) variables: IndexMap<u32, usize>,
-    /// The place of the type, by such a number.
+    /// The places in the table of the types of variables, by these numbers.
     pub(crate) places: Vec<usize>,
-    /// The types. The arguments of each stand before it.
+    /// The table of types. The arguments of each stand before it.
     pub(crate) types: Vec<Node>,
 }
 
@@ -33,9 +34,9 @@ pub struct Subst {
 pub struct Clash {
     /// A table of types. The arguments of each stand before it.
     pub types: Vec<Node>,
-    /// The place of one of the two types.
+    /// The place of one of the two types in the table.
     pub left: usize,
-    /// The place of the other.
+    /// The place of the other type in the table.
     pub right: usize,
 }
 
@@ -71,7 +72,8 @@ impl Subst {
 }
 
 impl Reader {
-    /// Reads equations, each as a pair of places.
+    /// Reads the types of equations, and gives the equations as pairs of
+    /// places.
     fn read_all(&mut self, alloc: Global, equations: &[Equation]) -> Result<Vec<Pair>, AllocError>
         requires { IsReader self.old }
         ensures reader { OnOk result (IsReader self.new) }
@@ -88,8 +90,8 @@ impl Reader {
     }
 }
 
-/// Solves equations that are read, each as a pair of places, where there is
-/// memory.
+/// Solves equations that are read, each as a pair of places, unless memory runs
+/// out.
 pub(crate) fn solved(
     alloc: Global,
     reader: Reader,
@@ -124,7 +126,7 @@ pub(crate) fn solved(
     }
 }
 
-/// Solves equations, where there is memory.
+/// Solves equations between types, unless memory runs out.
 fn unified(alloc: Global, equations: &[Equation]) -> Result<Result<Subst, Clash>, AllocError>
     ensures { IfOk result (λ outcome. MatchResult outcome
         (λ s. IsMostGeneral (subst_of s) (map equation_of equations.now)
@@ -137,8 +139,9 @@ fn unified(alloc: Global, equations: &[Equation]) -> Result<Result<Subst, Clash>
     Ok(outcome)
 }
 
-/// A most general solution of equations between types. Takes time nearly in
-/// proportion to the size of the equations, and so do the types that it gives.
+/// A most general solution of equations between types, if they have one. The
+/// time that it takes is nearly in proportion to the size of the equations, and
+/// so is the size of the types that it gives.
 pub fn unify(alloc: Global, equations: &[Equation]) -> Result<Subst, UnifyFault>
     ensures solution { IfOk result (λ s.
         IsMostGeneral (subst_of s) (map equation_of equations.now)) }

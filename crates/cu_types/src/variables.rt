@@ -9,24 +9,24 @@ use cu_kernel::Pattern;
 use indexmap::IndexMap;
 use std::alloc::{AllocError, Global};
 
-/// For each variable that is bound the number of its type variable.
+/// The number of the type variable of each variable that is bound.
 #[derive(Drop)]
 pub(crate) struct Variables {
-    /// The numbers.
+    /// The numbers of the type variables, by the variables.
     numbers: IndexMap<u32, u32>,
 }
 
-/// What a variable had before it was bound.
+/// A variable, and what it was bound to before it was bound.
 #[derive(Clone, Copy)]
 pub(crate) struct Binding {
-    /// The variable.
+    /// The variable that was bound.
     variable: u32,
-    /// Its type variable.
+    /// The type variable that the variable had before.
     before: u32,
 }
 
 impl Variables {
-    /// No variable is bound.
+    /// The environment in which no variable is bound.
     pub(crate) fn new(alloc: Global) -> Variables
         ensures { environment result ≡ λ x. 0 }
     {
@@ -56,7 +56,7 @@ impl Variables {
         Ok(before)
     }
 
-    /// Binds variables to type variables one after another. Gives what they
+    /// Binds variables to type variables, one after another. Gives what they
     /// had before.
     pub(crate) fn bind_all(
         &mut self,

@@ -14,21 +14,22 @@ use crate::variables::{Variables, push_variables};
 use cu_kernel::{FunId, Head, Pattern, Term};
 use std::alloc::{AllocError, Global};
 
-/// Equations that are read off, and the variables that are bound there.
+/// A walk that reads off equations, with the variables that are bound where it
+/// stands.
 #[derive(Drop)]
 pub(crate) struct Walk<'p> {
     /// Where memory comes from.
     pub(crate) alloc: Global,
-    /// What is known of heads.
+    /// What is known of the heads of terms.
     pub(crate) signing: Signing<'p>,
-    /// The type variables of variables.
+    /// The type variables of the variables that are bound.
     pub(crate) variables: Variables,
-    /// The equations.
+    /// The equations that were read off.
     pub(crate) asking: Asking,
 }
 
 impl Walk<'_> {
-    /// A variable is of a type.
+    /// Asks that the type of a variable is this type variable.
     fn variable(&mut self, x: u32, t: u32) -> Result<(), AllocError>
         requires { IsReader self.old.asking.reader }
         ensures { OnOk result (Walks self.old self.new (asking_same (scope self.old x) t)) }
@@ -38,7 +39,7 @@ impl Walk<'_> {
         Ok(())
     }
 
-    /// A set function is of the type at a place.
+    /// Asks that the type of a set function is the type at a place.
     fn set(&mut self, f: FunId, whole: usize) -> Result<(), AllocError>
         requires { IsReader self.old.asking.reader }
         ensures { OnOk result ((t : TypeExpr) → StandsAt self.old.asking whole t
@@ -62,7 +63,7 @@ impl Walk<'_> {
         Ok(())
     }
 
-    /// A head is of the type at a place.
+    /// Asks that the type of a head is the type at a place.
     fn head(&mut self, head: Head, whole: usize) -> Result<(), AllocError>
         requires { IsReader self.old.asking.reader }
         ensures { OnOk result ((t : TypeExpr) → StandsAt self.old.asking whole t
@@ -83,7 +84,8 @@ impl Walk<'_> {
         }
     }
 
-    /// A head with so many arguments gives a type.
+    /// Asks that a head on arguments of so many type variables, from `first`
+    /// on, gives the type variable t.
     fn call(&mut self, head: Head, first: u32, count: u32, t: u32) -> Result<(), AllocError>
         requires { IsReader self.old.asking.reader }
         ensures { OnOk result (Walks self.old self.new
@@ -95,7 +97,7 @@ impl Walk<'_> {
         Ok(())
     }
 
-    /// A pattern is of a type.
+    /// Reads off the equations of a pattern, whose type is this type variable.
     #[cycle(patterns)]
     #[tactic(auto, using(cu_kernel::specs::TermsOf::patterns_of_variants))]
     fn pattern(&mut self, t: u32, pattern: &Pattern) -> Result<(), AllocError>
@@ -124,7 +126,8 @@ impl Walk<'_> {
         }
     }
 
-    /// Patterns are of types that are numbered one after another.
+    /// Reads off the equations of patterns, whose types are type variables one
+    /// after another.
     #[cycle(patterns)]
     pub(crate) fn patterns(&mut self, first: u32, patterns: &[Pattern]) -> Result<(), AllocError>
         requires { IsReader self.old.asking.reader }
@@ -142,7 +145,7 @@ impl Walk<'_> {
         Ok(())
     }
 
-    /// A term is of a type.
+    /// Reads off the equations of a term, whose type is this type variable.
     #[cycle(terms)]
     #[tactic(auto, using(cu_kernel::specs::TermsOf::terms_of_variants))]
     pub(crate) fn term(&mut self, t: u32, term: &Term) -> Result<(), AllocError>
@@ -180,7 +183,8 @@ impl Walk<'_> {
         }
     }
 
-    /// A head with arguments is of a type.
+    /// Reads off the equations of a head on arguments, whose type is this type
+    /// variable.
     #[cycle(terms)]
     fn applied(&mut self, t: u32, head: Head, arguments: &[Term]) -> Result<(), AllocError>
         requires { IsReader self.old.asking.reader }
@@ -195,7 +199,8 @@ impl Walk<'_> {
         self.terms(first, arguments)
     }
 
-    /// What a term gives on another one is of a type.
+    /// Reads off the equations of a term applied to another one, where the
+    /// result's type is this type variable.
     #[cycle(terms)]
     fn apply(&mut self, t: u32, function: &Term, argument: &Term) -> Result<(), AllocError>
         requires { IsReader self.old.asking.reader }
@@ -211,7 +216,7 @@ impl Walk<'_> {
         self.term(first, argument)
     }
 
-    /// A term is of a type, where a variable is bound.
+    /// Reads off the equations of a term in which one more variable is bound.
     #[cycle(terms)]
     fn scoped(&mut self, t: u32, x: u32, own: u32, body: &Term) -> Result<(), AllocError>
         requires { IsReader self.old.asking.reader }
@@ -224,7 +229,8 @@ impl Walk<'_> {
         Ok(())
     }
 
-    /// Terms are of types that are numbered one after another.
+    /// Reads off the equations of terms, whose types are type variables one
+    /// after another.
     #[cycle(terms)]
     fn terms(&mut self, first: u32, terms: &[Term]) -> Result<(), AllocError>
         requires { IsReader self.old.asking.reader }
@@ -242,7 +248,8 @@ impl Walk<'_> {
         Ok(())
     }
 
-    /// A pattern is of a type, and what stands behind it is of another one.
+    /// Reads off the equations of an alternative: its pattern has one type
+    /// variable, and its term another one.
     #[cycle(terms)]
     fn alternative(
         &mut self,
@@ -270,8 +277,8 @@ impl Walk<'_> {
         Ok(())
     }
 
-    /// Patterns are of one type, and what stands behind them is of another
-    /// one.
+    /// Reads off the equations of alternatives: their patterns have one type
+    /// variable, and their terms another one.
     #[cycle(terms)]
     fn alternatives(
         &mut self,

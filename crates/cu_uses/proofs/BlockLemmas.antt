@@ -1,4 +1,4 @@
--- What declarations declare, one behind another.
+-- What declarations declare, one after another.
 use Rattle.std.proofs.Common.{◌≡◌, ◌∙◌, ◌<◌, ◌≤◌, ◌+◌, ℕ, Bool, true, false, List, [], ◌∷◌, ◌++◌, Option, None, Some, Result, Ok, Err, OnOk, IfSome, length, drop, get_or, map, not, refl, sym, ap, ap₂, subst, if◌then◌else◌, nat_eq, arith, suc}
 use Rattle.std.proofs.lemmas.Bool.Decides.{Decides-eqb}
 use Rattle.std.proofs.lemmas.List.{append-nil, append_assoc, map-append}

@@ -1,4 +1,4 @@
--- What items declare, one behind another, and what they ask, by its parts.
+-- What items declare, one after another, and what they ask, by its parts.
 use Rattle.std.proofs.Common.{Result, OnOk, ◌≡◌, ◌∙◌, ◌<◌, ◌≤◌, ◌+◌, ℕ, true, List, [], ◌∷◌, ◌++◌, length, drop, None, get_or, map, refl, sym, ap, ap₂, subst, add-one}
 use Rattle.std.proofs.Math.Seq.{drop-cons}
 use Rattle.std.proofs.lemmas.List.{append-nil, append_assoc, map-append}

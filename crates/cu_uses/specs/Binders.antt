@@ -83,26 +83,27 @@ abbrev mutual
 
 -- ---- declarations
 
--- what a declaration declares in its scope
+-- what one declaration declares in its scope
 pub data Declared : Type 0 where
-  -- A rule for a name. Where the flag is set, it is a function's, whose other rules may follow it
-  -- at once; or else it defines a variable, and nothing else may declare its name.
+  -- A rule for a name. Where the flag is set the name is a function's, whose other rules may follow
+  -- this one at once. Otherwise it is a variable's, and nothing else may declare it.
   Rule : Bool → Name → Declared
-  -- each of these names
+  -- each of these names, declared together
   Names : List Name → Declared
 
--- whether there are parameters
+-- whether a rule with these patterns has parameters
 abbrev pub has_parameters : Patterns → Bool
 has_parameters NoPattern = false
 has_parameters (MorePatterns p ps) = true
 
--- names without those whose text stands before
+-- the names of a list without those whose text stands earlier in it, or among `seen`
 abbrev pub once : List (List ℕ) → List Name → List Name
 once seen [] = []
 once seen (x ∷ names) = if is_among seen x.text then once seen names
     else x ∷ once (x.text ∷ seen) names
 
--- A variable that stands twice in a pattern is declared once there.
+-- What a declaration declares in a block. A variable that stands twice in a pattern is declared
+-- once there.
 abbrev pub names_by : Declaration → Declared
 names_by (FreeVariables at names) = Names names
 names_by (Signature at names t) = Names []
@@ -113,13 +114,14 @@ abbrev pub declared_in : Declarations → List Declared
 declared_in NoDeclaration = []
 declared_in (MoreDeclarations d ds) = names_by d ∷ declared_in ds
 
--- What an item declares among functions and constructors, and among types. At top level a name
--- without parameters is a function's too.
+-- What an item declares among functions and constructors. At top level a name without parameters is
+-- a function's too.
 abbrev pub values_by : Item → Declared
 values_by (Data at name parameters cs) = Names (map (λ (c : ConstructorDeclaration). c.name) cs)
 values_by (DeclarationItem (FunctionRule at name parameters right)) = Rule true name
 values_by _ = Names []
 
+-- What an item declares among types: a data type or a synonym.
 abbrev pub types_by : Item → List Name
 types_by (Data at name parameters cs) = name ∷ []
 types_by (Synonym at name parameters meant) = name ∷ []
@@ -134,7 +136,7 @@ declared_names declared = flat_map names_of declared
 
 -- ---- second declarations
 
--- names whose text stands before
+-- the names of a list whose text stands earlier in it, or among `seen`
 abbrev pub repeated : List (List ℕ) → List Name → List Name
 repeated seen [] = []
 repeated seen (x ∷ names) = if is_among seen x.text then x ∷ repeated seen names

@@ -1,5 +1,5 @@
--- What the text of a module asks of its scopes. A local variable hides what stands outside its
--- scope.
+-- What the text of a module asks of its scopes (Curry Report, section on local declarations). A
+-- local variable hides what stands outside its scope.
 use Rattle.std.specs.Prelude.{ℕ, ◌&&◌, List, [], ◌∷◌, ◌++◌, is_none, map, if◌then◌else◌}
 use Rattle.std.specs.List.{flat_map}
 use Rattle.cu_syntax.specs.Syntax as syntax
@@ -18,12 +18,13 @@ pub data Demand : Type 0 where
 abbrev pub used : Space → List Name → List Demand
 used space names = map (Uses space) names
 
--- A name with these local variables in scope. One with a qualifier is no local variable.
+-- What the use of a name asks where these local variables are in scope. A name with a qualifier is
+-- no local variable.
 abbrev pub use_of : List (List ℕ) → Name → List Demand
 use_of local name = if is_none name.qualifier && is_among local name.text then []
     else Uses Values name ∷ []
 
--- the local variables in scope inside others
+-- the local variables that are in scope where these names are bound inside others
 abbrev pub with : List Name → List (List ℕ) → List (List ℕ)
 with names local = texts names ++ local
 
@@ -31,7 +32,7 @@ with names local = texts names ++ local
 abbrev pub block_names : Declarations → List Name
 block_names ds = declared_names (declared_in ds)
 
--- what a block asks beside its declarations' own demands
+-- what a block asks beside what each of its declarations asks by itself
 abbrev pub block_demands : Declarations → List Demand
 block_demands ds =
     map Repeats (second (declared_in ds) ++ repeated [] (signed ds)) ++
@@ -43,7 +44,7 @@ qualifier_names (syntax.Generator at p list) = pattern_variables p
 qualifier_names (syntax.LocalDeclarations at ds) = block_names ds
 qualifier_names (syntax.Condition at condition) = []
 
--- the local variables in scope behind qualifiers
+-- the local variables that are in scope after qualifiers
 abbrev pub behind : List (List ℕ) → Qualifiers → List (List ℕ)
 behind local syntax.NoQualifier = local
 behind local (syntax.MoreQualifiers q qualifiers) =
@@ -102,7 +103,7 @@ abbrev mutual
       ++ (right_demands (with (pattern_variables p) local) right
       ++ alternatives_demands local alternatives)
 
-  -- The declarations behind `where` hold for the guards too.
+  -- What a right-hand side asks. The declarations after `where` hold for the guards too.
   pub right_demands : List (List ℕ) → RightSide → List Demand
   right_demands local (syntax.Plain at e ds) =
       let inner = with (block_names ds) local in
@@ -122,7 +123,7 @@ abbrev mutual
   declarations_demands local (syntax.MoreDeclarations d ds) =
       declaration_demands local d ++ declarations_demands local ds
 
-  -- what a declaration asks by itself; the variables of a signature's type belong to it alone
+  -- what a declaration asks by itself; the type variables of a signature's type belong to it alone
   pub declaration_demands : List (List ℕ) → Declaration → List Demand
   declaration_demands local (syntax.FreeVariables at names) = []
   declaration_demands local (syntax.Signature at names t) = used Types (type_constructors t)
@@ -132,7 +133,7 @@ abbrev mutual
   declaration_demands local (syntax.PatternBinding at p right) =
       used Values (pattern_constructors p) ++ right_demands local right
 
-  -- each qualifier is in scope of those behind it
+  -- what qualifiers ask, of which each is in scope in those after it
   pub qualifiers_demands : List (List ℕ) → Qualifiers → List Demand
   qualifiers_demands local syntax.NoQualifier = []
   qualifiers_demands local (syntax.MoreQualifiers q qualifiers) =
@@ -145,7 +146,7 @@ abbrev mutual
       block_demands ds ++ declarations_demands (with (block_names ds) local) ds
   qualifier_demands local (syntax.Condition at condition) = expression_demands local condition
 
--- the types on the right of a declaration of a type with these parameters
+-- what the types ask that stand on the right of the declaration of a type with these parameters
 abbrev pub type_demands : List Name → TypeTerms → List Demand
 type_demands parameters ts = used Types (all_type_constructors ts)
     ++ map Lacks (missing (texts parameters) (all_type_variables ts))

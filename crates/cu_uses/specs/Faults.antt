@@ -18,7 +18,7 @@ pub record Fault : Type 0 where
 abbrev pub wrong_name : Wrong → Name → Fault
 wrong_name wrong name = record { wrong = wrong; at = name.at; name = name.text }
 
--- a name that should mean one entity
+-- the fault of a name that should mean one entity, where these are the entities that it means
 abbrev pub unless_one : Wrong → Name → List Entity → List Fault
 unless_one lacking name [] = wrong_name lacking name ∷ []
 unless_one lacking name (e ∷ []) = []
@@ -49,7 +49,7 @@ is_before f g =
     (nat_lt f.at.column g.at.column
     || (nat_eq f.at.column g.at.column && nat_lt (rank f.wrong) (rank g.wrong))))
 
--- One of the faults, with none before it.
+-- One of the faults that has none before it.
 pub record IsFirst (found : List Fault) (fault : Fault) : Type 0 where
   pub listed : Contains found fault
   pub first : All (λ g. is_before g fault ≡ false) found

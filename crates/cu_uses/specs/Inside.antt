@@ -1,6 +1,15 @@
-pub mod Asked
-pub mod Blocks
+-- What private contracts and invariants of loops say. Contracts of other crates speak of
+-- `Gathered`. In the order in which to read them.
+
+-- The names that patterns and types have, and what the code finds of them.
 pub mod Gathered
-pub mod Scopes
+-- What declarations declare, and what the code gathers of it.
+pub mod Blocks
+-- What the views of a text ask of its scopes.
+pub mod Asked
+-- What items declare at top level, and what they ask of their scopes.
 pub mod Tops
+-- Demands of a text whose faults were told.
 pub mod Worlds
+-- What a scope of the code tells, and what it stands for.
+pub mod Scopes

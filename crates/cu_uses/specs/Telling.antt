@@ -1,4 +1,5 @@
--- What the first fault of the code stands for, and sets of texts, under a table of names.
+-- What the first fault that the code holds stands for, and its sets of texts, under a table of
+-- names.
 use Rattle.std.specs.Prelude.{◌≡◌, ℕ, List, [], Option, None, Some}
 use Rattle.indexmap.specs.IndexSet.{contains}
 use Rattle.cu_lex.specs.Reading.{position_of}
@@ -21,18 +22,18 @@ pub record FaultIsOf (owner : NameId) (names : List (List ℕ)) (f : code.Fault)
   pub place : PlaceIsOf owner f.place
   pub name : IsKnown names f.name
 
--- No fault, where there is none, or the first of them, in its module.
+-- The code found no fault where there is none, or else the first of these, which is of the module.
 abbrev pub IsFirstIf : NameId → List (List ℕ) → List Fault → Option code.Fault → Type 0
 IsFirstIf owner names faults None = faults ≡ []
 IsFirstIf owner names faults (Some f) = FaultIsOf owner names f
     × IsFirst faults (fault_meaning names f)
 
--- These faults of a module were told.
+-- What the code holds is the first of these faults of a module, if there are any.
 pub record AreTold (owner : NameId) (names : List (List ℕ)) (faults : List Fault)
     (s : FirstFault) : Type 0 where
   pub first : IsFirstIf owner names faults s.first
 
--- These texts were added.
+-- A set of the code has these texts.
 pub record HasTexts (names : List (List ℕ)) (texts : List (List ℕ)) (s : TextSet) : Type 0 where
   pub has : (id : NameId) → IsKnown names id → contains eq-value.it s.texts id
       ≡ is_among texts (text_of names id)

@@ -24,16 +24,17 @@ use std::alloc::{AllocError, Global};
 pub(crate) struct Block {
     /// The names that are declared.
     pub(crate) names: Vec<Name>,
-    /// The same, where those of one function's rules stand once.
+    /// The names that are declared, where that of a function whose rules follow
+    /// one another stands once.
     pub(crate) once: Vec<Name>,
-    /// The function whose rules may follow.
+    /// The function whose rules may go on in the next declaration.
     function: Option<NameId>,
     /// The names that have signatures.
     pub(crate) signed: Vec<Name>,
 }
 
 impl Block {
-    /// No declarations.
+    /// A block without declarations.
     pub(crate) fn new(alloc: Global) -> Block
         ensures { IsEmpty result }
     {
@@ -45,7 +46,7 @@ impl Block {
         }
     }
 
-    /// A rule for a name.
+    /// Adds a rule for a name.
     pub(crate) fn rule(&mut self, goes_on: bool, name: Name) -> Result<(), AllocError>
         ensures { (owner : NameId) (names : List (List ℕ)) → AllDiffer names
             → NameIsOf owner names name
@@ -61,7 +62,7 @@ impl Block {
         Ok(())
     }
 
-    /// Names that are declared together.
+    /// Adds names that are declared together.
     pub(crate) fn names(&mut self, declared: &[Name]) -> Result<(), AllocError>
         ensures { (owner : NameId) (names : List (List ℕ)) → All (NameIsOf owner names) declared.now
             → OnOk result (Gathers owner names self.old
@@ -73,7 +74,8 @@ impl Block {
         Ok(())
     }
 
-    /// What declares nothing and stands between rules.
+    /// Notes a declaration that declares nothing: it ends the rules of the
+    /// function before it.
     pub(crate) fn other(&mut self)
         ensures { (owner : NameId) (names : List (List ℕ))
             → Gathers owner names self.old (Names [] ∷ []) [] self.new }
@@ -81,7 +83,7 @@ impl Block {
         self.function = None;
     }
 
-    /// The names of a signature.
+    /// Adds the names of a signature.
     pub(crate) fn sign(&mut self, signed: &[Name]) -> Result<(), AllocError>
         ensures { (owner : NameId) (names : List (List ℕ)) → All (NameIsOf owner names) signed.now
             → OnOk result (Gathers owner names self.old []
@@ -91,7 +93,7 @@ impl Block {
         Ok(())
     }
 
-    /// The variables of a pattern, each once.
+    /// Adds the variables of a pattern, each once.
     fn bind(&mut self, alloc: Global, p: Pattern<'_>) -> Result<(), AllocError>
         ensures { (owner : NameId) (names : List (List ℕ)) → AllDiffer names
             → PatternIsOf owner names p.entry
@@ -104,7 +106,7 @@ impl Block {
         self.names(variables.as_slice())
     }
 
-    /// A declaration.
+    /// Adds what a declaration declares.
     pub(crate) fn declaration(
         &mut self,
         alloc: Global,
@@ -128,8 +130,8 @@ impl Block {
         }
     }
 
-    /// A declaration at top level, where a name without parameters is a
-    /// function's too.
+    /// Adds what a declaration declares at top level, where a name without
+    /// parameters is a function's too.
     pub(crate) fn top_declaration(
         &mut self,
         alloc: Global,

@@ -83,7 +83,7 @@ pub(crate) fn expression(
     }
 }
 
-/// Several expressions.
+/// Tells what is wrong with the names in several expressions.
 #[cycle(uses)]
 fn expressions(
     alloc: Global,
@@ -101,7 +101,8 @@ fn expressions(
     Ok(())
 }
 
-/// Operators and the operands behind them.
+/// Tells what is wrong with the names of operators and in the operands after
+/// them.
 #[cycle(uses)]
 fn operands(
     alloc: Global,
@@ -120,7 +121,8 @@ fn operands(
     Ok(())
 }
 
-/// Parameters, and the expression in which they stand.
+/// Tells what is wrong with the names in parameters, and in the expression in
+/// which they are in scope.
 #[cycle(uses)]
 fn lambda(
     alloc: Global,
@@ -140,7 +142,8 @@ fn lambda(
     expression(alloc, &inner, body, first)
 }
 
-/// Local declarations, and the expression in which they hold.
+/// Tells what is wrong with the names in local declarations, and in the
+/// expression in which they hold.
 #[cycle(uses)]
 fn let_in(
     alloc: Global,
@@ -160,7 +163,7 @@ fn let_in(
     expression(alloc, &inner, body, first)
 }
 
-/// Several alternatives.
+/// Tells what is wrong with the names in several alternatives.
 #[cycle(uses)]
 fn alternatives(
     alloc: Global,
@@ -178,7 +181,8 @@ fn alternatives(
     Ok(())
 }
 
-/// A pattern, and the right-hand side in which its variables stand.
+/// Tells what is wrong with the names in a pattern, and in the right-hand side
+/// in which its variables are in scope.
 #[cycle(uses)]
 fn alternative(
     alloc: Global,
@@ -195,7 +199,8 @@ fn alternative(
     right_side(alloc, &inner, a.right, first)
 }
 
-/// The first number, the second and the last.
+/// Tells what is wrong with the names in an enumeration: in the first number,
+/// the second and the last.
 #[cycle(uses)]
 fn enumeration(
     alloc: Global,
@@ -212,7 +217,7 @@ fn enumeration(
     maybe(alloc, scope, numbers.last, first)
 }
 
-/// An expression, if it is there.
+/// Tells what is wrong with the names in an expression, if it is there.
 #[cycle(uses)]
 fn maybe(
     alloc: Global,
@@ -230,8 +235,9 @@ fn maybe(
     }
 }
 
-/// Qualifiers, each in the scope of those before it, and the element in that of
-/// all of them.
+/// Tells what is wrong with the names in a list comprehension: in qualifiers,
+/// each in the scope of those before it, and in the element in that of all of
+/// them.
 #[cycle(uses)]
 fn comprehension(
     alloc: Global,
@@ -257,7 +263,8 @@ fn comprehension(
     expression(alloc, &inner, element, first)
 }
 
-/// A qualifier. Gives the variables that it brings into scope.
+/// Tells what is wrong with the names in a qualifier. Gives the variables that
+/// it brings into scope.
 #[cycle(uses)]
 fn qualifier(
     alloc: Global,
@@ -289,7 +296,8 @@ fn qualifier(
     }
 }
 
-/// A right-hand side. The declarations behind `where` hold for the guards too.
+/// Tells what is wrong with the names in a right-hand side. The declarations
+/// after `where` hold for the guards too.
 #[cycle(uses)]
 fn right_side(
     alloc: Global,
@@ -309,7 +317,8 @@ fn right_side(
     declarations(alloc, &inner, node.local.as_slice(), first)
 }
 
-/// An expression, or guards.
+/// Tells what is wrong with the names in what follows an equals sign or an
+/// arrow: an expression, or guards.
 #[cycle(uses)]
 fn body(
     alloc: Global,
@@ -327,7 +336,8 @@ fn body(
     }
 }
 
-/// Guards and the expressions behind them.
+/// Tells what is wrong with the names in guards and in the expressions after
+/// them.
 #[cycle(uses)]
 fn guards(
     alloc: Global,
@@ -346,7 +356,7 @@ fn guards(
     Ok(())
 }
 
-/// Several declarations, each by itself.
+/// Tells what is wrong with the names in several declarations, each by itself.
 #[cycle(uses)]
 fn declarations(
     alloc: Global,
@@ -364,7 +374,7 @@ fn declarations(
     Ok(())
 }
 
-/// A declaration by itself.
+/// Tells what is wrong with the names in a declaration by itself.
 #[cycle(uses)]
 pub(crate) fn declaration(
     alloc: Global,
@@ -388,7 +398,8 @@ pub(crate) fn declaration(
     }
 }
 
-/// Parameters, and the right-hand side in which they stand.
+/// Tells what is wrong with the names in a function's rule: in its parameters,
+/// and in the right-hand side in which they are in scope.
 #[cycle(uses)]
 fn function_rule(
     alloc: Global,
@@ -408,7 +419,8 @@ fn function_rule(
     right_side(alloc, &inner, right, first)
 }
 
-/// A pattern, and the right-hand side whose parts it names.
+/// Tells what is wrong with the names in a pattern binding: in its pattern, and
+/// in its right-hand side.
 #[cycle(uses)]
 fn pattern_binding(
     alloc: Global,

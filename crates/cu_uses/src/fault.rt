@@ -5,17 +5,17 @@ ghost use Rattle.cu_uses.specs.Telling.{fault_meaning};
 
 use cu_names::{NameId, Place};
 
-/// What is wrong with a name. Of two faults at one place the earlier of these
-/// comes first.
+/// What is wrong with a name. Of two faults at one place the one whose kind
+/// stands earlier here comes first.
 #[derive(Clone, Copy, Debug, PartialEq, Eq)]
 pub enum Wrong {
     /// An import or export list names what isn't there.
     NotExported,
     /// The name means nothing.
     UnknownName,
-    /// It means two entities or more.
+    /// The name means two entities or more.
     Ambiguous,
-    /// It is declared a second time in one scope.
+    /// The name is declared a second time in one scope.
     Duplicate,
 }
 
@@ -28,7 +28,7 @@ pub struct Fault {
 }
 
 impl Wrong {
-    /// Its place among these.
+    /// The rank of the fault's kind among the kinds of faults.
     fn rank(self) -> u32
         ensures { result ≡ rank self }
     {
@@ -42,7 +42,7 @@ impl Wrong {
 }
 
 impl Fault {
-    /// Whether this comes before another one.
+    /// Whether this fault comes before another one.
     pub(crate) fn is_before(self, other: Fault) -> bool
         ensures { (names : List (List ℕ))
             → result ≡ is_before (fault_meaning names self) (fault_meaning names other) }

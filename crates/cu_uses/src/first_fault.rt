@@ -14,7 +14,7 @@ pub struct FirstFault {
 }
 
 impl FirstFault {
-    /// No fault was told.
+    /// The state in which no fault was told.
     pub fn new() -> FirstFault
         ensures { (owner : NameId) (names : List (List ℕ)) → AreTold owner names [] result }
     {

@@ -90,7 +90,7 @@ pub(crate) fn patterns(
     Ok(())
 }
 
-/// Finds the names in operators and the operands behind them.
+/// Finds the names in operators and the operands after them.
 #[cycle(patterns)]
 fn operands(
     alloc: Global,

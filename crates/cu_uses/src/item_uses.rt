@@ -69,7 +69,8 @@ fn item_uses(
     }
 }
 
-/// Parameters, and the types of the fields of constructors.
+/// Tells what is wrong with the names in a data type: with its parameters, and
+/// in the types of the fields of its constructors.
 fn data_uses(
     alloc: Global,
     scope: &Scope<'_>,
@@ -88,7 +89,8 @@ fn data_uses(
     fields_uses(alloc, scope, &known, constructors, first)
 }
 
-/// Parameters, and the type that a synonym means.
+/// Tells what is wrong with the names in a synonym: with its parameters, and in
+/// the type that it means.
 fn synonym_uses(
     alloc: Global,
     scope: &Scope<'_>,
@@ -107,7 +109,7 @@ fn synonym_uses(
     types_uses(alloc, scope, &known, &[meant], first)
 }
 
-/// The texts of parameters. Tells those that stand twice.
+/// The texts of a type's parameters. Tells those that stand twice.
 fn open_parameters(
     alloc: Global,
     parameters: &[Name],
@@ -126,7 +128,8 @@ fn open_parameters(
     Ok(known)
 }
 
-/// The types of the fields of constructors.
+/// Tells what is wrong with the names in the types of the fields of
+/// constructors.
 fn fields_uses(
     alloc: Global,
     scope: &Scope<'_>,
@@ -152,7 +155,7 @@ fn fields_uses(
     Ok(())
 }
 
-/// Types over some parameters.
+/// Tells what is wrong with the names in types over these parameters.
 fn types_uses(
     alloc: Global,
     scope: &Scope<'_>,

@@ -17,7 +17,7 @@ use crate::text_set::TextSet;
 use cu_syntax::Name;
 use std::alloc::{AllocError, Global};
 
-/// Tells the names whose text stands before.
+/// Tells the names of a list whose text stands earlier in it.
 pub(crate) fn tell_repeated(
     alloc: Global,
     names: &[Name],
@@ -38,7 +38,7 @@ pub(crate) fn tell_repeated(
     Ok(())
 }
 
-/// The names whose text doesn't stand before.
+/// The names of a list whose text doesn't stand earlier in it.
 pub(crate) fn first_places(alloc: Global, names: &[Name]) -> Result<Vec<Name>, AllocError>
     ensures { (owner : NameId) (table : List (List ℕ)) → AllDiffer table
         → All (NameIsOf owner table) names.now
@@ -57,7 +57,7 @@ pub(crate) fn first_places(alloc: Global, names: &[Name]) -> Result<Vec<Name>, A
     Ok(found)
 }
 
-/// The texts of names.
+/// The set of the texts of names.
 pub(crate) fn text_set(alloc: Global, names: &[Name]) -> Result<TextSet, AllocError>
     ensures { (owner : NameId) (table : List (List ℕ)) → AllDiffer table
         → All (NameIsOf owner table) names.now
@@ -70,7 +70,7 @@ pub(crate) fn text_set(alloc: Global, names: &[Name]) -> Result<TextSet, AllocEr
     Ok(set)
 }
 
-/// Tells the names whose text isn't known.
+/// Tells the names whose text isn't among those that are known.
 pub(crate) fn tell_missing(known: &TextSet, names: &[Name], first: &mut FirstFault)
     ensures { (w : World) (texts : List (List ℕ)) → HasTexts w.names texts known.now
         → All (NameIsOf w.owner w.names) names.now

@@ -49,7 +49,7 @@ pub(crate) fn use_entity(scope: &Scope<'_>, space: Space, name: Name, first: &mu
     }
 }
 
-/// Whether a name is that of a local variable. One with a qualifier isn't.
+/// Whether a name is that of a local variable. A name with a qualifier isn't.
 fn is_variable(scope: &Scope<'_>, name: Name) -> bool
     ensures { (w : World) (local : List (List ℕ)) → Sees w local scope.now
         → NameIsOf w.owner w.names name

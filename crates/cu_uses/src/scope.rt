@@ -17,7 +17,7 @@ pub(crate) enum Scope<'a> {
 }
 
 impl<'a> Scope<'a> {
-    /// No local variables.
+    /// The scope without local variables.
     #[tactic(auto, using(crate::specs::Inside::Scopes::table_variants, crate::specs::Inside::Scopes::local_variants))]
     pub(crate) fn top(table: &'a NameTable) -> Scope<'a>
         ensures table { table_in result ≡ table.now }
@@ -26,7 +26,7 @@ impl<'a> Scope<'a> {
         Scope::Top(table)
     }
 
-    /// This scope with more variables.
+    /// The scope around with more local variables inside it.
     #[tactic(auto, using(crate::specs::Inside::Scopes::table_variants, crate::specs::Inside::Scopes::local_variants))]
     pub(crate) fn inside(names: &'a [Name], around: &'a Scope<'a>) -> Scope<'a>
         ensures table { table_in result ≡ table_in around.now }

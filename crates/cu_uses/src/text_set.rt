@@ -15,7 +15,7 @@ pub struct TextSet {
 }
 
 impl TextSet {
-    /// No text.
+    /// The set without texts.
     pub fn new(alloc: Global) -> TextSet
         ensures { (names : List (List ℕ)) → HasTexts names [] result }
     {
@@ -28,7 +28,7 @@ impl TextSet {
     ///
     /// # Errors
     ///
-    /// Want of memory; the set is of no use then.
+    /// An allocation failure. The set is of no use then.
     pub fn add(&mut self, name: NameId) -> Result<(), AllocError>
         ensures { (names : List (List ℕ)) (texts : List (List ℕ))
             → AllDiffer names → IsKnown names name → HasTexts names texts self.old

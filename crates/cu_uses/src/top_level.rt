@@ -32,7 +32,7 @@ pub(crate) struct TopLevel {
 }
 
 impl TopLevel {
-    /// No items.
+    /// What no items declare.
     fn new(alloc: Global) -> TopLevel
         ensures values { IsEmpty result.values }
         ensures types { result.types.items ≡ [] }
@@ -45,7 +45,7 @@ impl TopLevel {
         }
     }
 
-    /// A fixity of operators.
+    /// Adds the operators of a fixity declaration.
     fn fixity(&mut self, operators: &[Name]) -> Result<(), AllocError>
         ensures { (owner : NameId) (names : List (List ℕ))
             → All (NameIsOf owner names) operators.now
@@ -57,7 +57,7 @@ impl TopLevel {
         Ok(())
     }
 
-    /// A type and its constructors.
+    /// Adds what a data type declares: the type and its constructors.
     fn data(
         &mut self,
         alloc: Global,
@@ -76,7 +76,7 @@ impl TopLevel {
         Ok(())
     }
 
-    /// A synonym of a type.
+    /// Adds a synonym of a type.
     fn synonym(&mut self, name: Name) -> Result<(), AllocError>
         ensures { (owner : NameId) (names : List (List ℕ)) → NameIsOf owner names name
             → OnOk result (Reads owner names self.old
@@ -87,7 +87,7 @@ impl TopLevel {
         Ok(())
     }
 
-    /// An item.
+    /// Adds what an item declares.
     fn item(&mut self, alloc: Global, item: &Item) -> Result<(), AllocError>
         ensures { (owner : NameId) (names : List (List ℕ)) → AllDiffer names
             → ItemIsOf owner names item.now

@@ -29,7 +29,7 @@ use std::alloc::{AllocError, Global};
 ///
 /// # Errors
 ///
-/// Want of memory.
+/// An allocation failure.
 pub fn items_faults(
     alloc: Global,
     table: &NameTable,
@@ -57,7 +57,7 @@ pub fn items_faults(
 ///
 /// # Errors
 ///
-/// Want of memory.
+/// An allocation failure.
 pub fn goal_faults(
     alloc: Global,
     table: &NameTable,

@@ -40,7 +40,7 @@ pub count_values_of : (vs : List Value) → count (values_of vs) ≡ length vs
 count_values_of [] = refl
 count_values_of (v ∷ vs) = omega (arith, count_values_of vs)
 
--- an argument's cells go behind those that are written
+-- an argument's cells go after those that are written
 pub written : (items piece : List Cell) (arguments : List Value) (i : ℕ) (v : Value) (whole : List Cell) → i < length arguments → v ≡ get_or arguments i v
     → piece ≡ spell v → items ++ spell_all (values_of (drop i arguments)) ≡ whole
     → (items ++ piece) ++ spell_all (values_of (drop (i + 1) arguments)) ≡ whole
@@ -73,7 +73,7 @@ piece_between cells at end spelled some less within rest_spelled rest = by (read
         omega (arith, ap length whole, length-append (spell u) (drop end cells), length-drop at cells, length-drop end cells, less, within) in
         rw (long, whole) (take-append_seam (spell u) (drop end cells))
 
--- an argument that is read goes behind those that were
+-- an argument that is read goes after those that were
 pub read_on : (vs : List Value) (us rest : Values) (v : Value) (all : List Value) → 1 ≤ count us → rest ≡ back 1 us → v ≡ first us
     → vs ++ list_of us ≡ all → (vs ++ v ∷ []) ++ list_of rest ≡ all
 read_on vs value.NoValue rest v all none r e h = absurd (omega (arith, none))
@@ -93,7 +93,7 @@ pub partial_cells : (h : Head) (arguments : List Value) (cells : List Cell) → 
     → cells ≡ spell (value.Partial h (values_of arguments))
 partial_cells h arguments cells e = rw (count_values_of arguments) e
 
--- behind the head, the arguments are left
+-- after the head, the arguments are left
 pub arguments_left : (v : Value) (cells : List Cell) → cells ≡ spell v → drop 1 cells ≡ spell_all (arguments_of v)
 arguments_left v cells e = rw (e, spell_parts v) refl
 

@@ -209,7 +209,7 @@ at_end ds answer p = by (read_all ds) p.counts p.decides
     by value.NoValue n d = d
     by (value.MoreValues v vs) n d = absurd (omega (arith, n))
 
--- the same at places in lists of cells
+-- ---- approximation, at places in lists of cells
 
 pub beginning : (u v : Value) (cs ds : List Cell) → cs ≡ spell u → ds ≡ spell v → Compared cs ds (is_below u v)
 beginning u v cs ds e f =

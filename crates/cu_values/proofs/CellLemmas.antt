@@ -34,7 +34,7 @@ back-back zero q vs = rw add-zero refl
 back-back (suc n) q value.NoValue = back-none q ∙ sym (back-none (q + suc n))
 back-back (suc n) q (value.MoreValues v vs) = rw (add-suc, back-back n q vs) refl
 
--- behind a head, the values behind its arguments are left
+-- after a head, the values after its arguments are left
 pub back-put : (c : Cell) (vs : Values) (q : ℕ) → back (suc q) (put c vs) ≡ back (q + arity_of c) vs
 back-put cell.Bottom vs q = rw add-zero refl
 back-put (cell.LVar x) vs q = rw add-zero refl
@@ -46,7 +46,7 @@ back-put (cell.Part h n) vs q = back-back n q vs
 pub IsWhole : Cell → Values → Type 0
 IsWhole c vs = count (front (arity_of c) vs) ≡ arity_of c
 
--- what is known behind the first of cells that spell values
+-- what is known after the first of cells that spell values
 pub record Behind (c : Cell) (cs : List Cell) : Type 0 where
   pub others : IsSpelled cs
   pub whole : count (front (arity_of c) (read_all cs)) ≡ arity_of c
@@ -80,7 +80,7 @@ pub count_read_all : (cells : List Cell) → count (read_all cells) ≤ length c
 count_read_all [] = omega arith
 count_read_all (c ∷ cs) = omega (arith, count-put c (read_all cs), count_read_all cs)
 
--- one value behind others, in a walk that counts those to be passed
+-- one value after others, in a walk that counts those to be passed
 pub record Passed (cs : List Cell) (goal : Values) (pending : ℕ) : Type 0 where
   pub spelled : IsSpelled cs
   pub enough : pending ≤ count (read_all cs)

@@ -37,7 +37,7 @@ pairs_order (suc n) value.NoValue vs = Equal
 pairs_order (suc n) (value.MoreValues u us) value.NoValue = Equal
 pairs_order (suc n) (value.MoreValues u us) (value.MoreValues v vs) = ordering_then (value_order u v) (pairs_order n us vs)
 
--- as many arguments, and then what stands behind
+-- as many arguments, and then what stands after them
 pub pairs_front : (m q : ℕ) (us vs : Values) → m ≤ count us → m ≤ count vs
     → ordering_then (values_order (front m us) (front m vs)) (pairs_order q (back m us) (back m vs)) ≡ pairs_order (q + m) us vs
 pairs_front zero q us vs e f = rw add-zero refl
@@ -91,7 +91,8 @@ heads_order (cell.Con c m) (cell.Con d n) us vs = refl
 heads_order (cell.Part h m) (cell.Part k n) us vs = refl
 heads_order _ _ us vs = refl
 
--- cells of values of which some pairs are still to be compared, the order where these are alike, and what the comparison gives
+-- cells of values of which some pairs are still to be compared, the order where these are alike,
+-- and what the comparison gives
 pub record Ordered (cs ds : List Cell) (left : ℕ) (last answer : Ordering) : Type 0 where
   pub spelled : IsSpelled cs
   pub others : IsSpelled ds
@@ -130,13 +131,13 @@ order_alike c d cs ds q last answer p alike =
     p.decides ∙ ap (λ x. ordering_then x last) (pairs_heads c d (read_all cs) (read_all ds) q)
     ∙ ap (λ x. ordering_then (ordering_then (ordering_then x (values_order (front (arity_of c) (read_all cs)) (front (arity_of d) (read_all ds)))) (pairs_order q (back (arity_of c) (read_all cs)) (back (arity_of d) (read_all ds)))) last) alike
 
--- a front that differs is not refined by what stands behind it
+-- a prefix that differs is not refined by what stands after it
 pub then_last : (p l b last : Ordering) → (l ≡ Equal → ⊥) → ordering_then (ordering_then (ordering_then p l) b) last ≡ ordering_then p l
 then_last Less l b last differ = refl
 then_last Equal l b last differ = ap (λ x. ordering_then x last) (then_final l b differ) ∙ then_final l last differ
 then_last Greater l b last differ = refl
 
--- what is left behind heads that are alike
+-- what is left after heads that are alike
 pub record Left (m n q : ℕ) (last : Ordering) (left : ℕ) (new : Ordering) : Type 0 where
   pub same : m ≡ n → (left ≡ q + m) × (new ≡ last)
   pub differ : (m ≡ n → ⊥) → (left ≡ min m n) × (new ≡ nat_cmp m n)
@@ -226,7 +227,7 @@ order_step c d cs ds q last answer left new p alike l = by (nat_lt (arity_of c) 
     by true e = step_fewer c d cs ds q last answer left new p alike l (ltb-true (arity_of c) (arity_of d) e)
     by false e = further (nat_lt (arity_of d) (arity_of c)) refl (ltb-false (arity_of c) (arity_of d) e)
 
--- the same at places in lists of cells
+-- ---- the order, at places in lists of cells
 
 pub order_beginning : (u v : Value) (cs ds : List Cell) (left : ℕ) (last : Ordering) → cs ≡ spell u → ds ≡ spell v → left ≡ 1 → last ≡ Equal
     → Ordered cs ds left last (value_order u v)

@@ -1,4 +1,4 @@
--- The cell at a place of cells that spell values.
+-- The cell with an index among cells that spell values.
 use Rattle.std.specs.Prelude.{◌≡◌, ℕ, zero, suc, ◌+◌, ◌<◌, List, [], ◌∷◌, length, refl}
 use Rattle.std.proofs.Common.{add-one, ap, drop, drop-cons, get_or, sym, subst, ◌∙◌}
 use Rattle.cu_calculus.specs.declared.Lit.{Lit}
@@ -25,13 +25,13 @@ here cells at c within is spelled =
       behind = behind c (drop (at + 1) cells) (subst (λ (x : List Cell). IsSpelled x) cut spelled);
     }
 
--- the cells behind the first are spelled too
+-- the cells after the first are spelled too
 pub spelled_drop : (cells : List Cell) (i : ℕ) → IsSpelled cells → IsSpelled (drop i cells)
 spelled_drop cells zero h = h
 spelled_drop [] (suc i) h = refl
 spelled_drop (c ∷ cs) (suc i) h = spelled_drop cs i (behind c cs h).others
 
--- the values that a head takes stand in front of the others
+-- the values that a head takes stand before the others
 pub taken : (n : ℕ) (us vs : Values) → front n us ≡ vs → us ≡ join vs (back n us)
 taken n us vs e = sym (join-front-back n us) ∙ ap (λ (x : Values). join x (back n us)) e
 

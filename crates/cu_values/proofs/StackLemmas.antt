@@ -1,4 +1,4 @@
--- The shapes of the values behind a cell, on a stack.
+-- The shapes of the values after a cell, on a stack.
 use Rattle.std.specs.Prelude.{◌≡◌, ℕ, zero, suc, ◌+◌, ◌-◌, ◌<◌, ◌≤◌, ◌⊎◌, false, List, [], ◌∷◌, ◌++◌, length, refl}
 use Rattle.std.proofs.Common.{ap, append-nil, append_assoc, arith, drop, drop-cons, get_or, length-append, inl, inr, reverse, sym, subst, take, ◌∙◌}
 use Rattle.std.proofs.lemmas.List.{reverse-append}

@@ -304,7 +304,7 @@ pub enclosed_here : (labels : Labels) (cells : List Cell) (shapes : List Shape) 
 enclosed_here labels cells shapes at x b shaped within e =
     s.enclosed_by_shape labels (first (read_all (drop at cells))) ∙ ap is_enclosed (sym (shape_here labels cells shapes at x shaped within)) ∙ sym e
 
--- What a call did, behind a rule that passes no cell.
+-- What a call did, after a rule that passes no cell.
 pub composed_ok : (r : Result ℕ AllocError) (labels : Labels) (cells : List Cell) (at : ℕ) (tasks : List Task) (t : Task) (between_tasks : List Task) (s : Task)
     (bytes : List ℕ) (rs : List Task) (text between : List ℕ) (others : List Task) (longer : List ℕ) (light heavy : ℕ)
     → Rule labels (read_all (drop at cells)) (t ∷ reverse tasks) bytes (read_all (drop at cells)) (s ∷ rs) → reverse between_tasks ≡ rs

@@ -18,7 +18,7 @@ abbrev pub parting : Bool → List ℕ → List ℕ
 parting numeric [] = []
 parting numeric (d ∷ ds) = if numeric && is_digit d then 92 ∷ codes "&" else []
 
--- what stands behind a character, which was escaped by its number or not
+-- what stands after a character, which was escaped by its number or not
 abbrev pub string_after : Bool → List ℕ → List ℕ
 string_after numeric cs = parting numeric cs ++ string_text cs
 
@@ -41,7 +41,8 @@ string_on numeric c cs text between longer whole e f h =
     rw (f, e, append_assoc (text ++ parted) (escaped 34 c) rest, append_assoc text parted (escaped 34 c ++ rest))
     (ap (λ (x : List ℕ). text ++ (parted ++ x)) (sym g) ∙ h)
 
--- the first cell of a list of characters that isn't empty, and the cells of its first character and of its rest
+-- the first cell of a list of characters that isn't empty, and the cells of its first character and
+-- of its rest
 pub record Longer (cells : List Cell) (at : ℕ) : Type 0 where
   pub letter : ℕ
   pub is : character_of (get_or cells (at + 1) cell.Bottom) ≡ letter
@@ -51,7 +52,7 @@ pub record Longer (cells : List Cell) (at : ℕ) : Type 0 where
   pub all : characters (first (read_all (drop at cells))) ≡ letter ∷ characters (first (read_all (drop (at + 2) cells)))
   pub others : back 1 (read_all (drop (at + 2) cells)) ≡ back 1 (read_all (drop at cells))
 
--- the values behind the head of such a list
+-- the values after the head of such a list
 pub record Spread (c : Cell) (us : Values) : Type 0 where
   pub letter : ℕ
   pub rest : Value

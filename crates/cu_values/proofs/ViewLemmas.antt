@@ -1,4 +1,4 @@
--- The first of several values, and those behind it.
+-- The first of several values, and those after it.
 use Rattle.std.proofs.Common.{◌≡◌, ℕ, ◌-◌, ◌<◌, List, [], ◌∷◌, ◌++◌, None, Option, Some, append-nil, append_assoc, arith, drop, get_or, length, length-drop, refl, take, sym, ap, ◌∙◌}
 use Rattle.std.proofs.Math.Seq.{take-length}
 use Rattle.cu_calculus.specs.Value as value

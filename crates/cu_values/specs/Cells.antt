@@ -1,5 +1,5 @@
--- Values written as lists of cells: a head with the number of its arguments, and then the
--- arguments.
+-- Values written as lists of cells, in prefix notation: a head with the number of its arguments,
+-- and then the arguments.
 use Rattle.std.specs.Prelude.{◌≡◌, ℕ, zero, suc, List, [], ◌∷◌, ◌++◌}
 use Rattle.cu_calculus.specs.Value as value
 use Rattle.cu_calculus.specs.Value.{Value, Values, count}
@@ -7,6 +7,7 @@ use Rattle.cu_values.specs.declared.cell.Cell.{Cell}
 use Rattle.cu_values.specs.declared.cell.Cell.TheVariants as cell
 
 abbrev mutual
+  -- the cells of a value
   pub spell : Value → List Cell
   spell value.Bottom = cell.Bottom ∷ []
   spell (value.Variable x) = cell.LVar x ∷ []
@@ -14,23 +15,25 @@ abbrev mutual
   spell (value.Constructed c vs) = cell.Con c (count vs) ∷ spell_all vs
   spell (value.Partial h vs) = cell.Part h (count vs) ∷ spell_all vs
 
+  -- the cells of several values, one after another
   pub spell_all : Values → List Cell
   spell_all value.NoValue = []
   spell_all (value.MoreValues v vs) = spell v ++ spell_all vs
 
--- the first values of several
+-- the first n of several values, or all where there are fewer
 abbrev pub front : ℕ → Values → Values
 front zero vs = value.NoValue
 front (suc n) value.NoValue = value.NoValue
 front (suc n) (value.MoreValues v vs) = value.MoreValues v (front n vs)
 
--- the values after them
+-- the values after the first n
 abbrev pub back : ℕ → Values → Values
 back zero vs = vs
 back (suc n) value.NoValue = value.NoValue
 back (suc n) (value.MoreValues v vs) = back n vs
 
--- A cell before the cells of values: a head takes its arguments from them.
+-- The values that begin with a cell, where these values follow it: a head takes its arguments from
+-- the first of them.
 abbrev pub put : Cell → Values → Values
 put cell.Bottom vs = value.MoreValues value.Bottom vs
 put (cell.LVar x) vs = value.MoreValues (value.Variable x) vs
@@ -43,6 +46,7 @@ abbrev pub read_all : List Cell → Values
 read_all [] = value.NoValue
 read_all (c ∷ cs) = put c (read_all cs)
 
+-- the first of several values, or Bottom where there is none
 abbrev pub first : Values → Value
 first value.NoValue = value.Bottom
 first (value.MoreValues v vs) = v
@@ -59,7 +63,7 @@ IsOneSpelled cells = spell (read cells) ≡ cells
 abbrev pub IsSpelled : List Cell → Type 0
 IsSpelled cells = spell_all (read_all cells) ≡ cells
 
--- how many arguments a head takes from the cells behind it
+-- how many arguments a head takes from the cells after it
 abbrev pub arity_of : Cell → ℕ
 arity_of cell.Bottom = 0
 arity_of (cell.LVar x) = 0

@@ -1,4 +1,4 @@
--- What the functions of a layout rest on and give.
+-- What the functions of a layout, which displays a value, rest on and give.
 use Rattle.std.specs.Prelude.{◌≡◌, ℕ, List, [], ◌∷◌, ◌++◌}
 use Rattle.cu_values.specs.declared.layout.Layout.{Layout}
 use Rattle.cu_values.specs.declared.task.Task.{Task}
@@ -6,17 +6,17 @@ use Rattle.cu_values.specs.LabelsOf.{labels_meaning}
 use Rattle.cu_values.specs.Shapes.{shapes_at}
 use Rattle.cu_values.specs.Tasks.{Ready, Step}
 
--- the shapes are those of the cells
+-- The shapes of a layout are those of its cells.
 abbrev pub IsShaped : Layout → Type 0
 IsShaped layout = layout.shapes.now ≡ shapes_at (labels_meaning layout.names.now) layout.cells.now
 
--- the values that begin at a place are those that the tasks take: first the one that was taken from
--- them, and then those that are left
+-- The values that begin at a cell are exactly those that the tasks take: the task that was popped
+-- takes the first of them, and the tasks on the stack take the others.
 abbrev pub Awaits : Layout → ℕ → List Task → Task → Type 0
 Awaits layout at tasks task =
     Ready (labels_meaning layout.names.now) layout.cells.now at (tasks ++ task ∷ [])
 
--- a part of the task was written, and the tasks have what is left of it
+-- A part of the popped task was written, and the stack of tasks has what is left of it.
 abbrev pub Begun : Layout → ℕ → ℕ → List Task → Task → List ℕ → ℕ → List Task → List ℕ → Type 0
 Begun layout weight at tasks task text next others longer =
     Step (labels_meaning layout.names.now) layout.cells.now weight at

@@ -6,17 +6,18 @@ use Rattle.cu_names.specs.Texts.{text_of}
 use Rattle.cu_kernel.specs.Kernel.{Kernel, constructor_at}
 use Rattle.cu_values.specs.Display.{Labels}
 
--- the text of a name, and nothing where there is none
+-- the text of a name, and no byte where there is no name
 abbrev pub label : List (List ℕ) → Option NameId → List ℕ
 label names None = []
 label names (Some id) = text_of names id
 
--- Unit and the types of tuples of 2 to 15 components stand at these places among the types of every
--- program.
+-- Whether a type is unit or a type of tuples, by its index. Unit and the types of tuples of 2 to 15
+-- components have the indices 1 to 15 among the types of every program.
 abbrev pub is_tuple_type : Option ℕ → Bool
 is_tuple_type None = false
 is_tuple_type (Some place) = nat_le 1 place && nat_le place 15
 
+-- what a program calls its entities: the texts of their names, by a table of names
 abbrev pub labels_of : List (List ℕ) → Kernel → Labels
 labels_of names program = record {
   constructor =

@@ -1,4 +1,4 @@
--- What its neighbours must know of a value to display it.
+-- What the values around a value must know of it to display it: its shape.
 use Rattle.std.specs.Prelude.{Bool, true, false, List, [], ◌∷◌, ◌++◌, if◌then◌else◌}
 use Rattle.cu_calculus.specs.declared.ConId.{ConId}
 use Rattle.cu_calculus.specs.declared.Lit.TheVariants as lit
@@ -12,6 +12,7 @@ use Rattle.cu_values.specs.declared.shape.Shape.TheVariants as shape
 use Rattle.cu_values.specs.Cells.{first, read_all}
 use Rattle.cu_values.specs.Display.{Labels}
 
+-- the shape of a `:` by the shapes of its element and its rest, or `other` where it is no list
 abbrev pub list_shape : Shape → Shape → Shape → Shape
 list_shape shape.Character shape.Empty other = shape.Text
 list_shape shape.Character shape.Text other = shape.Text
@@ -22,10 +23,11 @@ list_shape element shape.Variable other = shape.Open
 list_shape element shape.Open other = shape.Open
 list_shape element rest other = other
 
--- an application with arguments
+-- the shape of an application with arguments that is no list
 abbrev pub other_shape : Labels → ConId → Shape
 other_shape labels c = if labels.tuple c then shape.Simple else shape.Compound
 
+-- the shape of a value
 abbrev pub shape_of : Labels → Value → Shape
 shape_of labels value.Bottom = shape.Simple
 shape_of labels (value.Variable n) = shape.Variable
@@ -40,7 +42,7 @@ shape_of labels (value.Constructed c (value.MoreValues x (value.MoreValues rest 
     else other_shape labels c
 shape_of labels (value.Constructed c vs) = other_shape labels c
 
--- the shapes of values, the nearest last
+-- the shapes of values, that of the first value last, as on a stack
 abbrev pub stacked : Labels → Values → List Shape
 stacked labels value.NoValue = []
 stacked labels (value.MoreValues v vs) = stacked labels vs ++ shape_of labels v ∷ []
@@ -50,13 +52,13 @@ abbrev pub shapes_at : Labels → List Cell → List Shape
 shapes_at labels [] = []
 shapes_at labels (c ∷ cs) = shape_of labels (first (read_all (c ∷ cs))) ∷ shapes_at labels cs
 
--- what stands in parentheses as an argument
+-- whether a value of this shape stands in parentheses as an argument
 abbrev pub is_enclosed : Shape → Bool
 is_enclosed shape.Open = true
 is_enclosed shape.Compound = true
 is_enclosed _ = false
 
--- no finite list, and none that ends in a variable
+-- whether a value of this shape is neither a list that has an end nor one that ends in a variable
 abbrev pub is_no_list : Shape → Bool
 is_no_list shape.Empty = false
 is_no_list shape.Text = false

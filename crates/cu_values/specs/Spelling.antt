@@ -8,7 +8,7 @@ use Rattle.cu_values.specs.contracts.cell.Cell as cell_contract
 use Rattle.cu_values.specs.declared.cell.Cell.{Cell}
 use Rattle.cu_values.specs.Cells.{back, front, read, read_all, spell, spell_all}
 
--- values, and then others
+-- several values, and then others
 abbrev pub join : Values → Values → Values
 join value.NoValue ws = ws
 join (value.MoreValues v vs) ws = value.MoreValues v (join vs ws)
@@ -53,6 +53,6 @@ mutual
 pub read-spell : (v : Value) → read (spell v) ≡ v
 read-spell v = rw (← append-nil (spell v), read_all-spell v []) refl
 
--- what tells values apart: their cells
+-- the code by which values are told apart: their cells
 abbrev pub value_code : Coded Value
 value_code = code_by (List Cell) (coded_list cell_contract.the_row.coded) spell read read-spell

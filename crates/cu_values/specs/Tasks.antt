@@ -1,4 +1,4 @@
--- What is left to do while a value is displayed, and what it comes to.
+-- The tasks that are left while a value is displayed, and the texts that they come to.
 use Rattle.std.specs.Prelude.{◌≡◌, ℕ, ◌+◌, ◌-◌, ◌*◌, ◌≤◌, Bool, true, false, ◌&&◌, List, [], ◌∷◌, ◌++◌, codes, drop, length, reverse}
 use Rattle.cu_calculus.specs.declared.Lit.TheVariants as lit
 use Rattle.cu_calculus.specs.Value as value
@@ -10,11 +10,12 @@ use Rattle.cu_values.specs.declared.task.Task.TheVariants as task
 use Rattle.cu_values.specs.Cells.{back, first, front, read_all, IsSpelled}
 use Rattle.cu_values.specs.Display.{arguments, display, further_components, further_elements, in_parentheses, is_list, is_open, open_rest, takes_parentheses, Labels}
 
+-- the character of a cell, or the character 0 where it has none
 abbrev pub character_of : Cell → ℕ
 character_of (cell.Lit (lit.Char c)) = c
 character_of _ = 0
 
--- a list of characters alone, whatever its constructors
+-- whether a value is a list of characters alone, whatever its constructors
 abbrev pub are_characters : Value → Bool
 are_characters (value.Constructed c value.NoValue) = true
 are_characters
@@ -22,7 +23,7 @@ are_characters
     (value.MoreValues rest value.NoValue))) = are_characters rest
 are_characters _ = false
 
--- how many values a task takes
+-- how many of the values that are left a task takes
 abbrev pub takes : Task → ℕ
 takes task.Alone = 1
 takes task.Argument = 1
@@ -33,7 +34,7 @@ takes task.OpenRest = 1
 takes task.ClosingParenthesis = 0
 takes task.ClosingBracket = 0
 
--- what a task comes to, on the values that are left
+-- the text of a task, on the values that are left
 abbrev pub part : Labels → Task → Values → List ℕ
 part labels task.Alone vs = display labels (first vs)
 part labels task.Argument vs =
@@ -45,34 +46,38 @@ part labels task.OpenRest vs = codes ":" ++ open_rest labels (first vs)
 part labels task.ClosingParenthesis vs = codes ")"
 part labels task.ClosingBracket vs = codes "]"
 
--- what tasks come to, the first first
+-- the text of several tasks on the values that are left, where the first task takes the first
+-- values
 abbrev pub written : Labels → List Task → Values → List ℕ
 written labels [] vs = []
 written labels (t ∷ ts) vs = part labels t vs ++ written labels ts (back (takes t) vs)
 
+-- how many values several tasks take together
 abbrev pub due : List Task → ℕ
 due [] = 0
 due (t ∷ ts) = takes t + due ts
 
--- the rest of a list is one
+-- Whether a value is what the task goes on with: a list that has an end for `Elements`, and one
+-- that ends in a variable for `OpenRest`. Other tasks take any value.
 abbrev pub fit : Labels → Task → Value → Bool
 fit labels task.Elements v = is_list labels v
 fit labels task.OpenRest v = is_open labels v
 fit labels _ v = true
 
+-- whether each task gets a value that it can go on with
 abbrev pub all_fit : Labels → List Task → Values → Bool
 all_fit labels [] vs = true
 all_fit labels (t ∷ ts) vs = fit labels t (first vs) && all_fit labels ts (back (takes t) vs)
 
--- the tasks, the last one first, take exactly the values of the cells from a place on
+-- The tasks, the last one first, take exactly the values of the cells from an index on.
 pub record Ready (labels : Labels) (cells : List Cell) (at : ℕ) (tasks : List Task) : Type 0 where
   pub within : at ≤ length cells
   pub spelled : IsSpelled (drop at cells)
   pub due : due (reverse tasks) ≡ count (read_all (drop at cells))
   pub fit : all_fit labels (reverse tasks) (read_all (drop at cells)) ≡ true
 
--- A part was written: what is written and what is left come to the same, and less is left by a
--- weight.
+-- A part of the display was written. What is written and the text of the tasks that are left come
+-- to the same whole as before, and what is left is less, by a weight.
 pub record Step (labels : Labels) (cells : List Cell) (weight at : ℕ) (tasks : List Task)
     (text : List ℕ) (next : ℕ) (others : List Task) (longer : List ℕ) : Type 0 where
   pub ready : Ready labels cells next others

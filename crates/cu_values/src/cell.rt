@@ -6,10 +6,10 @@ ghost use Rattle.cu_values.specs.HeadsOrder.{cell_order, kind_of_cell};
 use cu_calculus::{ConId, Head, Lit};
 use std::cmp::Ordering;
 
-/// A cell of a value.
+/// A cell of a value: a head, with the number of its arguments.
 #[derive(Clone, Copy, Debug, PartialEq, Eq)]
 pub enum Cell {
-    /// Nothing is known.
+    /// The value of which nothing is known.
     Bottom,
     /// An unbound variable, by its number.
     LVar(u32),
@@ -26,7 +26,7 @@ impl Cell {
     ghost use Rattle.cu_values.specs.CellKinds.{is_data_cell, is_ground_cell, is_known_cell};
     ghost use Rattle.cu_values.specs.Cells.{arity_of};
 
-    /// How many arguments follow.
+    /// How many arguments follow the cell.
     pub fn arity(self) -> u32
         ensures { result ≡ arity_of self }
     {
@@ -37,21 +37,21 @@ impl Cell {
         }
     }
 
-    /// Whether something is known.
+    /// Whether the cell isn't Bottom.
     pub(crate) fn is_known(self) -> bool
         ensures { result ≡ is_known_cell self }
     {
         !matches!(self, Cell::Bottom)
     }
 
-    /// Whether no function begins here.
+    /// Whether the cell begins no partial application.
     pub(crate) fn is_data(self) -> bool
         ensures { result ≡ is_data_cell self }
     {
         !matches!(self, Cell::Part(_, _))
     }
 
-    /// Whether a literal or a constructor stands here.
+    /// Whether the cell is a literal or a constructor.
     pub(crate) fn is_ground(self) -> bool
         ensures { result ≡ is_ground_cell self }
     {
@@ -72,7 +72,7 @@ pub(crate) fn compare(left: Cell, right: Cell) -> Ordering
     }
 }
 
-/// The place of a cell's kind in the order.
+/// The number of a cell's kind in the order of values.
 fn kind(cell: Cell) -> u32
     ensures { result ≡ kind_of_cell cell }
 {

@@ -20,15 +20,15 @@ use std::alloc::{AllocError, Global};
 /// room.
 const LINE: usize = 4096;
 
-/// A value that a line displays has at most so many cells, where it is ground
-/// data or has variables, and names aren't empty: two for each byte, as a
-/// string has.
+/// The cells for which room is taken. A value that a line displays has at most
+/// two for each byte of the line, as a string has, where it is ground data or
+/// has variables, and names aren't empty.
 const CELLS: usize = 2 * LINE;
 
-/// What is left to do has at most so many parts: each cell leaves three.
+/// The tasks for which room is taken. Each cell leaves at most three.
 const TASKS: usize = 3 * CELLS + 1;
 
-/// What displaying a value takes memory for, kept from one value to the next.
+/// The memory that displaying a value takes, kept from one value to the next.
 #[derive(Drop)]
 pub struct Workspace {
     text: String,
@@ -38,9 +38,9 @@ pub struct Workspace {
 }
 
 /// Appends the display of a value to a text in UTF-8, by the names that a
-/// program gives its constructors and functions. A name that the table lacks
-/// is shown as nothing, and so is Bottom. The one error is want of memory, and
-/// the text is then as it was.
+/// program gives its constructors and functions. A name that the table lacks is
+/// shown as nothing, and so is Bottom. The one error is an allocation failure,
+/// and the text is then as it was.
 pub fn show(
     alloc: Global,
     value: &Value,
@@ -89,10 +89,11 @@ impl Workspace {
         }
     }
 
-    /// A workspace with room for lines of 4,096 bytes: displaying a value in
-    /// at most so many takes no memory, if there is room in the text that it
-    /// is appended to. A function in the value counts with the cells of its
-    /// arguments, which aren't shown. The one error is want of memory.
+    /// A workspace with room for lines of 4,096 bytes: displaying a value in at
+    /// most so many takes no memory, if there is room in the text that it is
+    /// appended to. A partial application in the value counts with the cells of
+    /// its arguments, which aren't shown. The one error is an allocation
+    /// failure.
     pub fn with_room(alloc: Global) -> Result<Workspace, AllocError> {
         let mut workspace = Workspace::new(alloc);
         workspace.text.reserve(LINE)?;
@@ -102,10 +103,10 @@ impl Workspace {
         Ok(workspace)
     }
 
-    /// Appends the display of a value to a text, as [`show`] does, and takes
-    /// no memory where the value and its display are no longer than those
-    /// before, and the text has the room. The one error is want of memory,
-    /// and the text is then as it was.
+    /// Appends the display of a value to a text, as [`show`] does, and takes no
+    /// memory where the value and its display are no longer than those before,
+    /// and the text has the room. The one error is an allocation failure, and
+    /// the text is then as it was.
     pub fn show(
         &mut self,
         value: &Value,

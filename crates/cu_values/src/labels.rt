@@ -1,4 +1,4 @@
-//! What a program calls its entities.
+//! What a program calls its entities in a display.
 ghost use Rattle.std.specs.Prelude.{◌≡◌, option_map};
 ghost use Rattle.cu_names.specs.Texts.{text_of};
 ghost use Rattle.cu_values.specs.ProgramLabels.{is_tuple_type};
@@ -6,11 +6,11 @@ ghost use Rattle.cu_values.specs.ProgramLabels.{is_tuple_type};
 use cu_kernel::{ConId, FunId, Program, TypeId};
 use cu_names::{NameId, Names};
 
-/// The place of unit's type; behind it stand those of the tuples of 2 to 15
+/// The index of unit's type. After it stand those of the tuples of 2 to 15
 /// components.
 const UNIT: usize = 1;
 
-/// The place of the type of tuples of 15 components.
+/// The index of the type of tuples of 15 components.
 const LONGEST_TUPLE: usize = 15;
 
 /// The names of a program's constructors and functions. A name that the table

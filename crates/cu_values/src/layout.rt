@@ -24,8 +24,9 @@ impl Layout<'_> {
     ghost use Rattle.cu_values.specs.Layouts.{Awaits, Begun, IsShaped};
     ghost use Rattle.cu_values.specs.Shapes.{is_no_list};
 
-    /// Writes a part of the display, whose values begin at a place, puts what
-    /// it leaves to do on the tasks, and answers the place that was reached.
+    /// Writes a part of the display, whose values begin at the cell `at`, pushes
+    /// what it leaves to do onto the tasks, and answers the index of the cell
+    /// that was reached.
     pub(crate) fn step(
         &self,
         at: usize,
@@ -57,7 +58,7 @@ impl Layout<'_> {
         }
     }
 
-    /// Begins a value.
+    /// Begins the display of the value that begins at the cell `at`.
     fn value(
         &self,
         at: usize,
@@ -87,7 +88,7 @@ impl Layout<'_> {
         }
     }
 
-    /// Begins a constructor with arguments.
+    /// Begins the display of a constructor with arguments.
     fn constructed(
         &self,
         at: usize,
@@ -125,7 +126,8 @@ impl Layout<'_> {
         }
     }
 
-    /// Writes a string.
+    /// Writes the list of characters that begins at the cell `at` as a string in
+    /// quotes.
     fn string(
         &self,
         at: usize,
@@ -144,7 +146,7 @@ impl Layout<'_> {
         Ok(next)
     }
 
-    /// Begins a constructor with arguments that is no list.
+    /// Begins the display of a constructor with arguments that is no list.
     fn other(
         &self,
         at: usize,
@@ -176,7 +178,7 @@ impl Layout<'_> {
         Ok(at + 1)
     }
 
-    /// Begins a value, in parentheses where it takes them.
+    /// Begins the display of an argument, in parentheses where it takes them.
     fn argument(
         &self,
         at: usize,
@@ -196,7 +198,7 @@ impl Layout<'_> {
         self.value(at, tasks, text)
     }
 
-    /// Begins the first of so many arguments.
+    /// Begins the first of the arguments that are left, after a space.
     fn arguments(
         &self,
         at: usize,
@@ -217,7 +219,8 @@ impl Layout<'_> {
         self.argument(at, tasks, text)
     }
 
-    /// Begins the first of so many components.
+    /// Begins the first of the components of a tuple that are left, after a
+    /// comma.
     fn components(
         &self,
         at: usize,
@@ -238,7 +241,7 @@ impl Layout<'_> {
         self.value(at, tasks, text)
     }
 
-    /// Goes on with a finite list behind an element.
+    /// Goes on with a list that has an end, after one of its elements.
     fn elements(
         &self,
         at: usize,
@@ -259,7 +262,7 @@ impl Layout<'_> {
         Ok(at + 1)
     }
 
-    /// Goes on with a list that ends in a variable behind an element.
+    /// Goes on with a list that ends in a variable, after one of its elements.
     fn open_rest(
         &self,
         at: usize,

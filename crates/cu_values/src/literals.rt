@@ -21,7 +21,7 @@ pub(crate) fn is_numeric(c: char) -> bool
     is_control(c) && !(c == '\t' || c == '\n' || c == '\r')
 }
 
-/// Writes a character of a literal that stands in such quotes.
+/// Writes a character of a literal that stands in these quotes.
 pub(crate) fn push_escaped(text: &mut String, quote: char, c: char) -> Result<(), AllocError>
     requires { quote < 128 }
     ensures { OnOk result (string_bytes text.new ≡ string_bytes text.old ++ escaped quote c) }

@@ -1,4 +1,5 @@
-//! What its neighbours must know of a value to display it.
+//! The shapes of values: what the values around a value must know of it to
+//! display it.
 ghost use Rattle.std.specs.Prelude.{◌≡◌, ◌≤◌, OnOk, length};
 ghost use Rattle.cu_calculus.specs.Value as value;
 ghost use Rattle.cu_calculus.specs.Value.{Values};
@@ -11,10 +12,11 @@ use crate::labels::ProgramNames;
 use cu_kernel::{ConId, Lit};
 use std::alloc::AllocError;
 
-/// How a value is written, as far as its neighbours must know.
+/// The shape of a value: how it is written, as far as the values around it must
+/// know.
 #[derive(Clone, Copy)]
 pub(crate) enum Shape {
-    /// A character.
+    /// A character literal.
     Character,
     /// A variable.
     Variable,
@@ -22,13 +24,13 @@ pub(crate) enum Shape {
     Empty,
     /// A list of characters, at least one.
     Text,
-    /// Any other finite list.
+    /// Any other list that has an end.
     List,
     /// A list that ends in a variable.
     Open,
     /// A negative integer or an application with arguments.
     Compound,
-    /// All else.
+    /// Any other value.
     Simple,
 }
 
@@ -48,7 +50,7 @@ impl Shape {
     ghost use Rattle.std.specs.Prelude.{◌≡◌};
     ghost use Rattle.cu_values.specs.Shapes.{is_enclosed};
 
-    /// Whether the value stands in parentheses as an argument.
+    /// Whether a value of this shape stands in parentheses as an argument.
     pub(crate) fn takes_parentheses(self) -> bool
         ensures { result ≡ is_enclosed self }
     {
@@ -67,8 +69,8 @@ fn other_shape(names: &ProgramNames, constructor: ConId) -> Shape
     }
 }
 
-/// The shape of a constructor, of which the arguments' shapes are the last
-/// ones, the first argument's last.
+/// The shape of a constructor with arguments. The arguments' shapes are the
+/// last ones of the stack, the first argument's last.
 fn constructed_shape(
     names: &ProgramNames,
     constructor: ConId,
@@ -96,8 +98,8 @@ fn constructed_shape(
     }
 }
 
-/// The shape of the value with a head, of which the values behind it have
-/// these shapes, the nearest last.
+/// The shape of the value with a head. The shapes of the values after the head
+/// are a stack, with that of the next value last.
 fn shape_of(names: &ProgramNames, cell: Cell, behind: &[Shape]) -> Shape
     requires { arity_of cell ≤ length behind.now }
     ensures { (vs : Values) → behind.now ≡ stacked (labels_meaning names.now) vs
@@ -119,8 +121,8 @@ fn shape_of(names: &ProgramNames, cell: Cell, behind: &[Shape]) -> Shape
     }
 }
 
-/// Finds for each cell the shape of the value that begins there. The shapes
-/// of the values that are met are kept on a stack, `behind`.
+/// Finds for each cell the shape of the value that begins there. The shapes of
+/// the values that are met are kept on a stack, `behind`.
 pub(crate) fn find_shapes(
     names: &ProgramNames,
     cells: &[Cell],

@@ -20,7 +20,7 @@ fn character(cell: Cell) -> char
     }
 }
 
-/// Parts a digit from an escape by number before it.
+/// Writes `\&` where a digit follows a character that is escaped by its number.
 fn push_parting(text: &mut String, after_number: bool, c: char) -> Result<(), AllocError>
     ensures { OnOk result (string_bytes text.new
         ≡ string_bytes text.old ++ (if after_number && is_digit c then 92 ∷ codes "&" else [])) }
@@ -31,8 +31,8 @@ fn push_parting(text: &mut String, after_number: bool, c: char) -> Result<(), Al
     text.push_str("\\&")
 }
 
-/// Writes the characters of a list of characters, and answers the place behind
-/// the list.
+/// Writes the characters of a list of characters, and answers the index of the
+/// cell after the list.
 pub(crate) fn push_string(
     text: &mut String,
     cells: &[Cell],

@@ -1,4 +1,4 @@
-//! What is left to do while a value is displayed.
+//! The tasks that are left while a value is displayed.
 
 /// A part of a display that is still to be written.
 #[derive(Clone, Copy)]
@@ -7,13 +7,13 @@ pub(crate) enum Task {
     Alone,
     /// A value, in parentheses where it takes them.
     Argument,
-    /// So many arguments, each behind a space.
+    /// So many arguments of an application, each after a space.
     Arguments(u32),
-    /// So many components of a tuple, each behind a comma.
+    /// So many components of a tuple, each after a comma.
     Components(u32),
-    /// The rest of a finite list, behind an element.
+    /// The rest of a list that has an end, after an element.
     Elements,
-    /// The rest of a list that ends in a variable, behind an element.
+    /// The rest of a list that ends in a variable, after an element.
     OpenRest,
     /// A closing parenthesis.
     ClosingParenthesis,

@@ -121,7 +121,7 @@ impl Value {
         ValueRef::spelled(self.cells())
     }
 
-    /// The first cell: what the value is, and how many arguments it has.
+    /// The first cell of the value: its head, with the number of its arguments.
     pub fn head(&self) -> Cell
         ensures { result ≡ head_of self.now }
     {
@@ -130,7 +130,7 @@ impl Value {
 
     /// Copies of the arguments of a constructor or a partial application, from
     /// left to right; other values have none. [`Value::view`] reads them where
-    /// they stand. The one error is want of memory.
+    /// they stand. The one error is an allocation failure.
     pub fn arguments(&self) -> Result<Vec<Value>, AllocError>
         ensures { IfOk result (λ vs. vs.items ≡ list_of (arguments_of self.now)) }
     {
@@ -144,7 +144,7 @@ impl Value {
         Ok(arguments)
     }
 
-    /// Whether nothing is unknown in the value.
+    /// Whether the value is total: Bottom stands nowhere in it.
     pub fn is_total(&self) -> bool
         ensures { result ≡ is_total self.now }
     {

@@ -33,7 +33,7 @@ impl<'a> ValueRef<'a> {
         self.cells
     }
 
-    /// A copy of the value. The one error is want of memory.
+    /// A copy of the value. The one error is an allocation failure.
     pub fn copied(self, alloc: Global) -> Result<Value, AllocError>
         ensures { IfOk result (λ v. v ≡ viewed self.entry) }
     {
@@ -41,7 +41,7 @@ impl<'a> ValueRef<'a> {
         Ok(Value::spelled(cells))
     }
 
-    /// The first cell: what the value is, and how many arguments it has.
+    /// The first cell of the value: its head, with the number of its arguments.
     pub fn head(self) -> Cell
         ensures { result ≡ head_of (viewed self.entry) }
     {
@@ -60,7 +60,7 @@ impl<'a> ValueRef<'a> {
         }
     }
 
-    /// Whether nothing is unknown in the value.
+    /// Whether the value is total: Bottom stands nowhere in it.
     pub fn is_total(self) -> bool
         ensures { result ≡ is_total (viewed self.entry) }
     {
@@ -125,8 +125,8 @@ impl<'a> ValueRef<'a> {
     }
 }
 
-/// The place behind the first of so many values. That of a last one needs no
-/// walk.
+/// The index of the cell after the first of so many values. Finding that of a
+/// last one needs no walk.
 fn end_of_first(cells: &[Cell], count: usize) -> usize
     requires spelled { IsSpelled cells.now }
     requires counted { count ≡ number_of (read_all cells.now) }
@@ -149,7 +149,7 @@ impl<'a> ValuesRef<'a> {
         self.count
     }
 
-    /// The first value and those behind it, where there is one. Takes no time
+    /// The first value and those after it, where there is one. Takes no time
     /// for the last value; else in proportion to the first one's cells.
     pub fn split_first(self) -> Option<(ValueRef<'a>, ValuesRef<'a>)>
         ensures { option_map both_viewed result ≡ split (all_viewed self.entry) }

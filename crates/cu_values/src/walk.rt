@@ -5,7 +5,8 @@ ghost use Rattle.cu_values.specs.Cells.{back, read_all, IsSpelled};
 use crate::Cell;
 use std::cmp::Ordering;
 
-/// The place behind the value whose first cell is at a place.
+/// The index of the cell after the value whose first cell has the index
+/// `start`.
 pub(crate) fn end_of(cells: &[Cell], start: usize) -> usize
     requires spelled { IsSpelled (drop start cells.now) }
     requires within { start < length cells.now }
@@ -23,12 +24,12 @@ pub(crate) fn end_of(cells: &[Cell], start: usize) -> usize
     i
 }
 
-/// What is left to compare of two values.
+/// What is left to compare of two values: pairs, from left to right.
 #[derive(Clone, Copy)]
 pub(crate) struct Pairs {
     /// How many pairs of values are still to be compared.
     pub left: usize,
-    /// The order where all these are alike.
+    /// The order where the values of all these pairs are alike.
     pub last: Ordering,
 }
 
@@ -48,9 +49,9 @@ impl Pairs {
         }
     }
 
-    /// What is left after heads that are alike, with these numbers of
-    /// arguments. Where the numbers differ, nothing behind the arguments
-    /// counts.
+    /// The pairs that are left after two heads that are alike, with these
+    /// numbers of arguments. Where the numbers differ, the arguments that both
+    /// have decide, and then the numbers; nothing after the arguments counts.
     pub(crate) fn after(self, mine: u32, others: u32) -> Pairs
         requires some { 0 < self.left }
         requires fits { self.left + mine < 2 ^ 64 }

@@ -40,7 +40,7 @@ maybe_once high (Some text) None n p q = absurd p
 maybe_once high (Some text) (Some m) None p q = absurd q
 maybe_once high (Some text) (Some m) (Some n) p q = ap Some (number_once 1 high text text m n refl p q)
 
--- ** By their parts
+-- ---- by their parts
 
 abbrev limits_by : ℕ → Option ℕ → ℕ → ℕ → ℕ → SearchLimits
 limits_by rounds answers stride nodes width =

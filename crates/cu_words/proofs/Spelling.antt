@@ -1,5 +1,5 @@
 -- Words that ask for a thing, whatever its texts are: each option as `--name=value`, and the
--- module's name behind `--`.
+-- module's name after `--`.
 use Rattle.std.proofs.Common.{◌≡◌, ◌∙◌, sym, subst, refl, ℕ, ◌^◌, ◌<◌, List, [], ◌∷◌, ◌++◌, Option, Some, None, IfSome, IsTrue, codes, arith}
 use Rattle.std.specs.Fmt.{decimal}
 use Rattle.std.proofs.lemmas.Fmt.{decimal_is_IsNumeral, digits_decimal, length-decimal-le}
@@ -134,7 +134,7 @@ spelled solve is_name range = go solve.limits.answers refl range.answers where
     },
   )
 
--- ** Trials
+-- ---- trials
 
 -- a number from 0 on, in decimal digits
 from_zero : (high n : ℕ) → high < 10 ^ 19 → high < 2 ^ 64 → IsIn 0 high n → IsNumber 0 high (decimal n) n
@@ -181,7 +181,7 @@ spelled_trial trial range = (
   },
 )
 
--- ** Modules as text
+-- ---- modules as text
 
 abbrev compiled : (name folder : Text) → List Text
 compiled name folder = codes "compile" ∷ (codes "--dir=" ++ folder) ∷ codes "--" ∷ name ∷ []

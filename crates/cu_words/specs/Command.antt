@@ -1,21 +1,21 @@
--- The command line, as the library `clap` has it: the names of its commands and of what stands
--- behind them.
+-- The command line, as the library `clap` has it: the names of its commands and of the words and
+-- options that follow them.
 use Rattle.std.specs.Prelude.{List, [], ◌∷◌, Some, true, false, codes}
 use Rattle.clap.specs.Simple.{App, Shape, new_rule, new_shape}
 use Rattle.clap.specs.Walk.{Rule, Text}
 
--- `--name value` or `--name=value`
+-- an option with a value, written `--name value` or `--name=value`
 abbrev pub option : Text → Rule
 option name = record (new_rule name) { long = Some name }
 
 abbrev pub required : Rule → Rule
 required rule = record rule { required = true }
 
--- what stands for the option where it isn't used
+-- an option with the text that stands for its value where the words don't have it
 abbrev pub or : Rule → Text → Rule
 or rule text = record rule { defaults = text ∷ [] }
 
--- what stands behind `solve`: a word, and options in any order
+-- what follows `solve` on the line: a word, and options in any order
 abbrev pub solve_rules : List Rule
 solve_rules = required (new_rule (codes "MODULE"))
     ∷ required (option (codes "goal"))
@@ -31,7 +31,7 @@ solve_rules = required (new_rule (codes "MODULE"))
 abbrev pub solve : Shape
 solve = record (new_shape (codes "solve")) { rules = solve_rules }
 
--- what stands behind `compile`: a word, and an option
+-- what follows `compile` on the line: a word, and an option
 abbrev pub compile_rules : List Rule
 compile_rules = required (new_rule (codes "MODULE"))
     ∷ or (option (codes "dir")) (codes ".")
@@ -40,7 +40,7 @@ compile_rules = required (new_rule (codes "MODULE"))
 abbrev pub compile : Shape
 compile = record (new_shape (codes "compile")) { rules = compile_rules }
 
--- what stands behind `trial`: a number, and options in any order
+-- what follows `trial` on the line: a number, and options in any order
 abbrev pub trial_rules : List Rule
 trial_rules = required (new_rule (codes "N"))
     ∷ or (option (codes "workers")) (codes "4")
@@ -51,7 +51,8 @@ trial_rules = required (new_rule (codes "N"))
 abbrev pub trial : Shape
 trial = record (new_shape (codes "trial")) { rules = trial_rules }
 
--- the whole line, behind the program's name: a command, with no words for help or version
+-- the words after the program's name: a command and what follows it, with no words for help or
+-- version
 abbrev pub line : Shape
 line = record (new_shape (codes "curry")) {
   is_leaf = false;

@@ -15,7 +15,7 @@ is_digit b = is_between 48 57 b
 abbrev pub is_name_byte : ℕ → Bool
 is_name_byte b = is_letter b || is_digit b || nat_eq b 95 || nat_eq b 39
 
--- one name: a letter, and then any of these
+-- one name: a letter, and then letters, digits, underscores and apostrophes
 abbrev pub is_name : List ℕ → Bool
 is_name [] = false
 is_name (b ∷ bs) = is_letter b && list_all is_name_byte bs

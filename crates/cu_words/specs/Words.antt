@@ -37,22 +37,22 @@ pub data Command : Type 0 where
   Compiling : Compile → Command
   Trying : Trial → Command
 
--- what stands in the words under this name, or else by default
+-- the text that stands in the words under this name, or else by default, is this one
 abbrev pub Has : List Row → Text → Text → Type 0
 Has rows name text = first_of name rows ≡ Some text
 
--- the same as a number from 1 to `high`
+-- what stands in the words under this name is a number from 1 to `high`, and it is n
 abbrev pub HasNumber : List Row → Text → ℕ → ℕ → Type 0
 HasNumber rows name high n = (text : Text) × Has rows name text × IsNumber 1 high text n
 
--- a number from 1 to `high`, or none where there is no text
+-- an optional text is a number from 1 to `high`, and it is this one; no text stands for no number
 abbrev pub IsMaybeNumber : ℕ → Option Text → Option ℕ → Type 0
 IsMaybeNumber high None None = ⊤
 IsMaybeNumber high None (Some n) = ⊥
 IsMaybeNumber high (Some text) None = ⊥
 IsMaybeNumber high (Some text) (Some n) = IsNumber 1 high text n
 
--- the options that say where the search ends
+-- the options that say where the search ends ask for these limits
 pub record HasLimits (rows : List Row) (limits : SearchLimits) : Type 0 where
   pub rounds : HasNumber rows (codes "rounds") 1000000000 limits.rounds
   pub answers : IsMaybeNumber 1000000000 (first_of (codes "answers") rows) limits.answers
@@ -60,7 +60,7 @@ pub record HasLimits (rows : List Row) (limits : SearchLimits) : Type 0 where
   pub width : HasNumber rows (codes "width") 1048576 limits.step.width
   pub stride : HasNumber rows (codes "stride") 1000000 limits.stride
 
--- what stands behind `solve`
+-- the words after `solve` ask for this
 pub record IsSolve (rows : List Row) (solve : Solve) : Type 0 where
   pub name : Has rows (codes "MODULE") solve.name
   pub is_name : IsTrue (is_module_name solve.name)
@@ -69,40 +69,40 @@ pub record IsSolve (rows : List Row) (solve : Solve) : Type 0 where
   pub workers : HasNumber rows (codes "workers") 64 solve.workers
   pub limits : HasLimits rows solve.limits
 
--- what stands behind `compile`
+-- the words after `compile` ask for this
 pub record IsCompile (rows : List Row) (compile : Compile) : Type 0 where
   pub name : Has rows (codes "MODULE") compile.name
   pub is_name : IsTrue (is_module_name compile.name)
   pub folder : Has rows (codes "dir") compile.folder
 
--- the depth of a trial
+-- the depth of a trial that the words ask for is n
 abbrev pub HasDepth : List Row → ℕ → Type 0
 HasDepth rows n = (text : Text) × Has rows (codes "N") text × IsNumber 0 14 text n
 
--- what stands behind `trial`
+-- the words after `trial` ask for this
 pub record IsTrial (rows : List Row) (trial : Trial) : Type 0 where
   pub depth : HasDepth rows trial.depth
   pub workers : HasNumber rows (codes "workers") 64 trial.workers
   pub width : HasNumber rows (codes "width") 1048576 trial.width
   pub stride : HasNumber rows (codes "stride") 1000000 trial.stride
 
--- the command that was met, with what stands behind it, is this one
+-- the command that was met, with the words after it, is this one
 abbrev pub Asks : Option (Text × List Row) → Command → Type 0
 Asks None command = ⊥
 Asks (Some met) (Solving solve) = (met.0 ≡ codes "solve") × IsSolve met.1 solve
 Asks (Some met) (Compiling compile) = (met.0 ≡ codes "compile") × IsCompile met.1 compile
 Asks (Some met) (Trying trial) = (met.0 ≡ codes "trial") × IsTrial met.1 trial
 
--- the words are right by the command line `curry`, and the command that they name is this one
+-- `clap` finds no fault in the words, and the command that they name is this one
 pub record ReadsAs (words : List Text) (command : Command) : Type 0 where
   pub right : fault_of curry words ≡ []
   pub asks : Asks (subcommand_of curry words) command
 
--- some words that ask for something
+-- these words ask for some command
 abbrev pub IsCommand : List Text → Type 0
 IsCommand words = (command : Command) × ReadsAs words command
 
--- the range of each number
+-- each number of a `solve` is in the range that its option allows
 pub record IsInRange (solve : Solve) : Type 0 where
   pub workers : IsIn 1 64 solve.workers
   pub rounds : IsIn 1 1000000000 solve.limits.rounds
@@ -122,7 +122,7 @@ HasItsRanges (Solving solve) = IsInRange solve
 HasItsRanges (Compiling compile) = ⊤
 HasItsRanges (Trying trial) = IsTrialInRange trial
 
--- what the reader gives
+-- the `solve` of the definitions that one of the reader stands for
 abbrev pub solve_of : solves.Solve → Solve
 solve_of solve = record {
   name = solve.«module».now;

@@ -11,20 +11,20 @@ pub fn one_reading()
         → ReadsAs words one → ReadsAs words other → one ≡ other }
 {}
 
-/// What a module's name and numbers in their ranges make can be asked for,
-/// whatever the goal and the folder are.
+/// Any goal in a module of any name, with numbers in their ranges, is what some
+/// words ask for, whatever the goal and the folder are.
 pub fn all_can_be_asked()
     ensures { (solve : Solve) → IsTrue (is_module_name solve.name) → IsInRange solve
         → (words : List (List ℕ)) × ReadsAs words (Solving solve) }
 {}
 
-/// So can the text of a module of any name.
+/// The text of a module of any name is what some words ask for.
 pub fn all_can_be_compiled()
     ensures { (compile : Compile) → IsTrue (is_module_name compile.name)
         → (words : List (List ℕ)) × ReadsAs words (Compiling compile) }
 {}
 
-/// So can a trial whose numbers are in their ranges.
+/// A trial whose numbers are in their ranges is what some words ask for.
 pub fn all_can_be_tried()
     ensures { (trial : Trial) → IsTrialInRange trial
         → (words : List (List ℕ)) × ReadsAs words (Trying trial) }

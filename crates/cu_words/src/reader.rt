@@ -22,8 +22,8 @@ use clap::error::ErrorKind;
 use cu_machine::{Limits, SearchLimits};
 use std::alloc::{AllocError, Global};
 
-/// What the words behind the program's name ask for, or nothing where they
-/// aren't in the grammar. The one error is want of memory.
+/// What the words after the program's name ask for, or nothing where they
+/// aren't in the grammar. The one error is an allocation failure.
 pub fn read_words<'a>(alloc: Global, words: &'a [String]) -> Result<Option<Asked<'a>>, AllocError>
     ensures read { IfOk result (λ found. IfSome found (λ command.
         ReadsAs (map string_bytes words.now) (asked command))) }
@@ -53,7 +53,7 @@ fn read_command<'a>(matches: &ArgMatches<'a>) -> Option<Asked<'a>>
     }
 }
 
-// What `solve` asks for.
+// What the words after `solve` ask for, as a command.
 fn asked_solve<'a>(found: &ArgMatches<'a>) -> Option<Asked<'a>>
     ensures read { IfSome result (λ command.
         Asks (Some (codes "solve", rows_of (found_of found.now))) (asked command)) }
@@ -63,7 +63,7 @@ fn asked_solve<'a>(found: &ArgMatches<'a>) -> Option<Asked<'a>>
     Some(Asked::Solve(read_solve(found)?))
 }
 
-// What `compile` asks for.
+// What the words after `compile` ask for, as a command.
 fn asked_compile<'a>(found: &ArgMatches<'a>) -> Option<Asked<'a>>
     ensures read { IfSome result (λ command.
         Asks (Some (codes "compile", rows_of (found_of found.now))) (asked command)) }
@@ -73,7 +73,7 @@ fn asked_compile<'a>(found: &ArgMatches<'a>) -> Option<Asked<'a>>
     Some(Asked::Compile(read_compile(found)?))
 }
 
-// What `trial` asks for.
+// What the words after `trial` ask for, as a command.
 fn asked_trial<'a>(found: &ArgMatches<'a>) -> Option<Asked<'a>>
     ensures read { IfSome result (λ command.
         Asks (Some (codes "trial", rows_of (found_of found.now))) (asked command)) }
@@ -83,7 +83,8 @@ fn asked_trial<'a>(found: &ArgMatches<'a>) -> Option<Asked<'a>>
     Some(Asked::Trial(read_trial(found)?))
 }
 
-// What stands behind `solve`.
+// What the words after `solve` ask for: its module, goal, folder, workers and
+// limits.
 fn read_solve<'a>(found: &ArgMatches<'a>) -> Option<Solve<'a>>
     ensures read { IfSome result (λ solve.
         IsSolve (rows_of (found_of found.now)) (solve_of solve)) }
@@ -104,7 +105,7 @@ fn read_solve<'a>(found: &ArgMatches<'a>) -> Option<Solve<'a>>
     })
 }
 
-// What stands behind `compile`.
+// What the words after `compile` ask for: its module and folder.
 fn read_compile<'a>(found: &ArgMatches<'a>) -> Option<Compile<'a>>
     ensures read { IfSome result (λ compile.
         IsCompile (rows_of (found_of found.now)) (compile_of compile)) }
@@ -116,7 +117,7 @@ fn read_compile<'a>(found: &ArgMatches<'a>) -> Option<Compile<'a>>
     Some(Compile { module, folder })
 }
 
-// What stands behind `trial`.
+// What the words after `trial` ask for: its numbers.
 fn read_trial(found: &ArgMatches<'_>) -> Option<Trial>
     ensures read { IfSome result (λ trial.
         IsTrial (rows_of (found_of found.now)) (trial_of trial)) }
@@ -161,7 +162,7 @@ fn read_module<'a>(found: &ArgMatches<'a>) -> Option<&'a str>
     }
 }
 
-// Where the search ends.
+// The limits of the search that the words ask for.
 fn read_limits(found: &ArgMatches<'_>) -> Option<SearchLimits>
     ensures read { IfSome result (λ limits. HasLimits (rows_of (found_of found.now)) limits) }
     ensures refused { IfNone result ((limits : machine.SearchLimits)
@@ -193,7 +194,7 @@ fn read_answers(found: &ArgMatches<'_>) -> Option<Option<u64>>
     }
 }
 
-// How many workers take part.
+// How many workers the words ask for.
 fn read_workers(found: &ArgMatches<'_>) -> Option<u32>
     ensures read { IfSome result (λ n.
         HasNumber (rows_of (found_of found.now)) (codes "workers") 64 n) }
@@ -203,7 +204,7 @@ fn read_workers(found: &ArgMatches<'_>) -> Option<u32>
     small_number(found, "workers", 64)
 }
 
-// How many branches a level may have.
+// How many branches a level may have, by the words.
 fn read_width(found: &ArgMatches<'_>) -> Option<u32>
     ensures read { IfSome result (λ n.
         HasNumber (rows_of (found_of found.now)) (codes "width") 1048576 n) }
@@ -213,7 +214,7 @@ fn read_width(found: &ArgMatches<'_>) -> Option<u32>
     small_number(found, "width", 1_048_576)
 }
 
-// How many steps a round takes a branch on.
+// How many steps a round takes a branch on, by the words.
 fn read_stride(found: &ArgMatches<'_>) -> Option<u64>
     ensures read { IfSome result (λ n.
         HasNumber (rows_of (found_of found.now)) (codes "stride") 1000000 n) }
@@ -223,7 +224,8 @@ fn read_stride(found: &ArgMatches<'_>) -> Option<u64>
     number(found, "stride", 1_000_000)
 }
 
-// The number that stands under this name, from 1 to `high`.
+// The number that stands in the words under this name, where it is from 1 to
+// `high`.
 fn number(found: &ArgMatches<'_>, name: &str, high: u64) -> Option<u64>
     ensures read { IfSome result (λ n.
         HasNumber (rows_of (found_of found.now)) name.now high n) }
@@ -233,7 +235,8 @@ fn number(found: &ArgMatches<'_>, name: &str, high: u64) -> Option<u64>
     read_number(text(found, name)?, 1, high)
 }
 
-// The same where the number is a small one.
+// The number that stands in the words under this name, where it is from 1 to
+// `high`, in 32 bits.
 fn small_number(found: &ArgMatches<'_>, name: &str, high: u32) -> Option<u32>
     ensures read { IfSome result (λ n.
         HasNumber (rows_of (found_of found.now)) name.now high n) }

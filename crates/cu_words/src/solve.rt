@@ -1,4 +1,4 @@
-//! What the words ask for.
+//! What a `solve` asks for.
 use cu_machine::SearchLimits;
 
 /// What a `solve` asks for: the listing of a goal in a module of a folder,

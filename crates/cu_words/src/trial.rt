@@ -8,7 +8,7 @@ pub struct Trial {
     pub depth: u32,
     /// How many workers take part, 1 to 64.
     pub workers: u32,
-    /// How many branches a level may have.
+    /// How many branches a level of the search may have.
     pub width: u32,
     /// How many steps a round takes a branch on.
     pub stride: u64,

@@ -161,7 +161,7 @@ fn declared_synonym(
 }
 
 /// `type L a = [a]`, `type X = Y`, `type Y = X` and `type Z a = (X, a)`. The
-/// second and the third stand on a circle, the last one only leads there.
+/// second and the third stand on a cycle, the last one only leads there.
 pub(crate) fn synonyms(alloc: Global) -> Result<Vec<Synonym>, AllocError> {
     let list = declared_synonym(27, true, 1, data(0, one(alloc, variable(0))));
     let first = declared_synonym(28, false, 0, synonym(2, none(alloc)));

@@ -14,7 +14,7 @@ const PAIR: ConId = ConId(3);
 
 const C: ConId = ConId(19);
 
-/// The functions' places.
+/// The numbers of the functions.
 const BACKSLASHES: FunId = FunId(4);
 
 const P: FunId = FunId(5);

@@ -218,7 +218,7 @@ fn no_tokens(rt: HostRuntime) {
     expect_fault(&rt, module, SYNTAX, "a module");
 }
 
-/// A text in which a piece is repeated, between a front and an end.
+/// A text in which a piece is repeated, between a beginning and an end.
 fn repeated(alloc: Global, parts: [&str; 3], count: usize) -> Result<String, AllocError> {
     let [front, piece, end] = parts;
     let mut text = String::from_str(alloc, front)?;

@@ -77,7 +77,7 @@ const TEXTS: [(bool, &str, &str); 36] = [
         "(let (+), (`f`), a free in a, 1)",
         "(let { (+), (`f`), a free } in a, 1)",
     ),
-    // they begin anew after a semicolon
+    // the operators in parentheses begin anew after a semicolon
     (
         false,
         "(let a = 1; b, c free in a, 2)",
@@ -117,7 +117,7 @@ const TEXTS: [(bool, &str, &str); 36] = [
         "f = case x of\n  A -> y\n  where y = 1",
         "{ f = case x of { A -> y } where { y = 1 } }",
     ),
-    // `then` and `else` there
+    // `then` and `else` on a block's own column
     (
         true,
         "f = let\n  x = if a\n  then b\n  else c\n in x",
@@ -276,7 +276,7 @@ fn marks_of_modules(rt: HostRuntime) -> Result<(), Fail> {
     Ok(())
 }
 
-/// What so many opening parentheses behind a front give.
+/// What so many opening parentheses after a prefix give.
 fn parentheses(
     alloc: Global,
     whole: bool,

@@ -23,13 +23,13 @@ const SHELF: [(&str, &str); 12] = [
     ("D", "module D (module B, y) where\nimport B\ny = 1"),
     // has no list, so it brings nothing of B
     ("E", "import B\nz = 1"),
-    // its own x hides that of B, so `module B` brings nothing
+    // module H's own x hides that of B, so that `module B` brings nothing
     ("H", "module H (module B) where\nimport B\nx = 3"),
     (
         "T",
         "module T (T(..), S, Y, f) where\ndata T = P | Q\ndata S = R\ntype Y = T\nf = P\ng = Q",
     ),
-    // constructors that are in scope behind a qualifier only
+    // constructors that are in scope by qualified names only
     ("G", "module G (T.T(..)) where\nimport qualified T"),
     // only one of the constructors is in scope
     ("K", "module K (T(..)) where\nimport T (T(P))"),

@@ -155,7 +155,7 @@ fn bad_rows(rt: HostRuntime) -> Result<(), Fail> {
     let mut rows = Vec::new(alloc);
     rows.push(Row::Sequence(of(alloc, &[0])?))?;
     assert_eq!(rt; bad(alloc, rows), Some(BadGrammar::Row(0)));
-    // A row that calls itself over another, behind an optional part.
+    // A row that calls itself over another, after an optional part.
     let mut rows = Vec::new(alloc);
     rows.push(Row::Token(NAME))?;
     rows.push(Row::Sequence(of(alloc, &[2, 3])?))?;

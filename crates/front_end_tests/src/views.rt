@@ -20,7 +20,7 @@ fn laid(alloc: Global, names: &mut Names, whole: bool, text: &str) -> Option<Vec
     block(alloc, tokens, whole).ok()
 }
 
-/// A goal with this text between a front and an end.
+/// A goal with this text between a beginning and an end.
 fn goal(alloc: Global, names: &mut Names, front: &str, text: &str, end: &str) -> Option<GoalText> {
     let mut whole = String::from_str(alloc, front).ok()?;
     whole.push_str(text).ok()?;
@@ -74,7 +74,7 @@ enum Part {
     FreeVariables,
 }
 
-/// What stands before a part and behind it.
+/// What stands before a part and after it.
 fn around(part: Part) -> (&'static str, &'static str) {
     match part {
         Part::Expression | Part::FreeVariables => ("", ""),

@@ -68,7 +68,7 @@ fn outer_function(alloc: Global) -> Result<TopFunction, AllocError>
     })
 }
 
-/// What the local functions of that one capture.
+/// What the local functions of `f x = g x where g y = x` capture.
 fn captured_inside(alloc: Global) -> Result<Vec<Vec<u32>>, AllocError> {
     let function = outer_function(alloc)?;
     captured(alloc, &function)

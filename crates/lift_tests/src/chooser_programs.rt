@@ -85,7 +85,7 @@ fn constant(alloc: Global, constructor: ConId) -> Term {
     Term::Whole(Head::Con(constructor), Vec::new(alloc))
 }
 
-/// A rule of `&&` with that constructor as its first pattern.
+/// A rule of `&&` with this constructor as its first pattern.
 fn both_rule(alloc: Global, first: ConId, body: Term) -> Result<Rule, AllocError> {
     let mut params = Vec::new(alloc);
     params.push(Pattern::Con(first, Vec::new(alloc)))?;
@@ -129,7 +129,7 @@ fn chooser(alloc: Global, heads: &[Head]) -> Result<Function, AllocError> {
     })
 }
 
-/// `&&`, and these behind it.
+/// `&&`, and after it functions that mention these heads.
 fn functions(alloc: Global, rows: &[&[Head]]) -> Result<Vec<Function>, AllocError> {
     let mut functions = Vec::new(alloc);
     functions.push(both(alloc)?)?;

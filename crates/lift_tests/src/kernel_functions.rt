@@ -221,7 +221,7 @@ fn choice(alloc: Global, depth: u32) -> Result<Term, AllocError> {
     Ok(Term::Or(left, right))
 }
 
-/// That choice behind so many free variables.
+/// A choice of 2^depth ones after so many free variables.
 fn free_choice(alloc: Global, free: u32, depth: u32) -> Result<Term, AllocError> {
     let mut term = choice(alloc, depth)?;
     for _ in 0..free {

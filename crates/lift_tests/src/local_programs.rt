@@ -1,4 +1,4 @@
-//! Programs before lifting: one that is right, and the same with a fault.
+//! Programs before lifting: one that is right, and that program with one fault.
 
 use crate::chooser_programs::{ENTITIES, FALSE, NAME, TRUE, modules, types};
 use cu_kernel::{
@@ -11,7 +11,7 @@ use std::alloc::{AllocError, Global};
 /// What isn't right in a program.
 #[derive(Clone, Copy, PartialEq, Eq)]
 pub(crate) enum Fault {
-    /// All is right.
+    /// The program is right.
     Nothing,
     /// z and w have one number.
     BoundTwice,
@@ -38,7 +38,7 @@ pub(crate) enum Fault {
 /// What isn't right among the joined parts of a program.
 #[derive(Clone, Copy, PartialEq, Eq)]
 pub(crate) enum JoinFault {
-    /// All is right.
+    /// The program's parts fit together.
     Nothing,
     /// Types come before.
     TypesBefore,
@@ -83,7 +83,7 @@ fn pair(
     Ok(LocalTerm::Whole(head, arguments))
 }
 
-/// The place of `+` among the functions.
+/// The number of `+` among the functions.
 fn plus(fault: JoinFault) -> LocalHead {
     match fault {
         JoinFault::NoSuchFunction => LocalHead::Global(Head::Fun(FunId(7))),
@@ -166,8 +166,8 @@ fn outer(alloc: Global, fault: Fault, join: JoinFault) -> Result<TopFunction, Al
     })
 }
 
-/// A rule of `&&` with that constructor as its first pattern, and a variable
-/// as its second.
+/// A rule of `&&` with this constructor as its first pattern, and a variable as
+/// its second.
 fn both_rule(
     alloc: Global,
     first: ConId,
@@ -201,7 +201,7 @@ fn both(alloc: Global, join: JoinFault) -> Result<TopFunction, AllocError> {
     })
 }
 
-/// `&&`, that function, and `+`.
+/// `&&`, the function `f` with its local functions, and `+`.
 fn functions(alloc: Global, fault: Fault, join: JoinFault) -> Result<Vec<TopFunction>, AllocError> {
     let mut functions = Vec::new(alloc);
     functions.push(both(alloc, join)?)?;
@@ -270,7 +270,7 @@ fn entities(join: JoinFault) -> Special {
     }
 }
 
-/// The parts of that program, with these faults.
+/// The parts of the sample program, with these faults.
 pub(crate) fn parts(
     alloc: Global,
     fault: Fault,

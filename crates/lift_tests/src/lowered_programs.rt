@@ -12,8 +12,8 @@ const FAILED: Head = Head::Fun(FunId(1));
 
 const EQUAL: Head = Head::Fun(FunId(2));
 
-/// An expression that is wanted. Its parts are named by their places behind
-/// the first expression of their function.
+/// An expression that is wanted. Its parts are named by how far they stand
+/// after the first expression of their function.
 #[derive(Clone, Copy)]
 enum Wanted<'a> {
     Variable(u32),
@@ -31,7 +31,7 @@ enum Branch<'a> {
     Constructor(ConId, &'a [u32], usize),
 }
 
-/// A place behind the first expression of a function.
+/// Whether an index is this far after that of a function's first expression.
 fn is_at(first: usize, found: ExprId, wanted: usize) -> bool {
     found.0 == first.saturating_add(wanted)
 }
@@ -112,7 +112,7 @@ fn lowered_program(alloc: Global, program: &Program) -> Option<Result<FlatProgra
     None
 }
 
-/// The expressions of a function, which begin at this place.
+/// The expressions of a function, which begin at this index.
 fn expect<R: Abort>(rt: &R, flat: &FlatProgram, first: usize, wanted: &[Wanted]) {
     for (index, one) in wanted.iter().enumerate() {
         match flat.find(ExprId(first.saturating_add(index))) {

@@ -20,7 +20,8 @@ sample functions expressions = record {
   expressions = expressions;
 }
 
--- the same with the constructor of the values of set functions
+-- the sample program over these functions and expressions, with the constructor of the values of
+-- set functions
 abbrev pub sample_with_sets : List Function → List Expr → Code
 sample_with_sets functions expressions = record {
   functions = functions;

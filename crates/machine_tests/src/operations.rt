@@ -6,8 +6,8 @@ use cu_flat::{ExprId, FlatProgram, FunId, Int, Prim};
 use std::alloc::Global;
 use std::process::Abort;
 
-/// `7 + -2`, the same with `-`, `*`, `div` and `mod`, the least integer `div -1`
-/// and `mod -1`, and `7 div 0`.
+/// `7 + -2`, and `-`, `*`, `div` and `mod` on these numbers; the least integer
+/// `div -1` and `mod -1`; and `7 div 0`.
 fn sums<R: Abort>(rt: &R, alloc: Global) -> FlatProgram {
     let mut parts = programs::both(rt, alloc);
     parts.integer(rt, 7);
@@ -192,7 +192,7 @@ fn expect_kinds<R: Abort>(rt: &R, alloc: Global) {
     expect(rt, alloc, &program, 13, "0", "fail | 97");
 }
 
-/// Each goal is an operation on literals, which stand behind it.
+/// Each goal is an operation on literals, which stand after it.
 #[test]
 fn operations_are_computed(rt: HostRuntime) {
     let alloc = rt.alloc();

@@ -98,7 +98,7 @@ fn constructor(of_type: usize, arity: u32) -> FlatConstructor
 }
 
 impl Parts {
-    /// Neither functions nor expressions.
+    /// A program without functions and expressions.
     fn new(alloc: Global) -> Parts
         ensures { result ≡ ([], []) }
     {
@@ -217,7 +217,7 @@ impl Parts {
     }
 
     /// A function of one parameter that calls another twice. Its calls are the
-    /// expression at this place and the next one.
+    /// expression with this index and the next one.
     pub(crate) fn twice<R: Abort>(&mut self, rt: &R, f: FunId, place: usize)
         requires { place < 1000 }
         ensures { self.new ≡ (
@@ -245,7 +245,7 @@ impl Parts {
             .expect(rt, "memory");
     }
 
-    /// The program of all of them.
+    /// The program of all functions and expressions.
     pub(crate) fn program<R: Abort>(self, rt: &R) -> FlatProgram
         requires { IsTrue (is_well_formed (sample self.0 self.1)) }
         ensures { result ≡ sample self.0 self.1 }
@@ -260,7 +260,8 @@ impl Parts {
         FlatProgram::new(self.functions, constructors, SPECIAL, self.entries)
     }
 
-    /// The program of all of them, which may have set functions.
+    /// The program of all functions and expressions, which may have set
+    /// functions.
     pub(crate) fn program_with_sets<R: Abort>(self, rt: &R) -> FlatProgram
         requires { IsTrue (is_well_formed (sample_with_sets self.0 self.1)) }
         ensures { result ≡ sample_with_sets self.0 self.1 }

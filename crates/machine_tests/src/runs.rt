@@ -78,7 +78,8 @@ fn outcome_at(
     outcome_after(alloc, program, branch, limits)
 }
 
-/// The same, where the goal has a rule.
+/// What becomes of the branch at the end of a path from the start, where the
+/// goal has a rule.
 fn outcome_of(
     alloc: Global,
     program: &FlatProgram,

@@ -9,9 +9,9 @@ const TURNS: u32 = 100_000_000;
 /// What has passed a gate.
 #[derive(Drop)]
 pub struct Passed {
-    /// How many other items have entered.
+    /// How many other items have entered meanwhile.
     pub others: u32,
-    /// The end was reached before they had.
+    /// Whether the gate stopped looking for others before enough had entered.
     pub ended: bool,
 }
 
@@ -38,7 +38,7 @@ impl<'r, R: Wait> HoldingGate<'r, R> {
         }
     }
 
-    /// Whether the end was reached.
+    /// Whether the gate stopped looking for others before enough had entered.
     pub fn ended(&self) -> bool {
         self.passed.lock(self.rt).ended
     }

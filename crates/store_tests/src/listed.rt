@@ -18,7 +18,7 @@ pub(crate) struct Pair<S> {
     nodes: Vec<Listed>,
 }
 
-/// The same nodes once more.
+/// A copy of a list of nodes.
 fn copied(alloc: Global, nodes: &[Listed]) -> Result<Vec<Listed>, AllocError> {
     let mut copies = Vec::new(alloc);
     for node in nodes {
@@ -31,7 +31,7 @@ fn copied(alloc: Global, nodes: &[Listed]) -> Result<Vec<Listed>, AllocError> {
     Ok(copies)
 }
 
-/// Whether a store has this node at this place.
+/// Whether a store has this node at this index.
 fn shows<S: Store>(store: &S, id: u32, node: &Listed) -> bool {
     if id >= store.len() || store.kind(id) != node.kind {
         return false;

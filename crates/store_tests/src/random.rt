@@ -1,4 +1,4 @@
-//! The same random pushes, puts and forks on every store.
+//! Random pushes, puts and forks, the same ones on every store.
 ghost use Rattle.std.specs.Prelude.{◌<◌};
 
 use crate::listed::Pair;
@@ -35,8 +35,8 @@ struct Pool<S> {
 }
 
 impl<S: Store> Pool<S> {
-    /// Writes a node with up to three arguments, behind the others or in the
-    /// place of one of them.
+    /// Writes a node with up to three arguments, after the others or in the
+    /// place of one.
     fn write(&mut self, alloc: Global, numbers: &mut Numbers) -> Result<(), AllocError> {
         let place = numbers.draw();
         let args = [numbers.draw(), numbers.draw(), numbers.draw()];

@@ -229,7 +229,7 @@ const GOALS: [Form; 4] = [
     ),
 ];
 
-/// Expects these lines of a module, behind which its goal stands.
+/// Expects these lines of a module, after which its goal stands.
 fn expect<R: Abort + AllocGlobal>(rt: &R, forms: &[Form]) {
     for (text, lines) in forms {
         let alloc = rt.alloc();

@@ -20,7 +20,8 @@ enum Part<'a> {
     Term(&'a Term),
 }
 
-/// A line that is written. The next part stands last.
+/// A line that is being written. The parts that are left are a stack, the next
+/// one last.
 #[derive(Drop)]
 struct Writer<'a> {
     program: &'a Program,

@@ -66,7 +66,7 @@ fn type_text(alloc: Global, shared: &SharedType) -> Option<String> {
     String::from_str(alloc, texts.get(opened.place)?.as_str()).ok()
 }
 
-/// The types of the functions behind so many, each followed by a semicolon
+/// The types of the functions after so many, each followed by a semicolon
 /// but the last.
 fn types_text(alloc: Global, interface: &Interface, before: usize) -> Option<String> {
     let mut text = String::new(alloc);
@@ -104,7 +104,7 @@ fn answer(alloc: Global, line: &str, before: usize) -> Option<String> {
     }
 }
 
-/// Expects these types of the functions behind so many, or this fault.
+/// Expects these types of the functions after so many, or this fault.
 pub(crate) fn expect_behind<R: Abort>(
     rt: &R,
     alloc: Global,

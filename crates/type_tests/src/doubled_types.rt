@@ -28,7 +28,7 @@ fn two<T: Drop>(alloc: Global, first: T, second: T) -> Option<Vec<T>> {
     Some(items)
 }
 
-/// `e x`, of the function `e` at a place.
+/// `e x`, of the function `e` with this number.
 fn call(alloc: Global, place: usize) -> Option<Term> {
     let arguments = one(alloc, Term::Var(0))?;
     Some(Term::Whole(Head::Fun(FunId(place)), arguments))

@@ -171,7 +171,7 @@ fn signatures<R: Abort>(rt: &R, alloc: Global) {
     expect(rt, alloc, both, "signature f");
 }
 
-/// Functions that captured parameters: those come first.
+/// Functions with captured parameters, which come first.
 fn captured_parameters<R: Abort>(rt: &R, alloc: Global) {
     // f x = g 1 where g y = x
     let plain = "fun/1 rule/1 .x0 g/2 x0 1 fun/2 local/1 rule/2 .x0 .x1 x0";
@@ -192,7 +192,7 @@ fn captured_parameters<R: Abort>(rt: &R, alloc: Global) {
     let nested = "fun/2 local/1 :-> :Nest/1 :0 :Int rule/2 .x0 .End x0 \
         rule/2 .x0 .Nest/2 .x1 .x2 +/2 x0 f/2 x0 x2";
     expect(rt, alloc, nested, "(Int -> ((Nest 0) -> Int))");
-    // the same function, if a call could pass (x, x) for x
+    // the function that captured x, as if a call could pass (x, x) for x
     let changed = "fun/2 local/1 :-> :Nest/1 :0 :Int rule/2 .x0 .End 0 \
         rule/2 .x0 .Nest/2 .x1 .x2 f/2 Pair/2 x0 x0 x2";
     expect(rt, alloc, changed, "clash f");
@@ -435,7 +435,7 @@ fn goals<R: Abort>(rt: &R, alloc: Global) {
         "fun/0 goal rule/0 Cons/2 +~0 Nil",
         "functional goal",
     );
-    // Just x, behind functions: f x = g x; g x y = x
+    // Just x, after functions: f x = g x; g x y = x
     let last = "fun/1 rule/1 .x0 g~1 x0 fun/2 rule/2 .x0 .x1 x0 fun/1 goal rule/1 .x0 Just/1 x0";
     expect(
         rt,

@@ -77,7 +77,7 @@ fn arrow(
     Ok(TypeTerm::Arrow(argument, boxed(alloc, value)?))
 }
 
-/// A data type with arguments, by its place.
+/// A data type with arguments, by its index.
 fn named(
     place: usize,
     arguments: Result<Vec<TypeTerm>, AllocError>,
@@ -168,8 +168,8 @@ fn first_types(alloc: Global) -> Result<Vec<DataType>, AllocError> {
     Ok(types)
 }
 
-/// Those types, `data Bool = False | True`, `data Values a = Values [a]` and
-/// `data Maybe a = Nothing | Just a`.
+/// The types that every program begins with, `data Bool = False | True`, `data
+/// Values a = Values [a]` and `data Maybe a = Nothing | Just a`.
 fn plain_types(alloc: Global) -> Result<Vec<DataType>, AllocError> {
     let truth = ended(alloc, 0, Ok(Vec::new(alloc)));
     let values = single(alloc, 1, one(alloc, list_of(alloc, Ok(TypeTerm::Var(0)))));
@@ -177,8 +177,8 @@ fn plain_types(alloc: Global) -> Result<Vec<DataType>, AllocError> {
     and(and(and(first_types(alloc), truth), values), maybe)
 }
 
-/// Those types, `data Nat = Z | S Nat`, `data Fun a = Fun (a -> a)`,
-/// `data Nest a = End | Nest a (Nest (a, a))` and `data Note = Note Text`.
+/// The plain types, `data Nat = Z | S Nat`, `data Fun a = Fun (a -> a)`, `data
+/// Nest a = End | Nest a (Nest (a, a))` and `data Note = Note Text`.
 pub(crate) fn types(alloc: Global) -> Result<Vec<DataType>, AllocError> {
     let nat = ended(alloc, 0, one(alloc, named(21, Ok(Vec::new(alloc)))));
     let endo = arrow(alloc, Ok(TypeTerm::Var(0)), Ok(TypeTerm::Var(0)));

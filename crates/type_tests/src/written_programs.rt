@@ -13,7 +13,7 @@
 //! - Types begin with a colon: `:0` for a variable, `:-> a b`, `:Int`,
 //!   `:List/1 ..`.
 //! - `rule/1 p a` is a rule of one parameter. `fun/1` is a function of one
-//!   parameter with the rules behind it; a type in between is its declared
+//!   parameter with the rules after it; a type in between is its declared
 //!   one, `local/1` says that it captured one of its parameters, and `goal`
 //!   that it is the goal.
 
@@ -66,7 +66,7 @@ struct Draft {
     goal: Option<(u32, usize)>,
 }
 
-/// The place of a name in a list.
+/// The index of a name in a list.
 fn place_in(names: &[&str], name: &str) -> Option<usize> {
     for (place, own) in names.iter().enumerate() {
         if *own == name {
@@ -386,7 +386,7 @@ fn first_functions(alloc: Global) -> Option<Vec<Function>> {
     Some(functions)
 }
 
-/// Those functions, and the ones that were read.
+/// `&&`, the operations that are built in, and the functions that were read.
 fn functions(alloc: Global, read: &mut Draft) -> Option<Vec<Function>> {
     let mut functions = first_functions(alloc)?;
     for _ in 0..read.functions.len() {
@@ -431,7 +431,7 @@ fn modules(alloc: Global) -> Option<Vec<ModuleInfo>> {
     Some(modules)
 }
 
-/// The parts of the program of a line, behind `&&` and the operations that are
+/// The parts of the program of a line, after `&&` and the operations that are
 /// built in.
 pub(crate) fn parts(alloc: Global, line: &str) -> Option<ProgramParts> {
     let mut read = read_line(alloc, line)?;
@@ -456,7 +456,7 @@ pub(crate) fn valid_program(parts: ProgramParts) -> Option<Program> {
     Some(Program::new(parts))
 }
 
-/// The program of a line behind `&&` and the operations that are built in,
+/// The program of a line after `&&` and the operations that are built in,
 /// where the line can be read and the program is valid.
 pub(crate) fn program(alloc: Global, line: &str) -> Option<Program> {
     valid_program(parts(alloc, line)?)

@@ -285,7 +285,7 @@ fn other_trials_are_refused(rt: HostRuntime) {
     }
 }
 
-/// Lines whose words aren't right: their command, what stands behind it, or
+/// Lines whose words aren't right: their command, what stands after it, or
 /// how often.
 const OTHERS: [&str; 50] = [
     "",

@@ -112,8 +112,8 @@ fn case_of(alloc: Global, scrutinee: Made) -> Made {
     case(alloc, scrutinee, pair_rows(alloc))
 }
 
-/// That case distinction over a pair of numbers has the second number as its
-/// value by the first alternative, or 7 by the second.
+/// `case (m, n) of { (1, x) -> x; (y, 2) -> 7 }` over a pair of numbers has the
+/// second number as its value by the first alternative, or 7 by the second.
 fn of_pair(alloc: Global, first: Int, second: Int, by_first: bool) -> Draft {
     let mut draft = Draft::new(alloc);
     draft.int(first);
@@ -141,8 +141,8 @@ fn of_pair(alloc: Global, first: Int, second: Int, by_first: bool) -> Draft {
     draft
 }
 
-/// That case distinction over `(coin, 2)`, where `coin` isn't known, is 7 by
-/// the second alternative.
+/// `case (coin, 2) of { (1, x) -> x; (y, 2) -> 7 }`, where `coin` isn't known,
+/// is 7 by the second alternative.
 fn of_unknown(alloc: Global) -> Draft {
     let coin = Head::Fun(COIN);
     let mut draft = Draft::new(alloc);

@@ -214,7 +214,7 @@ fn with_itself(
     draft
 }
 
-/// The same, for an unbound variable.
+/// An operation on an unbound variable and itself is True.
 fn unbound(alloc: Global, operation: FunId) -> Draft {
     with_itself(
         alloc,
@@ -225,7 +225,8 @@ fn unbound(alloc: Global, operation: FunId) -> Draft {
     )
 }
 
-/// The same, for a pair of which the second part isn't known.
+/// An operation on a variable and itself is True, where it stands for a pair of
+/// which the second part isn't known.
 fn half_known(alloc: Global, operation: FunId) -> Draft {
     with_itself(
         alloc,
@@ -300,7 +301,7 @@ fn a_conjunction_is_true_or_nothing(rt: HostRuntime) {
     expect(&rt, false, conjoined(alloc, false, true, true));
 }
 
-/// A literal, or the empty list.
+/// A literal or the empty list, as a side of `==`.
 #[derive(Clone, Copy)]
 enum Simple {
     Number(Int),
@@ -326,7 +327,7 @@ impl Simple {
     }
 }
 
-/// `==` on two of them has a value.
+/// `==` on two literals or empty lists has a value.
 fn of_simple(alloc: Global, left: Simple, right: Simple, verdict: bool) -> Draft {
     let mut draft = Draft::new(alloc);
     draft.step(&[], left.term(alloc), left.value(alloc));

@@ -108,7 +108,7 @@ pub(crate) fn pair(alloc: Global, first: Int, second: Int) -> Made {
     on_two(alloc, Head::Con(PAIR), int(first), int(second))
 }
 
-/// Nothing is known.
+/// The value of which nothing is known.
 pub(crate) fn unknown(alloc: Global) -> Worth {
     Value::bottom(alloc)
 }
@@ -154,7 +154,7 @@ pub(crate) fn pair_of(alloc: Global, first: Worth, second: Worth) -> Worth {
     two_values(alloc, PAIR, first, second)
 }
 
-/// The list of these numbers, with what stands behind them.
+/// The list of these numbers and then the elements of another list.
 pub(crate) fn list_before(alloc: Global, numbers: &[Int], rest: Worth) -> Worth {
     let mut list = rest;
     for n in numbers.iter().rev() {
@@ -188,8 +188,8 @@ fn push_binding(bindings: &mut Vec<(u32, Value)>, x: u32, value: Worth) -> Resul
     Ok(())
 }
 
-/// A proof and its claims, while they are written. Want of memory is kept for
-/// the end.
+/// A proof and its claims, while they are written. An allocation failure is
+/// kept for the end.
 #[derive(Drop)]
 pub(crate) struct Draft {
     alloc: Global,
@@ -328,7 +328,8 @@ pub(crate) fn expect<R: Abort>(rt: &R, accepted: bool, draft: Draft) {
     assert_eq!(rt; verdict(rt, Some(VALUES), draft).ok(), Some(accepted));
 }
 
-/// Expects it where the program has no set functions.
+/// Expects that a proof is accepted, or that it is refused, where the program
+/// has no set functions.
 pub(crate) fn expect_without_sets<R: Abort>(rt: &R, accepted: bool, draft: Draft) {
     assert_eq!(rt; verdict(rt, None, draft).ok(), Some(accepted));
 }

@@ -1,4 +1,4 @@
-//! Places of steps, what a proof may speak of, and its conclusion.
+//! Indices of steps, what a proof may speak of, and its conclusion.
 
 use super::draft::{
     Bindings, Draft, Made, Worth, constant, expect, int, number, on_one, on_two, one_binding,
@@ -11,7 +11,7 @@ use cu_values::Cell;
 use std::alloc::{AllocError, Global};
 use std::process::Abort;
 
-/// `loop` has a value, since it has it.
+/// `loop` has a value, by a step that cites itself.
 fn from_itself(alloc: Global, value: Worth) -> Draft {
     let mut draft = Draft::new(alloc);
     draft.step(&[0], constant(alloc, Head::Fun(LOOP)), value);
@@ -27,7 +27,7 @@ fn from_later(alloc: Global) -> Draft {
     draft
 }
 
-/// `loop` isn't known, and so it isn't by its rule.
+/// `loop` isn't known by its rule, since it isn't known by the row for Bottom.
 fn from_unknown(alloc: Global) -> Draft {
     let looping = Head::Fun(LOOP);
     let mut draft = Draft::new(alloc);
@@ -36,7 +36,7 @@ fn from_unknown(alloc: Global) -> Draft {
     draft
 }
 
-/// `(1, 2)` is worth itself, by the steps at these places.
+/// `(1, 2)` is worth itself, by the steps with these indices.
 fn from_places(alloc: Global, cites: &[usize]) -> Draft {
     let mut draft = Draft::new(alloc);
     draft.int(1);
@@ -100,7 +100,8 @@ fn statements_are_the_programs(rt: HostRuntime) {
     expect(&rt, false, of_unknown(alloc, repeated, variable(0)));
 }
 
-/// Whether a statement says that the variable 0, which alone is bound, is 2.
+/// Whether a statement says that the variable 0 is 2, and binds no other
+/// variable.
 fn is_use_of_two(statement: &Statement) -> bool {
     let is_variable = match statement.term {
         Term::Var(x) => x == 0,
@@ -109,7 +110,7 @@ fn is_use_of_two(statement: &Statement) -> bool {
     is_variable && statement.env.len() == 1 && statement.value.head() == Cell::Lit(Lit::Int(2))
 }
 
-/// Whether a proof whose last step says so proves that.
+/// Whether a proof whose last step says that the variable 0 is 2 proves that.
 fn concludes_use_of_two<R: Abort>(rt: &R, alloc: Global) -> Result<bool, AllocError> {
     let mut draft = Draft::new(alloc);
     draft.int(1);

@@ -31,7 +31,8 @@ fn coins(draft: &mut Draft, alloc: Global, listed: Worth) {
     );
 }
 
-/// So it is, where the claims say that `coin` has these values.
+/// The set call of `coin` is worth the values of a list, where the claims say
+/// that `coin` has these values.
 fn claimed_coins(alloc: Global, numbers: &[Int], listed: Worth) -> Draft {
     let mut draft = Draft::new(alloc);
     draft.claim(COIN, Ok(Vec::new(alloc)), all_numbers(alloc, numbers));
@@ -39,7 +40,7 @@ fn claimed_coins(alloc: Global, numbers: &[Int], listed: Worth) -> Draft {
     draft
 }
 
-/// So it is, without a claim.
+/// The set call of `coin` is worth the values of a list, without a claim.
 fn unclaimed_coins(alloc: Global) -> Draft {
     let mut draft = Draft::new(alloc);
     coins(&mut draft, alloc, list(alloc, &[0, 1]));

@@ -8,7 +8,7 @@ use Rattle.cu_declared.specs.Parameters.{Numbered, number_of}
 use Rattle.cu_declared.specs.TypeFaults.{Fault, arity_fault}
 use Rattle.cu_declared.specs.TypeUses.{TypeUse}
 
--- the entity, where it is one
+-- the entity that a name means, where it means one alone
 abbrev pub alone : List Entity → Option Entity
 alone [] = None
 alone (e ∷ []) = Some e

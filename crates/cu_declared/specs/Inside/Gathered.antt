@@ -33,11 +33,11 @@ use_meaning names u = record { name = name_meaning names u.name; arguments = u.a
 abbrev pub uses_meaning : List (List ℕ) → List code.TypeUse → List TypeUse
 uses_meaning names uses = map (use_meaning names) uses
 
--- the name is of a module, and a table has it
+-- the name of a use is of the module, and a table has it
 abbrev pub UseIsOf : NameId → List (List ℕ) → code.TypeUse → Type 0
 UseIsOf owner names u = NameIsOf owner names u.name
 
--- Uses of a module, whose names a table has, were added: these.
+-- The uses found grew by these, whose names are of the module and in the table.
 pub record Adds (owner : NameId) (names : List (List ℕ)) (before : List code.TypeUse)
     (added : List TypeUse) (after : List code.TypeUse) : Type 0 where
   pub adds : uses_meaning names after ≡ uses_meaning names before ++ added

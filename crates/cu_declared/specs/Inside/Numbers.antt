@@ -14,7 +14,7 @@ first_or (Some found) n = found
 abbrev pub number_for : List (List ℕ) → List Numbered → Key → Option ℕ
 number_for names numbers k = number_at numbers (text_of names k.owner) (text_of names k.name)
 
--- What look-ups give are these numbers.
+-- Look-ups give each name of a module the number that belongs to it, if there is one.
 pub record AreNumbers (names : List (List ℕ)) (numbers : List Numbered) (found : Key → Option ℕ)
     : Type 0 where
   pub gives : (k : Key) → IsKnown names k.owner → IsKnown names k.name
@@ -23,7 +23,7 @@ pub record AreNumbers (names : List (List ℕ)) (numbers : List Numbered) (found
 pub record Have (names : List (List ℕ)) (numbers : List Numbered) (table : Numbers) : Type 0 where
   pub are : AreNumbers names numbers (get eq-value.it table.numbers)
 
--- these numbers were added
+-- the table of numbers has these besides those that it had
 pub record Gains (names : List (List ℕ)) (before : Numbers) (added : List Numbered)
     (after : Numbers) : Type 0 where
   pub gains : (numbers : List Numbered) → Have names numbers before

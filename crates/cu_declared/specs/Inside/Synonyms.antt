@@ -21,7 +21,8 @@ use Rattle.cu_declared.specs.TypeFaults as meant
 use Rattle.cu_declared.specs.TypeFaults.{Fault, IsCycleFault}
 use Rattle.cu_declared.specs.TypeUses.{TypeUse, type_uses}
 
--- what the code keeps of a synonym
+-- what the code keeps of a synonym: where it is declared, its name, and the names of types on its
+-- right
 pub record Kept : Type 0 where
   pub at : Position
   pub name : List ℕ
@@ -42,7 +43,7 @@ pub record SynonymIsOf (owner : NameId) (names : List (List ℕ)) (s : code.Syno
   pub name : IsKnown names s.name
   pub uses : All (UseIsOf owner names) s.uses.items
 
--- These are the synonyms, with names that a table has.
+-- The synonyms that the code found are these, with names that a table has.
 pub record AreKept (owner : NameId) (names : List (List ℕ)) (synonyms : List Synonym)
     (found : List code.Synonym) : Type 0 where
   pub are : map (kept_by names) found ≡ map kept synonyms
@@ -81,25 +82,26 @@ abbrev pub flagged_fault : Bool → Kept → List Fault
 flagged_fault flag s =
     if flag then record { wrong = meant.SynonymCycle s.name; at = s.at } ∷ [] else []
 
--- those that are flagged
+-- the faults of those synonyms that are flagged
 abbrev pub flagged_faults : List Bool → List Kept → List Fault
 flagged_faults [] synonyms = []
 flagged_faults (flag ∷ flags) [] = []
 flagged_faults (flag ∷ flags) (s ∷ synonyms) = flagged_fault flag s ++ flagged_faults flags synonyms
 
--- These are the cycle faults of a module.
+-- These are the faults of a module that are cycles of synonyms: each is one, and each one is among
+-- them.
 pub record AreCycles (w : World) (faults : List Fault) : Type 0 where
   pub each : (k : ℕ) (f : Fault) → slice_get faults k ≡ Some f
       → IsCycleFault (bindings_of w) w.m f
   pub all : (f : Fault) → IsCycleFault (bindings_of w) w.m f
       → (k : ℕ) × (slice_get faults k ≡ Some f)
 
--- the synonym that an item declares, if it declares one
+-- the synonym that the code found in an item, if it found one, is the one that the item declares
 abbrev pub IsKept : NameId → List (List ℕ) → List Synonym → Option code.Synonym → Type 0
 IsKept owner names synonyms None = synonyms ≡ []
 IsKept owner names synonyms (Some s) = AreKept owner names synonyms (s ∷ [])
 
--- the synonyms of the module in which a text stands
+-- the synonyms that the code found are those of the module in which a text stands
 pub record AreSynonyms (w : World) (number : ℕ) (owner : NameId) (scopes : Scopes)
     (found : List code.Synonym) : Type 0 where
   pub is_at : IsAt w number scopes

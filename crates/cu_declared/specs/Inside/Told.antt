@@ -38,19 +38,19 @@ pub record FaultIsOf (owner : NameId) (names : List (List ℕ)) (f : code.Fault)
   pub place : PlaceIsOf owner f.place
   pub name : WrongIsKnown names f.wrong
 
--- One of the faults, with none before it.
+-- One of the faults that has none before it.
 pub record IsFirst (found : List Fault) (fault : Fault) : Type 0 where
   pub place : ℕ
   pub listed : slice_get found place ≡ Some fault
   pub first : (k : ℕ) (g : Fault) → slice_get found k ≡ Some g → is_before g fault ≡ false
 
--- No fault, where there is none, or the first of them, in its module.
+-- The code found no fault where there is none, or else the first of these, which is of the module.
 abbrev pub IsFirstIf : NameId → List (List ℕ) → List Fault → Option code.Fault → Type 0
 IsFirstIf owner names faults None = faults ≡ []
 IsFirstIf owner names faults (Some f) =
     FaultIsOf owner names f × IsFirst faults (fault_meaning names f)
 
--- These faults of a module were told.
+-- What the code holds is the first of these faults of a module, if there are any.
 pub record AreTold (owner : NameId) (names : List (List ℕ)) (faults : List Fault) (s : FirstFault)
     : Type 0 where
   pub first : IsFirstIf owner names faults s.first
@@ -68,27 +68,28 @@ pub record World : Type 0 where
 abbrev pub bindings_of : World → List Binding
 bindings_of w = scope_at w.modules w.number w.m
 
--- names in the text mean what these scopes tell in the module of a number
+-- the scopes of the code tell what names mean in the modules, and the text is in the module of this
+-- number
 pub record IsAt (w : World) (number : ℕ) (tables : Scopes) : Type 0 where
   pub differ : AllDiffer w.names
   pub scopes : AreScopes w.names w.modules tables
   pub number_is : number ≡ w.number
   pub is_there : slice_get w.modules w.number ≡ Some w.m
 
--- the text is that of a module
+-- the text is that of the module of this number
 pub record IsModule (w : World) (number : ℕ) (m : Module) (scopes : Scopes) : Type 0 where
   pub is_at : IsAt w number scopes
   pub owner_is : m.name ≡ w.owner
   pub module_is : module_of w.names m ≡ w.m
   pub has : HasModule w.names m
 
--- these faults were told behind what was told before
+-- these faults were told, after what was told before
 pub record Told (w : World) (before : FirstFault) (faults : List Fault) (after : FirstFault)
     : Type 0 where
   pub told : (others : List Fault) → AreTold w.owner w.names others before
       → AreTold w.owner w.names (others ++ faults) after
 
--- What a module's first fault is, if it has one.
+-- The code found no fault where a module has none, or else the module's first fault.
 abbrev pub IsModuleFirst : World → Option code.Fault → Type 0
 IsModuleFirst w None = (f : Fault) → IsModuleFault w.modules w.number w.m f → ⊥
 IsModuleFirst w (Some f) =

@@ -20,7 +20,7 @@ use Rattle.cu_faults.specs.declared.patterns.Sought.TheVariants.{Clashes, Counts
 
 -- ---- clashes
 
--- what grouping sees of constructors and the patterns behind them
+-- what grouping sees of constructor operators and the patterns after them
 abbrev pub pieces_behind : Setting → List ConstructorItem → List Piece
 pieces_behind w [] = []
 pieces_behind w (item ∷ items) =
@@ -38,12 +38,12 @@ operators_clash w items =
 
 -- ---- walks
 
--- what is told of a constructor on so many patterns, those apart
+-- what is told of a constructor on so many patterns, faults in these patterns apart
 abbrev pub constructed_told : Sought → Setting → code.Name → ℕ → List Fault
 constructed_told Clashes w c n = []
 constructed_told Counts w c n = constructor_fault w.around.names (name_meaning w.names c) n
 
--- what is told of constructors between patterns, those apart
+-- what is told of patterns with constructor operators between them, faults in these patterns apart
 abbrev pub operators_told : Sought → Setting → PatItems → List Fault
 operators_told Clashes w items = operators_clash w items
 operators_told Counts w items = []
@@ -62,7 +62,7 @@ operands_told Counts w items = operator_faults w.around.names (rest_meaning w.na
 
 -- ---- variables
 
--- names whose text stands before, or is one of these
+-- the faults of those names whose text stands earlier in the list, or is one of `seen`
 unfoldable pub repeats : List (List ℕ) → List (List ℕ) → List code.Name → List Fault
 repeats names seen found = map (at_name NonLinear) (repeated seen (map (name_meaning names) found))
 

@@ -1,4 +1,5 @@
--- Terms that were laid out behind what there was.
+-- What was laid out when a term, terms, branches or functions were: expressions after those that
+-- there were.
 use Rattle.std.specs.Prelude.{◌≡◌, ℕ, ◌&&◌, List, [], ◌∷◌, ◌++◌, filter, length}
 use Rattle.cu_calculus.specs.declared.ExprId.{ExprId}
 use Rattle.cu_calculus.specs.Code as code
@@ -8,28 +9,28 @@ use Rattle.cu_calculus.specs.Term.{Alternatives, Term, Terms}
 use Rattle.cu_flat.specs.Layout as layout
 use Rattle.cu_flat.specs.Layout.{beside, binding, branches_use, some_uses, uses}
 
--- An expression was written behind the old ones.
+-- An expression was written after the old ones.
 pub record IsPushed (e : Expr) (old new : List Expr) (at : ExprId) : Type 0 where
   pub place : at ≡ record { 0 = length old }
   pub written : new ≡ old ++ e ∷ []
 
--- A term was laid out in a scope: where it stands, and which variables of the scope it uses, in the
--- scope's order.
+-- A term was laid out in a scope. This says where it stands and which variables of the scope it
+-- uses, in the scope's order.
 pub record IsLaid (scope : List ℕ) (t : Term) (old new : List Expr) (at : ExprId) (used : List ℕ)
     : Type 0 where
   pub place : at ≡ layout.place (length old) t
   pub used_of : used ≡ filter (uses t) scope
   pub written : new ≡ old ++ layout.layout (length old) scope t
 
--- A term was laid out where variables are bound: where it stands, and which variables of the scope
--- around it uses beside them.
+-- A term was laid out where variables are bound. This says where it stands and which variables of
+-- the scope around it uses beside the bound ones.
 pub record IsLaidUnder (scope bound : List ℕ) (t : Term) (old new : List Expr) (at : ExprId)
     (used : List ℕ) : Type 0 where
   pub place : at ≡ layout.place (length old) t
   pub used_of : used ≡ filter (λ y. beside bound y && uses t y) scope
   pub written : new ≡ old ++ layout.layout (length old) (binding bound scope) t
 
--- Terms were laid out, one behind the other.
+-- Several terms were laid out, one after the other.
 pub record AreLaid (scope : List ℕ) (ts : Terms) (old new : List Expr) (at : List ExprId)
     (used : List ℕ) : Type 0 where
   pub places : at ≡ layout.places (length old) ts
@@ -43,12 +44,12 @@ pub record BranchesAreLaid (scope : List ℕ) (alternatives : Alternatives) (old
   pub used_of : used ≡ filter (branches_use alternatives) scope
   pub written : new ≡ old ++ layout.branch_layouts (length old) scope alternatives
 
--- What a function computes was laid out.
+-- The body of a function was laid out.
 pub record IsBodyLaid (body : Body) (old new : List Expr) (made : code.Body) : Type 0 where
   pub body_of : made ≡ layout.body_at (length old) body
   pub written : new ≡ old ++ layout.body_layout (length old) body
 
--- Functions were laid out, one behind the other.
+-- Several functions were laid out, one after the other.
 pub record AreFunctionsLaid (fs : List Function) (old new : List Expr) (made : List code.Function)
     : Type 0 where
   pub functions : made ≡ layout.functions_from (length old) fs

@@ -1,7 +1,7 @@
--- Lists of variables.
+-- Scopes as lists of variables.
 use Rattle.std.specs.Prelude.{ℕ, List, [], ◌∷◌, if◌then◌else◌, nat_eq}
 
--- what is left behind the first variable, where that is x; else all
+-- what is left of variables after the first one, where that is x; else all of them
 abbrev pub behind : ℕ → List ℕ → List ℕ
 behind x [] = []
 behind x (y ∷ ys) = if nat_eq y x then ys else y ∷ ys

@@ -1,4 +1,4 @@
--- What is left to be written of an inferred type, and what it comes to.
+-- The tasks that are left while an inferred type is written, and the texts that they come to.
 use Rattle.std.specs.Prelude.{ℕ, List, [], ◌∷◌, ◌++◌, map, reverse}
 use Rattle.cu_kernel.specs.TypeExpr.{TypeExpr}
 use Rattle.cu_types.specs.Table.{Shape, at, built, shape_of, tree_over, trees}
@@ -11,11 +11,11 @@ use Rattle.cu_flattext.specs.declared.inferred.InferredTask.TheVariants as task
 use Rattle.cu_flattext.specs.declared.inferred.InferredType.{InferredType}
 use Rattle.cu_flattext.specs.declared.type_table.TypeTable.{TypeTable}
 
--- the type at a place of a table
+-- the type with an index in a table
 abbrev pub type_at : TypeTable → ℕ → TypeExpr
 type_at table place = at (trees (map shape_of table.types.now)) place
 
--- its text
+-- the text of the type with an index in a table
 abbrev pub text_there : Lowered → ℕ → TypeTable → ℕ → List ℕ
 text_there program count table place = written_type_text program count (type_at table place)
 
@@ -26,21 +26,21 @@ inferred_part program count table (task.Types places behind) =
     elements behind (map (text_there program count table) places.now)
 inferred_part program count table (task.Text text) = text.now
 
--- what tasks come to, the first first
+-- the text of several tasks, the first task first
 abbrev pub inferred_parts : Lowered → ℕ → TypeTable → List InferredTask → List ℕ
 inferred_parts program count table [] = []
 inferred_parts program count table (t ∷ ts) =
     inferred_part program count table t ++ inferred_parts program count table ts
 
--- what is left to be written
+-- the text of the tasks that are left
 abbrev pub inferred_left : InferredType → List ℕ
 inferred_left s = inferred_parts (lowered_of s.wording) s.count s.table (reverse s.tasks.items)
 
--- the same with a task before the others
+-- the text of the tasks that are left, with one task before them
 abbrev pub inferred_left_with : InferredTask → InferredType → List ℕ
 inferred_left_with t s = inferred_part (lowered_of s.wording) s.count s.table t ++ inferred_left s
 
--- the same with a text before the tasks
+-- a text, and then that of the tasks that are left
 abbrev pub inferred_left_behind : List ℕ → InferredType → List ℕ
 inferred_left_behind text s = text ++ inferred_left s
 
@@ -48,7 +48,7 @@ inferred_left_behind text s = text ++ inferred_left s
 abbrev pub text_of_type : InferredType → TypeExpr → List ℕ
 text_of_type s t = written_type_text (lowered_of s.wording) s.count t
 
--- the text of the type at a place
+-- the text of the type with an index
 abbrev pub text_at : InferredType → ℕ → List ℕ
 text_at s place = text_of_type s (type_at s.table place)
 
@@ -56,6 +56,6 @@ text_at s place = text_of_type s (type_at s.table place)
 abbrev pub type_of_shape : InferredType → Shape → TypeExpr
 type_of_shape s shape = tree_over (type_at s.table) shape
 
--- the type of a head on the types at these places
+-- the type of a head on the types with these indices
 abbrev pub type_with : InferredType → TypeHead → List ℕ → TypeExpr
 type_with s head places = built head (map (type_at s.table) places)

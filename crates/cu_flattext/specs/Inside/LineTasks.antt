@@ -1,4 +1,4 @@
--- What is left to be written of a module, and what it comes to.
+-- The parts of a module's text that are left while it is written, and the texts that they come to.
 use Rattle.std.specs.Prelude.{ℕ, ◌+◌, Bool, false, List, [], ◌∷◌, ◌++◌, Option, None, Some, codes, drop, length, map, reverse, slice_get}
 use Rattle.cu_calculus.specs.Code.{Code}
 use Rattle.cu_calculus.specs.FlatProgram.{term_of}
@@ -28,19 +28,20 @@ rule_expression program code parameters e =
     expression_text program (1 + length parameters) (all_numbered parameters 1 no_numbers)
     (term_of code e)
 
+-- the body of a function, and none with a rule where there is no such function
 abbrev pub body_found : Option calculus.Function → calculus.Body
 body_found None = calculus.Rules []
 body_found (Some f) = f.body
 
--- what a function does; it has no rule where there is no such function
+-- the body of the function with a number, and none with a rule where there is no such function
 abbrev pub body_at : Lowered → FunId → calculus.Body
 body_at program f = body_found (slice_get program.flat.functions f.0)
 
--- the text of what a function does
+-- the text of a function's rule
 abbrev pub body_text : Lowered → FunId → List ℕ
 body_text program f = rule_text program (function_entity program f) (body_at program f)
 
--- the text of a function
+-- the line of a function
 abbrev pub function_at : Lowered → FunId → Bool → List ℕ
 function_at program f public =
     function_text program f public
@@ -52,13 +53,13 @@ rule_over program code parameters e =
     codes "Rule " ++ (list_text (numbers_from 1 (length parameters)) ++ (codes " "
     ++ in_parentheses (rule_expression program code parameters e)))
 
--- the lines of the functions from a place on
+-- the lines of a module's functions from an index on
 abbrev pub function_lines : Lowered → ℕ → ℕ → List (List ℕ)
 function_lines program m k =
     map on_a_line (function_texts program m k (drop k program.flat.functions)
     (drop k program.kernel.marks))
 
--- the text of a part of the module at a place
+-- the text of a part of a module
 abbrev pub line_part : Lowered → ℕ → Line → List ℕ
 line_part program m (line.Text text) = text.now
 line_part program m (line.Imports imports behind) =
@@ -76,12 +77,12 @@ line_part program m (line.Body f) = body_text program f
 line_part program m (line.Operators os behind) =
     elements behind (map on_a_line (map (operator_text program m) os.now))
 
--- what parts come to, the first first
+-- the text of several parts, the first part first
 abbrev pub line_parts : Lowered → ℕ → List Line → List ℕ
 line_parts program m [] = []
 line_parts program m (l ∷ ls) = line_part program m l ++ line_parts program m ls
 
--- the module at a place from its imports on
+-- the text of a module from its imports on
 abbrev pub module_lines : Lowered → ℕ → List ℕ
 module_lines program m =
     let found = slice_get program.kernel.modules m in
@@ -92,30 +93,30 @@ module_lines program m =
     ++ (elements false (map on_a_line (map (operator_text program m) (operators_of found)))
     ++ (codes "]\n" ++ [])))))))
 
--- what is left of the lines
+-- the text of the parts that are left
 abbrev pub lines_left : ModuleText → List ℕ
 lines_left s = line_parts (lowered_of s.wording) s.module (reverse s.lines.items)
 
--- the same with a part before the others
+-- the text of the parts that are left, with one part before them
 abbrev pub lines_left_with : Line → ModuleText → List ℕ
 lines_left_with l s = line_part (lowered_of s.wording) s.module l ++ lines_left s
 
--- the same with a text before the others
+-- a text, and then that of the parts that are left
 abbrev pub lines_left_behind : List ℕ → ModuleText → List ℕ
 lines_left_behind text s = text ++ lines_left s
 
--- what is to be written before the next line
+-- the text of what is to be written before the next part
 abbrev pub work_left : Work → List ℕ
 work_left work.Nothing = []
 work_left (work.Types types) = types_left types
 work_left (work.Inferred inferred) = inferred_left inferred
 work_left (work.Expressions expressions) = left_of expressions
 
--- the same, and what is left of the lines
+-- the text of what is to be written before the next part, and of the parts that are left
 abbrev pub left_behind : Work → ModuleText → List ℕ
 left_behind w s = work_left w ++ lines_left s
 
--- what is left of all
+-- the text of all that is left
 abbrev pub all_left : Writer → List ℕ
 all_left w =
     left_of w.expressions ++ (types_left w.types

@@ -27,7 +27,7 @@ bound_meaning b = definitions.bound (binder_meaning b.variable) (local_term_of b
 abbrev pub bounds_meaning : List Bound → List definitions.Bound
 bounds_meaning bounds = map bound_meaning bounds
 
--- a term where variables are free
+-- a term in which these variables are free
 abbrev pub with_free_names : Setting → List Name → local.LocalTerm → local.LocalTerm
 with_free_names w free t = with_free w.around (names_meaning w.names free) t
 
@@ -49,7 +49,7 @@ is_of_other x b = not (same_binder x b.variable)
 
 -- ---- guards, and alternatives
 
--- a condition, and the expression behind it
+-- the condition and the expression that a guard of the code stands for
 abbrev pub guard_meaning : LocalTerm × LocalTerm → local.LocalTerm × local.LocalTerm
 guard_meaning g = (local_term_of g.0, local_term_of g.1)
 
@@ -68,7 +68,7 @@ row_meaning row = (pattern_of row.0, local_term_of row.1)
 
 -- ---- comprehensions
 
--- a condition or a block around the rest of a comprehension
+-- the rest of a comprehension inside a condition or a block
 abbrev pub layer_around : Setting → Layer → local.LocalTerm → local.LocalTerm
 layer_around w (layer.Condition c) rest =
     distinction w.around.names (local_term_of c) rest (list_term w.around.names [])

@@ -28,7 +28,7 @@ use Rattle.cu_forms.specs.Forms.{free_form, inside, lets_form, name_alone_form}
 use Rattle.cu_forms.specs.Inside.Blocks.{bounds_meaning}
 use Rattle.cu_forms.specs.Inside.Calls.{built_in_term}
 
--- what the first of some expressions refers to, if it is a name alone
+-- what the first of some expressions refers to, if it is a name and nothing else
 abbrev pub first_alone : Setting → Scope → List Expression → Option Referent
 first_alone w local [] = None
 first_alone w local (e ∷ es) = name_alone_form w local e
@@ -37,7 +37,8 @@ abbrev pub alternatives_term : List (calculus.Pattern × LocalTerm) → LocalAlt
 alternatives_term [] = NoAlternative
 alternatives_term (a ∷ rows) = MoreAlternatives a.0 a.1 (alternatives_term rows)
 
--- the local function whose first token stands here, on each element of a list
+-- the call that applies the local function whose first token stands here to each element of a list,
+-- and joins the results
 abbrev pub generated_term : Around → Position → LocalTerm → LocalTerm
 generated_term around at elements =
     built_in_term around.names (codes "concatMap") (table.local_function around at ∷ elements ∷ [])
@@ -52,26 +53,27 @@ pub record Opens (w : Setting) (local : Scope) (ds : List Declaration)
   pub free : names_meaning w.names found.free.items ≡ free_form w.names ds
   pub bounds : bounds_meaning found.bounds.items ≡ lets_form w (inside w local ds) ds
 
--- whether a rule of a block is a function's
+-- whether a rule of a block is that of a function, and not of a variable
 abbrev pub is_function_rule : Option code.Begun → NameId → List Pattern → Bool
 is_function_rule begun text [] = continues begun text
 is_function_rule begun text (p ∷ ps) = true
 
--- the function whose rules may go on
+-- the function whose rules may go on, as the definitions have it
 abbrev pub begun_of : Setting → Option code.Begun → Option Begun
 begun_of w begun = option_map (function_meaning w.names) begun
 
 abbrev pub BegunIsKnown : Setting → Option code.Begun → Type 0
 BegunIsKnown w begun = IfSome begun (λ (b : code.Begun). IsKnown w.names b.name)
 
--- the local variables that a declaration defines, and those that several do
+-- the local variables that a declaration defines, where the rules of `begun` may go on
 unfoldable pub let_form_of : Setting → Scope → Option Begun → Declaration → List blocks.Bound
 let_form_of w local begun d = table.let_of w.around local begun (declaration_meaning w.names d)
 
 unfoldable pub lets_behind : Setting → Scope → Option Begun → List Declaration → List blocks.Bound
 lets_behind w local begun ds = table.lets w.around local begun (declarations_meaning w.names ds)
 
--- What a declaration defines was added, and this is the function whose rules may go on.
+-- The definitions found grew by those of a declaration, and this is the function whose rules may go
+-- on.
 pub record Defines (w : Setting) (local : Scope) (begun : Option code.Begun) (d : Declaration)
     (before after : List Bound) (next : Option code.Begun) : Type 0 where
   pub added : bounds_meaning after

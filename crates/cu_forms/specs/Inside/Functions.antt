@@ -23,11 +23,11 @@ use Rattle.cu_forms.specs.Inside.Lists.{list_term}
 abbrev pub parameter_of : Setting → code.Name → calculus.Pattern
 parameter_of w x = goal_parameter w.around (name_meaning w.names x)
 
--- the function that selects a variable
+-- the function that selects a variable of a pattern
 unfoldable pub selector_of : Setting → Pattern → code.Name → LocalFunction
 selector_of w p x = functions.selector w.around (pattern_meaning w.names p) (name_meaning w.names x)
 
--- the rest of a comprehension behind so many of its qualifiers
+-- the rest of a comprehension after so many of its qualifiers
 unfoldable pub rest_form : Setting → Scope → Expression → ℕ → LocalTerm
 rest_form w local whole count =
     functions.rest_of w.around local (element_in (expression_meaning w.names whole))

@@ -1,5 +1,4 @@
--- Lists, tuples, literals and distinctions, as they are called where only their parts are looked
--- at.
+-- Lists, tuples, literals and distinctions, under names for proofs that look at their parts alone.
 use Rattle.std.specs.Prelude.{ℕ, ℤ, List, [], ◌∷◌, codes}
 use Rattle.cu_calculus.specs.Term as calculus
 use Rattle.cu_calculus.specs.declared.Lit.TheVariants as lit
@@ -15,7 +14,7 @@ list_term names ts = list names ts
 abbrev pub cons_term : Names → LocalTerm → LocalTerm → LocalTerm
 cons_term names t rest = built_in_term names (codes ":") (t ∷ rest ∷ [])
 
--- terms before a list
+-- the list of these terms and then of those of another list
 abbrev pub before_list : Names → List LocalTerm → LocalTerm → LocalTerm
 before_list names [] rest = rest
 before_list names (t ∷ ts) rest = cons_term names t (before_list names ts rest)

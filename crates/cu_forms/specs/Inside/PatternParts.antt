@@ -37,7 +37,7 @@ abbrev pub cons_form : Names → calculus.Pattern → calculus.Pattern → calcu
 cons_form names p rest =
     calculus.Built (constructor_of (names.prelude (codes ":"))) (patterns_of (p ∷ rest ∷ []))
 
--- patterns before a list
+-- the list pattern of these patterns and then of those of another one
 abbrev pub before_form : Names → List calculus.Pattern → calculus.Pattern → calculus.Pattern
 before_form names [] rest = rest
 before_form names (p ∷ ps) rest = cons_form names p (before_form names ps rest)
@@ -47,7 +47,7 @@ before_form names (p ∷ ps) rest = cons_form names p (before_form names ps rest
 unfoldable pub operators_form : Setting → (Position → Binder) → PatItems → calculus.Pattern
 operators_form w binder items = pattern w.around binder (pat_items_meaning w.names items)
 
--- what grouping sees of a part
+-- what grouping sees of a part of a pattern
 abbrev pub piece_in : Setting → Part Pattern → Piece
 piece_in w (part.Operand p) = piece.Operand
 piece_in w (part.Minus at) = piece.Minus
@@ -58,13 +58,14 @@ item_meaning (item.Operand p) = Operand (pattern_of p)
 item_meaning item.Minus = Prefix around.Nothing
 item_meaning (item.Operator r) = Infix (referent_meaning r)
 
--- a part with what it stands for
+-- a part of a pattern, with what its operand or operator stands for
 abbrev pub part_item : Setting → (Position → Binder) → Part Pattern → Item calculus.Pattern Referent
 part_item w binder (part.Operand p) = Operand (pattern_form w binder p)
 part_item w binder (part.Minus at) = Prefix around.Nothing
 part_item w binder (part.Operator name) = Infix (w.around.names.value (name_meaning w.names name))
 
--- what a part makes of the patterns behind it
+-- the patterns that a part and the patterns after it make: an operator takes its operands from
+-- these
 abbrev pub placed : Item calculus.Pattern Referent → List calculus.Pattern → List calculus.Pattern
 placed (Operand p) ps = p ∷ ps
 placed (Prefix r) (p ∷ ps) = no_pattern ∷ ps
@@ -79,6 +80,6 @@ abbrev pub first_pattern : List calculus.Pattern → calculus.Pattern
 first_pattern [] = no_pattern
 first_pattern (p ∷ ps) = p
 
--- the pattern that parts in the order of their tree are
+-- the pattern that parts make which stand in the order of their tree
 abbrev pub placed_pattern : List (Item calculus.Pattern Referent) → calculus.Pattern
 placed_pattern items = first_pattern (all_placed items)

@@ -1,4 +1,4 @@
--- What the stages behind the walk over the modules come to.
+-- What the stages after the walk over the modules come to.
 use Rattle.std.specs.Prelude.{◌≡◌, ◌⊎◌, ℕ, List, [], Option, None, Some, Result, Ok, IfErr, IfOk}
 use Rattle.std.specs.List.{All}
 use Rattle.cu_calculus.specs.Program as calculus
@@ -46,6 +46,7 @@ use Rattle.cu_front.specs.Translated.{modules_program, translation_refusal}
 
 -- ---- answers for faults
 
+-- the fault of a stage for a fault of names
 abbrev pub fault_of_scope : ScopeFault → StageFault
 fault_of_scope (scope.NotExported place id) = stage.Refused (told.NotExported place id)
 fault_of_scope (scope.UnknownName place id) = stage.Refused (told.UnknownName place id)
@@ -53,25 +54,29 @@ fault_of_scope (scope.Ambiguous place id) = stage.Refused (told.Ambiguous place 
 fault_of_scope (scope.Duplicate place id) = stage.Refused (told.Duplicate place id)
 fault_of_scope scope.NoMemory = stage.NoMemory
 
+-- the fault of a stage for a fault of the types of modules
 abbrev pub fault_of_types : TypeNameFault → StageFault
 fault_of_types (type_names.TypeArity place) = stage.Refused (told.TypeArity place)
 fault_of_types (type_names.SynonymCycle id) = stage.Refused (told.SynonymCycle id)
 fault_of_types type_names.NoMemory = stage.NoMemory
 
+-- the fault of a stage for a fault of the types of a goal
 abbrev pub fault_of_goal_types : TypeArity → StageFault
 fault_of_goal_types (arity.At place) = stage.Refused (told.TypeArity place)
 fault_of_goal_types arity.NoMemory = stage.NoMemory
 
+-- the answer of the front end for a fault of a stage
 abbrev pub answer_of : StageFault → CompileFault
 answer_of (stage.Refused refusal) = answer.Refused refusal
 answer_of stage.NoMemory = answer.NoMemory
 
--- The refusal is told where its names are known, and else want of memory.
+-- The answer tells this refusal where the refusal's names are known, and else is an allocation
+-- failure.
 abbrev pub IsToldIf : Type 0 → code.Refusal → CompileFault → Type 0
 IsToldIf Known refusal result =
     ((result ≡ answer.Refused refusal) × Known) ⊎ (result ≡ answer.NoMemory)
 
--- the answer for a fault of the walk over the modules
+-- The answer is that for a fault of the walk over the modules.
 abbrev pub IsWalkAnswer : List (List ℕ) → OrderFault → CompileFault → Type 0
 IsWalkAnswer names (order.MissingModule id) = IsToldIf (IsKnown names id) (told.MissingModule id)
 IsWalkAnswer names (order.SourceTooBig id) = IsToldIf (IsKnown names id) (told.SourceTooBig id)
@@ -90,14 +95,14 @@ IsWalkAnswer names (order.TooManyModules id) = IsToldIf (IsKnown names id) (told
 IsWalkAnswer names order.Fetch = λ result. result ≡ answer.Fetch
 IsWalkAnswer names order.NoMemory = λ result. result ≡ answer.NoMemory
 
--- A refusal is a fault of names with this property.
+-- The refusal is one for a fault of names with the property P.
 pub record IsInNames (P : List ℕ → uses.Fault → Type 0) (refusal : Refusal) : Type 0 where
   pub owner : List ℕ
   pub fault : uses.Fault
   pub wrong : P owner fault
   pub is : refusal ≡ InNames owner fault
 
--- A refusal is a fault of types with this property.
+-- The refusal is one for a fault of types with the property P.
 pub record IsInTypes (P : List ℕ → type_faults.Fault → Type 0) (refusal : Refusal) : Type 0 where
   pub owner : List ℕ
   pub fault : type_faults.Fault
@@ -106,24 +111,25 @@ pub record IsInTypes (P : List ℕ → type_faults.Fault → Type 0) (refusal : 
 
 -- ---- modules, wherever they are held
 
--- The modules that the root reaches are refused so.
+-- The modules that the root reaches are refused, for this reason, whatever folder holds them.
 abbrev pub RefusesModules : List Named → List ℕ → Refusal → Type 0
 RefusesModules modules root refusal =
     (held : Held) → Walk held root (Ok modules) → ModulesRefused held root refusal
 
--- The modules that the root reaches come to this program, with these types.
+-- The modules that the root reaches come to this program, with these types, whatever folder holds
+-- them.
 abbrev pub CompileAlone : List Named → List ℕ → List (List ℕ) → Kernel → List TypeExpr
     → calculus.Program → Type 0
 CompileAlone modules root names program interface flat =
     (held : Held) → Walk held root (Ok modules)
     → ModulesCompile held root modules names program interface flat
 
--- These modules, or a goal in the root, are refused so.
+-- The modules, or a goal in the root, are refused, for this reason, whatever folder holds them.
 abbrev pub RefusesBoth : List Named → List ℕ → List ℕ → Refusal → Type 0
 RefusesBoth modules root text refusal =
     (held : Held) → Walk held root (Ok modules) → Refuses held root text refusal
 
--- These modules and a goal in the root come to this program.
+-- The modules and a goal in the root come to this program, whatever folder holds them.
 abbrev pub CompileBoth :
     List Named → List ℕ → List ℕ → List (List ℕ) → Kernel → calculus.Program → Type 0
 CompileBoth modules root text names program flat =
@@ -131,25 +137,27 @@ CompileBoth modules root text names program flat =
 
 -- ---- before lifting
 
--- the refusal of what a text is translated to
+-- the refusal that the translation of a text tells, where it tells one
 abbrev pub told_by : List ℕ → translation.Outcome → Option Refusal
 told_by owner (translation.Translated part) = None
 told_by owner (translation.Refused fault) = Some (in_functions owner fault)
 
--- the refusal of a goal in the module of a number, and its part
+-- the refusal of a goal in the module of a number, where its translation tells one
 unfoldable pub goal_told : List (List ℕ) → List Named → ℕ → Goal → Option Refusal
 goal_told names modules k goal = told_by goal_name (goal_translation names modules k goal)
 
+-- the part that a goal in the module of a number is translated to
 unfoldable pub part_of_goal : List (List ℕ) → List Named → ℕ → Goal → LocalKernel
 part_of_goal names modules k goal = goal_part names modules k goal
 
--- What a goal's text is read as, under a table that has the goal's names.
+-- What was found is what a goal's text is read as, under a table that has the goal's names.
 pub record IsGoalRead (names : List (List ℕ)) (text : List ℕ) (found : Result GoalText StageFault)
     : Type 0 where
   pub read : IfOk found (λ goal. GoalIsRead text (Ok (goal_meaning names goal)))
   pub unread : IfErr found (Tells names (IsUnread goal_name text))
 
--- A goal in the module of a number is translated to a program behind that of the modules.
+-- A goal in the module of a number is translated, and the program is that of the modules with the
+-- goal's part after it.
 pub record IsTranslated (names : List (List ℕ)) (modules : List Named) (k : ℕ) (text : List ℕ)
     (program : LocalKernel) : Type 0 where
   pub goal : Goal
@@ -161,13 +169,14 @@ pub record IsTranslated (names : List (List ℕ)) (modules : List Named) (k : �
       ≡ translation.Translated (goal_part names modules k goal)
   pub is : program ≡ whole_program names modules k goal
 
--- The program of modules and a goal, or why the goal is refused.
+-- The outcome is the program of modules and a goal, or tells why the goal is refused.
 abbrev pub IsWhole : List (List ℕ) → List Named → ℕ → List ℕ → Outcome → Type 0
 IsWhole names modules k text (outcome.Program program) = IsTranslated names modules k text program
 IsWhole names modules k text (outcome.Refused refusal) =
     GoalRefused modules k text (refusal_meaning names refusal) × RefusalIsKnown names refusal
 
--- The programs of modules, and of these and a goal in the module of a number.
+-- The programs are that of the modules, and that of the modules and a goal in the module of a
+-- number.
 pub record ArePrograms (names : List (List ℕ)) (modules : List Named) (k : ℕ) (text : List ℕ)
     (found : Programs) : Type 0 where
   pub scoped : AreScoped [] modules
@@ -177,7 +186,7 @@ pub record ArePrograms (names : List (List ℕ)) (modules : List Named) (k : ℕ
   pub alone : found.modules ≡ modules_program names modules
   pub whole : IsWhole names modules k text found.whole
 
--- The program of modules before lifting, of which nothing is refused so far.
+-- The program is that of the modules before lifting, of which nothing is refused so far.
 pub record AreTranslated (names : List (List ℕ)) (modules : List Named) (program : LocalKernel)
     : Type 0 where
   pub scoped : AreScoped [] modules

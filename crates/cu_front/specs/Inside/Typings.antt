@@ -5,6 +5,7 @@ use Rattle.cu_types.specs.TypeFaults.{HasFunctionalGoal}
 use Rattle.cu_front.specs.declared.runnable.Typing.{Typing}
 use Rattle.cu_front.specs.declared.runnable.Typing.TheVariants as typing
 
+-- The answer of inference says what is true of the program.
 abbrev pub IsTyping : Kernel → Typing → Type 0
 IsTyping program (typing.Data interface) = IsInferred program interface
 IsTyping program typing.Functional = HasFunctionalGoal program

@@ -15,7 +15,7 @@ pub record BoundIsKnown (names : List (List ℕ)) (b : Bound) : Type 0 where
   pub qualifier : IfSome b.qualifier (IsKnown names)
   pub entity : EntityIsKnown names b.entity
 
--- These are bound.
+-- A scope of the code has these bindings, in its table and in its list.
 pub record IsScope (names : List (List ℕ)) (bindings : List Binding)
     (s : ModuleScope) : Type 0 where
   pub tells : Tells names bindings s.table

@@ -14,6 +14,6 @@ abbrev pub is_key : List (List ℕ) → Key → Binding → Bool
 is_key names key b = is_bound (space_meaning key.space) (option_map (text_of names) key.qualifier)
     (text_of names key.base) b
 
--- whether a constructor is one of a type's that come with it, by the numbers of names
+-- whether an entity is a constructor of a type and comes with it, by the numbers of names
 abbrev pub brings : Constructors → code.Entity → code.Entity → Bool
 brings which t e = is_constructor_in e t && comes which e

@@ -15,7 +15,7 @@ abbrev pub found_items : Option (Vec Entity Global) → List Entity
 found_items None = []
 found_items (Some v) = v.items
 
--- Each module has these exports.
+-- The exports that the code holds are those of these interfaces, by the names of the modules.
 pub record AreInterfaces (names : List (List ℕ)) (before : List Interface)
     (s : Interfaces) : Type 0 where
   pub each : (id : NameId) → IsKnown names id

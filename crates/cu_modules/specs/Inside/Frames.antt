@@ -12,14 +12,14 @@ use Rattle.cu_modules.specs.Walk.{Refusal, VisitAll, import_names, is_there}
 
 -- ---- imports that are looked at, one after another
 
--- Those in front of the ones that are left are done.
+-- The imports before those that are left are done.
 pub record Skipped (names : List (List ℕ)) (done : List declared.Module)
     (all left : List NameId) : Type 0 where
   pub front : List NameId
   pub there : All (λ id. is_there (modules_of names done) (text_of names id) ≡ true) front
   pub whole : all ≡ front ++ left
 
--- the first that isn't done, and those behind it
+-- the first import that isn't done, if there is one, and those after it
 abbrev pub Seeks : List (List ℕ) → List declared.Module → List NameId → Option NameId → List NameId
     → Type 0
 Seeks names done all None left = Skipped names done all []
@@ -41,21 +41,23 @@ abbrev pub path_of : List (List ℕ) → List Open → List (List ℕ)
 path_of base [] = base
 path_of base (m ∷ outer) = path_of base outer ++ m.name ∷ []
 
--- One of the imports of a module is refused, and so is the whole.
+-- Visiting the imports that are left of a module is refused, and so is the whole walk.
 pub record Stops (held : List ℕ → Option (List ℕ)) (path : List (List ℕ)) (done : List Named)
     (imports : List (List ℕ)) (outcome : Result (List Named) Refusal) : Type 0 where
   pub refusal : Refusal
   pub is : outcome ≡ Err refusal
   pub refused : VisitAll held path done imports (Err refusal)
 
--- The imports of a module are done, and the walk goes on from there.
+-- Visiting the imports that are left of a module does these modules, and the walk goes on from
+-- there.
 pub record Ends (held : List ℕ → Option (List ℕ)) (path : List (List ℕ)) (done : List Named)
     (imports : List (List ℕ)) (GoesOn : List Named → Type 0) : Type 0 where
   pub after : List Named
   pub visited : VisitAll held path done imports (Ok after)
   pub rest : GoesOn after
 
--- what modules on the path come to, where the path below them and what is done are given
+-- what the walk comes to, where these modules are on the path, from the innermost to the outermost,
+-- `base` is the path outside them, and these modules are done
 abbrev pub Finishes : (List ℕ → Option (List ℕ)) → List (List ℕ) → List Open → List Named
     → Result (List Named) Refusal → Type 0
 Finishes held base [] done outcome = outcome ≡ Ok done
@@ -64,7 +66,8 @@ Finishes held base (m ∷ outer) done outcome =
     ⊎ Ends held (path_of base outer ++ m.name ∷ []) done m.left
     (λ after. Finishes held base outer (after ++ named_of m ∷ []) outcome)
 
--- A module that is on no path below it. Of its imports those that aren't left are met.
+-- A module on the path, whose name isn't on the path before it. Its imports are met, but for those
+-- that are left.
 pub record IsPending (path met : List (List ℕ)) (m : Open) : Type 0 where
   pub front : List (List ℕ)
   pub imports : import_names (named_of m) ≡ front ++ m.left
@@ -72,7 +75,7 @@ pub record IsPending (path met : List (List ℕ)) (m : Open) : Type 0 where
   pub new : is_among path m.name ≡ false
   pub own : IsOwn (named_of m)
 
--- so are all modules on the path, and the root is done at last
+-- Each of the modules on the path is pending, and the root is met when they are done.
 abbrev pub ArePending : List (List ℕ) → List ℕ → List (List ℕ) → List Open → Type 0
 ArePending base root met [] = is_among met root ≡ true
 ArePending base root met (m ∷ outer) = IsPending (path_of base outer) met m

@@ -7,7 +7,7 @@ use Rattle.cu_syntax.specs.Items.{import_meaning}
 use Rattle.cu_syntax.specs.Owners.{ImportIsOf}
 use Rattle.cu_syntax.specs.Syntax as syntax
 
--- These are the imports, in a module.
+-- The imports that the code found are these, and they are of the module.
 pub record AreImportsOf (owner : NameId) (names : List (List ℕ)) (meant : List syntax.Import)
     (found : List Import) : Type 0 where
   pub are : map (import_meaning names) found ≡ meant

@@ -1,4 +1,4 @@
--- What comes of one module, behind the interfaces of those before it.
+-- What comes of one module, given the interfaces of those before it.
 use Rattle.std.specs.Prelude.{◌≡◌, ℕ, List, [], ◌∷◌}
 use Rattle.cu_entities.specs.declared.name_table.NameTable.{NameTable}
 use Rattle.cu_entities.specs.NameTables.{Tells}
@@ -8,14 +8,14 @@ use Rattle.cu_modules.specs.Faults.{faults}
 use Rattle.cu_modules.specs.Inside.Exports.{AreInterfaces}
 use Rattle.cu_modules.specs.Scopes.{Interface, Named, interfaces, scope}
 
--- It has no fault. A table tells its scope, and its exports were added.
+-- A module has no fault, a table tells its scope, and its exports were added to the interfaces.
 pub record IsRight (names : List (List ℕ)) (before : List Interface) (m : Named) (table : NameTable)
     (after : Interfaces) : Type 0 where
   pub right : faults before m ≡ []
   pub tells : Tells names (scope before m) table
   pub added : AreInterfaces names (interfaces before (m ∷ [])) after
 
--- its first fault, in the module of this name
+-- The first fault of a module is this one, and the module has this name.
 pub record IsWrongIn (before : List Interface) (m : Named) (name : List ℕ)
     (fault : Fault) : Type 0 where
   pub is_named : name ≡ m.name

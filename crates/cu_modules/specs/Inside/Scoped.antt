@@ -8,8 +8,8 @@ use Rattle.cu_modules.specs.Known.{AreEntities}
 use Rattle.cu_modules.specs.Ordering.{module_of}
 use Rattle.cu_modules.specs.Scopes.{Interface, imports_of, own_entities, scope}
 
--- The entities and the imports of a module, and its scope, behind the interfaces of the modules
--- before it.
+-- The code has the entities and the imports of a module, and its scope, given the interfaces of the
+-- modules before it.
 pub record IsScoped (names : List (List ℕ)) (before : List Interface) (m : Module)
     (s : Scoped) : Type 0 where
   pub own : AreEntities names (own_entities (module_of names m)) s.own.items

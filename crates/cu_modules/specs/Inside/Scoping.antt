@@ -17,11 +17,11 @@ answer_for wrong.UnknownName place id = answer.UnknownName place id
 answer_for wrong.Ambiguous place id = answer.Ambiguous place id
 answer_for wrong.Duplicate place id = answer.Duplicate place id
 
--- the answer for a fault
+-- the code's answer for a fault
 abbrev pub wrong_at : Fault → ScopeFault
 wrong_at f = answer_for f.wrong f.place f.name
 
--- the entity that is meant, where it is one
+-- the entity that a name means, where it means one alone
 abbrev pub only_one : Option Meant → Option Entity
 only_one (Some (meant.One e)) = Some e
 only_one _ = None

@@ -9,11 +9,11 @@ abbrev pub truth : Option Bool → Bool
 truth None = false
 truth (Some b) = b
 
--- the local function at a place is met
+-- whether the local function at a place is met
 abbrev pub met_at : List Bool → ℕ → Bool
 met_at met k = truth (slice_get met k)
 
--- a head is a local function that is met
+-- whether a head is a local function that is met
 abbrev pub is_met : List Bool → LocalHead → Bool
 is_met met (head.Local k) = met_at met k
 is_met met (head.Global h) = false
@@ -23,17 +23,17 @@ abbrev pub unmet : List Bool → ℕ
 unmet [] = 0
 unmet (m ∷ ms) = unmet ms + cond m 0 1
 
--- all that are met capture the variable
+-- all local functions that are met capture the variable
 abbrev pub AreSound : List LocalFunction → ℕ → List Bool → Type 0
 AreSound locals v met = (k : ℕ) → met_at met k ≡ true → Captures locals k v
 
--- from a place on, a local function is met where it uses the variable, or a local function that is
+-- from a place on, each local function is met that uses the variable, or a local function that is
 -- met
 abbrev pub AreClosed : List LocalFunction → ℕ → List Bool → ℕ → Type 0
 AreClosed locals v met place = (k : ℕ) (f : LocalFunction) → place ≤ k → slice_get locals k ≡ Some f
     → rules_use (is_met met) v f.rules ≡ true → met_at met k ≡ true
 
--- a local function is met: for the first time, or it stays as it is
+-- one step at the local function at place k: it is met for the first time, or all stays as it is
 pub data Meeting (locals : List LocalFunction) (v k : ℕ) (old new : List Bool)
     (first : Bool) : Type 0 where
   stays : first ≡ false → new ≡ old
@@ -45,7 +45,7 @@ pub data Meeting (locals : List LocalFunction) (v k : ℕ) (old new : List Bool)
       × (rules_use (is_met old) v f.rules ≡ true)
       → Meeting locals v k old new first
 
--- one round over the local functions, down to a place
+-- one round over the local functions, from the last one down to a place
 pub record Round (locals : List LocalFunction) (v place : ℕ) (old new : List Bool)
     (more : Bool) : Type 0 where
   pub sized : length new ≡ length old
@@ -54,6 +54,6 @@ pub record Round (locals : List LocalFunction) (v place : ℕ) (old new : List B
   pub fewer : unmet new ≤ unmet old
   pub less : more ≡ true → unmet new < unmet old
 
--- those that capture the variable, and no others, are met
+-- the local functions that capture the variable are met, and no others
 abbrev pub AreCapturing : List LocalFunction → ℕ → List Bool → Type 0
 AreCapturing locals v met = (k : ℕ) → met_at met k ≡ true ↔ Captures locals k v

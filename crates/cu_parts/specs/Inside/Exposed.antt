@@ -1,4 +1,5 @@
--- What stands in a term where nothing around binds a variable: the uses of it, and the heads.
+-- What stands in a term where nothing around binds a variable: the uses of the variable, and the
+-- heads.
 use Rattle.std.specs.Prelude.{ℕ, Bool, true, cond, List, [], ◌∷◌, ◌++◌, Option, None, Some, flat_map, nat_eq}
 use Rattle.cu_calculus.specs.Valid.{all_variables, holds, variables_of}
 use Rattle.cu_kernel.specs.LocalKernel.{LocalRule}
@@ -6,11 +7,11 @@ use Rattle.cu_kernel.specs.LocalTerm as local
 use Rattle.cu_kernel.specs.LocalTerm.{LocalAlternatives, LocalTerm, LocalTerms}
 use Rattle.cu_kernel.specs.declared.local.LocalHead.{LocalHead}
 
--- the variable itself, or a head
+-- a use of the variable itself (None), or a head
 abbrev pub Use : Type 0
 Use = Option LocalHead
 
--- nothing where the variable is bound
+-- these uses, or none where the variable is bound
 abbrev pub unbound : Bool → List Use → List Use
 unbound bound us = cond bound [] us
 
@@ -41,7 +42,7 @@ exposed_in_rule v rule = unbound (holds v (all_variables rule.params)) (exposed 
 abbrev pub exposed_in_rules : ℕ → List LocalRule → List Use
 exposed_in_rules v rules = flat_map (exposed_in_rule v) rules
 
--- a use counts: always by the variable itself, and by the heads that do
+-- whether a use counts: the variable itself always does, and a head where `counts` holds of it
 abbrev pub counted : (LocalHead → Bool) → Use → Bool
 counted counts None = true
 counted counts (Some h) = counts h

@@ -7,7 +7,7 @@ use Rattle.cu_kernel.specs.LocalTerm.{LocalAlternatives, LocalTerm, LocalTerms}
 use Rattle.cu_kernel.specs.LocalValid.{rules_of}
 use Rattle.cu_kernel.specs.Scope.{held_by}
 
--- a variable, unless it is bound
+-- the list of a variable, or the empty list where it is bound
 abbrev pub unless : Bool → ℕ → List ℕ
 unless bound x = cond bound [] (x ∷ [])
 

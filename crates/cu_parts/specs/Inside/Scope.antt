@@ -10,7 +10,7 @@ use Rattle.cu_parts.specs.declared.scope.Scope.TheOpen.{Scope-F}
 use Rattle.cu_parts.specs.declared.scope.Scope.TheVariants as scope
 use Rattle.cu_parts.specs.declared.scope.Scope.{Scope}
 
--- one layer of a scope, around which a test stands
+-- the test that one layer of a scope makes of the test around it
 abbrev one_scope : Scope-F (ℕ → Bool) → ℕ → Bool
 one_scope (layer.Parameters xs) = held_by xs.now
 one_scope (layer.With x around) = also x around.now

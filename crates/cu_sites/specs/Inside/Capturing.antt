@@ -27,7 +27,8 @@ bound_pair binders functions f b = pair (binder_number binders b) (function_numb
 abbrev pub bound_pairs : List Binder → List Position → Position → List Binder → List Pair
 bound_pairs binders functions f bs = map (bound_pair binders functions f) bs
 
--- what stands in a function, if something stands in one
+-- the pairs of the local function in which something stands, and none where it stands in no local
+-- function
 abbrev pub in_one : Option Position → (Position → List Pair) → List Pair
 in_one None pairs = []
 in_one (Some f) pairs = pairs f
@@ -42,13 +43,13 @@ binds_in binders functions u = in_one u.function (λ f. bound_pairs binders func
 abbrev pub calls_in : List Position → Usage → List Pair
 calls_in functions u = in_one u.function (λ f. flat_map (call_pairs functions f) u.used)
 
--- These were noted.
+-- These pairs of what functions use, bind and call were noted.
 pub record Notes (uses binds calls : List Pair) (old new : Graph) : Type 0 where
   pub uses_are : Gains uses old.uses new.uses
   pub binds_are : Gains binds old.binds new.binds
   pub calls_are : Gains calls old.users new.users
 
--- What stands in the functions of a text was noted.
+-- All that stands in the local functions of a text was noted.
 pub record IsGraph (binders : List Binder) (functions : List Position) (usages : List Usage)
     (g : Graph) : Type 0 where
   pub uses_are : Holds (suc (length binders)) (flat_map (uses_in binders functions) usages) g.uses
@@ -58,7 +59,7 @@ pub record IsGraph (binders : List Binder) (functions : List Position) (usages :
 
 -- ---- captured variables
 
--- The first so many functions are related to the variables that they capture.
+-- The first n functions are related to the variables that they capture.
 pub record IsCaptured (n : ℕ) (g : Graph) (c : Relation) : Type 0 where
   pub sized : length c.rows.items ≡ n
   pub exact : (f v : ℕ) → f < n

@@ -19,12 +19,12 @@ use Rattle.cu_locals.specs.Places.{positions_meaning}
 abbrev pub binders_meaning : List code.Binder → List Binder
 binders_meaning found = map binder_meaning found
 
--- These variables were added.
+-- A list of variables of the code grew by these.
 pub record Counts (before : List code.Binder) (added : List Binder) (after : List code.Binder)
     : Type 0 where
   pub counts : binders_meaning after ≡ binders_meaning before ++ added
 
--- These places were added.
+-- A list of places of the code grew by these.
 pub record Lists (before : List Position) (added : List located.Position) (after : List Position)
     : Type 0 where
   pub lists : positions_meaning after ≡ positions_meaning before ++ added
@@ -51,7 +51,7 @@ binder_at keys b = position_or_len (same_binder b) keys
 abbrev pub place_at : List Position → Position → ℕ
 place_at keys p = position_or_len (same_position p) keys
 
--- These were counted.
+-- A table of the code has counted these variables, each with its place among them as its number.
 pub record IsBinderTable (keys : List code.Binder) (s : BinderTable) : Type 0 where
   pub counted : s.count ≡ length keys
   pub found : (b : code.Binder)

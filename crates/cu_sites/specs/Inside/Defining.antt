@@ -19,7 +19,7 @@ definition_meaning d =
 abbrev pub definitions_meaning : List found.Definition → List Definition
 definitions_meaning ds = map definition_meaning ds
 
--- These were added.
+-- A list of definitions of the code grew by these.
 pub record Defines (before : List found.Definition) (added : List Definition)
     (after : List found.Definition) : Type 0 where
   pub defines : definitions_meaning after ≡ definitions_meaning before ++ added
@@ -33,13 +33,13 @@ used_in_one u = u.used
 abbrev pub has_depth : ℕ → Usage → Bool
 has_depth depth u = nat_eq u.depth depth
 
--- what is used at a depth and not declared among all
+-- what is used at this depth by some of these nodes and declared by none of them
 abbrev pub used_among : ℕ → List Usage → List Local
 used_among depth us =
     filter (is_bound_outside (flat_map declared_in us))
     (flat_map used_in_one (filter (has_depth depth) us))
 
--- All that is declared was counted.
+-- A table has counted all that these nodes declare.
 pub record DeclaresAll (us : List Usage) (table : BinderTable) : Type 0 where
   pub keys : List code.Binder
   pub counted : IsBinderTable keys table

@@ -19,7 +19,7 @@ use Rattle.cu_locals.specs.Text.{Text}
 
 -- ---- what is added to the sites of a text
 
--- These nodes were added, and names and blocks that they need.
+-- The sites of a text grew by these nodes, and by the names and blocks that they need.
 pub record Writes (t : Text) (before : Sites) (added : List Node) (after : Sites) : Type 0 where
   pub entries : List ScopeEntry
   pub blocks : List (Vec Declaration Global)
@@ -29,49 +29,49 @@ pub record Writes (t : Text) (before : Sites) (added : List Node) (after : Sites
   pub nodes_are : after.nodes.items ≡ before.nodes.items ++ nodes
   pub are : AreNodes t after.entries.items after.blocks.items nodes added
 
--- a spot among these sites
+-- The code's spot is this one, among the scopes of these sites.
 abbrev pub IsAt : Text → Sites → spots.Spot → Spot → Type 0
 IsAt t s found spot = IsSpot t s.entries.items found spot
 
--- A scope was entered.
+-- A scope was entered, and this is its number.
 pub record Opens (t : Text) (before : Sites) (scope : Scope) (number : ℕ) (after : Sites)
     : Type 0 where
   pub writes : Writes t before [] after
   pub opened : IsScope t after.entries.items number scope
 
--- A spot was entered.
+-- A spot was entered, and this is the code's.
 pub record Enters (t : Text) (before : Sites) (spot : Spot) (found : spots.Spot) (after : Sites)
     : Type 0 where
   pub writes : Writes t before [] after
   pub at : IsAt t after found spot
 
--- A block has this number.
+-- The block of this number has these declarations.
 pub record IsBlock (t : Text) (s : Sites) (number : ℕ) (ds : syntax.Declarations) : Type 0 where
   pub block : Vec Declaration Global
   pub stands : slice_get s.blocks.items number ≡ Some block
   pub owned : All (DeclarationIsOf t.owner t.names) block.items
   pub meaning : declarations_meaning t.names block.items ≡ ds
 
--- A block was noted.
+-- A block was noted, and this is its number.
 pub record Notes (t : Text) (before : Sites) (ds : syntax.Declarations) (number : ℕ) (after : Sites)
     : Type 0 where
   pub writes : Writes t before [] after
   pub block : IsBlock t after number ds
 
--- These nodes are to be written, of all that were.
+-- Of the nodes `whole` all but `rest` were written so far.
 pub record Written (t : Text) (before : Sites) (rest whole : List Node) (now : Sites) : Type 0 where
   pub done : List Node
   pub writes : Writes t before done now
   pub joins : done ++ rest ≡ whole
 
--- A node was added.
+-- A node of this site at this spot was added.
 pub record Pushes (spot : spots.Spot) (site : sites.Site) (before after : Sites) : Type 0 where
   pub entries : after.entries ≡ before.entries
   pub blocks : after.blocks ≡ before.blocks
   pub nodes : after.nodes.items
       ≡ before.nodes.items ++ record { spot = spot; site = site; extent = 0 } ∷ []
 
--- All nodes behind this one are counted as those of its right side.
+-- All nodes after a definition are counted as those of its right side.
 pub record Closes (definition : ℕ) (before after : Sites) : Type 0 where
   pub entries : after.entries ≡ before.entries
   pub blocks : after.blocks ≡ before.blocks

@@ -52,7 +52,7 @@ abbrev pub definition_pairs : List Binder → List Position → Relation → Def
 definition_pairs binders functions captured d =
     flat_map (need_pairs binders functions captured d.variable) d.used
 
--- These definitions need these variables.
+-- A relation has, by numbers, the variables that these definitions need.
 abbrev pub IsNeeded : List Binder → List Position → Relation → List Definition → Relation → Type 0
 IsNeeded binders functions captured ds needs =
     Holds (suc (length binders)) (flat_map (definition_pairs binders functions captured) ds) needs

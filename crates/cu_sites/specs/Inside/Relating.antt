@@ -26,31 +26,31 @@ abbrev pub keys_in : {S : Type 0} → Option (IndexSet ℕ S) → List ℕ
 keys_in None = []
 keys_in (Some set) = set.keys
 
--- the numbers to which a number is related
+-- the numbers to which a number is related, one after another
 abbrev pub row : Relation → ℕ → List ℕ
 row r i = keys_in (slice_get r.rows.items i)
 
 abbrev pub relates : Relation → ℕ → ℕ → Bool
 relates r i k = is_in (row r i) k
 
--- Of the first n numbers these are related to others.
+-- The first n numbers are related as these pairs say.
 pub record Holds (n : ℕ) (pairs : List Pair) (r : Relation) : Type 0 where
   pub sized : length r.rows.items ≡ n
   pub exact : (i k : ℕ) → i < n → relates r i k ≡ list_any (is_pair i k) pairs
 
--- These were related besides.
+-- Whatever pairs a relation had before, it has these besides.
 abbrev pub Gains : List Pair → Relation → Relation → Type 0
 Gains added old new = (n : ℕ) (pairs : List Pair) → Holds n pairs old → Holds n (pairs ++ added) new
 
 -- ---- walks
 
--- What is reached from some numbers, by way of none that is shut.
+-- A number is reached from the seeds along a relation, by way of none that is shut.
 pub data Reaches (r : Relation) (seeds shut : List ℕ) : ℕ → Type 0 where
   begin : (k : ℕ) → is_in seeds k ≡ true → is_in shut k ≡ false → Reaches r seeds shut k
   further : (j k : ℕ) → Reaches r seeds shut j → relates r j k ≡ true → is_in shut k ≡ false
       → Reaches r seeds shut k
 
--- These were reached, unless they are shut.
+-- A walk has reached these numbers besides, those apart that are shut.
 pub record Meets (ks : List ℕ) (old new : Walk) : Type 0 where
   pub shut : new.shut.keys ≡ old.shut.keys
   pub added : List ℕ
@@ -58,7 +58,7 @@ pub record Meets (ks : List ℕ) (old new : Walk) : Type 0 where
   pub exact : (k : ℕ) → is_in new.found.keys k
       ≡ (is_in old.found.keys k || (is_in ks k && not (is_in old.shut.keys k)))
 
--- A walk has reached its seeds alone.
+-- A walk has reached its seeds alone, those apart that are shut.
 pub record IsBegun (seeds shut : List ℕ) (w : Walk) : Type 0 where
   pub shut_are : (k : ℕ) → is_in w.shut.keys k ≡ is_in shut k
   pub found_are : (k : ℕ) → is_in w.found.keys k ≡ (is_in seeds k && not (is_in shut k))

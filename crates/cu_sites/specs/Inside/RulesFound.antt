@@ -8,12 +8,12 @@ use Rattle.cu_sites.specs.declared.rules.Rule as rules
 use Rattle.cu_sites.specs.Meaning.{GroupIsOf, RuleIsOf, group_meaning, rule_meaning}
 use Rattle.cu_locals.specs.Text.{Text}
 
--- This is the rule, if there is one.
+-- The rule that the code found, if it found one, is this one.
 pub record IsRuleIn (t : Text) (rule : Option Rule) (found : Option rules.Rule) : Type 0 where
   pub meaning : option_map (rule_meaning t.names) found ≡ rule
   pub owned : IfSome found (RuleIsOf t.owner t.names)
 
--- These are the rules.
+-- The rules that the code found are these.
 pub record AreRules (t : Text) (whole : List Rule) (found : List rules.Rule) : Type 0 where
   pub meaning : map (rule_meaning t.names) found ≡ whole
   pub owned : All (RuleIsOf t.owner t.names) found
@@ -23,7 +23,8 @@ pub record AreRules (t : Text) (whole : List Rule) (found : List rules.Rule) : T
 abbrev pub begun_at : Rule → Begun
 begun_at r = record { name = r.name.text; at = r.at }
 
--- the groups that there are when these rules were read behind those of an open group
+-- the groups of rules when these rules are read too, after those of `done` and of the group that
+-- may go on, if there is one
 abbrev pub grouped : List Group → Option Group → List (Option Rule) → List Group
 grouped done None rest = done ++ groups_behind None rest
 grouped done (Some g) rest =
@@ -31,7 +32,7 @@ grouped done (Some g) rest =
     record { first = g.first; others = g.others ++ leading g.first.name.text rest } ∷
     groups_behind (Some (begun_at g.first)) rest
 
--- the groups that there are when these rules were read
+-- the groups of rules when these rules are read too, after those that the code has read
 abbrev pub all_grouped : List (List ℕ) → Grouping → List (Option Rule) → List Group
 all_grouped names s rest =
     grouped (map (group_meaning names) s.done.items) (option_map (group_meaning names) s.last) rest
@@ -40,14 +41,14 @@ pub record GroupingIsOf (t : Text) (s : Grouping) : Type 0 where
   pub done : All (GroupIsOf t.owner t.names) s.done.items
   pub last : IfSome s.last (GroupIsOf t.owner t.names)
 
--- What stood at the head was read.
+-- One more declaration or item was read, which is this rule or none.
 pub record Reads (t : Text) (before : Grouping) (rule : Option Rule) (after : Grouping)
     : Type 0 where
   pub reads : (rest : List (Option Rule))
       → all_grouped t.names after rest ≡ all_grouped t.names before (rule ∷ rest)
   pub owned : GroupingIsOf t before → GroupingIsOf t after
 
--- A function with this first rule, and no other yet.
+-- The code begins a function with this rule, and no other rule yet.
 pub record Begins (rule : rules.Rule) (last : Option groups.Group) : Type 0 where
   pub group : groups.Group
   pub is : last ≡ Some group

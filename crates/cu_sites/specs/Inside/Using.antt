@@ -17,12 +17,12 @@ use Rattle.cu_sites.specs.Meaning.{innermost}
 abbrev pub locals_meaning : List code.Local → List Local
 locals_meaning found = map local_meaning found
 
--- These were added.
+-- A list of local names of the code grew by these.
 pub record Finds (before : List code.Local) (added : List Local) (after : List code.Local)
     : Type 0 where
   pub finds : locals_meaning after ≡ locals_meaning before ++ added
 
--- what operators mean
+-- the local names that operators mean in a scope
 abbrev pub operators_mean : List (List ℕ) → Scope → List OperatorItem → List Local
 operators_mean names scope items =
     flat_map (λ (i : OperatorItem). use_of scope (name_meaning names i.operator)) items

@@ -81,7 +81,7 @@ unfoldable pub declaration_has : List (List ℕ) → Spot → syntax.Declaration
 declaration_has names spot block b others d =
     declaration_nodes spot block b (declarations_meaning names others) (declaration_meaning names d)
 
--- qualifiers, of a comprehension with this element
+-- what stands in qualifiers of a comprehension with this element
 unfoldable pub qualifiers_have : List (List ℕ) → Spot → syntax.Expression → List Qualifier
     → List Node
 qualifiers_have names spot element qs = qualifiers_nodes spot element (qualifiers_meaning names qs)
@@ -129,20 +129,20 @@ comprehension_has names spot element qs =
     expression_has names (past_all (qualifiers_of names qs) spot) element ++
     qualifiers_have names spot (expression_meaning names element) qs
 
--- These nodes were added, and this is the function whose rules may go on.
+-- These nodes were added to the sites, and this is the function whose rules may go on.
 pub record Walks (t : Text) (before : Sites) (added : List Node) (b : Option Begun)
     (found : Option begun.Begun) (after : Sites) : Type 0 where
   pub writes : Writes t before added after
   pub begun : IsBefore t b found
 
--- a name that is used on arguments
+-- the node of a name that is used on arguments
 unfoldable pub use_has : List (List ℕ) → Spot → code.Name → List Expression → List Node
 use_has names spot x arguments =
     node spot (Use (name_meaning names x) (map (expression_meaning names) arguments)) ∷ []
 
 -- ---- qualifiers
 
--- A comprehension with this element and these qualifiers.
+-- An expression is a comprehension with this element and these qualifiers.
 pub record IsComprehension (t : Text) (whole : Expression) (element : syntax.Expression)
     (qs : List Qualifier) : Type 0 where
   pub of : ExpressionIsOf t.owner t.names whole
@@ -150,7 +150,8 @@ pub record IsComprehension (t : Text) (whole : Expression) (element : syntax.Exp
   pub has : qualifiers_in (expression_meaning t.names whole) ≡ qualifiers_meaning t.names qs
   pub element_is : element_in (expression_meaning t.names whole) ≡ element
 
--- A qualifier of a comprehension with this element, which others follow, stands here.
+-- The code's `Step` is that of a qualifier at this spot, in a comprehension with this element, in
+-- which these qualifiers follow it.
 pub record IsStep (t : Text) (s : Sites) (step : Step) (spot : Spot) (element : syntax.Expression)
     (others : syntax.Qualifiers) (q : Qualifier) : Type 0 where
   pub before : IsAt t s step.before spot
@@ -161,13 +162,13 @@ pub record IsStep (t : Text) (s : Sites) (step : Step) (spot : Spot) (element : 
 
 -- ---- blocks
 
--- Declarations of a block stand here.
+-- The code's `BlockSpot` is that of a block of these declarations at this spot.
 pub record IsInner (t : Text) (s : Sites) (inner : BlockSpot) (spot : Spot)
     (block : syntax.Declarations) : Type 0 where
   pub at : IsAt t s inner.at spot
   pub block_is : IsBlock t s inner.block block
 
--- a rule, which others follow
+-- what stands in a rule, which other declarations follow
 unfoldable pub rule_has : List (List ℕ) → Spot → syntax.Declarations → Option Begun
     → List Declaration → rules.Rule → List Node
 rule_has names spot block b others r =
@@ -175,7 +176,7 @@ rule_has names spot block b others r =
     (syntax.FunctionRule (position_of r.place) (name_meaning names r.name)
     (patterns_meaning names r.parameters.items) (right_meaning names r.right))
 
--- the function that a rule begins
+-- the node of the function that a rule begins
 unfoldable pub function_has : List (List ℕ) → Spot → syntax.Declarations → List Declaration
     → rules.Rule → List Node
 function_has names spot block others r =
@@ -185,7 +186,7 @@ function_has names spot block others r =
           (rules_in (declarations_meaning names others));
     })) ∷ []
 
--- what stands in a rule of a function
+-- what stands in a rule of a local function
 abbrev pub inner_rule_has : List (List ℕ) → Spot → Place → rules.Rule → List Node
 inner_rule_has names spot function r =
     let inner = in_function (position_of function) (patterns_bind names r.parameters.items) spot in

@@ -1,4 +1,4 @@
--- The branches of the graphs, unless one of them is too large.
+-- The branches of the graphs follow, unless one of them is too large.
 use Rattle.std.proofs.Common.{ap, length, map, sym, ◌∙◌}
 use Rattle.std.specs.List.{list_any}
 use Rattle.cu_machine.specs.Next.{is_above, moved}

@@ -1,4 +1,4 @@
--- A node that isn't a set function's call.
+-- The node that is rewritten isn't a set function's call.
 use Rattle.std.proofs.Common.{◌∙◌}
 use Rattle.cu_machine.specs.Graph.{node_at}
 use Rattle.cu_step.proofs.StepLemmas.{no_set_call}

@@ -1,5 +1,5 @@
--- A branch in which a search runs is answered as it was. One that is too large stops; any other is valid, and goes on by what
--- its value needs.
+-- A branch in which a search runs is answered as it was. One that is too large stops; any other is
+-- valid, and goes on by what its value needs.
 use Rattle.std.proofs.Common.{◌≡◌, List, ℕ, ap, length, subst, sym, true≢false, ◌∙◌}
 use Rattle.cu_machine.specs.Need.{need_all}
 use Rattle.cu_machine.specs.Next.{next, next_by}

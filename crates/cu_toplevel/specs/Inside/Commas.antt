@@ -6,7 +6,8 @@ abbrev pub closed : ℕ → ℕ → List ℕ → Option ℕ
 closed n b [] = if nat_eq b 41 then Some n else None
 closed n b (c ∷ bs) = None
 
--- how many commas there are behind so many, where nothing but a closing parenthesis follows
+-- how many commas there are, after n of them were read, where nothing but commas and a closing
+-- parenthesis follows
 abbrev pub commas_in : ℕ → List ℕ → Option ℕ
 commas_in n [] = None
 commas_in n (b ∷ bs) = if nat_eq b 44 then commas_in (n + 1) bs else closed n b bs
@@ -15,7 +16,7 @@ abbrev pub commas_of : List ℕ → Option ℕ
 commas_of [] = None
 commas_of (b ∷ bs) = if nat_eq b 40 then commas_in 0 bs else None
 
--- what is found at a number of commas with one name more
+-- the name that is found under a number of commas (k), after a name that may be a tuple's was added
 abbrev pub and_tuple : Option ℕ → NameId → ℕ → Option NameId → Option NameId
 and_tuple None id k found = found
 and_tuple (Some n) id k found = if nat_eq n k then Some id else found

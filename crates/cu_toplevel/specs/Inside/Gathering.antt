@@ -1,4 +1,4 @@
--- Entities, and behind them those of a part of a module.
+-- The entities of lists, and after them those of a part of a module.
 use Rattle.std.specs.Prelude.{ℕ, List, ◌++◌, map}
 use Rattle.std.specs.List.{flat_map}
 use Rattle.cu_modules.specs.Scopes.{Named}
@@ -7,7 +7,7 @@ use Rattle.cu_toplevel.specs.Declarations.{Lists}
 use Rattle.cu_translation.specs.Externals.{externals}
 use Rattle.cu_translation.specs.Numbered.{constructor, constructors_by, external, first_constructors, first_types, function, groups_in, only_in_prelude, synonyms_by, types_by}
 
--- what a module has without a declaration
+-- the entities of these lists, and after them what a module has without a declaration
 abbrev pub and_given : List ℕ → Lists → Lists
 and_given owner l = record {
   types = l.types ++ only_in_prelude owner first_types;
@@ -24,7 +24,7 @@ and_constructors owner cs l = record {
   functions = l.functions;
 }
 
--- what an item declares, but no function
+-- the entities of these lists, and after them what an item declares, but no functions
 abbrev pub and_item : List ℕ → Item → Lists → Lists
 and_item owner i l = record {
   types = l.types ++ types_by owner i;

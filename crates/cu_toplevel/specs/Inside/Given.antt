@@ -1,4 +1,4 @@
--- What tables of what is built in stand for.
+-- What the code's tables of what is built in stand for.
 use Rattle.std.specs.Prelude.{ℕ, List}
 use Rattle.std.specs.Borrow.{Bor}
 use Rattle.cu_calculus.specs.declared.builtin.Primitive.{Primitive}

@@ -8,11 +8,12 @@ use Rattle.cu_syntax.specs.Owners.{NameIsOf}
 use Rattle.cu_syntax.specs.Syntax.{Name}
 use Rattle.cu_uses.specs.Binders.{once, texts}
 
--- these names, and behind them those of others whose text isn't there yet
+-- these names, and after them those of others whose text isn't there yet
 abbrev pub and_once : List Name → List Name → List Name
 and_once before names = before ++ once (texts before) names
 
--- Of these names, those whose text wasn't there yet were added, and a table has them.
+-- The names gathered grew by those of these names whose text wasn't there yet, and a table has
+-- them.
 pub record AddsOnce
     (owner : NameId) (table : List (List ℕ))
     (before : List code.Name) (names : List Name) (after : List code.Name) : Type 0

@@ -3,12 +3,12 @@ use Rattle.std.specs.Prelude.{ℕ, ◌+◌, List, [], ◌∷◌, max}
 use Rattle.cu_types.specs.Table as shape
 use Rattle.cu_types.specs.Table.{Shape}
 
--- the greatest of what a function gives of places
+-- the greatest number that a function gives of these places, 0 where there is none
 abbrev pub widest : (ℕ → ℕ) → List ℕ → ℕ
 widest f [] = 0
 widest f (p ∷ ps) = max (f p) (widest f ps)
 
--- where the breadth at each place is told
+-- the breadth of the type of a shape, where the breadth of the type at each place is told
 abbrev pub shape_breadth : (ℕ → ℕ) → Shape → ℕ
 shape_breadth f (shape.Variable x) = x + 1
 shape_breadth f (shape.Applied h ps) = widest f ps

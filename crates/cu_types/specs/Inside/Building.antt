@@ -19,7 +19,7 @@ signature_type (signature.Value t) = simple_type t
 signature_type (signature.Unary t r) = arrows (simple_type t ∷ []) (simple_type r)
 signature_type (signature.Binary t r) = arrows (simple_type t ∷ simple_type t ∷ []) (simple_type r)
 
--- the type of a constructor of a data type with so many parameters
+-- the type of a constructor of a data type at a place, with so many parameters
 abbrev pub made_type : (ℕ → TypeExpr) → ℕ → ℕ → Constructor → TypeExpr
 made_type body place arity c =
     arrows (map (expanded_by body) c.fields) (data_type place (variables_from 0 arity))

@@ -5,7 +5,7 @@ use Rattle.std.specs.Prelude.{◌≡◌, ◌≢◌, ℕ, ◌<◌, Bool, List, co
 abbrev pub is_root : List ℕ → ℕ → Bool
 is_root parents k = nat_eq (slice_index parents k) k
 
--- ranks rise along parents
+-- parents are a forest: ranks rise along them, and are below 256
 pub record IsForest (parents ranks : List ℕ) : Type 0 where
   pub ranked : length ranks ≡ length parents
   pub low : (k : ℕ) → k < length ranks → slice_index ranks k < 256
@@ -13,7 +13,7 @@ pub record IsForest (parents ranks : List ℕ) : Type 0 where
   pub rises : (k : ℕ) → k < length parents → slice_index parents k ≢ k
       → slice_index ranks k < slice_index ranks (slice_index parents k)
 
--- each number below the bound has this representative
+-- each number below the bound has the representative that `class` tells
 pub record Represents (parents : List ℕ) (class : ℕ → ℕ) : Type 0 where
   pub step : (k : ℕ) → k < length parents → class (slice_index parents k) ≡ class k
   pub root : (k : ℕ) → k < length parents → slice_index parents k ≡ k → class k ≡ k

@@ -10,12 +10,12 @@ use Rattle.cu_types.specs.declared.closing.Outcome.TheVariants as outcome
 use Rattle.cu_types.specs.declared.node.TypeHead.{TypeHead}
 use Rattle.cu_types.specs.declared.pair.Pair.{Pair}
 
--- something holds of each pair
+-- a property holds of each pair
 abbrev pub Each : (Pair → Type 0) → List Pair → Type 0
 Each P [] = Unit {0}
 Each P (p ∷ ps) = P p × Each P ps
 
--- two lists in pairs, as long as both go on
+-- the pairs of the numbers of two lists, as long as both go on
 abbrev pub paired : List ℕ → List ℕ → List Pair
 paired [] bs = []
 paired (a ∷ ps) [] = []
@@ -35,8 +35,8 @@ abbrev pub Meet : Shape → Shape → Type 0
 Meet (shape.Variable x) t = Unit {0}
 Meet (shape.Applied h ps) t = Takes t h (length ps)
 
--- a shape is that of its class's representative, where a function tells classes apart: a head has
--- its arguments in the same classes, and only a variable has a variable for its representative
+-- A shape agrees with that of its class's representative, where f tells classes apart: a head has
+-- its arguments in the same classes, and only a variable has a variable as its representative.
 abbrev pub IsAlike : (ℕ → ℕ) → Shape → Shape → Type 0
 IsAlike f (shape.Variable x) t = Unit {0}
 IsAlike f (shape.Applied h ps) (shape.Variable y) = ⊥
@@ -57,14 +57,15 @@ AreEqual equations ts i j = MadeEqual equations (at ts i) (at ts j)
 abbrev pub PairIsEqual : List Equation → List TypeExpr → Pair → Type 0
 PairIsEqual equations ts p = AreEqual equations ts p.left p.right
 
--- a function from places to classes agrees with pairs, and with the shapes of what representatives
--- stand for
+-- a function f from places to classes agrees with these pairs, and with the shapes of
+-- representatives
 pub record Agrees (ss : List Shape) (given : List Pair) (class f : ℕ → ℕ) : Type 0 where
   pub joins : Each (Joins f) given
   pub alike : (k : ℕ) (s t : Shape) → slice_get ss k ≡ Some s → slice_get ss (class k) ≡ Some t
       → IsAlike f s t
 
--- Some pairs are still to be joined. Classes that agree with these agree with all.
+-- These pairs are still to be joined, of all that were given. Classes that agree with them agree
+-- with all.
 pub record IsClosing (equations : List Equation) (ss : List Shape) (given pending : List Pair)
     (parents : List ℕ)
     (class : ℕ → ℕ) : Type 0 where
@@ -74,7 +75,7 @@ pub record IsClosing (equations : List Equation) (ss : List Shape) (given pendin
   pub complete : (f : ℕ → ℕ) → ((k : ℕ) → k < length ss → f (class k) ≡ f k)
       → Each (Joins f) pending → Agrees ss given class f
 
--- what is left to do of the places that a test passes, one step and one more for each argument
+-- the weight of a shape among what is left to do: two steps, and one more for each argument
 abbrev pub weight : Shape → ℕ
 weight s = 2 + length (places s)
 
@@ -82,14 +83,15 @@ abbrev pub owed : (ℕ → Bool) → List Shape → ℕ
 owed flags [] = 0
 owed flags (s ∷ ss) = cond (flags 0) (weight s) 0 + owed (λ k. flags (suc k)) ss
 
--- two places whose types the equations make equal, and whose shapes don't meet
+-- two places whose types the equations make equal, and whose shapes have different heads or numbers
+-- of arguments
 pub record IsApart (equations : List Equation) (ss : List Shape) (p : Pair) : Type 0 where
   pub within : IsWithin (length ss) p
   pub equal : PairIsEqual equations (shape.trees ss) p
   pub apart : (s t : Shape) → slice_get ss p.left ≡ Some s → slice_get ss p.right ≡ Some t
       → Meet s t → ⊥
 
--- classes that agree with all
+-- classes that agree with all pairs that were given, and that the equations make
 pub record IsClosed (equations : List Equation) (ss : List Shape) (given : List Pair)
     (classes : List ℕ) : Type 0 where
   pub sized : length classes ≡ length ss
@@ -103,18 +105,19 @@ pub record IsClosed (equations : List Equation) (ss : List Shape) (given : List 
       → slice_get ss (slice_index classes k) ≡ Some t
       → IsAlike (slice_index classes) s t
 
--- the one of a pair that may be put under the other comes first
+-- the representative of a pair that may be put under the other comes first
 abbrev pub IsOriented : Pair → Shape → Shape → Pair → Type 0
 IsOriented p s t q =
     ((q ≡ p) × (is_variable t ≡ true → is_variable s ≡ true))
     ⊎ ((q ≡ record { left = p.right; right = p.left })
     × (is_variable s ≡ true → is_variable t ≡ true))
 
--- what is left to do, with the pairs that are pending
+-- a measure of what is left to do, with the pairs that are pending
 abbrev pub debt : List Shape → List Pair → List ℕ → ℕ
 debt ss pending parents = length pending + owed (is_root parents) ss
 
--- a representative was put under another
+-- the first representative of a pair was put under the second, and the pairs of their arguments are
+-- pending
 pub record Unites (s t : Shape) (p : Pair) (before : List Pair) (parents : List ℕ)
     (after : List Pair) (then : List ℕ) : Type 0 where
   pub pushed : after ≡ before ++ paired (places s) (places t)
@@ -122,7 +125,7 @@ pub record Unites (s t : Shape) (p : Pair) (before : List Pair) (parents : List 
   pub class : (class : ℕ → ℕ) → Represents parents class → Represents
       then (joined p.left p.right class)
 
--- what joining the classes of a pair leaves
+-- joining the classes of a pair leaves these pairs and parents, or finds two places that are apart
 pub record Joined (ss : List Shape) (p : Pair) (before : List Pair) (parents : List ℕ)
     (after : List Pair) (then : List ℕ)
     (found : Option Pair) : Type 0 where
@@ -133,7 +136,8 @@ pub record Joined (ss : List Shape) (p : Pair) (before : List Pair) (parents : L
       → MatchOption found ((class : ℕ → ℕ) × IsClosing equations ss given after
       then class) (IsApart equations ss)
 
--- classes that agree with all pairs, or two places whose types are apart
+-- the code's outcome is right: classes that agree with all pairs, or two places whose types are
+-- apart
 abbrev pub ClosesOr : List Equation → List Shape → List Pair → Outcome → Type 0
 ClosesOr equations ss given (outcome.Closed classes) =
     IsForest classes.parents.items classes.ranks.items × (length classes.parents.items ≡ length ss)

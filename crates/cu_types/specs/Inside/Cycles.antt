@@ -10,7 +10,7 @@ use Rattle.cu_types.specs.Types.{Substitution, apply}
 use Rattle.cu_types.specs.Unification.{Equation}
 use Rattle.cu_types.specs.declared.order.Task.{Task}
 
--- how many variables, heads and names a type has
+-- how many variables, heads and names stand in a type
 abbrev mutual
   pub size : TypeExpr → ℕ
   size (type.Variable x) = 1
@@ -21,7 +21,7 @@ abbrev mutual
   sizes type.NoType = 0
   sizes (type.MoreTypes t ts) = size t + sizes ts
 
--- a place in place of the arguments of one class
+-- an argument, or this place instead where the argument is of the class `used`
 abbrev pub put_in : List ℕ → ℕ → ℕ → ℕ → ℕ
 put_in classes used place a = cond (nat_eq (class_of classes a) used) place a
 
@@ -30,12 +30,13 @@ wrapped classes used place (shape.Variable x) = shape.Variable x
 wrapped classes used place (shape.Applied h ps) =
     shape.Applied h (map (put_in classes used place) ps)
 
--- classes are those that the equations make
+-- types of one class are made equal by the equations
 abbrev pub AreSound : List Equation → List Shape → List ℕ → Type 0
 AreSound equations ss classes = (k : ℕ) → k < length ss
     → AreEqual equations (trees ss) k (class_of classes k)
 
--- a type of a class that is used, with the first type inside it
+-- at this place a type was built that is made equal to that of the class `used`, with the first
+-- type inside it
 pub record IsUnfolding (ss : List Shape) (classes : List ℕ) (first : ℕ) (now : List Shape)
     (tasks : List Task) (used place : ℕ) : Type 0 where
   pub more : List Shape
@@ -51,7 +52,8 @@ pub record IsUnfolding (ss : List Shape) (classes : List ℕ) (first : ℕ) (now
   pub larger : (σ : Substitution) → size (apply σ (at (trees now) first))
       ≤ size (apply σ (at (trees now) place))
 
--- a type that is made equal to the first one, which stands inside it
+-- at this place a type was built that is made equal to the first one, and the first one stands
+-- inside it
 pub record Unfolds (ss : List Shape) (classes : List ℕ) (first : ℕ) (now : List Shape)
     (place : ℕ) : Type 0 where
   pub more : List Shape

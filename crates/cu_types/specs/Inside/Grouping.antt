@@ -26,13 +26,13 @@ use Rattle.cu_types.specs.declared.known.Member.{Member}
 use Rattle.cu_types.specs.declared.known.Numbers.{Numbers}
 use Rattle.cu_types.specs.declared.unification.Subst.{Subst}
 
--- the tables are those of the program
+-- the tables that inference uses are those of the program
 pub record IsInference (i : Inference) : Type 0 where
   pub synonyms : at i.synonyms.now ≡ bodies i.program.now (length i.program.now.synonyms)
   pub constructors : (c : ConId) → at i.constructors.now c.0 ≡ constructor_type i.program.now c
   pub values : values_at i.values ≡ values i.program.now
 
--- what is known of heads
+-- what is known of heads, as the definitions have it
 abbrev pub known_assumptions : Kernel → List TypeExpr → List Known → Option ℕ → Assumptions
 known_assumptions kernel constructors ks values = record {
   function = λ f. scheme_known (slice_get ks f.0);
@@ -41,14 +41,15 @@ known_assumptions kernel constructors ks values = record {
   values = values_at values;
 }
 
--- ---- before
+-- ---- before the equations are solved
 
--- a member, without what the program says of its function
+-- a member as the code has it, without the name and body of its function
 abbrev pub plain_member : asked.Member → Member
 plain_member m =
     record { arity = m.arity; captured = m.captured; declared = m.declared; first = m.first }
 
--- the functions of a group become its members, with type variables from a number on
+-- what is known, after the functions of a group became its members, with type variables from
+-- `first` on
 abbrev pub entered : Kernel → ℕ → List FunId → List Known → List Known
 entered kernel first [] ks = ks
 entered kernel first (f ∷ fs) ks =
@@ -59,15 +60,15 @@ abbrev pub end_from : Kernel → ℕ → List FunId → ℕ
 end_from kernel first [] = first
 end_from kernel first (f ∷ fs) = end_from kernel (asked.end_of (asked.member kernel first f)) fs
 
--- no function is a member
+-- no function is a member of a group
 abbrev pub HasNoMembers : List Known → Type 0
 HasNoMembers ks = (k : ℕ) (m : Member) → slice_get ks k ≡ Some (known.Member m) → ⊥
 
--- something is known of each function of a group
+-- each function of a group is below n
 abbrev pub AreWithin : List FunId → ℕ → Type 0
 AreWithin fs n = (k : ℕ) (f : FunId) → slice_get fs k ≡ Some f → f.0 < n
 
--- ---- after
+-- ---- after the equations are solved
 
 abbrev pub numbers_of : Option Known → Option Numbers
 numbers_of None = None
@@ -75,7 +76,7 @@ numbers_of (Some known.Nothing) = None
 numbers_of (Some (known.Typed t)) = None
 numbers_of (Some (known.Member m)) = Some (record { first = m.first; arity = m.arity })
 
--- the type of a member
+-- the type of a member over its type variables
 abbrev pub own_type : Numbers → TypeExpr
 own_type n = arrows (variables_from n.first n.arity) (type.Variable (n.first + n.arity))
 
@@ -83,14 +84,14 @@ abbrev pub left_with : Substitution → FunId → Option Numbers → List Known 
 left_with σ f None ks = ks
 left_with σ f (Some n) ks = slice_set ks f.0 (known.Typed (numbered (apply σ (own_type n))))
 
--- the functions of a group have the types that a solution gives to its members
+-- what is known, after the functions of a group got the types that a solution gives to its members
 abbrev pub left : Substitution → List FunId → List Known → List Known
 left σ [] ks = ks
 left σ (f ∷ fs) ks = left σ fs (left_with σ f (numbers_of (slice_get ks f.0)) ks)
 
 -- ---- solutions in a table
 
--- types were added to the table of a solution
+-- the table of a solution grew, and all variables have the types that they had
 pub record Stays (before after : Subst) : Type 0 where
   pub table : IsTable (types_of_subst after)
   pub places : HasPlaces after
@@ -98,7 +99,8 @@ pub record Stays (before after : Subst) : Type 0 where
 
 -- ---- what comes of a group
 
--- the functions of a group have their types
+-- the functions of a group have got the types of a most general solution that keeps to the declared
+-- types
 pub record IsLeft (kernel : Kernel) (before after : List Known) (group : List FunId) : Type 0 where
   pub solution : Substitution
   pub general : IsMostGeneral solution (equations kernel (map kept_type before) group)
@@ -112,7 +114,8 @@ Outcomes kernel before after group (outcome.Clash c) =
 Outcomes kernel before after group outcome.Broken =
     BreaksSignature kernel (map kept_type before) group
 
--- what comes of a solution
+-- the outcome for a solution is right: it keeps to the declared types, and the functions have its
+-- types, or it doesn't keep to them
 abbrev pub Settled : List asked.Member → Substitution → List FunId → List Known → List Known
     → Outcome → Type 0
 Settled ms σ group before after outcome.Typed = KeepsDeclared σ ms × (after ≡ left σ group before)
@@ -121,7 +124,7 @@ Settled ms σ group before after outcome.Broken = KeepsDeclared σ ms → ⊥
 
 -- ---- groups one after another
 
--- what is known before a group
+-- what is known when inference comes to a group: the groups before it have their principal types
 pub record IsKnown (kernel : Kernel) (groups : List (List FunId)) (place : ℕ)
     (ks : List Known) : Type 0 where
   pub sized : length ks ≡ length kernel.functions

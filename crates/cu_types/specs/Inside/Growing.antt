@@ -5,7 +5,7 @@ use Rattle.cu_types.specs.Meaning.{HasPlaces, subst_of, types_of_subst}
 use Rattle.cu_types.specs.Table.{IsTable, Shape, at, trees}
 use Rattle.cu_types.specs.declared.unification.Subst.{Subst}
 
--- a type stands at a place now, and each variable has the type that it had
+-- a type stands at this place now, and each variable has the type that it had
 pub record Grows (before after : Subst) (t : TypeExpr) (place : ℕ) : Type 0 where
   pub table : IsTable (types_of_subst after)
   pub places : HasPlaces after

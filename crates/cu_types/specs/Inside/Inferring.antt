@@ -18,7 +18,7 @@ use Rattle.cu_types.specs.declared.inference.TypeFault.TheVariants as fault
 use Rattle.cu_types.specs.declared.known.Known.{Known}
 use Rattle.cu_types.specs.declared.node.TypeHead.TheVariants as head
 
--- why a group has no types
+-- a group has no types, and this fault tells why
 abbrev pub Fails : Kernel → List Known → List FunId → TypeFault → Type 0
 Fails kernel before group (fault.TypeClash f c) =
     (others : List FunId) × (group ≡ f ∷ others)
@@ -29,23 +29,23 @@ Fails kernel before group (fault.Signature f) =
 Fails kernel before group fault.GoalFunctional = ⊥
 Fails kernel before group fault.NoMemory = ⊥
 
--- a group has its types, or fails
+-- a group has got its types, or this fault tells why it has none
 abbrev pub Stepped : Kernel → List Known → List Known → List FunId → Option TypeFault → Type 0
 Stepped kernel before after group None = IsLeft kernel before after group
 Stepped kernel before after group (Some fault) = Fails kernel before group fault
 
--- all groups have their types, or one fails
+-- all groups have got their types, or this fault tells why one has none
 abbrev pub Ended : Kernel → List (List FunId) → List Known → Option TypeFault → Type 0
 Ended kernel groups after None = IsKnown kernel groups (length groups) after
 Ended kernel groups after (Some fault) = IsTypeFault kernel fault
 
--- whether a function type stands in a type, shape by shape
+-- whether a function type stands in the type of a shape, where it is told of the type at each place
 abbrev pub shape_holds : (ℕ → Bool) → Shape → Bool
 shape_holds holds (shape.Variable x) = false
 shape_holds holds (shape.Applied head.Arrow ps) = true
 shape_holds holds (shape.Applied (head.Named n) ps) = list_any holds ps
 
--- what a type is, seen from its top
+-- what a function type with arguments at these places is, seen from its top
 abbrev pub pair_top : List ℕ → Top
 pair_top (a ∷ b ∷ []) = top.Arrow a b
 pair_top _ = top.Other

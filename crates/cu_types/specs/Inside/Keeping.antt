@@ -14,7 +14,7 @@ use Rattle.cu_types.specs.Table.{Shape}
 use Rattle.cu_types.specs.Types.{Substitution}
 use Rattle.cu_types.specs.declared.known.Known.{Known}
 
--- the variable that a type is
+-- the variable that a type is, if it is one
 abbrev pub variable_of : TypeExpr → Option ℕ
 variable_of (type.Variable y) = Some y
 variable_of (type.Arrow a b) = None
@@ -24,7 +24,7 @@ abbrev pub shape_variable : Shape → Option ℕ
 shape_variable (shape.Variable y) = Some y
 shape_variable (shape.Applied h ps) = None
 
--- numbers one after another
+-- so many numbers, from x on
 abbrev pub numbers_from : ℕ → ℕ → List ℕ
 numbers_from x zero = []
 numbers_from x (suc count) = x ∷ numbers_from (x + 1) count
@@ -34,7 +34,7 @@ with_first None o = None
 with_first (Some y) None = None
 with_first (Some y) (Some ys) = Some (y ∷ ys)
 
--- the variables that variables become, where all become variables
+-- the variables that these variables become under a substitution, if all become variables
 abbrev pub became : Substitution → List ℕ → Option (List ℕ)
 became σ [] = Some []
 became σ (x ∷ xs) = with_first (variable_of (σ x)) (became σ xs)
@@ -43,12 +43,12 @@ abbrev pub behind : List ℕ → Option (List ℕ) → Option (List ℕ)
 behind ys None = None
 behind ys (Some zs) = Some (ys ++ zs)
 
--- a list with more numbers, where these are new
+-- a list with these numbers after its own, if they are new in it and differ
 abbrev pub joined : List ℕ → List ℕ → Option (List ℕ)
 joined ks [] = Some ks
 joined ks (y ∷ ys) = cond (holds y ks) None (joined (ks ++ y ∷ []) ys)
 
--- some of these variables stand in a type
+-- whether a variable is one of these
 abbrev pub among : List ℕ → ℕ → Bool
 among ys x = list_any (λ y. nat_eq y x) ys
 
@@ -59,12 +59,13 @@ abbrev pub shape_meets : (ℕ → Bool) → List ℕ → Shape → Bool
 shape_meets f ys (shape.Variable x) = among ys x
 shape_meets f ys (shape.Applied h ps) = list_any f ps
 
--- some of them stand in what variables become
+-- whether some of the variables ys stand in what the variables xs become
 abbrev pub some_meets : Substitution → List ℕ → List ℕ → Bool
 some_meets σ ys xs = list_any (λ x. meets ys (σ x)) xs
 
--- The variables of a group's declared types so far, with those of one more member: all become
--- variables, none of which stands in the type of what the member captured, and none comes twice.
+-- The variables of a group's declared types so far, with those of one more member, if this keeps to
+-- its declared type: all became variables, none of which stands in the type of what the member
+-- captured, and none comes twice.
 abbrev pub joined_if : Substitution → List ℕ → ℕ → ℕ → Option (List ℕ) → Option (List ℕ)
 joined_if σ ks first captured None = None
 joined_if σ ks first captured (Some ys) =
@@ -86,12 +87,12 @@ abbrev pub with_members : Substitution → List ℕ → List Member → Option (
 with_members σ ks [] = Some ks
 with_members σ ks (m ∷ ms) = go_on (λ ls. with_members σ ls ms) (with_member σ ks m)
 
--- there is such a list, and it is this one, or there is none
+-- where the flag is set the list of the definitions is this one, and where it isn't there is none
 abbrev pub Told : Bool → List ℕ → Option (List ℕ) → Type 0
 Told true ks o = o ≡ Some ks
 Told false ks o = o ≡ None
 
--- the members behind those so far come to the whole
+-- the members that are left, after those that came to ks, come to the whole
 pub record IsPending (kernel : Kernel) (known : List Known) (σ : Substitution) (ks : List ℕ)
     (fs : List FunId)
     (whole : Option (List ℕ)) : Type 0 where

@@ -14,7 +14,7 @@ use Rattle.cu_types.specs.declared.known.Scheme as code
 use Rattle.cu_types.specs.declared.known.Scheme.TheVariants as scheme
 use Rattle.cu_types.specs.declared.known.Signing.{Signing}
 
--- the type that a head's scheme stands for
+-- the scheme that a scheme of the code stands for
 abbrev pub scheme_of : code.Scheme → Scheme
 scheme_of scheme.Unknown = asked.Polymorphic [] (type.Variable 0)
 scheme_of (scheme.Monomorphic first arity) =
@@ -32,18 +32,18 @@ scheme_known (Some known.Nothing) = asked.Polymorphic [] (type.Variable 0)
 scheme_known (Some (known.Typed t)) = asked.Polymorphic [] t
 scheme_known (Some (known.Member m)) = member_scheme m m.declared
 
--- the type of a function that isn't of the group
+-- the type that is known of a function outside the group, and a variable where none is
 abbrev pub kept_type : Known → TypeExpr
 kept_type known.Nothing = type.Variable 0
 kept_type (known.Typed t) = t
 kept_type (known.Member m) = type.Variable 0
 
--- the type of all values of a type
+-- the type of all values of a type, by the place of the data type that set functions give
 abbrev pub values_at : Option ℕ → TypeExpr → TypeExpr
 values_at None t = type.Variable 0
 values_at (Some place) t = data_type place (t ∷ [])
 
--- what is known of heads
+-- what is known of heads, as the definitions have it
 abbrev pub assumptions_by : Signing → Assumptions
 assumptions_by s = record {
   function = λ f. scheme_known (slice_get s.known.now f.0);
@@ -52,7 +52,7 @@ assumptions_by s = record {
   values = values_at s.values;
 }
 
--- the function of a group that a member stands for
+-- the member of a group that a member of the code stands for, whose function is f
 abbrev pub member_of : Kernel → FunId → Member → asked.Member
 member_of kernel f m = record {
   function = f;
@@ -67,7 +67,7 @@ abbrev pub IsMember : Kernel → Option Known → FunId → asked.Member → Typ
 IsMember kernel (Some (known.Member c)) f m = member_of kernel f c ≡ m
 IsMember kernel _ f m = ⊥
 
--- all functions of a group are known as its members
+-- the functions of a group are known as these members
 abbrev pub AreMembers : Kernel → List Known → List FunId → List asked.Member → Type 0
 AreMembers kernel ks [] [] = Unit {0}
 AreMembers kernel ks (f ∷ fs) (m ∷ ms) = IsMember kernel (slice_get ks f.0) f m

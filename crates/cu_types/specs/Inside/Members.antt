@@ -14,7 +14,8 @@ use Rattle.cu_types.specs.declared.known.Known.{Known}
 use Rattle.cu_types.specs.declared.known.Known.TheVariants as known
 use Rattle.cu_types.specs.declared.known.Member.{Member}
 
--- a rule whose parameters have the type variables from one on, and whose right side has another one
+-- the equations of a rule whose parameters have the type variables from `first` on, and whose
+-- right-hand side has the type variable `right`
 abbrev pub rule_between : Assumptions → Environment → ℕ → ℕ → Rule → Asked → Asked
 rule_between assumptions env first right rule asked =
     let inner = bind_from env asked.next (all_variables rule.params) in
@@ -28,7 +29,7 @@ rules_between assumptions env first right (rule ∷ rules) asked =
     rules_between assumptions env first right rules
     (rule_between assumptions env first right rule asked)
 
--- what a function with so many parameters computes
+-- the equations of what a function computes that has so many parameters
 abbrev pub body_between : Kernel → Assumptions → Environment → ℕ → ℕ → Body → Asked → Asked
 body_between kernel assumptions env first arity (calculus.Rules rules) asked =
     rules_between assumptions env first (first + arity) rules asked
@@ -36,7 +37,7 @@ body_between kernel assumptions env first arity (calculus.External operation) as
     scheme_asks (asked_of.Polymorphic [] (external_type kernel operation))
     (arrows (variables_from first arity) (type.Variable (first + arity))) asked
 
--- its declared type
+-- the equation that a member's declared type asks for, if it has one
 abbrev pub declared_asks : Member → Option TypeExpr → Asked → Asked
 declared_asks m None asked = asked
 declared_asks m (Some t) asked =
@@ -48,7 +49,7 @@ abbrev pub member_asks : Kernel → Assumptions → Environment → Body → Mem
 member_asks kernel assumptions env body m asked =
     body_between kernel assumptions env m.first m.arity body (declared_asks m m.declared asked)
 
--- a function that isn't of the group asks for nothing
+-- the equations of a function, by what is known of it: there are none where it isn't of the group
 abbrev pub known_asks : Kernel → Assumptions → Environment → Body → Option Known → Asked → Asked
 known_asks kernel assumptions env body None asked = asked
 known_asks kernel assumptions env body (Some known.Nothing) asked = asked
@@ -56,7 +57,7 @@ known_asks kernel assumptions env body (Some (known.Typed t)) asked = asked
 known_asks kernel assumptions env body (Some (known.Member m)) asked =
     member_asks kernel assumptions env body m asked
 
--- a function of the program
+-- the equations of a function of the program, if it is of the group
 abbrev pub function_asks : Kernel → Assumptions → Environment → List Known → FunId → Asked → Asked
 function_asks kernel assumptions env ks f asked =
     known_asks kernel assumptions env (function_body (slice_get kernel.functions f.0))

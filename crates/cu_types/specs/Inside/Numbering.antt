@@ -15,14 +15,14 @@ use Rattle.cu_types.specs.declared.numbering.Numbering.{Numbering}
 use Rattle.cu_types.specs.declared.order.Task.{Task}
 use Rattle.cu_types.specs.declared.order.Task.TheVariants as task
 
--- the variables of the types that are still to be entered
+-- the variables of the types that are still to be entered, in order
 abbrev pub pending : List TypeExpr → List Task → List ℕ
 pending ts [] = []
 pending ts (task.Enter p ∷ tasks) = variables_in (at ts p) ++ pending ts tasks
 pending ts (task.Leave p ∷ tasks) = pending ts tasks
 
--- Once the tasks are done, the type at one place was made, and no other: to enter a place is to
--- make its type, and to leave one is to make its type of those that were made last.
+-- Once the tasks are done, the type at one place is made, and no other. To enter a place is to make
+-- its type, and to leave one is to make its type of those that were made last.
 abbrev pub Makes : List Shape → ℕ → List Task → List ℕ → Type 0
 Makes ss root [] stack = stack ≡ root ∷ []
 Makes ss root (task.Enter p ∷ tasks) stack = Makes ss root tasks (stack ++ p ∷ [])
@@ -31,18 +31,18 @@ Makes ss root (task.Leave p ∷ tasks) stack =
     × (slice_get ss p ≡ Some (shape.Applied head arguments))
     × (stack ≡ rest ++ arguments) × Makes ss root tasks (rest ++ p ∷ [])
 
--- the tasks are at places of the table
+-- the tasks are at places below n
 abbrev pub AreTasks : ℕ → List Task → Type 0
 AreTasks n [] = Unit {0}
 AreTasks n (task.Enter p ∷ tasks) = (p < n) × AreTasks n tasks
 AreTasks n (task.Leave p ∷ tasks) = (p < n) × AreTasks n tasks
 
--- each of these variables has its number
+-- each of these variables is in the list, in which its place is its number
 abbrev pub AreNoted : List ℕ → List ℕ → Type 0
 AreNoted ks [] = Unit {0}
 AreNoted ks (v ∷ vs) = IsTrue (holds v ks) × AreNoted ks vs
 
--- a type was made with its variables numbered
+-- the type at place p was made with its variables numbered, and stands at place m
 pub record IsMade (ts : List TypeExpr) (final ks : List ℕ) (made : List Shape)
     (p m : ℕ) : Type 0 where
   pub within : m < length made
@@ -72,7 +72,7 @@ Goes ss root final n tasks =
     IsNumbering ss root final (get nat_eq n.made.variables) (shapes n.made)
     (get nat_eq n.known) n.variables.keys n.places.items tasks
 
--- to enter a type is to enter and to leave each type in it
+-- the effort of a task: to enter a type is to enter and to leave each type in it
 abbrev pub effort : List TypeExpr → Task → ℕ
 effort ts (task.Enter p) = 2 * size (at ts p)
 effort ts (task.Leave p) = 1
@@ -81,7 +81,7 @@ abbrev pub efforts : List TypeExpr → List Task → ℕ
 efforts ts [] = 0
 efforts ts (t ∷ tasks) = effort ts t + efforts ts tasks
 
--- what a task leaves
+-- a task leaves these tasks, whose effort is less
 pub record Proceeds (ss : List Shape) (root : ℕ) (final : List ℕ) (n : Numbering)
     (was tasks : List Task) : Type 0 where
   pub goes : Goes ss root final n tasks
@@ -94,7 +94,7 @@ pub record Pushes (before after : Numbering) (front : List ℕ) (t : TypeExpr) :
   pub reads : Reads (shapes before.made) (shapes after.made) t place
   pub pushed : after.places.items ≡ front ++ place ∷ []
 
--- the type at a place was made of the types that were made last, so many
+-- the type at a place was made of the types that were made last, `count` of them
 pub record Joins (before after : Numbering) (p : ℕ) (h : TypeHead) (count : ℕ) : Type 0 where
   pub pushes : Pushes before after (take (length before.places.items - count) before.places.items)
       (built h (map (at (trees (shapes before.made)))

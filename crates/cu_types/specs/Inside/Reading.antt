@@ -23,14 +23,14 @@ pub record HasVariables (find : ℕ → Option ℕ) (ss : List Shape) : Type 0 w
 abbrev pub IsReader : Reader → Type 0
 IsReader r = HasVariables (get nat_eq r.variables) (shapes r)
 
--- a type was read: it stands at this place, and all before stand as they did
+-- a type was read: it stands at this place, and all that stood before stands as it did
 pub record Reads (before after : List Shape) (t : TypeExpr) (place : ℕ) : Type 0 where
   pub more : List Shape
   pub extends : after ≡ before ++ more
   pub within : place < length after
   pub value : at (trees after) place ≡ t
 
--- types were read, in order
+-- these types were read, in order: they stand at these places
 pub record AllRead (before after : List Shape) (ts : List TypeExpr) (places : List ℕ) : Type 0 where
   pub more : List Shape
   pub extends : after ≡ before ++ more

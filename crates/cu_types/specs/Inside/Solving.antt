@@ -14,11 +14,11 @@ use Rattle.cu_types.specs.declared.pair.Pair.{Pair}
 use Rattle.cu_types.specs.declared.solve.Solved.{Solved}
 use Rattle.cu_types.specs.declared.solve.Solved.TheVariants as solved
 
--- what the type at a place becomes
+-- the type that the type at place k becomes
 abbrev pub solved_at : List ℕ → List Shape → ℕ → TypeExpr
 solved_at found made k = at (trees made) (slice_index found k)
 
--- all classes are placed
+-- all classes are placed, and each place has the place of its class
 pub record IsArranged (ss : List Shape) (classes found : List ℕ) (made : List Shape) : Type 0 where
   pub states : List State
   pub sized : length found ≡ length ss
@@ -33,8 +33,9 @@ ArrangesOr ss classes (solved.Solution found nodes) =
 ArrangesOr ss classes (solved.Clash nodes p) =
     (p.left < length ss) × Unfolds ss classes p.left (map shape_of nodes.items) p.right
 
--- For each type what it becomes: pairs become the same, a head has what its arguments become, and
--- each solution makes the same of a type and of what it becomes.
+-- A solution was found, which tells what each type becomes: both places of a pair become the same,
+-- a head has what its arguments become, and each solution makes the same of a type and of what it
+-- becomes.
 pub record IsSolution (equations : List Equation) (ss : List Shape) (given : List Pair)
     (found : List ℕ) (made : List Shape) : Type 0 where
   pub sized : length found ≡ length ss
@@ -46,7 +47,7 @@ pub record IsSolution (equations : List Equation) (ss : List Shape) (given : Lis
   pub general : (τ : Substitution) → Solves τ equations → (k : ℕ) → k < length ss
       → apply τ (solved_at found made k) ≡ apply τ (at (trees ss) k)
 
--- two types of a table that are a clash
+-- two types of a table, at the places of a pair, are a clash of the equations
 pub record IsCollision (equations : List Equation) (now : List Shape) (p : Pair) : Type 0 where
   pub table : IsTable now
   pub within : IsWithin (length now) p

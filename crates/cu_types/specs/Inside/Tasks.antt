@@ -11,8 +11,7 @@ use Rattle.cu_types.specs.declared.reader.Reader.{Reader}
 use Rattle.cu_types.specs.declared.reading.Reading.{Reading}
 use Rattle.cu_types.specs.declared.reading.Reading.TheVariants as reading
 
--- to read a type is to make it, and to apply a head is to take the types that were made last for
--- its arguments
+-- a step of reading: to read a type, or to apply a head to the types that were made last
 pub data Step : Type 0 where
   Read : TypeExpr → Step
   Apply : TypeHead → ℕ → Step
@@ -21,7 +20,7 @@ abbrev pub step_of : Reading → Step
 step_of (reading.Read t) = Read (type_of t.now)
 step_of (reading.Apply h count) = Apply h count
 
--- the steps of tasks, which are kept with the next one last
+-- the steps that tasks stand for; tasks are kept with the next one last
 abbrev pub steps_of : List Reading → List Step
 steps_of tasks = reverse (map step_of tasks)
 
@@ -31,7 +30,7 @@ done [] ts = ts
 done (Read t ∷ steps) ts = done steps (t ∷ ts)
 done (Apply h count ∷ steps) ts = done steps (built h (take count ts) ∷ drop count ts)
 
--- each head finds its arguments
+-- each head that is applied finds its arguments among the types that were made
 abbrev pub AreEnough : List Step → ℕ → Type 0
 AreEnough [] count = Unit {0}
 AreEnough (Read t ∷ steps) count = AreEnough steps (count + 1)
@@ -56,7 +55,7 @@ pub record IsReading (before : List Shape) (find : ℕ → Option ℕ) (ss : Lis
   pub enough : AreEnough steps (length places)
   pub makes : done steps (map (at (trees ss)) (reverse places)) ≡ t ∷ []
 
--- what a step leaves
+-- a step leaves these steps, which still make the type
 pub record Proceeds (before : List Shape) (t : TypeExpr) (was : List Step) (find : ℕ → Option ℕ)
     (ss : List Shape) (steps : List Step)
     (places : List ℕ) : Type 0 where

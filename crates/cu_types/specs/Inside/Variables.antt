@@ -5,7 +5,7 @@ use Rattle.cu_types.specs.Equations.{Environment, bind}
 use Rattle.cu_types.specs.declared.variables.Binding.{Binding}
 use Rattle.cu_types.specs.declared.variables.Variables.{Variables}
 
--- a variable that isn't bound has 0
+-- the type variable of a variable: one that isn't bound has 0
 abbrev pub or_zero : Option ℕ → ℕ
 or_zero None = 0
 or_zero (Some t) = t
@@ -13,7 +13,7 @@ or_zero (Some t) = t
 abbrev pub environment : Variables → Environment
 environment v x = or_zero (get nat_eq v.numbers x)
 
--- variables are bound to what they had before, one after another
+-- an environment after variables were bound again, one after another, to what they had before
 abbrev pub undone : List Binding → Environment → Environment
 undone [] env = env
 undone (b ∷ bs) env = undone bs (bind env b.variable b.before)

@@ -1,4 +1,4 @@
--- What the views of a text ask.
+-- What the views of a text ask of its scopes.
 use Rattle.std.specs.Prelude.{ℕ, List, ◌++◌, Option}
 use Rattle.cu_entities.specs.Entities.{Values}
 use Rattle.cu_syntax.specs.declared.declarations.Body.{Body}
@@ -54,7 +54,7 @@ qualifier_asks names local q = qualifier_demands local (qualifier_meaning names 
 unfoldable pub qualifier_binds : List (List ℕ) → Qualifier → List Name
 qualifier_binds names q = qualifier_names (qualifier_meaning names q)
 
--- qualifiers, and the element behind them
+-- what qualifiers ask, and the element after them
 unfoldable pub qualifiers_ask : List (List ℕ) → List (List ℕ) → Expression → List Qualifier
     → List Demand
 qualifiers_ask names local element qs =
@@ -62,7 +62,7 @@ qualifiers_ask names local element qs =
     ++ expression_demands (behind local (qualifiers_meaning names qs))
     (expression_meaning names element)
 
--- ---- by their parts
+-- ---- what expressions ask, by their parts
 
 abbrev pub lambda_asks : List (List ℕ) → List (List ℕ) → List Pattern → Expression → List Demand
 lambda_asks names local ps e = used Values (patterns_build names ps)
@@ -76,7 +76,7 @@ abbrev pub binding_asks : List (List ℕ) → List (List ℕ) → Pattern → Ri
 binding_asks names local p right =
     used Values (pattern_builds names p) ++ right_asks names local right
 
--- the local variables inside a block
+-- the local variables that are in scope inside a block
 abbrev pub in_block : List (List ℕ) → List (List ℕ) → List Declaration → List (List ℕ)
 in_block names local ds = with (declared_names (block_declares names ds)) local
 

@@ -1,4 +1,4 @@
--- What declarations declare, and what is gathered of it.
+-- What declarations declare, and what the code gathers of it.
 use Rattle.std.specs.Prelude.{◌≡◌, ℕ, Bool, false, List, [], ◌∷◌, ◌++◌, Option, None, Some, IfSome, nat_eq}
 use Rattle.std.specs.List.{All}
 use Rattle.std.specs.Option.{option_map}
@@ -40,7 +40,7 @@ pub record IsOfModule (owner : NameId) (names : List (List ℕ)) (b : Block) : T
   pub once : All (NameIsOf owner names) b.once.items
   pub function : IfSome b.function (IsKnown names)
 
--- These declarations, and these names of signatures, were added.
+-- What a block gathered grew by these declarations and these names of signatures.
 pub record Gathers (owner : NameId) (names : List (List ℕ)) (before : Block)
     (declared : List Declared) (signs : List Name) (after : Block) : Type 0 where
   pub names_added : Adds owner names before.names.items (declared_names declared) after.names.items
@@ -51,7 +51,7 @@ pub record Gathers (owner : NameId) (names : List (List ℕ)) (before : Block)
       ++ declared_once (function_text names before) (declared ++ behind)
       ≡ names_meaning names after.once.items ++ declared_once (function_text names after) behind
 
--- A block has these declarations, and these names of signatures.
+-- What a block gathered is what these declarations and these names of signatures are.
 pub record IsBlockOf (owner : NameId) (names : List (List ℕ)) (declared : List Declared)
     (signs : List Name) (b : Block) : Type 0 where
   pub is_names : names_meaning names b.names.items ≡ declared_names declared

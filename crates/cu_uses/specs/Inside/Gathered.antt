@@ -1,4 +1,4 @@
--- What patterns and types have, and what is found of it.
+-- The names that patterns and types have, and what the code finds of them.
 use Rattle.std.specs.Prelude.{◌≡◌, ℕ, List, ◌++◌, map}
 use Rattle.std.specs.List.{All}
 use Rattle.cu_names.specs.declared.names.NameId.{NameId}
@@ -47,13 +47,13 @@ types_bind names ts = all_type_variables (types_meaning names ts)
 unfoldable pub types_build : List (List ℕ) → List TypeTerm → List Name
 types_build names ts = all_type_constructors (types_meaning names ts)
 
--- Names of a module, which a table has, were added: these.
+-- A list of names grew by these, which are of the module and in the table.
 pub record Adds (owner : NameId) (names : List (List ℕ)) (before : List code.Name)
     (added : List Name) (after : List code.Name) : Type 0 where
   pub adds : names_meaning names after ≡ names_meaning names before ++ added
   pub owned : All (NameIsOf owner names) before → All (NameIsOf owner names) after
 
--- These variables and these constructors were found.
+-- What was found grew by these variables and these constructors.
 pub record Finds (owner : NameId) (names : List (List ℕ)) (before : Found)
     (binds builds : List Name) (after : Found) : Type 0 where
   pub variables : Adds owner names before.variables.items binds after.variables.items

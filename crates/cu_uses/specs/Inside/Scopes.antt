@@ -25,7 +25,7 @@ use Rattle.cu_uses.specs.Inside.Worlds.{Told, World}
 abbrev pub has_text : NameId → Name → Bool
 has_text text name = nat_eq name.text.0 text.0
 
--- whether one of some names has a text, or a test holds of it
+-- whether one of these names has a text, or the test holds of the text
 abbrev pub or_among : List Name → (NameId → Bool) → NameId → Bool
 or_among names around text = list_any (has_text text) names || around text
 
@@ -71,20 +71,22 @@ pub ruleset local_variants = (local-Top, local-Inside)
 
 pub ruleset table_variants = (table-Top, table-Inside)
 
--- A scope with these local variables.
+-- A scope of the code is one with these local variables, in this world.
 pub record Sees (w : World) (local : List (List ℕ)) (s : Scope) : Type 0 where
   pub differ : AllDiffer w.names
   pub tells : Tells w.names w.bindings (table_in s)
   pub sees : (id : NameId) → IsKnown w.names id
       → is_local s id ≡ is_among local (text_of w.names id)
 
--- These variables were found, and the uses of these constructors told.
+-- Patterns bind these variables, which were found, and what is wrong with the uses of their
+-- constructors was told.
 pub record Opens (w : World) (before : FirstFault) (binds builds : List syntax.Name)
     (found : List Name) (after : FirstFault) : Type 0 where
   pub variables : Adds w.owner w.names [] binds found
   pub told : Told w before (used Values builds) after
 
--- These variables were found, and what is asked was told.
+-- A qualifier or a pattern binds these variables, which were found, and what is wrong with these
+-- demands was told.
 pub record Brings (w : World) (before : FirstFault) (binds : List syntax.Name)
     (demands : List Demand) (found : List Name) (after : FirstFault) : Type 0 where
   pub variables : Adds w.owner w.names [] binds found

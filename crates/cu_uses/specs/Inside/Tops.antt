@@ -1,4 +1,4 @@
--- What items declare at top level, and what they ask.
+-- What items declare at top level, and what they ask of their scopes.
 use Rattle.std.specs.Prelude.{ℕ, List, [], ◌∷◌, ◌++◌, map}
 use Rattle.std.specs.List.{flat_map}
 use Rattle.cu_names.specs.declared.names.NameId.{NameId}
@@ -19,7 +19,8 @@ use Rattle.cu_uses.specs.Demands.{Demand, item_demands, type_demands}
 use Rattle.cu_uses.specs.Inside.Blocks.{Gathers, IsBlockOf}
 use Rattle.cu_uses.specs.Inside.Gathered.{Adds}
 
--- functions and constructors, names of signatures, types, and operators with a fixity
+-- what items declare at top level: functions and constructors, names of signatures, types, and
+-- operators with a fixity
 pub record Top : Type 0 where
   pub declared : List Declared
   pub signs : List Name
@@ -63,21 +64,21 @@ top_declares names d = values_by (syntax.DeclarationItem (declaration_meaning na
 abbrev pub constructor_names : List ConstructorDeclaration → List code.Name
 constructor_names cs = map (λ (c : ConstructorDeclaration). c.name) cs
 
--- What these items declare was added.
+-- What was read of items grew by what these items declare.
 pub record Reads (owner : NameId) (names : List (List ℕ)) (before : TopLevel) (t : Top)
     (after : TopLevel) : Type 0 where
   pub values : Gathers owner names before.values t.declared t.signs after.values
   pub types : Adds owner names before.types.items t.types after.types.items
   pub fixed : Adds owner names before.fixed.items t.fixes after.fixed.items
 
--- This is what items declare.
+-- What was read of items is what these items declare.
 pub record IsTop (owner : NameId) (names : List (List ℕ)) (t : Top)
     (found : TopLevel) : Type 0 where
   pub values : IsBlockOf owner names t.declared t.signs found.values
   pub types : Adds owner names [] t.types found.types.items
   pub fixed : Adds owner names [] t.fixes found.fixed.items
 
--- ---- what they ask
+-- ---- what items ask
 
 unfoldable pub types_ask : List (List ℕ) → List Name → List TypeTerm → List Demand
 types_ask names parameters ts = type_demands parameters (types_meaning names ts)

@@ -13,7 +13,7 @@ pub record World : Type 0 where
   pub names : List (List ℕ)
   pub bindings : List Binding
 
--- What is wrong with these demands was told behind what was told before.
+-- What is wrong with these demands was told, after what was told before.
 pub record Told (w : World) (before : FirstFault) (demands : List Demand)
     (after : FirstFault) : Type 0 where
   pub told : (faults : List Fault) → AreTold w.owner w.names faults before

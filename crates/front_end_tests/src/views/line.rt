@@ -68,7 +68,7 @@ impl Told {
         told
     }
 
-    /// A word and what is told behind it, if it is there.
+    /// A word and what is told after it, if it is there.
     fn maybe<T: Tell>(self, word: &str, part: &Option<T>) -> Told {
         match part {
             Some(part) => part.tell(self.word(word)),

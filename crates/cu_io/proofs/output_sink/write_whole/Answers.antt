@@ -1,4 +1,4 @@
--- A write adds the front of what was left to the front that is done.
+-- A write adds the prefix of what was left to the prefix that is done.
 use Rattle.std.proofs.Common.{◌≡◌, ◌∙◌, ℕ, zero, suc, List, Option, Some, Result, Ok, Err, take, sym, subst, arith, length-drop}
 use Rattle.std.proofs.Math.Seq.{take-add}
 use Rattle.std.proofs.lemmas.List.{take_rest}

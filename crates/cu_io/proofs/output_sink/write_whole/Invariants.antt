@@ -1,4 +1,4 @@
--- What went out so far is the front of the piece that is done.
+-- What went out so far is the prefix of the piece that is done.
 use Rattle.std.proofs.Common.{length, take, ◌-◌, ◌≤◌}
 use Rattle.std.specs.Io.KnownBytes.{Appends}
 use Rattle.cu_io.proofs.output_sink.write_whole.Given as goal

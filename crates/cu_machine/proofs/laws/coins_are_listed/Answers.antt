@@ -1,4 +1,4 @@
--- By computing.
+-- The listings of the example are computed.
 use Rattle.std.proofs.Common.{refl}
 use Rattle.cu_machine.specs.Build.{build_within}
 use Rattle.cu_machine.specs.Graph.{head_within}

@@ -1,5 +1,5 @@
--- A branch in which a search runs stops where it is too large. Where the level is empty the search is over, and otherwise its
--- level takes a step, branch by branch.
+-- A branch in which a search runs stops where it is too large. Where the level is empty the search
+-- is over, and otherwise its level takes a step, branch by branch.
 use Rattle.std.proofs.Common.{◌≡◌, true, [], ◌∷◌, ◌≤◌, ap, arith, length, map, rules, subst, sym, ◌∙◌}
 use Rattle.std.specs.List.{All}
 use Rattle.std.specs.Vec.Iter.{into_iter_items, into_iter_len}

@@ -1,5 +1,5 @@
--- What became of the branches so far, and what becomes of the others, is what becomes of all. A search in a branch of a level
--- has fewer searches within each other than the level has.
+-- What became of the branches so far, and what becomes of the others, is what becomes of all. A
+-- search in a branch of a level has fewer searches within each other than the level has.
 use Rattle.std.proofs.Common.{◌+◌, ◌*◌, map}
 use Rattle.std.specs.Vec.Iter.{into_iter_items}
 use Rattle.cu_machine.specs.State.{states_of}

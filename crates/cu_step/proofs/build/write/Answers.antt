@@ -1,4 +1,4 @@
--- A task more, or the end.
+-- The building goes on by a task, or ends.
 use Rattle.std.proofs.Common.{◌≡◌, [], ap, reverse, vec_len}
 use Rattle.cu_step.specs.Inside.Building.{State, left_by, state_of}
 use Rattle.cu_step.specs.declared.build.Target.TheVariants as target

@@ -1,4 +1,5 @@
--- A copy is left for each branch that is, and the graphs so far and those of the branches that are left are all.
+-- A copy is left for each branch that is, and the graphs so far and those of the branches that are
+-- left are all.
 use Rattle.std.proofs.Common.{◌≡◌, ◌++◌, ◌-◌, drop, length, map}
 use Rattle.std.specs.Prelude.{replicate}
 use Rattle.cu_flat.specs.Meaning.{branch_meaning}

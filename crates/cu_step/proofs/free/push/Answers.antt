@@ -1,4 +1,4 @@
--- One more free variable, and its place.
+-- One more free variable is pushed, with its index.
 use Rattle.cu_step.proofs.Frees.{push_more}
 use Rattle.cu_step.proofs.free.push.Goals as goal
 

@@ -1,4 +1,4 @@
--- So many free variables were pushed, and these are their places.
+-- So many free variables were pushed, and these are their indices.
 use Rattle.std.proofs.Common.{◌≡◌, ◌++◌, length}
 use Rattle.cu_machine.specs.State.{free_nodes, numbers}
 use Rattle.cu_step.proofs.free.push.Given as goal

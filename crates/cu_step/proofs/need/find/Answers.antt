@@ -1,4 +1,4 @@
--- Where the walk begins, and where marks begin.
+-- How the walk begins, and how it goes on where marks begin.
 use Rattle.std.proofs.Common.{◌≡◌, None, Some, ap, ◌∙◌, sym, option_map, [], vec_len}
 use Rattle.cu_step.specs.Needed.{need_of}
 use Rattle.cu_step.specs.Walk.{at_once, found, outcome}

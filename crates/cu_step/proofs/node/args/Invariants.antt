@@ -1,4 +1,4 @@
--- The arguments that were read are the front of all of them.
+-- The arguments that were read are a prefix of all of them.
 use Rattle.std.proofs.Common.{◌≡◌, length, take}
 use Rattle.cu_machine.specs.Graph.{node_at}
 use Rattle.cu_step.proofs.node.args.Given as goal

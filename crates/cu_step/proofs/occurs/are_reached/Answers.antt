@@ -1,4 +1,4 @@
--- A look, or the end, or marks from then on.
+-- The search goes on by a look, or ends, or keeps marks from then on.
 use Rattle.std.proofs.Common.{◌≡◌, sym, ◌∙◌, vec_len}
 use Rattle.cu_step.specs.Occurring.{are_reached}
 use Rattle.cu_step.proofs.Builds.{if_ok}

@@ -1,4 +1,4 @@
--- One goal variable more, or the root.
+-- The reading goes on with a goal variable, or with the root.
 use Rattle.std.proofs.Common.{◌≡◌, ◌<◌, ◌≤◌, ◌+◌, refl, arith, get_or, length, nat_lt}
 use Rattle.cu_machine.specs.Next.{read, spelled_all}
 use Rattle.cu_machine.specs.Places.{joined}

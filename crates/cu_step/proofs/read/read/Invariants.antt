@@ -1,4 +1,4 @@
--- What was read of the goal variables so far.
+-- The values of the goal variables so far were read.
 use Rattle.std.proofs.Common.{take}
 use Rattle.cu_step.specs.Written.{AllRead}
 use Rattle.cu_step.proofs.read.read.Given as goal

@@ -1,4 +1,5 @@
--- A partial application in an argument leaves the call stuck. Otherwise the search begins, unless it begins too large.
+-- A partial application in an argument leaves the call stuck. Otherwise the search begins, unless
+-- it begins too large.
 use Rattle.std.proofs.Common.{[], ◌∷◌, List, ℕ, ap, map, nat_lt, option_map, sym, ◌∙◌}
 use Rattle.cu_calculus.specs.Value.{Value, values_of}
 use Rattle.cu_machine.specs.Next.{Go, moved}

@@ -1,4 +1,4 @@
--- One name more.
+-- One more name is found.
 use Rattle.std.proofs.Common.{◌<◌, None, Some, sym, ◌∙◌, arith, get_or, length}
 use Rattle.cu_machine.specs.Next.{named}
 use Rattle.cu_step.proofs.Namings.{goal_found, named_goal, named_other}

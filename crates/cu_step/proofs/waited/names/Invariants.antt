@@ -1,4 +1,4 @@
--- The names so far, and those of the places that are left, are all.
+-- The names so far, and those of the nodes that are left, are all names.
 use Rattle.std.proofs.Common.{◌≡◌, ◌++◌, drop}
 use Rattle.cu_machine.specs.Next.{named}
 use Rattle.cu_step.proofs.waited.names.Given as goal

@@ -1,4 +1,4 @@
--- Each declaration is read before those behind it, and an empty one says nothing.
+-- Each declaration is read before those after it, and an empty one says nothing.
 use Rattle.std.proofs.Common.{rules, ◌≡◌, [], refl, sym, ◌∙◌}
 use Rattle.std.specs.Vec.Iter.{into_iter_items, into_iter_len}
 use Rattle.cu_syntax.specs.declared.subtree.Subtree.{Subtree}

@@ -1,4 +1,4 @@
--- An expression behind a sign, or guards.
+-- An expression after a sign, or guards.
 use Rattle.cu_syntax.specs.Declarations.{Behind, Guards, body_meaning, guards_in, right_of}
 use Rattle.cu_syntax.specs.Reading.{place, right_as}
 use Rattle.cu_syntax.specs.SubtreeMeaning.{tree_of}

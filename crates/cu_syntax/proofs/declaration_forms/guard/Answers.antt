@@ -1,4 +1,4 @@
--- The condition, and the expression behind the sign.
+-- The condition, and the expression after the sign.
 use Rattle.cu_lex.specs.Reading.{position_of}
 use Rattle.cu_syntax.specs.SubtreeMeaning.{tree_of}
 use Rattle.cu_syntax.proofs.DeclarationLemmas.{guard_is}

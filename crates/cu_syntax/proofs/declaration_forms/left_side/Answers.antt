@@ -1,4 +1,4 @@
--- Parentheses put the parameters behind them off, until what is inside has been read.
+-- Parentheses put the parameters after them off, until what is inside has been read.
 use Rattle.std.proofs.Common.{rules, ◌≡◌, [], ap, arith, refl, subst, sym, true, ◌∙◌}
 use Rattle.std.specs.List.{All}
 use Rattle.std.proofs.lemmas.List.Elements.{All-nil, All-pop, All-push}

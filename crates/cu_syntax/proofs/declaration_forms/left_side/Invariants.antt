@@ -1,4 +1,4 @@
--- What was found, with the parameters behind the parentheses round it, is the whole.
+-- What was found, with the parameters after the parentheses round it, is the whole.
 use Rattle.std.proofs.Common.{◌≡◌, ℕ, List, length, true}
 use Rattle.std.specs.List.{All}
 use Rattle.cu_names.specs.declared.names.NameId.{NameId}

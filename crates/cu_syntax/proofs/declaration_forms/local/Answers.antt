@@ -1,4 +1,4 @@
--- The declarations of the block behind the word, or none.
+-- The declarations of the block after the word, or none.
 use Rattle.cu_syntax.specs.Declarations.{declarations_meaning}
 use Rattle.cu_syntax.specs.Reading.{block_of, where_block}
 use Rattle.cu_syntax.specs.SubtreeMeaning.{tree_of}

@@ -1,4 +1,4 @@
--- The functions are the names of the list, and the type stands behind the colons.
+-- The functions are the names of the list, and the type stands after the colons.
 use Rattle.std.proofs.Common.{map}
 use Rattle.cu_lex.specs.Reading.{position_of}
 use Rattle.cu_syntax.specs.Names.{name_meaning}

@@ -1,4 +1,4 @@
--- The further parameters stand behind the others.
+-- The further parameters stand after the others.
 use Rattle.std.proofs.Common.{ap, subst, sym}
 use Rattle.cu_syntax.specs.declared.declaration_forms.Left.{Left}
 use Rattle.cu_syntax.specs.Declarations.{left_meaning}

@@ -1,4 +1,4 @@
--- The pattern, and what stands behind it.
+-- The pattern, and what stands after it.
 use Rattle.std.proofs.Common.{ap}
 use Rattle.cu_lex.specs.Reading.{position_of}
 use Rattle.cu_syntax.specs.Subtrees.{has_token}

@@ -1,4 +1,4 @@
--- Each alternative is read before those behind it, and nothing where none is.
+-- Each alternative is read before those after it, and nothing where none is.
 use Rattle.std.proofs.Common.{rules, ◌≡◌, ap, refl, ◌∙◌}
 use Rattle.std.specs.Vec.Iter.{into_iter_items, into_iter_len}
 use Rattle.cu_peg.specs.Parse.{MoreTrees}

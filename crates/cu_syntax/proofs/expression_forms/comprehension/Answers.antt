@@ -1,4 +1,4 @@
--- The element, and the qualifiers behind the bar.
+-- The element, and the qualifiers after the bar.
 use Rattle.cu_lex.specs.Reading.{position_of}
 use Rattle.cu_syntax.specs.SubtreeMeaning.{tree_of}
 use Rattle.cu_syntax.proofs.ExpressionParts.{comprehension_is}

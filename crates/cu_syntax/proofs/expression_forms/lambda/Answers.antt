@@ -1,4 +1,4 @@
--- The parameters, and the body behind the arrow.
+-- The parameters, and the body after the arrow.
 use Rattle.cu_lex.specs.Reading.{position_of}
 use Rattle.cu_syntax.specs.SubtreeMeaning.{tree_of}
 use Rattle.cu_syntax.proofs.ExpressionParts.{lambda_is}

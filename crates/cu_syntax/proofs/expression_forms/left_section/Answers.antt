@@ -1,4 +1,4 @@
--- The operand, and the operator behind it.
+-- The operand, and the operator after it.
 use Rattle.cu_lex.specs.Reading.{position_of}
 use Rattle.cu_syntax.specs.Names.{name_meaning}
 use Rattle.cu_syntax.specs.SubtreeMeaning.{tree_of}

@@ -1,4 +1,4 @@
--- The declarations, and the body behind them.
+-- The declarations, and the body after them.
 use Rattle.cu_lex.specs.Reading.{position_of}
 use Rattle.cu_syntax.specs.Declarations.{declarations_meaning}
 use Rattle.cu_syntax.specs.SubtreeMeaning.{tree_of}

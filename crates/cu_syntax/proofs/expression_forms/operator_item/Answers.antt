@@ -1,4 +1,4 @@
--- An operator, a minus, and the operand behind it.
+-- An operator, a minus, and the operand after it.
 use Rattle.cu_syntax.specs.Names.{name_meaning}
 use Rattle.cu_syntax.specs.Expressions.{maybe_position}
 use Rattle.cu_syntax.specs.SubtreeMeaning.{tree_of}

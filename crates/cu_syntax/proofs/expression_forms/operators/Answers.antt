@@ -1,4 +1,4 @@
--- A minus, the first operand, and the operators with the operands behind them.
+-- A minus, the first operand, and the operators with the operands after them.
 use Rattle.cu_lex.specs.Reading.{position_of}
 use Rattle.cu_syntax.specs.Expressions.{maybe_position}
 use Rattle.cu_syntax.specs.SubtreeMeaning.{tree_of}

@@ -1,4 +1,4 @@
--- Each qualifier is read before those behind it.
+-- Each qualifier is read before those after it.
 use Rattle.std.proofs.Common.{rules, ◌≡◌, [], ap, refl, sym, ◌∙◌}
 use Rattle.std.specs.Vec.Iter.{into_iter_items, into_iter_len}
 use Rattle.cu_syntax.specs.declared.subtree.Subtree.{Subtree}

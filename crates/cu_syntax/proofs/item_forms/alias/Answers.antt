@@ -1,4 +1,4 @@
--- The name behind the word, or none.
+-- The name after the word, or none.
 use Rattle.std.proofs.Common.{ap, ◌∙◌}
 use Rattle.std.specs.Option.{option_map}
 use Rattle.cu_syntax.specs.Names.{module_name_meaning}

@@ -1,4 +1,4 @@
--- Each entity is read before those behind it.
+-- Each entity is read before those after it.
 use Rattle.std.proofs.Common.{rules, ◌≡◌, [], ap, map, refl}
 use Rattle.std.specs.Option.{unwrap_or}
 use Rattle.std.specs.Vec.Iter.{into_iter_items, into_iter_len}

@@ -1,4 +1,4 @@
--- The variables of each declaration stand before those of the declarations behind it.
+-- The variables of each declaration stand before those of the declarations after it.
 use Rattle.std.proofs.Common.{rules, ◌≡◌, ◌++◌, ap, map, refl, sym, ◌∙◌}
 use Rattle.std.specs.Vec.Iter.{into_iter_items, into_iter_len}
 use Rattle.cu_syntax.specs.declared.subtree.Subtree.{Subtree}

@@ -1,4 +1,4 @@
--- The type's name, its parameters, and the type behind the equals sign.
+-- The type's name, its parameters, and the type after the equals sign.
 use Rattle.std.proofs.Common.{map}
 use Rattle.cu_lex.specs.Reading.{position_of}
 use Rattle.cu_syntax.specs.Names.{name_meaning}

@@ -1,4 +1,4 @@
--- A variable, and the pattern behind the sign.
+-- A variable, and the pattern after the sign.
 use Rattle.cu_syntax.specs.Names.{name_meaning}
 use Rattle.cu_syntax.specs.SubtreeMeaning.{tree_of}
 use Rattle.cu_syntax.proofs.PatternForms.{alias_is}

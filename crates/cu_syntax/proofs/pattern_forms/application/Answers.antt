@@ -1,4 +1,4 @@
--- A constructor, and the patterns that are repeated behind it.
+-- A constructor, and the patterns that are repeated after it.
 use Rattle.cu_lex.specs.Reading.{position_of}
 use Rattle.cu_syntax.specs.Names.{name_meaning}
 use Rattle.cu_syntax.specs.SubtreeMeaning.{tree_of}

@@ -1,4 +1,4 @@
--- An operator, and the pattern behind it.
+-- An operator, and the pattern after it.
 use Rattle.cu_syntax.specs.Names.{name_meaning}
 use Rattle.cu_syntax.specs.SubtreeMeaning.{tree_of}
 use Rattle.cu_syntax.proofs.PatternForms.{item_is}

@@ -1,4 +1,4 @@
--- A number behind a minus, at the place of the minus.
+-- A number after a minus, at the place of the minus.
 use Rattle.std.proofs.Common.{rules, subst, sym}
 use Rattle.std.proofs.lemmas.Int.{to_z-of_z}
 use Rattle.std.specs.Int.{IsNonNegative}

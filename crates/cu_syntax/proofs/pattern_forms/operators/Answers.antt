@@ -1,4 +1,4 @@
--- The first pattern, and the operators with the patterns behind them.
+-- The first pattern, and the operators with the patterns after them.
 use Rattle.cu_lex.specs.Reading.{position_of}
 use Rattle.cu_syntax.specs.SubtreeMeaning.{tree_of}
 use Rattle.cu_syntax.proofs.PatternForms.{operators_are}

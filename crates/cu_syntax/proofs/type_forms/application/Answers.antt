@@ -1,4 +1,4 @@
--- A type constructor, and the types that are repeated behind it.
+-- A type constructor, and the types that are repeated after it.
 use Rattle.cu_syntax.specs.Names.{name_meaning}
 use Rattle.cu_syntax.specs.SubtreeMeaning.{tree_of}
 use Rattle.cu_syntax.proofs.TypeForms.{application_is}

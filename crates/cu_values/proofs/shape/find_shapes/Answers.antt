@@ -1,4 +1,4 @@
--- One cell to the left.
+-- Each step goes one cell to the left.
 use Rattle.std.proofs.Common.{◌≡◌, ◌-◌, ap, arith, drop, get_or, length, ◌∙◌}
 use Rattle.cu_values.specs.declared.cell.Cell.TheVariants.{Bottom}
 use Rattle.cu_values.specs.Cells.{arity_of, first, put, read_all}

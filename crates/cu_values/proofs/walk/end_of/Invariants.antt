@@ -1,4 +1,4 @@
--- The values to be passed are counted; those behind them stay.
+-- The values to be passed are counted; those after them stay.
 use Rattle.std.proofs.Common.{◌<◌, ◌≤◌, ◌+◌, ◌-◌, drop, length}
 use Rattle.cu_values.specs.Cells.{back, read_all}
 use Rattle.cu_values.proofs.CellLemmas.{Passed}

@@ -1,4 +1,4 @@
--- The segments that were shared are the front of all of them.
+-- The segments that were shared are a prefix of all of them.
 use Rattle.std.proofs.Common.{◌≡◌, map, take}
 use Rattle.std.specs.Arc.{arc_value}
 use Rattle.cu_frozen.proofs.frozen.Frozen.shared.Given as goal

@@ -1,4 +1,4 @@
--- The nodes that were copied are the front of all of them.
+-- The nodes that were copied are a prefix of all of them.
 use Rattle.std.proofs.Common.{◌≡◌, take}
 use Rattle.cu_graph.proofs.node_vec.NodeVec.compacted.Given as goal
 

@@ -1,4 +1,4 @@
--- The end.
+-- The walk ends where no node is left to be looked at.
 use Rattle.std.proofs.Common.{◌≡◌, ◌∙◌, sym, [], vec_len}
 use Rattle.cu_step.specs.Walk.{found}
 use Rattle.cu_step.proofs.Finds.{end_out, none_left}

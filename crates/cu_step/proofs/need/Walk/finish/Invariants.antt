@@ -1,5 +1,5 @@
--- What was found is right, and what comes out of it stays the same. Each look takes a part of a cost that is linear in the nodes
--- and their arguments.
+-- What was found is right, and what comes out of it stays the same. Each look takes a part of a
+-- cost that is linear in the nodes and their arguments.
 use Rattle.std.proofs.Common.{◌≡◌}
 use Rattle.cu_machine.specs.Need as need
 use Rattle.cu_step.specs.Walk.{Fits, Marked, cost, found, outcome}

@@ -1,4 +1,4 @@
--- A look, or the end.
+-- The search goes on by a look, or ends.
 use Rattle.std.proofs.Common.{◌<◌, sym, ◌∙◌, refl, length}
 use Rattle.cu_machine.specs.Graph.{head_of}
 use Rattle.cu_step.proofs.Occurrences.{cost_after, head_there, looked_there, looks_after, looks_found}

@@ -1,4 +1,4 @@
--- A cell more, or the end.
+-- The reading goes on by a cell, or ends.
 use Rattle.std.proofs.Common.{◌≡◌, ◌<◌, ◌≤◌, ◌-◌, suc, [], ◌∙◌, arith, length, nat_lt, vec_len}
 use Rattle.cu_machine.specs.Graph.{head_of}
 use Rattle.cu_machine.specs.Spell.{cells, ordinal, renumbered, spelled}

@@ -1,4 +1,4 @@
--- The nodes behind the first are those of the alternative.
+-- The nodes after the first are those of the alternative.
 use Rattle.std.proofs.Common.{◌-◌, [], drop, length, take}
 use Rattle.std.proofs.lemmas.List.{take_rest}
 use Rattle.cu_syntax.specs.declared.symbol.Symbol.TheVariants as symbol

@@ -1,4 +1,4 @@
--- There is a part where there is a node behind the first.
+-- There is a part where there is a node after the first.
 use Rattle.std.proofs.Common.{sym, ◌∙◌}
 use Rattle.cu_syntax.specs.Table.{rule_of}
 use Rattle.cu_syntax.proofs.RepeatLemmas.{emptiness, repeated_no_choice, repeated_no_leaf}

@@ -1,4 +1,4 @@
--- The nodes behind the first are those of what is there.
+-- The nodes after the first are those of what is there.
 use Rattle.std.proofs.Common.{rules, ◌≡◌, [], ap, length, refl}
 use Rattle.std.proofs.lemmas.List.{nil_from_length}
 use Rattle.cu_syntax.specs.Subtrees.{is_choice, is_leaf}

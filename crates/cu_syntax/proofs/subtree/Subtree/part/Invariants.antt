@@ -1,4 +1,4 @@
--- What is left are the nodes of the parts behind those that were passed over.
+-- What is left are the nodes of the parts after those that were passed over.
 use Rattle.std.proofs.Common.{◌≡◌}
 use Rattle.cu_peg.specs.Parse.{spelled_all}
 use Rattle.cu_peg.specs.Spelling.{read}

@@ -1,4 +1,4 @@
--- The nodes behind the first are those of the parts.
+-- The nodes after the first are those of the parts.
 use Rattle.std.proofs.Common.{[], ap, drop, refl, sym, ◌∙◌}
 use Rattle.std.proofs.lemmas.List.{take_rest}
 use Rattle.cu_peg.specs.Spelling.{read}

@@ -1,4 +1,4 @@
--- Behind the first tree nothing is left.
+-- After the first tree nothing is left.
 use Rattle.std.proofs.Common.{rules, ◌≡◌, [], ap, length, refl}
 use Rattle.std.proofs.lemmas.List.{nil_from_length}
 use Rattle.cu_syntax.specs.Subtrees.{is_single}

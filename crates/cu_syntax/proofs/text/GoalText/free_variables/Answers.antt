@@ -1,4 +1,4 @@
--- The variables stand behind the expression.
+-- The variables stand after the expression.
 use Rattle.std.proofs.Common.{ap, map, refl, ◌∙◌}
 use Rattle.cu_syntax.specs.declared.symbol.Symbol.TheVariants as symbol
 use Rattle.cu_syntax.specs.Names.{name_meaning}

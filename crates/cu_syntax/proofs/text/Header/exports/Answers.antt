@@ -1,4 +1,4 @@
--- The exports stand behind the name.
+-- The exports stand after the name.
 use Rattle.std.proofs.Common.{ap, map, refl, ◌∙◌}
 use Rattle.std.specs.Option.{option_map}
 use Rattle.cu_syntax.specs.declared.symbol.Symbol.TheVariants as symbol

@@ -1,4 +1,4 @@
--- The name stands behind the word.
+-- The name stands after the word.
 use Rattle.std.proofs.Common.{ap, refl, ◌∙◌}
 use Rattle.cu_syntax.specs.declared.symbol.Symbol.TheVariants as symbol
 use Rattle.cu_syntax.specs.Names.{module_name_meaning}
