@@ -3,14 +3,24 @@ use Rattle.std.proofs.Common.{◌≡◌, zero, suc, List, [], ◌∷◌, ◌++�
 use Rattle.std.specs.List.{All}
 use Rattle.std.proofs.lemmas.List.{get_or-map, length-map, map-append}
 use Rattle.std.proofs.lemmas.List.Elements.{All-append, All-nil}
+use Rattle.cu_calculus.specs.Code.{Code}
 use Rattle.cu_machine.specs.Graph.{Graph}
 use Rattle.cu_machine.specs.Level.{go_list}
 use Rattle.cu_machine.specs.State.{State}
+use Rattle.cu_machine.specs.Validity.{IsValid}
 use Rattle.cu_pile.specs.Outcomes.{Pairwise}
 use Rattle.cu_step.specs.declared.branch.Branch.{Branch}
 use Rattle.cu_step.specs.declared.Outcome.{Outcome}
 use Rattle.cu_step.specs.declared.Outcome.TheVariants as outcome
 use Rattle.cu_step.specs.Outcome.{branches_of, next_of, state_of}
+
+-- a branch that stands for a valid state
+abbrev pub IsValidBranch : {S : Type 0} → (S → Graph) → Code → Branch S → Type 0
+IsValidBranch content program branch = IsValid program (state_of content branch)
+
+-- an outcome after which valid branches follow
+abbrev pub HasValid : {S : Type 0} → (S → Graph) → Code → Outcome S → Type 0
+HasValid content program outcome = All (IsValidBranch content program) (branches_of outcome)
 
 -- one element and others
 pub all-cons : {X : Type 0} (P : X → Type 0) (x : X) (xs : List X) → P x → All P xs → All P (x ∷ xs)

@@ -12,3 +12,4 @@ pub mod Rounds
 pub mod Stands
 -- What the lines of a listing come to.
 pub mod Totals
+pub mod Inside

@@ -11,6 +11,7 @@ mod level;
 mod lines;
 mod outcomes;
 mod page;
+mod parts;
 mod search;
 mod tally;
 mod totals;
