@@ -63,14 +63,14 @@ fn program(alloc: Global, rows: &[&[Head]]) -> Result<Option<Program>, AllocErro
 }
 
 /// The levels from the fourth function on, or the cycle.
-fn expect<R: Abort>(rt: &R, alloc: Global, rows: &[&[Head]], wanted: Result<&[usize], &[FunId]>) {
+fn expect<R: Abort>(rt: &R, alloc: Global, rows: &[&[Head]], expected: Result<&[usize], &[FunId]>) {
     let Ok(Some(program)) = program(alloc, rows) else {
         panic!(rt; "no program");
     };
-    match (levels(alloc, &program), wanted) {
-        (Ok(found), Ok(wanted)) => assert!(rt; found.as_slice() == wanted),
-        (Err(LevelFault::SetRecursion(found)), Err(wanted)) => {
-            assert!(rt; found.as_slice() == wanted)
+    match (levels(alloc, &program), expected) {
+        (Ok(found), Ok(expected)) => assert!(rt; found.as_slice() == expected),
+        (Err(LevelFault::SetRecursion(found)), Err(expected)) => {
+            assert!(rt; found.as_slice() == expected)
         }
         _ => panic!(rt; "the other answer"),
     }
@@ -93,6 +93,6 @@ fn cycles_begin_with_their_first_function(rt: HostRuntime) {
     expect(&rt, alloc, &[&[set(3)]], Err(&[FunId(3)]));
     let three: &[&[Head]] = &[&[plain(4)], &[set(5)], &[plain(3)]];
     expect(&rt, alloc, three, Err(&[FunId(3), FunId(4), FunId(5)]));
-    let behind: &[&[Head]] = &[&[plain(5)], &[], &[set(6)], &[plain(5)]];
-    expect(&rt, alloc, behind, Err(&[FunId(5), FunId(6)]));
+    let after: &[&[Head]] = &[&[plain(5)], &[], &[set(6)], &[plain(5)]];
+    expect(&rt, alloc, after, Err(&[FunId(5), FunId(6)]));
 }

@@ -21,9 +21,9 @@ fn a_folder_gives_the_files_of_modules(rt: HostRuntime) -> Result<(), Fail> {
     let file = inner.join(alloc, "B.curry")?;
     fs::write(&rt, file.as_path(), "text")?;
     let mut library = FolderLibrary::new(&rt);
-    for (module, want) in &MODULES {
+    for (module, expected) in &MODULES {
         let fetched = library.fetch(alloc, dir.as_str(), module)?;
-        assert_eq!(rt; told(&fetched), want.as_bytes(), "{module}");
+        assert_eq!(rt; told(&fetched), expected.as_bytes(), "{module}");
     }
     let of_file = library.file(alloc, file.as_str())?;
     let below_file = library.fetch(alloc, file.as_str(), "B")?;

@@ -25,12 +25,12 @@ fn a_shelf_gives_the_newest_text_and_fails_where_listed(rt: HostRuntime) -> Resu
         (".", "M", "failed"),
         (".", "N", "absent"),
     ];
-    for (dir, name, want) in &rows {
+    for (dir, name, expected) in &rows {
         let fetched = shelf.fetch(alloc, dir, name)?;
-        assert_eq!(rt; told(&fetched), want.as_bytes(), "{dir} {name}");
+        assert_eq!(rt; told(&fetched), expected.as_bytes(), "{dir} {name}");
     }
-    for want in &["failed", "flat"] {
-        assert_eq!(rt; told(&shelf.file(alloc, "M")?), want.as_bytes());
+    for expected in &["failed", "flat"] {
+        assert_eq!(rt; told(&shelf.file(alloc, "M")?), expected.as_bytes());
     }
     assert_eq!(rt; shelf.faults(), 2);
     Ok(())
@@ -48,8 +48,8 @@ fn a_source_gives_the_bytes_in_turn_and_fails_where_listed(rt: HostRuntime) -> R
         (Took::Bytes(0), "dec"),
     ];
     let mut room = [0; 3];
-    for (want, filled) in &rows {
-        assert_eq!(rt; source.read(&mut room), *want);
+    for (expected, filled) in &rows {
+        assert_eq!(rt; source.read(&mut room), *expected);
         assert_eq!(rt; room.as_slice(), filled.as_bytes());
     }
     assert_eq!(rt; source.faults(), 1);
@@ -67,8 +67,8 @@ fn a_sink_takes_what_fits_and_fails_where_listed(rt: HostRuntime) -> Result<(), 
         ("", Put::Done, "abc", 2),
         ("xyzw", Put::Failed, "abcxyz", 3),
     ];
-    for (piece, want, bytes, faults) in &rows {
-        assert_eq!(rt; sink.put(piece.as_bytes()), *want, "{piece}");
+    for (piece, expected, bytes, faults) in &rows {
+        assert_eq!(rt; sink.put(piece.as_bytes()), *expected, "{piece}");
         assert_eq!(rt; sink.bytes(), bytes.as_bytes());
         assert_eq!(rt; sink.faults(), *faults);
     }

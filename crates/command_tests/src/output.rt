@@ -56,8 +56,8 @@ fn an_output_writes_whole_pieces_and_counts_faults(rt: HostRuntime) -> Result<()
         ("de", Put::Failed, 1),
         ("f", Put::Failed, 2),
     ];
-    for (piece, want, faults) in &rows {
-        assert_eq!(rt; sink.put(piece.as_bytes()), *want, "{piece}");
+    for (piece, expected, faults) in &rows {
+        assert_eq!(rt; sink.put(piece.as_bytes()), *expected, "{piece}");
         assert_eq!(rt; sink.faults(), *faults);
     }
     let out = slow.out.try_borrow().ok().expect(&rt, "no other borrow");

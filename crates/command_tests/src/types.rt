@@ -425,13 +425,13 @@ const PRELUDE_COUNT: usize = 75;
 /// The name of the function of a line of FlatCurry, where the module exports it, and
 /// its type.
 fn exported(line: &str) -> Option<(&str, &str)> {
-    let (front, behind) = line.split_once(" Public (")?;
-    let (_, rest) = front.split_once("Func (\"")?;
+    let (prefix, suffix) = line.split_once(" Public (")?;
+    let (_, rest) = prefix.split_once("Func (\"")?;
     let (_, name) = rest.split_once("\",\"")?;
     let (name, _) = name.split_once("\") ")?;
-    let (kind, _) = match behind.split_once(") (Rule ") {
+    let (kind, _) = match suffix.split_once(") (Rule ") {
         Some(parts) => parts,
-        None => behind.split_once(") (External ")?,
+        None => suffix.split_once(") (External ")?,
     };
     Some((name, kind))
 }
@@ -506,7 +506,7 @@ fn the_first_refusal_is_told(rt: HostRuntime) {
 
 /// A module with a function whose definitional tree has more than 65,536
 /// expressions, and more after it.
-fn large_module(alloc: Global, behind: &str) -> Result<String, AllocError> {
+fn large_module(alloc: Global, after: &str) -> Result<String, AllocError> {
     let mut text = String::new(alloc);
     for _ in 0..LARGE_RULES {
         text.push_str("f = \"")?;
@@ -515,13 +515,13 @@ fn large_module(alloc: Global, behind: &str) -> Result<String, AllocError> {
         }
         text.push_str("\"\n")?;
     }
-    text.push_str(behind)?;
+    text.push_str(after)?;
     Ok(text)
 }
 
 /// Expects this refusal where the module with the large function is compiled.
-fn expect_large<R: Threads + Abort + AllocGlobal + Sync>(rt: &R, behind: &str, line: &str) {
-    let module = large_module(rt.alloc(), behind).expect(rt, "memory");
+fn expect_large<R: Threads + Abort + AllocGlobal + Sync>(rt: &R, after: &str, line: &str) {
+    let module = large_module(rt.alloc(), after).expect(rt, "memory");
     let output = whole(rt.alloc());
     let words = ["compile", "M"];
     expect(rt, module.as_str(), &words, output, line, Status::Refused);

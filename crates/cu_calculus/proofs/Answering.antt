@@ -78,9 +78,9 @@ pub same_value_from : (u v : Value) → u ≡ v → same_value u v ≡ true
 same_value_from u v e = subst (λ (x : Value). same_value u x ≡ true) e (value_itself u)
 
 -- literals as values and back
-literals_back : (ls : List Lit) → literals_in (literals ls) ≡ Some ls
-literals_back [] = refl
-literals_back (l ∷ ls) = ap (option_map (λ ms. l ∷ ms)) (literals_back ls)
+literals_restored : (ls : List Lit) → literals_in (literals ls) ≡ Some ls
+literals_restored [] = refl
+literals_restored (l ∷ ls) = ap (option_map (λ ms. l ∷ ms)) (literals_restored ls)
 
 literals_are : (us : Values) (ls : List Lit) → literals_in us ≡ Some ls → us ≡ literals ls
 literals_are value.NoValue ls e = let none : [] ≡ ls = cc in ap literals none
@@ -123,7 +123,7 @@ not_by_literals program _ _ e = let no : ⊥ = cc in absurd no
 literals_answered : (program : Program) (operation : Primitive) (ls : List Lit) (us : Values) (v : Value) (b : Bool) → is_on_literals operation ≡ b
     → us ≡ literals ls → on_literals program operation ls ≡ Some v → answered program operation us ≡ Some v
 literals_answered program operation ls us v true on e f =
-    by_literals program operation us on ∙ ap (option_and_then (on_literals program operation)) (ap literals_in e ∙ literals_back ls) ∙ f
+    by_literals program operation us on ∙ ap (option_and_then (on_literals program operation)) (ap literals_in e ∙ literals_restored ls) ∙ f
 literals_answered program operation ls us v false on e f =
     let none : on_literals program operation ls ≡ None = not_by_literals program operation ls on in
     let no : ⊥ = cc in

@@ -5,7 +5,7 @@ use Rattle.cu_calculus.specs.declared.Lit.{Lit}
 use Rattle.cu_calculus.specs.Below as below
 use Rattle.cu_calculus.specs.Below.{AllBelow, Below}
 use Rattle.cu_calculus.specs.Choose as choose
-use Rattle.cu_calculus.specs.Choose.{AConstructor, ALiteral, Again, Chooses, Demand, Look, Narrow, Nothing, Nowhere, Row, Take, at_constructor, at_literal, demand_at, has_variable, leftmost, look, look_at, look_from, narrow, narrowed, not_literal, same_type, spliced, wants_constructor, wants_literal, wants_nothing}
+use Rattle.cu_calculus.specs.Choose.{AConstructor, ALiteral, Again, Chooses, Demand, Look, Specialize, Nothing, Nowhere, Row, Take, at_constructor, at_literal, demand_at, has_variable, leftmost, look, look_at, look_from, specialized_look, specialized_row, not_literal, same_type, spliced, demands_constructor, demands_literal, demands_nothing}
 use Rattle.cu_calculus.specs.Literal.{same_literal}
 use Rattle.cu_calculus.specs.Program.{Program}
 use Rattle.cu_calculus.specs.Value as value
@@ -77,16 +77,16 @@ data LookBelow : Look → Look → Type 0 where
   nowhere : (found : Look) → LookBelow Nowhere found
   takes : (choice : ℕ) → LookBelow (Take choice) (Take choice)
   again : (rows : List Row) → LookBelow (Again rows) (Again rows)
-  narrower : (rows : List Row) (us vs : List Value) → ListBelow us vs → LookBelow (Narrow rows us) (Narrow rows vs)
+  specialized_rows : (rows : List Row) (us vs : List Value) → ListBelow us vs → LookBelow (Specialize rows us) (Specialize rows vs)
 
-narrow_rises : (position : ℕ) (test : Demand → Bool) (rows : List Row) (arguments greater us vs : List Value) → ListBelow arguments greater
-    → ListBelow us vs → LookBelow (narrow position test rows arguments us) (narrow position test rows greater vs)
-narrow_rises position test rows arguments greater us vs h k =
+specialize_rises : (position : ℕ) (test : Demand → Bool) (rows : List Row) (arguments greater us vs : List Value) → ListBelow arguments greater
+    → ListBelow us vs → LookBelow (specialized_look position test rows arguments us) (specialized_look position test rows greater vs)
+specialize_rises position test rows arguments greater us vs h k =
     let same : length arguments ≡ length greater = lists_length arguments greater h in
     let parts = spliced position arguments us in
-    subst (λ (n : ℕ). LookBelow (narrow position test rows arguments us)
-    (Narrow (map (narrowed position n) (filter (λ row. test (demand_at position row)) rows)) (spliced position greater vs))) same
-    (narrower (map (narrowed position (length arguments)) (filter (λ row. test (demand_at position row)) rows)) parts (spliced position greater vs)
+    subst (λ (n : ℕ). LookBelow (specialized_look position test rows arguments us)
+    (Specialize (map (specialized_row position n) (filter (λ row. test (demand_at position row)) rows)) (spliced position greater vs))) same
+    (specialized_rows (map (specialized_row position (length arguments)) (filter (λ row. test (demand_at position row)) rows)) parts (spliced position greater vs)
     (lists_splice position arguments greater us vs h k))
 
 look_if : (b : Bool) (one two three four : Look) → LookBelow one three → LookBelow two four → LookBelow (if b then one else two) (if b then three else four)
@@ -95,27 +95,27 @@ look_if false one two three four h k = k
 
 literal_rises : (position : ℕ) (l : Lit) (first : Demand) (b : Bool) (rows : List Row) (us vs : List Value) → ListBelow us vs
     → LookBelow (at_literal position l first b rows us) (at_literal position l first b rows vs)
-literal_rises position l first false rows us vs h = narrow_rises position (wants_literal l) rows [] [] us vs tt h
+literal_rises position l first false rows us vs h = specialize_rises position (demands_literal l) rows [] [] us vs tt h
 literal_rises position l Nothing true rows us vs h = nowhere Nowhere
 literal_rises position l (AConstructor c) true rows us vs h = nowhere Nowhere
 literal_rises position l (ALiteral m) true rows us vs h =
     let fewer = filter (λ row. not_literal m (demand_at position row)) rows in
-    let test = λ (d : Demand). wants_nothing d || wants_literal l d in
-    look_if (same_literal l m) (narrow position test rows [] us) (Again fewer) (narrow position test rows [] vs) (Again fewer)
-    (narrow_rises position test rows [] [] us vs tt h) (again fewer)
+    let test = λ (d : Demand). demands_nothing d || demands_literal l d in
+    look_if (same_literal l m) (specialized_look position test rows [] us) (Again fewer) (specialized_look position test rows [] vs) (Again fewer)
+    (specialize_rises position test rows [] [] us vs tt h) (again fewer)
 
 constructor_rises : (program : Program) (position : ℕ) (c : ConId) (first : Demand) (b : Bool) (rows : List Row) (arguments greater us vs : List Value)
     → ListBelow arguments greater → ListBelow us vs
     → LookBelow (at_constructor program position c first b rows arguments us) (at_constructor program position c first b rows greater vs)
 constructor_rises program position c first false rows arguments greater us vs h k =
-    narrow_rises position (wants_constructor c) rows arguments greater us vs h k
+    specialize_rises position (demands_constructor c) rows arguments greater us vs h k
 constructor_rises program position c Nothing true rows arguments greater us vs h k = nowhere Nowhere
 constructor_rises program position c (ALiteral m) true rows arguments greater us vs h k =
     again (filter (λ row. not_literal m (demand_at position row)) rows)
 constructor_rises program position c (AConstructor d) true rows arguments greater us vs h k =
-    let test = λ (e : Demand). wants_nothing e || wants_constructor c e in
-    look_if (same_type program c d) (narrow position test rows arguments us) Nowhere (narrow position test rows greater vs) Nowhere
-    (narrow_rises position test rows arguments greater us vs h k) (nowhere Nowhere)
+    let test = λ (e : Demand). demands_nothing e || demands_constructor c e in
+    look_if (same_type program c d) (specialized_look position test rows arguments us) Nowhere (specialized_look position test rows greater vs) Nowhere
+    (specialize_rises position test rows arguments greater us vs h k) (nowhere Nowhere)
 
 at_rises : (program : Program) (position : ℕ) (first : Row) (rows : List Row) (us vs : List Value) (u v : Value) → Below u v → ListBelow us vs
     → LookBelow (look_at program position first rows us (Some u)) (look_at program position first rows vs (Some v))
@@ -150,23 +150,23 @@ still_takes : (one two : Look) → LookBelow one two → (choice : ℕ) → one 
 still_takes _ _ (nowhere found) choice e = let no : ⊥ = cc in absurd no
 still_takes _ _ (takes choice) k e = e
 still_takes _ _ (again rows) choice e = e
-still_takes _ _ (narrower rows us vs p) choice e = let no : ⊥ = cc in absurd no
+still_takes _ _ (specialized_rows rows us vs p) choice e = let no : ⊥ = cc in absurd no
 
 still_again : (one two : Look) → LookBelow one two → (rows : List Row) → one ≡ Again rows → two ≡ Again rows
 still_again _ _ (nowhere found) rows e = let no : ⊥ = cc in absurd no
 still_again _ _ (takes choice) rows e = e
 still_again _ _ (again fewer) rows e = e
-still_again _ _ (narrower fewer us vs p) rows e = let no : ⊥ = cc in absurd no
+still_again _ _ (specialized_rows fewer us vs p) rows e = let no : ⊥ = cc in absurd no
 
-still_narrower : (one two : Look) → LookBelow one two → (rows : List Row) (us : List Value) → one ≡ Narrow rows us
-    → (vs : List Value) × (two ≡ Narrow rows vs) × ListBelow us vs
-still_narrower _ _ (nowhere found) rows us e = let no : ⊥ = cc in absurd no
-still_narrower _ _ (takes choice) rows us e = let no : ⊥ = cc in absurd no
-still_narrower _ _ (again fewer) rows us e = let no : ⊥ = cc in absurd no
-still_narrower _ _ (narrower fewer ws vs p) rows us e =
+still_specialized : (one two : Look) → LookBelow one two → (rows : List Row) (us : List Value) → one ≡ Specialize rows us
+    → (vs : List Value) × (two ≡ Specialize rows vs) × ListBelow us vs
+still_specialized _ _ (nowhere found) rows us e = let no : ⊥ = cc in absurd no
+still_specialized _ _ (takes choice) rows us e = let no : ⊥ = cc in absurd no
+still_specialized _ _ (again fewer) rows us e = let no : ⊥ = cc in absurd no
+still_specialized _ _ (specialized_rows fewer ws vs p) rows us e =
     let same : fewer ≡ rows = cc in
     let parts : ws ≡ us = cc in
-    (vs, ap (λ r. Narrow r vs) same, subst (λ (x : List Value). ListBelow x vs) parts p)
+    (vs, ap (λ r. Specialize r vs) same, subst (λ (x : List Value). ListBelow x vs) parts p)
 
 choice_rises : (program : Program) (rows : List Row) (us vs : List Value) (choice : ℕ) → Chooses program rows us choice → ListBelow us vs
     → Chooses program rows vs choice
@@ -175,9 +175,9 @@ choice_rises program rows us vs choice (choose.taken _ _ _ e) h =
 choice_rises program rows us vs choice (choose.again _ fewer _ _ e rest) h =
     choose.again rows fewer vs choice (still_again (look program rows us) (look program rows vs) (look_rises program rows us vs h) fewer e)
     (choice_rises program fewer us vs choice rest h)
-choice_rises program rows us vs choice (choose.narrower _ fewer _ parts _ e rest) h =
-    let found = still_narrower (look program rows us) (look program rows vs) (look_rises program rows us vs h) fewer parts e in
-    choose.narrower rows fewer vs found.0 choice found.1 (choice_rises program fewer parts found.0 choice rest found.2)
+choice_rises program rows us vs choice (choose.specialized_rows _ fewer _ parts _ e rest) h =
+    let found = still_specialized (look program rows us) (look program rows vs) (look_rises program rows us vs h) fewer parts e in
+    choose.specialized_rows rows fewer vs found.0 choice found.1 (choice_rises program fewer parts found.0 choice rest found.2)
 
 pub chooses_rises : (program : Program) (rows : List Row) (us vs : List Value) (choice : ℕ) → AllBelow (values_of us) (values_of vs)
     → Chooses program rows us choice → Chooses program rows vs choice

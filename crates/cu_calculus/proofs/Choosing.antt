@@ -6,7 +6,7 @@ use Rattle.cu_calculus.specs.declared.ConId.{ConId}
 use Rattle.cu_calculus.specs.declared.Lit.{Lit}
 use Rattle.cu_calculus.specs.declared.Lit.TheVariants.{Char, Int}
 use Rattle.cu_calculus.specs.Choose as choose
-use Rattle.cu_calculus.specs.Choose.{AConstructor, ALiteral, Again, Chooses, Demand, Look, Narrow, Nothing, Nowhere, Row, Take, arguments_of, at_constructor, at_literal, demand_at, demand_of, has_variable, is_demanding, leftmost, list_patterns, look, look_at, look_from, narrow, narrowed, not_literal, same_type, spliced, wants_constructor, wants_literal, wants_nothing}
+use Rattle.cu_calculus.specs.Choose.{AConstructor, ALiteral, Again, Chooses, Demand, Look, Specialize, Nothing, Nowhere, Row, Take, arguments_of, at_constructor, at_literal, demand_at, demand_of, has_variable, is_demanding, leftmost, list_patterns, look, look_at, look_from, specialized_look, specialized_row, not_literal, same_type, spliced, demands_constructor, demands_literal, demands_nothing}
 use Rattle.cu_calculus.specs.Chosen.{all_demands, chosen, chosen_after, chosen_within, demands, list_demands, looks}
 use Rattle.cu_calculus.specs.Literal.{same_literal}
 use Rattle.cu_calculus.specs.Program.{Program}
@@ -69,8 +69,8 @@ spliced_demands k arguments ps =
 
 -- the patterns of a row, narrowed, demand no more than before, and less where the row demands
 -- something there
-narrowed_demands : (k n : ℕ) (row : Row) → list_demands (narrowed k n row).patterns + demanded (demand_at k row) ≤ list_demands row.patterns
-narrowed_demands k n row = by (slice_get row.patterns k) refl
+specialized_demands : (k n : ℕ) (row : Row) → list_demands (specialized_row k n row).patterns + demanded (demand_at k row) ≤ list_demands row.patterns
+specialized_demands k n row = by (slice_get row.patterns k) refl
   where
     by : (found : Option Pattern) → slice_get row.patterns k ≡ found
         → list_demands (spliced k (elim found [ Some p ↦ arguments_of n p | None ↦ [] ]) row.patterns)
@@ -86,21 +86,21 @@ narrowed_demands k n row = by (slice_get row.patterns k) refl
         omega arith
 
 -- a row that passes a test stays, and counts
-kept_looks : (b : Bool) (k n : ℕ) (row : Row) (kept rows : List Row) → looks (map (narrowed k n) kept) ≤ looks rows
-    → looks (map (narrowed k n) (cond b (row ∷ kept) kept)) ≤ looks (row ∷ rows)
-kept_looks true k n row kept rows h = let fewer = narrowed_demands k n row in omega arith
+kept_looks : (b : Bool) (k n : ℕ) (row : Row) (kept rows : List Row) → looks (map (specialized_row k n) kept) ≤ looks rows
+    → looks (map (specialized_row k n) (cond b (row ∷ kept) kept)) ≤ looks (row ∷ rows)
+kept_looks true k n row kept rows h = let fewer = specialized_demands k n row in omega arith
 kept_looks false k n row kept rows h = omega arith
 
-kept_fewer : (b : Bool) (k n : ℕ) (row : Row) (kept rows : List Row) → demanded (demand_at k row) ≡ 1 → looks (map (narrowed k n) kept) ≤ looks rows
-    → looks (map (narrowed k n) (cond b (row ∷ kept) kept)) < looks (row ∷ rows)
-kept_fewer true k n row kept rows e h = let fewer = narrowed_demands k n row in omega arith
+kept_fewer : (b : Bool) (k n : ℕ) (row : Row) (kept rows : List Row) → demanded (demand_at k row) ≡ 1 → looks (map (specialized_row k n) kept) ≤ looks rows
+    → looks (map (specialized_row k n) (cond b (row ∷ kept) kept)) < looks (row ∷ rows)
+kept_fewer true k n row kept rows e h = let fewer = specialized_demands k n row in omega arith
 kept_fewer false k n row kept rows e h = omega arith
 
 -- rows that pass a test, narrowed, take no more looks, and fewer where the first demands something
 -- there
-narrowed_looks : (k n : ℕ) (test : Row → Bool) (rows : List Row) → looks (map (narrowed k n) (filter test rows)) ≤ looks rows
-narrowed_looks k n test [] = omega arith
-narrowed_looks k n test (row ∷ rows) = kept_looks (test row) k n row (filter test rows) rows (narrowed_looks k n test rows)
+specialized_looks : (k n : ℕ) (test : Row → Bool) (rows : List Row) → looks (map (specialized_row k n) (filter test rows)) ≤ looks rows
+specialized_looks k n test [] = omega arith
+specialized_looks k n test (row ∷ rows) = kept_looks (test row) k n row (filter test rows) rows (specialized_looks k n test rows)
 
 kept_or_dropped : (b : Bool) (row : Row) (kept rows : List Row) → looks kept ≤ looks rows → looks (cond b (row ∷ kept) kept) ≤ looks (row ∷ rows)
 kept_or_dropped true row kept rows h = omega arith
@@ -115,13 +115,13 @@ abbrev pub LeavesFewer : ℕ → Look → Type 0
 LeavesFewer n Nowhere = Unit {0}
 LeavesFewer n (Take choice) = Unit {0}
 LeavesFewer n (Again rows) = looks rows < n
-LeavesFewer n (Narrow rows parts) = looks rows < n
+LeavesFewer n (Specialize rows parts) = looks rows < n
 
-narrow_fewer : (k : ℕ) (test : Demand → Bool) (first : Row) (rows : List Row) (arguments values : List Value) → demanded (demand_at k first) ≡ 1
-    → LeavesFewer (looks (first ∷ rows)) (narrow k test (first ∷ rows) arguments values)
-narrow_fewer k test first rows arguments values e =
+specialize_fewer : (k : ℕ) (test : Demand → Bool) (first : Row) (rows : List Row) (arguments values : List Value) → demanded (demand_at k first) ≡ 1
+    → LeavesFewer (looks (first ∷ rows)) (specialized_look k test (first ∷ rows) arguments values)
+specialize_fewer k test first rows arguments values e =
     let passes = λ (row : Row). test (demand_at k row) in
-    kept_fewer (passes first) k (length arguments) first (filter passes rows) rows e (narrowed_looks k (length arguments) passes rows)
+    kept_fewer (passes first) k (length arguments) first (filter passes rows) rows e (specialized_looks k (length arguments) passes rows)
 
 -- the first row goes where it wants this literal
 again_fewer : (k : ℕ) (m : Lit) (first : Row) (rows : List Row) → demand_at k first ≡ ALiteral m
@@ -139,26 +139,26 @@ fewer_if false n one two h k = k
 
 at_literal_fewer : (k : ℕ) (l : Lit) (demand : Demand) (b : Bool) (first : Row) (rows : List Row) (values : List Value) → demand_at k first ≡ demand
     → demanded demand ≡ 1 → LeavesFewer (looks (first ∷ rows)) (at_literal k l demand b (first ∷ rows) values)
-at_literal_fewer k l demand false first rows values e d = narrow_fewer k (wants_literal l) first rows [] values (ap demanded e ∙ d)
+at_literal_fewer k l demand false first rows values e d = specialize_fewer k (demands_literal l) first rows [] values (ap demanded e ∙ d)
 at_literal_fewer k l Nothing true first rows values e d = tt
 at_literal_fewer k l (AConstructor c) true first rows values e d = tt
 at_literal_fewer k l (ALiteral m) true first rows values e d =
-    let test = λ (a : Demand). wants_nothing a || wants_literal l a in
-    fewer_if (same_literal l m) (looks (first ∷ rows)) (narrow k test (first ∷ rows) [] values)
-    (Again (filter (λ row. not_literal m (demand_at k row)) (first ∷ rows))) (narrow_fewer k test first rows [] values (ap demanded e ∙ d))
+    let test = λ (a : Demand). demands_nothing a || demands_literal l a in
+    fewer_if (same_literal l m) (looks (first ∷ rows)) (specialized_look k test (first ∷ rows) [] values)
+    (Again (filter (λ row. not_literal m (demand_at k row)) (first ∷ rows))) (specialize_fewer k test first rows [] values (ap demanded e ∙ d))
     (again_fewer k m first rows e)
 
 at_constructor_fewer : (program : Program) (k : ℕ) (c : ConId) (demand : Demand) (b : Bool) (first : Row) (rows : List Row)
     (arguments values : List Value) → demand_at k first ≡ demand → demanded demand ≡ 1
     → LeavesFewer (looks (first ∷ rows)) (at_constructor program k c demand b (first ∷ rows) arguments values)
 at_constructor_fewer program k c demand false first rows arguments values e d =
-    narrow_fewer k (wants_constructor c) first rows arguments values (ap demanded e ∙ d)
+    specialize_fewer k (demands_constructor c) first rows arguments values (ap demanded e ∙ d)
 at_constructor_fewer program k c Nothing true first rows arguments values e d = tt
 at_constructor_fewer program k c (ALiteral m) true first rows arguments values e d = again_fewer k m first rows e
 at_constructor_fewer program k c (AConstructor f) true first rows arguments values e d =
-    let test = λ (a : Demand). wants_nothing a || wants_constructor c a in
-    fewer_if (same_type program c f) (looks (first ∷ rows)) (narrow k test (first ∷ rows) arguments values) Nowhere
-    (narrow_fewer k test first rows arguments values (ap demanded e ∙ d)) tt
+    let test = λ (a : Demand). demands_nothing a || demands_constructor c a in
+    fewer_if (same_type program c f) (looks (first ∷ rows)) (specialized_look k test (first ∷ rows) arguments values) Nowhere
+    (specialize_fewer k test first rows arguments values (ap demanded e ∙ d)) tt
 
 look_at_fewer : (program : Program) (k : ℕ) (first : Row) (rows : List Row) (values : List Value) (found : Option Value)
     → demanded (demand_at k first) ≡ 1 → LeavesFewer (looks (first ∷ rows)) (look_at program k first (first ∷ rows) values found)
@@ -212,7 +212,7 @@ chosen_enough program rows values choice (choose.taken _ _ _ e) (suc n) l = ap (
 chosen_enough program rows values choice (choose.again _ fewer _ _ e rest) (suc n) l =
     let less : looks fewer < looks rows = subst (λ (found : Look). LeavesFewer (looks rows) found) e (look_fewer program rows values) in
     ap (chosen_after (chosen_within n program) values) e ∙ chosen_enough program fewer values choice rest n (omega arith)
-chosen_enough program rows values choice (choose.narrower _ fewer _ parts _ e rest) (suc n) l =
+chosen_enough program rows values choice (choose.specialized_rows _ fewer _ parts _ e rest) (suc n) l =
     let less : looks fewer < looks rows = subst (λ (found : Look). LeavesFewer (looks rows) found) e (look_fewer program rows values) in
     ap (chosen_after (chosen_within n program) values) e ∙ chosen_enough program fewer parts choice rest n (omega arith)
 
@@ -233,7 +233,7 @@ chosen_within_chooses (suc n) program rows values choice e =
     by Nowhere is inner f = let no : ⊥ = cc in absurd no
     by (Take k) is inner f = let same : k ≡ choice = cc in choose.taken rows values choice (is ∙ ap Take same)
     by (Again fewer) is inner f = choose.again rows fewer values choice is (inner fewer values f)
-    by (Narrow fewer parts) is inner f = choose.narrower rows fewer values parts choice is (inner fewer parts f)
+    by (Specialize fewer parts) is inner f = choose.specialized_rows rows fewer values parts choice is (inner fewer parts f)
 
 pub chosen_chooses : (program : Program) (rows : List Row) (values : List Value) (choice : ℕ) → chosen program rows values ≡ Some choice
     → Chooses program rows values choice
@@ -262,7 +262,7 @@ chosen_within_same (suc n) (suc m) program rows values l k =
     by Nowhere less inner = refl
     by (Take choice) less inner = refl
     by (Again fewer) less inner = inner fewer values (omega arith) (omega arith)
-    by (Narrow fewer parts) less inner = inner fewer parts (omega arith) (omega arith)
+    by (Specialize fewer parts) less inner = inner fewer parts (omega arith) (omega arith)
 
 -- one look, and then the choice among what it leaves
 pub chosen_looks : (program : Program) (rows : List Row) (values : List Value)
@@ -278,12 +278,12 @@ chosen_looks program rows values = whole ∙ by (look program rows values) (look
     by Nowhere less = refl
     by (Take choice) less = refl
     by (Again fewer) less = chosen_within_same (looks rows) (looks fewer + 1) program fewer values less (omega arith)
-    by (Narrow fewer parts) less = chosen_within_same (looks rows) (looks fewer + 1) program fewer parts less (omega arith)
+    by (Specialize fewer parts) less = chosen_within_same (looks rows) (looks fewer + 1) program fewer parts less (omega arith)
 
 pub again_takes_fewer : (program : Program) (rows fewer : List Row) (values : List Value) → look program rows values ≡ Again fewer
     → looks fewer < looks rows
 again_takes_fewer program rows fewer values e = subst (λ (found : Look). LeavesFewer (looks rows) found) e (look_fewer program rows values)
 
-pub narrow_takes_fewer : (program : Program) (rows fewer : List Row) (values parts : List Value) → look program rows values ≡ Narrow fewer parts
+pub specialize_takes_fewer : (program : Program) (rows fewer : List Row) (values parts : List Value) → look program rows values ≡ Specialize fewer parts
     → looks fewer < looks rows
-narrow_takes_fewer program rows fewer values parts e = subst (λ (found : Look). LeavesFewer (looks rows) found) e (look_fewer program rows values)
+specialize_takes_fewer program rows fewer values parts e = subst (λ (found : Look). LeavesFewer (looks rows) found) e (look_fewer program rows values)

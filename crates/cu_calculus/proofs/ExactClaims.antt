@@ -62,16 +62,16 @@ tails_within x y xs ys h same within k v e = by (within (suc k) v e).0 (within (
 
 -- rising lists of the same elements are one
 pub rising_same : (xs ys : List Value) → IsTrue (rises xs) → IsTrue (rises ys) → Within xs ys → Within ys xs → xs ≡ ys
-rising_same [] [] h k there back = refl
-rising_same [] (y ∷ ys) h k there back = let found = back 0 y refl in let e = found.1 in let no : ⊥ = cc in absurd no
-rising_same (x ∷ xs) [] h k there back = let found = there 0 x refl in let e = found.1 in let no : ⊥ = cc in absurd no
-rising_same (x ∷ xs) (y ∷ ys) h k there back =
+rising_same [] [] h k there converse = refl
+rising_same [] (y ∷ ys) h k there converse = let found = converse 0 y refl in let e = found.1 in let no : ⊥ = cc in absurd no
+rising_same (x ∷ xs) [] h k there converse = let found = there 0 x refl in let e = found.1 in let no : ⊥ = cc in absurd no
+rising_same (x ∷ xs) (y ∷ ys) h k there converse =
     let one = there 0 x refl in
-    let two = back 0 y refl in
+    let two = converse 0 y refl in
     let same : x ≡ y = heads_same x y (first_or_greater x y ys one.0 k one.1) (first_or_greater y x xs two.0 h two.1) in
     ap₂ (λ (v : Value) (vs : List Value). v ∷ vs) same
     (rising_same xs ys (rises_tail x xs h) (rises_tail y ys k) (tails_within x y xs ys h same there)
-    (tails_within y x ys xs k (sym same) back))
+    (tails_within y x ys xs k (sym same) converse))
 
 -- a row is exact by the claims that are true at its function's level
 abbrev pub IsExactRow : Program → List ℕ → Claim → Type 0

@@ -4,7 +4,7 @@ use Rattle.std.specs.List.{list_any}
 use Rattle.std.proofs.lemmas.Bool.{and_parts, or_parts}
 use Rattle.cu_calculus.specs.declared.ConId.{ConId}
 use Rattle.cu_calculus.specs.declared.Lit.{Lit}
-use Rattle.cu_calculus.specs.Choose.{AConstructor, ALiteral, Chooses, Demand, Nowhere, Row, at_constructor, at_literal, demand_at, demand_of, has_variable, leftmost, list_patterns, look, look_from, narrow, narrowed, rows_from, spliced, wants_constructor, wants_literal, wants_nothing}
+use Rattle.cu_calculus.specs.Choose.{AConstructor, ALiteral, Chooses, Demand, Nowhere, Row, at_constructor, at_literal, demand_at, demand_of, has_variable, leftmost, list_patterns, look, look_from, specialized_look, specialized_row, rows_from, spliced, demands_constructor, demands_literal, demands_nothing}
 use Rattle.cu_calculus.specs.Chosen.{chosen, chosen_after}
 use Rattle.cu_calculus.specs.Flat.{all_differ, are_flat_alternatives, are_variables, demands_of, is_flat_term, is_shallow, met_by, same_demand}
 use Rattle.cu_calculus.specs.Program.{Program}
@@ -37,17 +37,17 @@ variables_free (term.MorePatterns _ ps) e = let no : ⊥ = cc in absurd no
 abbrev pub row_of : Pattern → ℕ → Row
 row_of p choice = record { patterns = p ∷ []; choice = choice }
 
-narrowed_free : (p : Pattern) (m choice : ℕ) → is_shallow p ≡ true → leftmost (narrowed 0 m (row_of p choice)).patterns ≡ None
-narrowed_free (term.Any x) m choice e = let no : ⊥ = cc in absurd no
-narrowed_free (term.Exactly l) m choice e = refl
-narrowed_free (term.Built c ps) m choice e = variables_free ps e
-narrowed_free (term.Named x p) m choice e = let no : ⊥ = cc in absurd no
+specialized_free : (p : Pattern) (m choice : ℕ) → is_shallow p ≡ true → leftmost (specialized_row 0 m (row_of p choice)).patterns ≡ None
+specialized_free (term.Any x) m choice e = let no : ⊥ = cc in absurd no
+specialized_free (term.Exactly l) m choice e = refl
+specialized_free (term.Built c ps) m choice e = variables_free ps e
+specialized_free (term.Named x p) m choice e = let no : ⊥ = cc in absurd no
 
-shallow_wants : (p : Pattern) → is_shallow p ≡ true → wants_nothing (demand_of p) ≡ false
-shallow_wants (term.Any x) e = let no : ⊥ = cc in absurd no
-shallow_wants (term.Exactly l) e = refl
-shallow_wants (term.Built c ps) e = refl
-shallow_wants (term.Named x p) e = let no : ⊥ = cc in absurd no
+shallow_demands : (p : Pattern) → is_shallow p ≡ true → demands_nothing (demand_of p) ≡ false
+shallow_demands (term.Any x) e = let no : ⊥ = cc in absurd no
+shallow_demands (term.Exactly l) e = refl
+shallow_demands (term.Built c ps) e = refl
+shallow_demands (term.Named x p) e = let no : ⊥ = cc in absurd no
 
 shallow_first : (p : Pattern) → is_shallow p ≡ true → leftmost (p ∷ []) ≡ Some 0
 shallow_first (term.Any x) e = let no : ⊥ = cc in absurd no
@@ -59,7 +59,7 @@ no_variables : (n : ℕ) (alternatives : Alternatives) → are_flat_alternatives
 no_variables n term.NoAlternative e = refl
 no_variables n (term.MoreAlternatives p t alternatives) e =
     let parts = flat_parts p t alternatives e in
-    ap (λ b. b || has_variable 0 (rows_from (n + 1) alternatives)) (shallow_wants p parts.shallow)
+    ap (λ b. b || has_variable 0 (rows_from (n + 1) alternatives)) (shallow_demands p parts.shallow)
     ∙ no_variables (n + 1) alternatives parts.rest
 
 -- the first place where a test is passed
@@ -81,7 +81,7 @@ takes_free program row rows values e =
 -- of rows that are left over arguments, the first is taken
 first_taken : (program : Program) (m n : ℕ) (test : Demand → Bool) (alternatives : Alternatives) (parts : List Value)
     → are_flat_alternatives alternatives ≡ true
-    → chosen program (map (narrowed 0 m) (filter (λ row. test (demand_at 0 row)) (rows_from n alternatives))) parts
+    → chosen program (map (specialized_row 0 m) (filter (λ row. test (demand_at 0 row)) (rows_from n alternatives))) parts
     ≡ option_map (λ k. n + k) (first_place test (demands_of alternatives))
 first_taken program m n test term.NoAlternative parts e = refl
 first_taken program m n test (term.MoreAlternatives p t alternatives) parts e =
@@ -93,25 +93,25 @@ first_taken program m n test (term.MoreAlternatives p t alternatives) parts e =
     kept : List Row
     kept = filter (λ row. test (demand_at 0 row)) (rows_from (n + 1) alternatives)
 
-    by : (b : Bool) → chosen program (map (narrowed 0 m) kept) parts ≡ option_map (λ k. (n + 1) + k) (first_place test (demands_of alternatives))
-        → chosen program (map (narrowed 0 m) (cond b (row_of p n ∷ kept) kept)) parts
+    by : (b : Bool) → chosen program (map (specialized_row 0 m) kept) parts ≡ option_map (λ k. (n + 1) + k) (first_place test (demands_of alternatives))
+        → chosen program (map (specialized_row 0 m) (cond b (row_of p n ∷ kept) kept)) parts
         ≡ option_map (λ k. n + k) (if b then Some 0 else option_map (λ k. k + 1) (first_place test (demands_of alternatives)))
     by true rest =
-        takes_free program (narrowed 0 m (row_of p n)) (map (narrowed 0 m) kept) parts (narrowed_free p m n flat.shallow) ∙ ap Some (omega arith)
+        takes_free program (specialized_row 0 m (row_of p n)) (map (specialized_row 0 m) kept) parts (specialized_free p m n flat.shallow) ∙ ap Some (omega arith)
     by false rest = rest ∙ shifted n (first_place test (demands_of alternatives))
 
 -- one look finds what stands there
-narrow_chosen : (program : Program) (u : Value) (arguments : List Value) (alternatives : Alternatives) → are_flat_alternatives alternatives ≡ true
-    → look program (rows_from 0 alternatives) (u ∷ []) ≡ narrow 0 (meets u) (rows_from 0 alternatives) arguments (u ∷ [])
+specialize_chosen : (program : Program) (u : Value) (arguments : List Value) (alternatives : Alternatives) → are_flat_alternatives alternatives ≡ true
+    → look program (rows_from 0 alternatives) (u ∷ []) ≡ specialized_look 0 (meets u) (rows_from 0 alternatives) arguments (u ∷ [])
     → chosen program (rows_from 0 alternatives) (u ∷ []) ≡ option_map (λ k. 0 + k) (first_place (meets u) (demands_of alternatives))
-narrow_chosen program u arguments alternatives flat e =
+specialize_chosen program u arguments alternatives flat e =
     chosen_looks program (rows_from 0 alternatives) (u ∷ []) ∙ ap (chosen_after (chosen program) (u ∷ [])) e
     ∙ first_taken program (length arguments) 0 (meets u) alternatives (spliced 0 arguments (u ∷ [])) flat
 
 literal_look : (program : Program) (l : Lit) (p : Pattern) (t : Term) (alternatives : Alternatives)
     → are_flat_alternatives (term.MoreAlternatives p t alternatives) ≡ true
     → look program (rows_from 0 (term.MoreAlternatives p t alternatives)) (value.Literal l ∷ [])
-    ≡ narrow 0 (meets (value.Literal l)) (rows_from 0 (term.MoreAlternatives p t alternatives)) [] (value.Literal l ∷ [])
+    ≡ specialized_look 0 (meets (value.Literal l)) (rows_from 0 (term.MoreAlternatives p t alternatives)) [] (value.Literal l ∷ [])
 literal_look program l p t alternatives e =
     let rows = rows_from 0 (term.MoreAlternatives p t alternatives) in
     let values = value.Literal l ∷ [] in
@@ -121,7 +121,7 @@ literal_look program l p t alternatives e =
 built_look : (program : Program) (c : ConId) (us : value.Values) (p : Pattern) (t : Term) (alternatives : Alternatives)
     → are_flat_alternatives (term.MoreAlternatives p t alternatives) ≡ true
     → look program (rows_from 0 (term.MoreAlternatives p t alternatives)) (value.Constructed c us ∷ [])
-    ≡ narrow 0 (meets (value.Constructed c us)) (rows_from 0 (term.MoreAlternatives p t alternatives)) (list_of us) (value.Constructed c us ∷ [])
+    ≡ specialized_look 0 (meets (value.Constructed c us)) (rows_from 0 (term.MoreAlternatives p t alternatives)) (list_of us) (value.Constructed c us ∷ [])
 built_look program c us p t alternatives e =
     let rows = rows_from 0 (term.MoreAlternatives p t alternatives) in
     let values = value.Constructed c us ∷ [] in
@@ -154,9 +154,9 @@ flat_chosen : (program : Program) (alternatives : Alternatives) (u : Value) → 
     → chosen program (rows_from 0 alternatives) (u ∷ []) ≡ option_map (λ k. 0 + k) (first_place (meets u) (demands_of alternatives))
 flat_chosen program term.NoAlternative u e = refl
 flat_chosen program (term.MoreAlternatives p t alternatives) (value.Literal l) e =
-    narrow_chosen program (value.Literal l) [] (term.MoreAlternatives p t alternatives) e (literal_look program l p t alternatives e)
+    specialize_chosen program (value.Literal l) [] (term.MoreAlternatives p t alternatives) e (literal_look program l p t alternatives e)
 flat_chosen program (term.MoreAlternatives p t alternatives) (value.Constructed c us) e =
-    narrow_chosen program (value.Constructed c us) (list_of us) (term.MoreAlternatives p t alternatives) e
+    specialize_chosen program (value.Constructed c us) (list_of us) (term.MoreAlternatives p t alternatives) e
     (built_look program c us p t alternatives e)
 flat_chosen program (term.MoreAlternatives p t alternatives) value.Bottom e =
     stuck_look program value.Bottom p t alternatives e refl
@@ -176,9 +176,9 @@ meets_is _ _ e = let no : ⊥ = cc in absurd no
 
 met_meets : (u : Value) (d : Demand) → met_by u ≡ Some d → meets u d ≡ true
 met_meets (value.Literal l) d e =
-    let same : ALiteral l ≡ d = cc in subst (λ (x : Demand). wants_literal l x ≡ true) same (literal_itself l)
+    let same : ALiteral l ≡ d = cc in subst (λ (x : Demand). demands_literal l x ≡ true) same (literal_itself l)
 met_meets (value.Constructed c us) d e =
-    let same : AConstructor c ≡ d = cc in subst (λ (x : Demand). wants_constructor c x ≡ true) same (same_itself c)
+    let same : AConstructor c ≡ d = cc in subst (λ (x : Demand). demands_constructor c x ≡ true) same (same_itself c)
 met_meets value.Bottom d e = let no : ⊥ = cc in absurd no
 met_meets (value.Variable x) d e = let no : ⊥ = cc in absurd no
 met_meets (value.Partial h vs) d e = let no : ⊥ = cc in absurd no

@@ -135,11 +135,11 @@ holds_parts y [] ys = refl
 holds_parts y (x ∷ xs) ys = rw (holds_parts y xs ys) (or_assoc (nat_eq y x) (holds y xs) (holds y ys))
 
 -- what is in scope with a list of variables after it
-held_behind : (y : ℕ) (xs ys : List ℕ) → IsTrue (holds y (xs ++ ys)) → IsTrue (holds y ys || holds y xs)
-held_behind y xs ys h = or_swap (holds y xs) (holds y ys) (subst (λ (b : Bool). IsTrue b) (holds_parts y xs ys) h)
+held_after : (y : ℕ) (xs ys : List ℕ) → IsTrue (holds y (xs ++ ys)) → IsTrue (holds y ys || holds y xs)
+held_after y xs ys h = or_swap (holds y xs) (holds y ys) (subst (λ (b : Bool). IsTrue b) (holds_parts y xs ys) h)
 
 held_last : (x : ℕ) (xs : List ℕ) → Wider (λ y. holds y (xs ++ x ∷ [])) (also x (λ y. holds y xs))
-held_last x xs y h = last (held_behind y xs (x ∷ []) h)
+held_last x xs y h = last (held_after y xs (x ∷ []) h)
   where
     last : IsTrue ((nat_eq y x || false) || holds y xs) → IsTrue (nat_eq x y || holds y xs)
     last held = rw (nat_eq_comm x y) (or_false (nat_eq y x) (holds y xs) held)
@@ -166,7 +166,7 @@ kept_there scope (x ∷ kept) all y h =
     kept_from y x scope kept parts.0 (kept_there scope kept parts.1 y) h
 
 kept_with : (scope kept xs : List ℕ) → IsTrue (list_all (λ x. holds x scope) kept) → Wider (λ y. holds y (kept ++ xs)) (also_all xs (λ y. holds y scope))
-kept_with scope kept xs all y h = or_wider (holds y xs) (holds y kept) (holds y scope) (kept_there scope kept all y) (held_behind y kept xs h)
+kept_with scope kept xs all y h = or_wider (holds y xs) (holds y kept) (holds y scope) (kept_there scope kept all y) (held_after y kept xs h)
 
 -- ---- terms
 
@@ -251,10 +251,10 @@ over_fits program part t scope (Some (code.Case mode kept e branches)) fit h =
     let may : ℕ → Bool = λ y. holds y scope in
     let all = list_all (λ x. holds x scope) kept in
     let parts = and_parts (all && part scope e) (fit_branches part program kept branches) h in
-    let front = and_parts all (part scope e) parts.0 in
+    let prefix = and_parts all (part scope e) parts.0 in
     and_from (fits_term (program_of program) may (t e)) (fit_alternatives (program_of program) may (alternatives_of t branches))
-    (fit scope e front.1)
-    (alternatives_fit program part t scope kept branches fit front.0 (branches_fit part program kept branches parts.1).1)
+    (fit scope e prefix.1)
+    (alternatives_fit program part t scope kept branches fit prefix.0 (branches_fit part program kept branches parts.1).1)
 
 pub within_fits : (program : Code) (depth : ℕ) → Fitting program (fits depth program) (term_within depth program)
 unfolding term_within

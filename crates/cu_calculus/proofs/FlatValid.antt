@@ -80,12 +80,12 @@ over_flat part t program scope (Some (code.Or left right)) each h = two_flat par
 over_flat part t program scope (Some (code.Case mode kept e branches)) each h =
     let all = list_all (λ x. holds x scope) kept in
     let parts = and_parts (all && part scope e) (fit_branches part program kept branches) h in
-    let front = and_parts all (part scope e) parts.0 in
+    let prefix = and_parts all (part scope e) parts.0 in
     let rest = branches_fit part program kept branches parts.1 in
     let differ : flat.all_differ (demands_of (alternatives_of t branches)) ≡ true = differ_kept t branches ∙ rest.0 in
     let looks = is_flat_term (t e) && flat.all_differ (demands_of (alternatives_of t branches)) in
     and_from looks (are_flat_alternatives (alternatives_of t branches))
-    (and_from (is_flat_term (t e)) (flat.all_differ (demands_of (alternatives_of t branches))) (each scope e front.1) differ)
+    (and_from (is_flat_term (t e)) (flat.all_differ (demands_of (alternatives_of t branches))) (each scope e prefix.1) differ)
     (alternatives_flat part t program kept branches each rest.1)
 
 within_flat : (program : Code) (depth : ℕ) → AreFlat (fits depth program) (term_within depth program)
@@ -103,11 +103,11 @@ body_valid program arity (code.Rule params e) h =
     let P = program_of program in
     let count = nat_eq (length params) arity in
     let parts = and_parts (count && is_linear params) (fits (length program.expressions) program params e) h in
-    let front = and_parts count (is_linear params) parts.0 in
+    let prefix = and_parts count (is_linear params) parts.0 in
     let patterns = fit_patterns P (all_any params) in
     let linear = is_linear (all_variables (all_any params)) in
-    let as_many : IsTrue (nat_eq (pattern_count (all_any params)) arity) = rw (any_count params) front.0 in
-    let different : IsTrue linear = rw (any_variables params) front.1 in
+    let as_many : IsTrue (nat_eq (pattern_count (all_any params)) arity) = rw (any_count params) prefix.0 in
+    let different : IsTrue linear = rw (any_variables params) prefix.1 in
     let term : IsTrue (fits_term P (λ x. holds x (all_variables (all_any params))) (term_of program e)) =
     subst (λ (xs : List ℕ). IsTrue (fits_term P (λ x. holds x xs) (term_of program e))) (sym (any_variables params))
     (within_fits program (length program.expressions) params e parts.1) in
@@ -307,8 +307,8 @@ parts_of program h =
     let functions = list_all (fits_function program) program.functions in
     let cases = list_all (fits_case program) program.expressions in
     let last = and_parts (constructors && functions && cases) (has_special program) h in
-    let front = and_parts constructors functions (and_parts (constructors && functions) cases last.0).0 in
-    record { constructors = front.0; functions = front.1; special = last.1 }
+    let prefix = and_parts constructors functions (and_parts (constructors && functions) cases last.0).0 in
+    record { constructors = prefix.0; functions = prefix.1; special = last.1 }
 
 pub program_valid : (program : Code) → IsTrue (is_well_formed program) → IsValid (program_of program)
 program_valid program h =

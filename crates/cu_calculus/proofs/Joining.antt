@@ -8,7 +8,7 @@ use Rattle.cu_calculus.specs.Joined.{joined, moved}
 use Rattle.cu_calculus.specs.Program.{Program}
 use Rattle.cu_calculus.specs.Proof as proof
 use Rattle.cu_calculus.specs.Proof.{AllFollow, Checks, Cites, Statement, Step, conclusion, is_statement_of, statements}
-use Rattle.cu_calculus.proofs.Lists.{all_append, get_behind, get_front, get_map}
+use Rattle.cu_calculus.proofs.Lists.{all_append, get_suffix, get_prefix, get_map}
 
 -- moving steps leaves their statements
 pub moved_statements : (n : ℕ) (steps : List Step) → statements (map (moved n) steps) ≡ statements steps
@@ -21,19 +21,19 @@ joined_statements first second =
     ∙ ap (λ ss. statements first ++ ss) (moved_statements (length first) second)
 
 -- what is cited stands as many places further on when others precede
-pub cites_behind : (others before : List Statement) (ks : List ℕ) (cited : List Statement) → Cites before ks cited
+pub cites_after : (others before : List Statement) (ks : List ℕ) (cited : List Statement) → Cites before ks cited
     → Cites (others ++ before) (map (λ k. length others + k) ks) cited
-cites_behind others before [] [] h = tt
-cites_behind others before [] (s ∷ ss) h = absurd h
-cites_behind others before (k ∷ ks) [] h = absurd h
-cites_behind others before (k ∷ ks) (s ∷ ss) h = (get_behind others before k ∙ h.0, cites_behind others before ks ss h.1)
+cites_after others before [] [] h = tt
+cites_after others before [] (s ∷ ss) h = absurd h
+cites_after others before (k ∷ ks) [] h = absurd h
+cites_after others before (k ∷ ks) (s ∷ ss) h = (get_suffix others before k ∙ h.0, cites_after others before ks ss h.1)
 
 -- and stands where it did when others follow
-pub cites_front : (before others : List Statement) (ks : List ℕ) (cited : List Statement) → Cites before ks cited → Cites (before ++ others) ks cited
-cites_front before others [] [] h = tt
-cites_front before others [] (s ∷ ss) h = absurd h
-cites_front before others (k ∷ ks) [] h = absurd h
-cites_front before others (k ∷ ks) (s ∷ ss) h = (get_front before others k s h.0, cites_front before others ks ss h.1)
+pub cites_prefix : (before others : List Statement) (ks : List ℕ) (cited : List Statement) → Cites before ks cited → Cites (before ++ others) ks cited
+cites_prefix before others [] [] h = tt
+cites_prefix before others [] (s ∷ ss) h = absurd h
+cites_prefix before others (k ∷ ks) [] h = absurd h
+cites_prefix before others (k ∷ ks) (s ∷ ss) h = (get_prefix before others k s h.0, cites_prefix before others ks ss h.1)
 
 pub joined_more : (first before : List Step) (step : Step)
     → joined first (before ++ step ∷ []) ≡ joined first before ++ moved (length first) step ∷ []
@@ -47,7 +47,7 @@ follow_joined program claims first _ one proof.nothing = subst (λ (x : List Ste
 follow_joined program claims first _ one (proof.followed before after cited step rest cites follows e) =
     let places : length (statements first) ≡ length first = length-map first (λ s. s.statement) in
     let there : Cites (statements first ++ statements before) (map (λ k. length (statements first) + k) step.cites) cited =
-    cites_behind (statements first) (statements before) step.cites cited cites in
+    cites_after (statements first) (statements before) step.cites cited cites in
     let moved_there : Cites (statements (joined first before)) (map (λ k. length first + k) step.cites) cited =
     subst (λ (x : List Statement). Cites x (map (λ k. length first + k) step.cites) cited) (sym (joined_statements first before))
     (subst (λ (n : ℕ). Cites (statements first ++ statements before) (map (λ k. n + k) step.cites) cited) places there) in
@@ -78,11 +78,11 @@ checks_joined program claims first second one two = record {
 }
 
 -- the conclusion of steps, when others precede
-pub conclusion_behind : (first second : List Step) → second ≢ [] → conclusion (first ++ second) ≡ conclusion second
-conclusion_behind [] second h = refl
-conclusion_behind (step ∷ []) [] h = absurd (h refl)
-conclusion_behind (step ∷ []) (next ∷ steps) h = refl
-conclusion_behind (step ∷ other ∷ first) second h = conclusion_behind (other ∷ first) second h
+pub conclusion_after : (first second : List Step) → second ≢ [] → conclusion (first ++ second) ≡ conclusion second
+conclusion_after [] second h = refl
+conclusion_after (step ∷ []) [] h = absurd (h refl)
+conclusion_after (step ∷ []) (next ∷ steps) h = refl
+conclusion_after (step ∷ other ∷ first) second h = conclusion_after (other ∷ first) second h
 
 pub conclusion_moved : (n : ℕ) (steps : List Step) → conclusion (map (moved n) steps) ≡ conclusion steps
 conclusion_moved n [] = refl
@@ -95,12 +95,12 @@ moved_some n (step ∷ steps) h e = let no : ⊥ = cc in absurd no
 
 pub conclusion_joined : (first second : List Step) → second ≢ [] → conclusion (joined first second) ≡ conclusion second
 conclusion_joined first second h =
-    conclusion_behind first (map (moved (length first)) second) (moved_some (length first) second h) ∙ conclusion_moved (length first) second
+    conclusion_after first (map (moved (length first)) second) (moved_some (length first) second h) ∙ conclusion_moved (length first) second
 
 pub keeps_first : (first second : List Step) (k : ℕ) (step : Step) → slice_get first k ≡ Some step → slice_get (joined first second) k ≡ Some step
-keeps_first first second k step h = get_front first (map (moved (length first)) second) k step h
+keeps_first first second k step h = get_prefix first (map (moved (length first)) second) k step h
 
 pub keeps_second : (first second : List Step) (k : ℕ) (step : Step) → slice_get second k ≡ Some step
     → slice_get (joined first second) (length first + k) ≡ Some (moved (length first) step)
 keeps_second first second k step h =
-    get_behind first (map (moved (length first)) second) k ∙ get_map (moved (length first)) second k step h
+    get_suffix first (map (moved (length first)) second) k ∙ get_map (moved (length first)) second k step h

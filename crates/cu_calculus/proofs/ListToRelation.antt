@@ -16,12 +16,12 @@ use Rattle.cu_calculus.specs.Value as value
 use Rattle.cu_calculus.specs.Value.{Value, Values}
 
 -- what stands in a list with one more element is that or stands in the list
-pub behind_or_last : {A : Type 0} (xs : List A) (y : A) (k : ℕ) (x : A) → slice_get (xs ++ y ∷ []) k ≡ Some x
+pub after_or_last : {A : Type 0} (xs : List A) (y : A) (k : ℕ) (x : A) → slice_get (xs ++ y ∷ []) k ≡ Some x
     → (slice_get xs k ≡ Some x) ⊎ (y ≡ x)
-behind_or_last [] y zero x e = inr (cc)
-behind_or_last [] y (suc k) x e = let no : ⊥ = cc in absurd no
-behind_or_last (z ∷ xs) y zero x e = inl e
-behind_or_last (z ∷ xs) y (suc k) x e = behind_or_last xs y k x e
+after_or_last [] y zero x e = inr (cc)
+after_or_last [] y (suc k) x e = let no : ⊥ = cc in absurd no
+after_or_last (z ∷ xs) y zero x e = inl e
+after_or_last (z ∷ xs) y (suc k) x e = after_or_last xs y k x e
 
 -- the last statement stands among the statements
 pub conclusion_stands : (steps : List Step) (s : Statement) → conclusion steps ≡ Some s → (k : ℕ) × (slice_get (statements steps) k ≡ Some s)
@@ -47,13 +47,13 @@ module _ (program : Program) (claims : List Claim) where
   cited_given before (k ∷ ks) [] each h = absurd h
   cited_given before (k ∷ ks) (s ∷ ss) each h = (each k s h.0, cited_given before ks ss each h.1)
 
-  back_given : (first second : List Statement) → AllGiven (first ++ second) → AllGiven second
-  back_given [] second h = h
-  back_given (s ∷ first) second h = back_given first second h.1
+  suffix_given : (first second : List Statement) → AllGiven (first ++ second) → AllGiven second
+  suffix_given [] second h = h
+  suffix_given (s ∷ first) second h = suffix_given first second h.1
 
-  front_given : (first second : List Statement) → AllGiven (first ++ second) → AllGiven first
-  front_given [] second h = tt
-  front_given (s ∷ first) second h = (h.0, front_given first second h.1)
+  prefix_given : (first second : List Statement) → AllGiven (first ++ second) → AllGiven first
+  prefix_given [] second h = tt
+  prefix_given (s ∷ first) second h = (h.0, prefix_given first second h.1)
 
   said : (s : Statement) (env : Environment) (t : Term) (v : Value) → Says s env t v → Given s → Gives program claims env t v
   said s env t v says h =
@@ -93,8 +93,8 @@ module _ (program : Program) (claims : List Claim) where
   follows_gives _ env _ _ (proof.literal _ l) g = gives.literal env l
   follows_gives _ env _ _ (proof.whole cited parts last _ h ts us v e say app) g =
       let split : AllGiven (parts ++ last) = subst (λ (x : List Statement). AllGiven x) e g in
-      gives.whole env h ts us v (all_said parts env ts us say (front_given parts last split))
-      (applies_applied h us last v app (back_given parts last split))
+      gives.whole env h ts us v (all_said parts env ts us say (prefix_given parts last split))
+      (applies_applied h us last v app (suffix_given parts last split))
   follows_gives _ env _ _ (proof.part cited _ h ts us say) g = gives.part env h ts us (all_said cited env ts us say g)
   follows_gives _ env _ _ (proof.applied s r last _ f a w u v p q app) g =
       gives.applied env f a w u v (said s env f w p g.0) (said r env a u q g.1.0) (applies_to_applied w u last v app g.1.1)
@@ -107,7 +107,7 @@ module _ (program : Program) (claims : List Claim) where
       gives.chosen env mode a t alternatives bindings u v (said s env a u p g.0) selects (said r (bind_all env bindings) t v q g.1.0)
 
   one_more : (before : List Statement) (last : Statement) → EachGiven before → Given last → EachGiven (before ++ last ∷ [])
-  one_more before last each h k s e = by (behind_or_last before last k s e)
+  one_more before last each h k s e = by (after_or_last before last k s e)
     where
       by : (slice_get before k ≡ Some s) ⊎ (last ≡ s) → Given s
       by (inl f) = each k s f

@@ -3,7 +3,7 @@ use Rattle.std.proofs.Common.{◌≡◌, ℕ, Bool, true, false, ◌||◌, List,
 use Rattle.std.proofs.lemmas.Bool.{or_parts, or_right}
 use Rattle.cu_calculus.specs.declared.ConId.{ConId}
 use Rattle.cu_calculus.specs.declared.Lit.{Lit}
-use Rattle.cu_calculus.specs.Choose.{AConstructor, ALiteral, Again, Demand, Look, Narrow, Nothing, Nowhere, Row, Take, at_constructor, at_literal, demand_at, has_variable, leftmost, look, look_at, look_from, narrow, narrowed, not_literal, same_type, spliced, wants_constructor, wants_literal, wants_nothing}
+use Rattle.cu_calculus.specs.Choose.{AConstructor, ALiteral, Again, Demand, Look, Specialize, Nothing, Nowhere, Row, Take, at_constructor, at_literal, demand_at, has_variable, leftmost, look, look_at, look_from, specialized_look, specialized_row, not_literal, same_type, spliced, demands_constructor, demands_literal, demands_nothing}
 use Rattle.cu_calculus.specs.Literal.{same_literal}
 use Rattle.cu_calculus.specs.Program.{Program}
 use Rattle.cu_calculus.specs.Value as value
@@ -53,13 +53,13 @@ mapped_among f row (other ∷ rows) (inr h) =
 
 -- a value is what is demanded
 abbrev pub meets : Value → Demand → Bool
-meets (value.Literal l) d = wants_literal l d
-meets (value.Constructed c us) d = wants_constructor c d
+meets (value.Literal l) d = demands_literal l d
+meets (value.Constructed c us) d = demands_constructor c d
 meets _ d = false
 
 -- a value is what is demanded, if something is
 abbrev pub admits : Value → Demand → Bool
-admits v d = wants_nothing d || meets v d
+admits v d = demands_nothing d || meets v d
 
 -- the arguments of a literal or a constructor
 abbrev pub parts_of : Value → Option (List Value)
@@ -85,14 +85,14 @@ pub record GoesOn (rows : List Row) (values : List Value) (fewer : List Row) : T
   pub are : fewer ≡ filter (λ row. not_literal literal (demand_at place row)) rows
 
 -- of the rows those are left that what stands at a place admits, over its arguments
-pub record Narrows (rows : List Row) (values : List Value) (fewer : List Row) (parts : List Value) : Type 0 where
+pub record Specializes (rows : List Row) (values : List Value) (fewer : List Row) (parts : List Value) : Type 0 where
   pub place : ℕ
   pub here : Value
   pub arguments : List Value
   pub test : Demand → Bool
   pub at : slice_get values place ≡ Some here
   pub inner : parts_of here ≡ Some arguments
-  pub are : fewer ≡ map (narrowed place (length arguments)) (filter (λ row. test (demand_at place row)) rows)
+  pub are : fewer ≡ map (specialized_row place (length arguments)) (filter (λ row. test (demand_at place row)) rows)
   pub parts_are : parts ≡ spliced place arguments values
   pub sound : (d : Demand) → test d ≡ true → admits here d ≡ true
   pub complete : (row : Row) → Among row rows → admits here (demand_at place row) ≡ true → test (demand_at place row) ≡ true
@@ -101,24 +101,24 @@ abbrev pub Looked : List Row → List Value → Look → Type 0
 Looked rows values Nowhere = Unit {0}
 Looked rows values (Take choice) = TakesFirst rows choice
 Looked rows values (Again fewer) = GoesOn rows values fewer
-Looked rows values (Narrow fewer parts) = Narrows rows values fewer parts
+Looked rows values (Specialize fewer parts) = Specializes rows values fewer parts
 
 or_other : (a b : Bool) → a ≡ false → (a || b) ≡ true → b ≡ true
 or_other true b e h = let no : ⊥ = cc in absurd no
 or_other false b e h = h
 
 -- where no row demands nothing at a place, each demands something there
-no_variable : (k : ℕ) (rows : List Row) → has_variable k rows ≡ false → (row : Row) → Among row rows → wants_nothing (demand_at k row) ≡ false
+no_variable : (k : ℕ) (rows : List Row) → has_variable k rows ≡ false → (row : Row) → Among row rows → demands_nothing (demand_at k row) ≡ false
 no_variable k [] e row h = absurd h
 no_variable k (other ∷ rows) e row (inl same) =
-    ap (λ (r : Row). wants_nothing (demand_at k r)) (sym same) ∙ (or_parts (wants_nothing (demand_at k other)) (has_variable k rows) e).0
+    ap (λ (r : Row). demands_nothing (demand_at k r)) (sym same) ∙ (or_parts (demands_nothing (demand_at k other)) (has_variable k rows) e).0
 no_variable k (other ∷ rows) e row (inr h) =
-    no_variable k rows (or_parts (wants_nothing (demand_at k other)) (has_variable k rows) e).1 row h
+    no_variable k rows (or_parts (demands_nothing (demand_at k other)) (has_variable k rows) e).1 row h
 
 -- the rows that want just what stands there are left
-narrow_looked : (k : ℕ) (v : Value) (arguments values : List Value) (rows : List Row) → slice_get values k ≡ Some v → parts_of v ≡ Some arguments
-    → has_variable k rows ≡ false → Looked rows values (narrow k (meets v) rows arguments values)
-narrow_looked k v arguments values rows at inner none = record {
+specialize_looked : (k : ℕ) (v : Value) (arguments values : List Value) (rows : List Row) → slice_get values k ≡ Some v → parts_of v ≡ Some arguments
+    → has_variable k rows ≡ false → Looked rows values (specialized_look k (meets v) rows arguments values)
+specialize_looked k v arguments values rows at inner none = record {
   place = k;
   here = v;
   arguments = arguments;
@@ -127,13 +127,13 @@ narrow_looked k v arguments values rows at inner none = record {
   inner = inner;
   are = refl;
   parts_are = refl;
-  sound = λ d e. or_right (wants_nothing d) (meets v d) e;
-  complete = λ row among e. or_other (wants_nothing (demand_at k row)) (meets v (demand_at k row)) (no_variable k rows none row among) e;
+  sound = λ d e. or_right (demands_nothing d) (meets v d) e;
+  complete = λ row among e. or_other (demands_nothing (demand_at k row)) (meets v (demand_at k row)) (no_variable k rows none row among) e;
 }
 
 -- the rows that demand what stands at the place, or demand nothing there
 wide_looked : (k : ℕ) (v : Value) (arguments values : List Value) (rows : List Row) → slice_get values k ≡ Some v → parts_of v ≡ Some arguments
-    → Looked rows values (narrow k (admits v) rows arguments values)
+    → Looked rows values (specialized_look k (admits v) rows arguments values)
 wide_looked k v arguments values rows at inner = record {
   place = k;
   here = v;
@@ -159,22 +159,22 @@ looked_if false rows values one two h k = k refl
 
 literal_looked : (k : ℕ) (l : Lit) (demand : Demand) (b : Bool) (rows : List Row) (values : List Value) → slice_get values k ≡ Some (value.Literal l)
     → has_variable k rows ≡ b → Looked rows values (at_literal k l demand b rows values)
-literal_looked k l demand false rows values at e = narrow_looked k (value.Literal l) [] values rows at refl e
+literal_looked k l demand false rows values at e = specialize_looked k (value.Literal l) [] values rows at refl e
 literal_looked k l Nothing true rows values at e = tt
 literal_looked k l (AConstructor c) true rows values at e = tt
 literal_looked k l (ALiteral m) true rows values at e =
-    looked_if (same_literal l m) rows values (narrow k (admits (value.Literal l)) rows [] values)
+    looked_if (same_literal l m) rows values (specialized_look k (admits (value.Literal l)) rows [] values)
     (Again (filter (λ row. not_literal m (demand_at k row)) rows)) (λ same. wide_looked k (value.Literal l) [] values rows at refl)
     (λ differs. again_looked k (value.Literal l) m values rows at differs)
 
 constructor_looked : (program : Program) (k : ℕ) (c : ConId) (vs : Values) (demand : Demand) (b : Bool) (rows : List Row) (values : List Value)
     → slice_get values k ≡ Some (value.Constructed c vs) → has_variable k rows ≡ b
     → Looked rows values (at_constructor program k c demand b rows (list_of vs) values)
-constructor_looked program k c vs demand false rows values at e = narrow_looked k (value.Constructed c vs) (list_of vs) values rows at refl e
+constructor_looked program k c vs demand false rows values at e = specialize_looked k (value.Constructed c vs) (list_of vs) values rows at refl e
 constructor_looked program k c vs Nothing true rows values at e = tt
 constructor_looked program k c vs (ALiteral m) true rows values at e = again_looked k (value.Constructed c vs) m values rows at refl
 constructor_looked program k c vs (AConstructor d) true rows values at e =
-    looked_if (same_type program c d) rows values (narrow k (admits (value.Constructed c vs)) rows (list_of vs) values) Nowhere
+    looked_if (same_type program c d) rows values (specialized_look k (admits (value.Constructed c vs)) rows (list_of vs) values) Nowhere
     (λ same. wide_looked k (value.Constructed c vs) (list_of vs) values rows at refl) (λ differs. tt)
 
 look_at_looked : (program : Program) (k : ℕ) (first : Row) (rows : List Row) (values : List Value) (found : Option Value)

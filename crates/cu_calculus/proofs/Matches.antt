@@ -12,15 +12,15 @@ use Rattle.cu_calculus.specs.Term.{Pattern, Patterns}
 use Rattle.cu_calculus.specs.Value.{Value, Values}
 
 -- what an alias binds after its variable
-pub record Behind (x : ℕ) (u : Value) (found : Option Bindings) (all : Bindings) : Type 0 where
+pub record After (x : ℕ) (u : Value) (found : Option Bindings) (all : Bindings) : Type 0 where
   pub rest : Bindings
   pub is : found ≡ Some rest
   pub whole : all ≡ (x, u) ∷ rest
 
-pub behind : (x : ℕ) (u : Value) (found : Option Bindings) (all : Bindings) → option_map (λ bindings. (x, u) ∷ bindings) found ≡ Some all
-    → Behind x u found all
-behind x u None all e = let no : ⊥ = cc in absurd no
-behind x u (Some rest) all e = record { rest = rest; is = refl; whole = cc }
+pub after : (x : ℕ) (u : Value) (found : Option Bindings) (all : Bindings) → option_map (λ bindings. (x, u) ∷ bindings) found ≡ Some all
+    → After x u found all
+after x u None all e = let no : ⊥ = cc in absurd no
+after x u (Some rest) all e = record { rest = rest; is = refl; whole = cc }
 
 -- what two matches bind together
 pub record Halves (first second : Option Bindings) (all : Bindings) : Type 0 where
@@ -108,7 +108,7 @@ mutual
   matched_rises (term.Exactly l) u v low h e = rises_literal l u v h low e
   matched_rises (term.Built c ps) u v low h e = rises_built c ps u v h low e (λ us vs p f. all_matched_rises ps us vs low p f)
   matched_rises (term.Named x p) u v low h e =
-      let found = behind x u (matched p u) low e in
+      let found = after x u (matched p u) low e in
       rises_named x u v low found.rest (matched p v) h found.whole (matched_rises p u v found.rest h found.is)
 
   pub all_matched_rises : (ps : Patterns) (us vs : Values) (low : Bindings) → AllBelow us vs → all_matched ps us ≡ Some low

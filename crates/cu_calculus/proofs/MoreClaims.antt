@@ -12,14 +12,14 @@ use Rattle.cu_calculus.specs.Proof.{AllFollow, Applies, AppliesTo, Checks, Follo
 use Rattle.cu_calculus.specs.Rows.{AreRows, all_cited, applied_cited, applied_to_cited, applying_cited, applying_to_cited, cited, following_cited, proof_cited}
 use Rattle.cu_calculus.specs.Term.{Term, Terms}
 use Rattle.cu_calculus.specs.Value.{Value, Values}
-use Rattle.cu_calculus.proofs.Lists.{all_append, get_behind, get_front}
+use Rattle.cu_calculus.proofs.Lists.{all_append, get_suffix, get_prefix}
 
 -- rows of a list's prefix and of its rest are the list's
-pub rows_front : (one two others : List Claim) → AreRows (one ++ two) others → AreRows one others
-rows_front one two others rows k claim e = rows k claim (get_front one two k claim e)
+pub rows_prefix : (one two others : List Claim) → AreRows (one ++ two) others → AreRows one others
+rows_prefix one two others rows k claim e = rows k claim (get_prefix one two k claim e)
 
-pub rows_back : (one two others : List Claim) → AreRows (one ++ two) others → AreRows two others
-rows_back one two others rows k claim e = rows (length one + k) claim (get_behind one two k ∙ e)
+pub rows_suffix : (one two others : List Claim) → AreRows (one ++ two) others → AreRows two others
+rows_suffix one two others rows k claim e = rows (length one + k) claim (get_suffix one two k ∙ e)
 
 pub rows_none : (others : List Claim) → AreRows [] others
 rows_none others k claim e = let no : ⊥ = cc in absurd no
@@ -29,14 +29,14 @@ rows_one claim others place there zero other e = let same : claim ≡ other = cc
 rows_one claim others place there (suc k) other e = let no : ⊥ = cc in absurd no
 
 -- a place in two lists is one in the first or in the second
-pub front_or_back : (one two : List Claim) (k : ℕ) (claim : Claim) → slice_get (one ++ two) k ≡ Some claim
+pub prefix_or_suffix : (one two : List Claim) (k : ℕ) (claim : Claim) → slice_get (one ++ two) k ≡ Some claim
     → (slice_get one k ≡ Some claim) ⊎ ((m : ℕ) × (slice_get two m ≡ Some claim))
-front_or_back [] two k claim e = inr (k, e)
-front_or_back (x ∷ one) two zero claim e = inl e
-front_or_back (x ∷ one) two (suc k) claim e = front_or_back one two k claim e
+prefix_or_suffix [] two k claim e = inr (k, e)
+prefix_or_suffix (x ∷ one) two zero claim e = inl e
+prefix_or_suffix (x ∷ one) two (suc k) claim e = prefix_or_suffix one two k claim e
 
 pub rows_both : (one two others : List Claim) → AreRows one others → AreRows two others → AreRows (one ++ two) others
-rows_both one two others first second k claim e = by (front_or_back one two k claim e)
+rows_both one two others first second k claim e = by (prefix_or_suffix one two k claim e)
   where
     by : (slice_get one k ≡ Some claim) ⊎ ((m : ℕ) × (slice_get two m ≡ Some claim)) → (m : ℕ) × (slice_get others m ≡ Some claim)
     by (inl f) = first k claim f
@@ -120,29 +120,29 @@ module _ (program : Program) (claims others : List Claim) where
     give_by_rows env _ _ (gives.whole _ h ts us v ps app) rows =
         let one = all_cited program claims env ts us ps in
         let two = applied_cited program claims h us v app in
-        gives.whole env h ts us v (all_give_by_rows env ts us ps (rows_front one two others rows))
-        (applied_by_rows h us v app (rows_back one two others rows))
+        gives.whole env h ts us v (all_give_by_rows env ts us ps (rows_prefix one two others rows))
+        (applied_by_rows h us v app (rows_suffix one two others rows))
     give_by_rows env _ _ (gives.part _ h ts us ps) rows = gives.part env h ts us (all_give_by_rows env ts us ps rows)
     give_by_rows env _ _ (gives.applied _ f a w u v p q app) rows =
         let one = cited program claims env f w p in
         let two = cited program claims env a u q in
         let three = applied_to_cited program claims w u v app in
-        let first = rows_front (one ++ two) three others rows in
-        gives.applied env f a w u v (give_by_rows env f w p (rows_front one two others first))
-        (give_by_rows env a u q (rows_back one two others first)) (applied_to_by_rows w u v app (rows_back (one ++ two) three others rows))
+        let first = rows_prefix (one ++ two) three others rows in
+        gives.applied env f a w u v (give_by_rows env f w p (rows_prefix one two others first))
+        (give_by_rows env a u q (rows_suffix one two others first)) (applied_to_by_rows w u v app (rows_suffix (one ++ two) three others rows))
     give_by_rows env _ _ (gives.bound _ x a b u v p q) rows =
         let one = cited program claims env a u p in
         let two = cited program claims (bind env x u) b v q in
-        gives.bound env x a b u v (give_by_rows env a u p (rows_front one two others rows))
-        (give_by_rows (bind env x u) b v q (rows_back one two others rows))
+        gives.bound env x a b u v (give_by_rows env a u p (rows_prefix one two others rows))
+        (give_by_rows (bind env x u) b v q (rows_suffix one two others rows))
     give_by_rows env _ _ (gives.free _ x t u v total fits p) rows = gives.free env x t u v total fits (give_by_rows (bind env x u) t v p rows)
     give_by_rows env _ _ (gives.left _ a b v p) rows = gives.left env a b v (give_by_rows env a v p rows)
     give_by_rows env _ _ (gives.right _ a b v p) rows = gives.right env a b v (give_by_rows env b v p rows)
     give_by_rows env _ _ (gives.chosen _ mode a t alternatives bindings u v p selects q) rows =
         let one = cited program claims env a u p in
         let two = cited program claims (bind_all env bindings) t v q in
-        gives.chosen env mode a t alternatives bindings u v (give_by_rows env a u p (rows_front one two others rows)) selects
-        (give_by_rows (bind_all env bindings) t v q (rows_back one two others rows))
+        gives.chosen env mode a t alternatives bindings u v (give_by_rows env a u p (rows_prefix one two others rows)) selects
+        (give_by_rows (bind_all env bindings) t v q (rows_suffix one two others rows))
 
     pub all_give_by_rows : (env : Environment) (ts : Terms) (vs : Values) (d : AllGive program claims env ts vs)
         → AreRows (all_cited program claims env ts vs d) others → AllGive program others env ts vs
@@ -150,8 +150,8 @@ module _ (program : Program) (claims others : List Claim) where
     all_give_by_rows env _ _ (gives.more _ t ts v vs p ps) rows =
         let one = cited program claims env t v p in
         let two = all_cited program claims env ts vs ps in
-        gives.more env t ts v vs (give_by_rows env t v p (rows_front one two others rows))
-        (all_give_by_rows env ts vs ps (rows_back one two others rows))
+        gives.more env t ts v vs (give_by_rows env t v p (rows_prefix one two others rows))
+        (all_give_by_rows env ts vs ps (rows_suffix one two others rows))
 
     pub applied_by_rows : (h : Head) (us : Values) (v : Value) (d : Applied program claims h us v)
         → AreRows (applied_cited program claims h us v d) others → Applied program others h us v
@@ -206,8 +206,8 @@ module _ (program : Program) (claims others : List Claim) where
       let env = env_of step.statement in
       let one = proof_cited program claims before rest in
       let two = following_cited program claims ss env step.statement.term step.statement.value follows in
-      proof.followed before after ss step (all_follow_by_rows before rest (rows_front one two others rows)) cites
-      (follows_by_rows ss env step.statement.term step.statement.value follows (rows_back one two others rows)) e
+      proof.followed before after ss step (all_follow_by_rows before rest (rows_prefix one two others rows)) cites
+      (follows_by_rows ss env step.statement.term step.statement.value follows (rows_suffix one two others rows)) e
 
   pub checks_by_rows : (steps : List Step) (checks : Checks program claims steps) → IsTrue (list_all (is_claim_of program) others)
       → AreRows (proof_cited program claims steps checks.follows) others → Checks program others steps
@@ -238,5 +238,5 @@ checks_more program claims others steps rows claimed checks =
 pub checks_further : (program : Program) (claims further : List Claim) (steps : List Step) → IsTrue (list_all (is_claim_of program) further)
     → Checks program claims steps → Checks program (claims ++ further) steps
 checks_further program claims further steps claimed checks =
-    checks_more program claims (claims ++ further) steps (λ k claim e. (k, get_front claims further k claim e))
+    checks_more program claims (claims ++ further) steps (λ k claim e. (k, get_prefix claims further k claim e))
     (all_append (is_claim_of program) claims further checks.claimed claimed) checks

@@ -28,7 +28,7 @@ use Rattle.cu_calculus.specs.Valid.{HasSpecial}
 use Rattle.cu_calculus.specs.Value as value
 use Rattle.cu_calculus.specs.Value.{Value, Values, and_then, count}
 use Rattle.cu_calculus.proofs.Lists.{all_append}
-use Rattle.cu_calculus.proofs.Matches.{behind, halves, tested}
+use Rattle.cu_calculus.proofs.Matches.{after, halves, tested}
 use Rattle.cu_calculus.proofs.Weaken.{same_count}
 
 mutual
@@ -89,7 +89,7 @@ mutual
   matched_of program (term.Built c ps) v bindings e h =
       matched_built program c ps v bindings e h (λ vs f g. all_matched_of program ps vs bindings f g)
   matched_of program (term.Named x p) v bindings e h =
-      let found = behind x v (matched p v) bindings e in
+      let found = after x v (matched p v) bindings e in
       subst (λ (b : Bindings). IsTrue (bindings_of program b)) (sym found.whole)
       (and_from (is_of program v) (bindings_of program found.rest) h (matched_of program p v found.rest found.is h))
 

@@ -6,7 +6,7 @@ use Rattle.std.proofs.lemmas.Bool.{and_from, and_parts}
 use Rattle.cu_calculus.specs.declared.ConId.{ConId}
 use Rattle.cu_calculus.specs.declared.Head.TheVariants as head
 use Rattle.cu_calculus.specs.declared.Lit.{Lit}
-use Rattle.cu_calculus.specs.Choose.{Nothing, Row, arguments_of, demand_at, demand_of, is_demanding, leftmost, list_patterns, narrowed, spliced}
+use Rattle.cu_calculus.specs.Choose.{Nothing, Row, arguments_of, demand_at, demand_of, is_demanding, leftmost, list_patterns, specialized_row, spliced}
 use Rattle.cu_calculus.specs.Literal.{same_literal}
 use Rattle.cu_calculus.specs.Match.{Bindings, all_matched, both, matched, same_constructor}
 use Rattle.cu_calculus.specs.Program.{Program, arity_in}
@@ -30,11 +30,11 @@ all_match [] [] = true
 all_match (p ∷ ps) (v ∷ vs) = does_match p v && all_match ps vs
 all_match _ _ = false
 
-literal_back : (l m : Lit) → same_literal l m ≡ true → same_literal m l ≡ true
-literal_back l m e = subst (λ (x : Lit). same_literal x l ≡ true) (literal_is l m e) (literal_itself l)
+literal_swapped : (l m : Lit) → same_literal l m ≡ true → same_literal m l ≡ true
+literal_swapped l m e = subst (λ (x : Lit). same_literal x l ≡ true) (literal_is l m e) (literal_itself l)
 
-constructor_back : (c d : ConId) → same_constructor c d ≡ true → same_constructor d c ≡ true
-constructor_back c d e = subst (λ (x : ConId). same_constructor x c ≡ true) (same_is c d e) (same_itself c)
+constructor_swapped : (c d : ConId) → same_constructor c d ≡ true → same_constructor d c ≡ true
+constructor_swapped c d e = subst (λ (x : ConId). same_constructor x c ≡ true) (same_is c d e) (same_itself c)
 
 some_if : (b : Bool) (found : Option Bindings) → is_some (if b then found else None) ≡ true → (b ≡ true) × (is_some found ≡ true)
 some_if true found e = (refl, e)
@@ -44,9 +44,9 @@ if_some : (b : Bool) (found : Option Bindings) → b ≡ true → is_some found 
 if_some true found e h = h
 if_some false found e h = let no : ⊥ = cc in absurd no
 
-some_behind : (x : ℕ) (v : Value) (found : Option Bindings) → is_some (option_map (λ bindings. (x, v) ∷ bindings) found) ≡ is_some found
-some_behind x v None = refl
-some_behind x v (Some bindings) = refl
+some_after : (x : ℕ) (v : Value) (found : Option Bindings) → is_some (option_map (λ bindings. (x, v) ∷ bindings) found) ≡ is_some found
+some_after x v None = refl
+some_after x v (Some bindings) = refl
 
 some_both : (one two : Option Bindings) → is_some (both one two) ≡ (is_some one && is_some two)
 some_both None two = refl
@@ -67,10 +67,10 @@ any_match x (v ∷ vs) = any_match x vs
 -- what matches a value demands nothing else
 pub match_admits : (p : Pattern) (v : Value) → does_match p v ≡ true → admits v (demand_of p) ≡ true
 match_admits (term.Any x) v e = refl
-match_admits (term.Named x p) v e = match_admits p v (sym (some_behind x v (matched p v)) ∙ e)
-match_admits (term.Exactly l) (value.Literal m) e = literal_back l m (some_if (same_literal l m) (Some []) e).0
+match_admits (term.Named x p) v e = match_admits p v (sym (some_after x v (matched p v)) ∙ e)
+match_admits (term.Exactly l) (value.Literal m) e = literal_swapped l m (some_if (same_literal l m) (Some []) e).0
 match_admits (term.Exactly l) _ e = let no : ⊥ = cc in absurd no
-match_admits (term.Built c ps) (value.Constructed d vs) e = constructor_back c d (some_if (same_constructor c d) (all_matched ps vs) e).0
+match_admits (term.Built c ps) (value.Constructed d vs) e = constructor_swapped c d (some_if (same_constructor c d) (all_matched ps vs) e).0
 match_admits (term.Built c ps) _ e = let no : ⊥ = cc in absurd no
 
 -- a pattern matches a value exactly where it admits it and the patterns of its arguments match the
@@ -79,7 +79,7 @@ literal_arguments : (p : Pattern) (l : Lit) → does_match p (value.Literal l) �
 literal_arguments (term.Any x) l e = refl
 literal_arguments (term.Exactly m) l e = refl
 literal_arguments (term.Built c ps) l e = let no : ⊥ = cc in absurd no
-literal_arguments (term.Named x p) l e = literal_arguments p l (sym (some_behind x (value.Literal l) (matched p (value.Literal l))) ∙ e)
+literal_arguments (term.Named x p) l e = literal_arguments p l (sym (some_after x (value.Literal l) (matched p (value.Literal l))) ∙ e)
 
 built_arguments : (p : Pattern) (c : ConId) (vs : Values) → does_match p (value.Constructed c vs) ≡ true
     → all_match (arguments_of (length (list_of vs)) p) (list_of vs) ≡ true
@@ -87,7 +87,7 @@ built_arguments (term.Any x) c vs e = any_match x (list_of vs)
 built_arguments (term.Exactly m) c vs e = let no : ⊥ = cc in absurd no
 built_arguments (term.Built d ps) c vs e = list_match ps vs ∙ (some_if (same_constructor d c) (all_matched ps vs) e).1
 built_arguments (term.Named x p) c vs e =
-    built_arguments p c vs (sym (some_behind x (value.Constructed c vs) (matched p (value.Constructed c vs))) ∙ e)
+    built_arguments p c vs (sym (some_after x (value.Constructed c vs) (matched p (value.Constructed c vs))) ∙ e)
 
 pub match_arguments : (p : Pattern) (v : Value) (arguments : List Value) → parts_of v ≡ Some arguments → does_match p v ≡ true
     → all_match (arguments_of (length arguments) p) arguments ≡ true
@@ -101,18 +101,18 @@ match_arguments p _ arguments is e = let no : ⊥ = cc in absurd no
 
 literal_whole : (p : Pattern) (l : Lit) → admits (value.Literal l) (demand_of p) ≡ true → does_match p (value.Literal l) ≡ true
 literal_whole (term.Any x) l e = refl
-literal_whole (term.Exactly m) l e = if_some (same_literal m l) (Some []) (literal_back l m e) refl
+literal_whole (term.Exactly m) l e = if_some (same_literal m l) (Some []) (literal_swapped l m e) refl
 literal_whole (term.Built c ps) l e = let no : ⊥ = cc in absurd no
-literal_whole (term.Named x p) l e = some_behind x (value.Literal l) (matched p (value.Literal l)) ∙ literal_whole p l e
+literal_whole (term.Named x p) l e = some_after x (value.Literal l) (matched p (value.Literal l)) ∙ literal_whole p l e
 
 built_whole : (p : Pattern) (c : ConId) (vs : Values) → admits (value.Constructed c vs) (demand_of p) ≡ true
     → all_match (arguments_of (length (list_of vs)) p) (list_of vs) ≡ true → does_match p (value.Constructed c vs) ≡ true
 built_whole (term.Any x) c vs e h = refl
 built_whole (term.Exactly m) c vs e h = let no : ⊥ = cc in absurd no
 built_whole (term.Built d ps) c vs e h =
-    if_some (same_constructor d c) (all_matched ps vs) (constructor_back c d e) (sym (list_match ps vs) ∙ h)
+    if_some (same_constructor d c) (all_matched ps vs) (constructor_swapped c d e) (sym (list_match ps vs) ∙ h)
 built_whole (term.Named x p) c vs e h =
-    some_behind x (value.Constructed c vs) (matched p (value.Constructed c vs)) ∙ built_whole p c vs e h
+    some_after x (value.Constructed c vs) (matched p (value.Constructed c vs)) ∙ built_whole p c vs e h
 
 pub arguments_match : (p : Pattern) (v : Value) (arguments : List Value) → parts_of v ≡ Some arguments → admits v (demand_of p) ≡ true
     → all_match (arguments_of (length arguments) p) arguments ≡ true → does_match p v ≡ true
@@ -179,15 +179,15 @@ match_at (suc k) (p ∷ ps) (u ∷ vs) v e h =
 match_around : (k : ℕ) (ps : List Pattern) (vs : List Value) (p : Pattern) (v : Value) → slice_get ps k ≡ Some p → slice_get vs k ≡ Some v
     → does_match p v ≡ true → all_match (take k ps) (take k vs) ≡ true → all_match (drop (suc k) ps) (drop (suc k) vs) ≡ true
     → all_match ps vs ≡ true
-match_around k [] vs p v at there e front back = let no : ⊥ = cc in absurd no
-match_around k (q ∷ ps) [] p v at there e front back = let no : ⊥ = cc in absurd no
-match_around zero (q ∷ ps) (u ∷ vs) p v at there e front back =
+match_around k [] vs p v at there e prefix suffix = let no : ⊥ = cc in absurd no
+match_around k (q ∷ ps) [] p v at there e prefix suffix = let no : ⊥ = cc in absurd no
+match_around zero (q ∷ ps) (u ∷ vs) p v at there e prefix suffix =
     let one : p ≡ q = cc in
     let two : v ≡ u = cc in
-    and_from (does_match q u) (all_match ps vs) (subst (λ (x : Pattern). does_match x u ≡ true) one (subst (λ (x : Value). does_match p x ≡ true) two e)) back
-match_around (suc k) (q ∷ ps) (u ∷ vs) p v at there e front back =
-    let parts = and_parts (does_match q u) (all_match (take k ps) (take k vs)) front in
-    and_from (does_match q u) (all_match ps vs) parts.0 (match_around k ps vs p v at there e parts.1 back)
+    and_from (does_match q u) (all_match ps vs) (subst (λ (x : Pattern). does_match x u ≡ true) one (subst (λ (x : Value). does_match p x ≡ true) two e)) suffix
+match_around (suc k) (q ∷ ps) (u ∷ vs) p v at there e prefix suffix =
+    let parts = and_parts (does_match q u) (all_match (take k ps) (take k vs)) prefix in
+    and_from (does_match q u) (all_match ps vs) parts.0 (match_around k ps vs p v at there e parts.1 suffix)
 
 same_take : (n : ℕ) (ps : List Pattern) (vs : List Value) → length ps ≡ length vs → length (take n ps) ≡ length (take n vs)
 same_take zero ps vs e = refl
@@ -230,16 +230,16 @@ match_unsplice k ps others vs arguments p v n m at there whole e =
     match_split (take k ps ++ others) (drop (k + 1) ps) (take k vs ++ arguments) (drop (k + 1) vs)
     (same_append (take k ps) others (take k vs) arguments (same_take k ps vs n) m) e in
     let inner = match_split (take k ps) others (take k vs) arguments (same_take k ps vs n) outer.0 in
-    let back : all_match (drop (suc k) ps) (drop (suc k) vs) ≡ true =
+    let converse : all_match (drop (suc k) ps) (drop (suc k) vs) ≡ true =
     subst (λ (x : ℕ). all_match (drop x ps) (drop x vs) ≡ true) (add-one k) outer.1 in
-    match_around k ps vs p v at there (whole inner.1) inner.0 back
+    match_around k ps vs p v at there (whole inner.1) inner.0 converse
 
 -- patterns that demand nothing match
 undemanding : (p : Pattern) (v : Value) → is_demanding (demand_of p) ≡ false → does_match p v ≡ true
 undemanding (term.Any x) v e = refl
 undemanding (term.Exactly l) v e = let no : ⊥ = cc in absurd no
 undemanding (term.Built c ps) v e = let no : ⊥ = cc in absurd no
-undemanding (term.Named x p) v e = some_behind x v (matched p v) ∙ undemanding p v e
+undemanding (term.Named x p) v e = some_after x v (matched p v) ∙ undemanding p v e
 
 none_demanded : (b : Bool) (rest : Option ℕ) → (if b then Some 0 else option_map (λ k. k + 1) rest) ≡ None → (b ≡ false) × (rest ≡ None)
 none_demanded true rest e = let no : ⊥ = cc in absurd no
@@ -255,9 +255,9 @@ free_match (p ∷ ps) (v ∷ vs) e n =
     and_from (does_match p v) (all_match ps vs) (undemanding p v parts.0) (free_match ps vs parts.1 (omega arith))
 
 -- what a row has at a place
-pub narrowed_patterns : (k n : ℕ) (row : Row) (p : Pattern) → slice_get row.patterns k ≡ Some p
-    → (narrowed k n row).patterns ≡ spliced k (arguments_of n p) row.patterns
-narrowed_patterns k n row p e =
+pub specialized_patterns : (k n : ℕ) (row : Row) (p : Pattern) → slice_get row.patterns k ≡ Some p
+    → (specialized_row k n row).patterns ≡ spliced k (arguments_of n p) row.patterns
+specialized_patterns k n row p e =
     ap (λ (found : Option Pattern). spliced k (elim found [ Some q ↦ arguments_of n q | None ↦ [] ]) row.patterns) e
 
 pub demand_is : (k : ℕ) (row : Row) (p : Pattern) → slice_get row.patterns k ≡ Some p → demand_at k row ≡ demand_of p

@@ -18,7 +18,7 @@ use Rattle.cu_calculus.specs.Valid.{IsValid, also, fit_alternatives, fit_terms, 
 use Rattle.cu_calculus.specs.Value as value
 use Rattle.cu_calculus.specs.Value.{Value, Values, count}
 use Rattle.cu_calculus.proofs.Fitting.{any, fits_alternative, fits_any, fits_bound, fits_rule_body}
-use Rattle.cu_calculus.proofs.Joining.{cites_front, conclusion_behind}
+use Rattle.cu_calculus.proofs.Joining.{cites_prefix, conclusion_after}
 use Rattle.cu_calculus.proofs.Lists.{all_append, get_last}
 use Rattle.cu_calculus.proofs.OfProgram.{all_matched_of, bindings_of, matched_of}
 use Rattle.cu_calculus.proofs.RisingBindings.{Stands, added, all_added, stands_bind, stands_bind_all, stands_empty, stands_of}
@@ -45,7 +45,7 @@ pub cites_longer : (before after more : List Step) (places : List ℕ) (cited : 
     → Cites (statements before) places cited → Cites (statements after) places cited
 cites_longer before after more places cited e h =
     let whole : statements after ≡ statements before ++ statements more = ap statements e ∙ map-append (λ s. s.statement) before more in
-    subst (λ (ss : List Statement). Cites ss places cited) (sym whole) (cites_front (statements before) (statements more) places cited h)
+    subst (λ (ss : List Statement). Cites ss places cited) (sym whole) (cites_prefix (statements before) (statements more) places cited h)
 
 pub cites_append : (before : List Statement) (ks ls : List ℕ) (one two : List Statement) → Cites before ks one → Cites before ls two
     → Cites before (ks ++ ls) (one ++ two)
@@ -286,6 +286,6 @@ module _ (program : Program) (claims : List Claim) where
         let found = grow (env_of s) s.term s.value h s.env stands inner.1 outer.1 [] none in
         let steps = found.middle ++ found.step ∷ [] in
         let one : found.step ∷ [] ≢ [] = λ e. cc in
-        let last : conclusion steps ≡ Some s = conclusion_behind found.middle (found.step ∷ []) one ∙ ap Some found.is in
+        let last : conclusion steps ≡ Some s = conclusion_after found.middle (found.step ∷ []) one ∙ ap Some found.is in
         let begun : steps ≢ [] = λ e. let no : None ≡ Some s = sym (ap conclusion e) ∙ last in cc in
         (steps, record { begun = begun; speaks = found.sound.speak; claimed = claimed; follows = found.sound.follow }, last)

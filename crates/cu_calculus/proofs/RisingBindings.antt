@@ -11,9 +11,9 @@ use Rattle.cu_calculus.proofs.OfProgram.{EnvOf, bind_all_of, bindings_of}
 
 -- a binding before another one, in its place, or after it
 abbrev pub placed : Bool → Bool → ℕ → Value → ℕ → Value → Bindings → Bindings → Bindings
-placed true same x v y w rest behind = (x, v) ∷ (y, w) ∷ rest
-placed false true x v y w rest behind = (x, v) ∷ rest
-placed false false x v y w rest behind = (y, w) ∷ behind
+placed true same x v y w rest after = (x, v) ∷ (y, w) ∷ rest
+placed false true x v y w rest after = (x, v) ∷ rest
+placed false false x v y w rest after = (y, w) ∷ after
 
 abbrev pub added : ℕ → Value → Bindings → Bindings
 added x v [] = (x, v) ∷ []
@@ -98,15 +98,15 @@ added_says x v [] z = refl
 added_says x v ((y, w) ∷ rest) z =
     placed_says x v y w rest z (added x v rest) (added_says x v rest z) (nat_lt x y) (nat_eq x y) refl
   where
-    placed_says : (x : ℕ) (v : Value) (y : ℕ) (w : Value) (rest : Bindings) (z : ℕ) (behind : Bindings)
-        → bind_all empty behind z ≡ bind (bind_all empty rest) x v z → (a b : Bool) → nat_eq x y ≡ b
-        → bind_all empty (placed a b x v y w rest behind) z ≡ bind (bind_all empty ((y, w) ∷ rest)) x v z
-    placed_says x v y w rest z behind h true b f = refl
-    placed_says x v y w rest z behind h false true f =
+    placed_says : (x : ℕ) (v : Value) (y : ℕ) (w : Value) (rest : Bindings) (z : ℕ) (after : Bindings)
+        → bind_all empty after z ≡ bind (bind_all empty rest) x v z → (a b : Bool) → nat_eq x y ≡ b
+        → bind_all empty (placed a b x v y w rest after) z ≡ bind (bind_all empty ((y, w) ∷ rest)) x v z
+    placed_says x v y w rest z after h true b f = refl
+    placed_says x v y w rest z after h false true f =
         let same : x ≡ y = eqb-true x y f in
         subst (λ (n : ℕ). bind (bind_all empty rest) x v z ≡ bind (bind_all empty ((n, w) ∷ rest)) x v z) same
         (bound_twice (nat_eq x z) v w (bind_all empty rest z))
-    placed_says x v y w rest z behind h false false f =
+    placed_says x v y w rest z after h false false f =
         let differ : x ≡ y → ⊥ = eqb-false x y f in
         ap (λ (u : Value). if nat_eq y z then w else u) h
         ∙ in_order (nat_eq x z) (nat_eq y z) v w (bind_all empty rest z) (λ p q. differ (eqb-true x z p ∙ sym (eqb-true y z q)))

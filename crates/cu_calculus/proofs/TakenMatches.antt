@@ -5,7 +5,7 @@ use Rattle.std.specs.List.{list_all}
 use Rattle.std.proofs.lemmas.Bool.{and_from, and_parts}
 use Rattle.cu_calculus.specs.declared.Lit.{Lit}
 use Rattle.cu_calculus.specs.Choose as choose
-use Rattle.cu_calculus.specs.Choose.{AConstructor, ALiteral, Again, Chooses, Demand, Look, Narrow, Nothing, Row, Selects, Take, alternative_at, arguments_of, demand_at, demand_of, look, narrowed, not_literal, rows_from, spliced, wants_nothing}
+use Rattle.cu_calculus.specs.Choose.{AConstructor, ALiteral, Again, Chooses, Demand, Look, Specialize, Nothing, Row, Selects, Take, alternative_at, arguments_of, demand_at, demand_of, look, specialized_row, not_literal, rows_from, spliced, demands_nothing}
 use Rattle.cu_calculus.specs.Literal.{same_literal}
 use Rattle.cu_calculus.specs.Match.{Bindings, matched}
 use Rattle.cu_calculus.specs.Program.{Program}
@@ -17,8 +17,8 @@ use Rattle.cu_calculus.specs.Value.{Value}
 use Rattle.cu_calculus.proofs.Answering.{literal_is}
 use Rattle.cu_calculus.proofs.Choosing.{chooses_one}
 use Rattle.cu_calculus.proofs.Lists.{passed_at}
-use Rattle.cu_calculus.proofs.Looks.{Among, GoesOn, Looked, Narrows, TakesFirst, admits, among_filter, among_map, filtered_among, looked, mapped_among, meets}
-use Rattle.cu_calculus.proofs.PairwiseMatches.{all_match, all_splice, also_there, arguments_fit, arguments_match, arguments_size, demand_is, does_match, free_match, match_admits, match_arguments, match_at, match_splice, match_unsplice, narrowed_patterns, parts_are_of, same_splice}
+use Rattle.cu_calculus.proofs.Looks.{Among, GoesOn, Looked, Specializes, TakesFirst, admits, among_filter, among_map, filtered_among, looked, mapped_among, meets}
+use Rattle.cu_calculus.proofs.PairwiseMatches.{all_match, all_splice, also_there, arguments_fit, arguments_match, arguments_size, demand_is, does_match, free_match, match_admits, match_arguments, match_at, match_splice, match_unsplice, specialized_patterns, parts_are_of, same_splice}
 
 -- rows whose choices rise
 abbrev pub Rising : List Row → Type 0
@@ -34,12 +34,12 @@ rising_filter : (test : Row → Bool) (rows : List Row) → Rising rows → Risi
 rising_filter test [] h = tt
 rising_filter test (row ∷ rows) h = rising_kept (test row) test row rows h (rising_filter test rows h.1)
 
-rising_narrowed : (k n : ℕ) (rows : List Row) → Rising rows → Rising (map (narrowed k n) rows)
-rising_narrowed k n [] h = tt
-rising_narrowed k n (row ∷ rows) h = (
-  λ other among. let origin = mapped_among (narrowed k n) other rows among in
+rising_specialized : (k n : ℕ) (rows : List Row) → Rising rows → Rising (map (specialized_row k n) rows)
+rising_specialized k n [] h = tt
+rising_specialized k n (row ∷ rows) h = (
+  λ other among. let origin = mapped_among (specialized_row k n) other rows among in
       subst (λ (x : Row). row.choice ≤ x.choice) origin.is (h.0 origin.source origin.among),
-  rising_narrowed k n rows h.1,
+  rising_specialized k n rows h.1,
 )
 
 -- what a value meets isn't another literal
@@ -67,10 +67,10 @@ stays_again rows fewer values g row among e =
     (not_met g.here g.literal (demand_at g.place row) g.differs admitted))
 
 -- and does so with the arguments in place of what stands at the position
-stays_narrowed : (rows fewer : List Row) (values parts : List Value) (n : Narrows rows values fewer parts) (row : Row) → Among row rows
+stays_specialized : (rows fewer : List Row) (values parts : List Value) (n : Specializes rows values fewer parts) (row : Row) → Among row rows
     → all_match row.patterns values ≡ true
-    → Among (narrowed n.place (length n.arguments) row) fewer × (all_match (narrowed n.place (length n.arguments) row).patterns parts ≡ true)
-stays_narrowed rows fewer values parts n row among e =
+    → Among (specialized_row n.place (length n.arguments) row) fewer × (all_match (specialized_row n.place (length n.arguments) row).patterns parts ≡ true)
+stays_specialized rows fewer values parts n row among e =
     let found = match_at n.place row.patterns values n.here e n.at in
     let size = length n.arguments in
     let admitted : admits n.here (demand_at n.place row) ≡ true =
@@ -78,13 +78,13 @@ stays_narrowed rows fewer values parts n row among e =
     let passes = n.complete row among admitted in
     let kept = among_filter (λ r. n.test (demand_at n.place r)) row rows among passes in
     let inner = match_arguments found.pattern n.here n.arguments n.inner found.matches in
-    let whole : all_match (narrowed n.place size row).patterns (spliced n.place n.arguments values) ≡ true =
+    let whole : all_match (specialized_row n.place size row).patterns (spliced n.place n.arguments values) ≡ true =
     subst (λ (ps : List Pattern). all_match ps (spliced n.place n.arguments values) ≡ true)
-    (sym (narrowed_patterns n.place size row found.pattern found.is))
+    (sym (specialized_patterns n.place size row found.pattern found.is))
     (match_splice n.place row.patterns (arguments_of size found.pattern) values n.arguments e inner) in (
-      subst (λ (rs : List Row). Among (narrowed n.place size row) rs) (sym n.are)
-          (among_map (narrowed n.place size) row (filter (λ r. n.test (demand_at n.place r)) rows) kept),
-      subst (λ (vs : List Value). all_match (narrowed n.place size row).patterns vs ≡ true) (sym n.parts_are) whole,
+      subst (λ (rs : List Row). Among (specialized_row n.place size row) rs) (sym n.are)
+          (among_map (specialized_row n.place size) row (filter (λ r. n.test (demand_at n.place r)) rows) kept),
+      subst (λ (vs : List Value). all_match (specialized_row n.place size row).patterns vs ≡ true) (sym n.parts_are) whole,
     )
 
 taken_first : (rows : List Row) (choice : ℕ) → TakesFirst rows choice → Rising rows → (row : Row) → Among row rows → choice ≤ row.choice
@@ -93,7 +93,7 @@ taken_first rows choice t rising row among =
   where
     by : Rising (t.first ∷ t.others) → Among row (t.first ∷ t.others) → choice ≤ row.choice
     by rises (inl same) = let equal : t.first.choice ≡ row.choice = ap (λ (r : Row). r.choice) same in omega (arith, t.is, equal)
-    by rises (inr behind) = let later : t.first.choice ≤ row.choice = rises.0 row behind in omega (arith, t.is, later)
+    by rises (inr after) = let later : t.first.choice ≤ row.choice = rises.0 row after in omega (arith, t.is, later)
 
 -- no row before the one that is taken matches
 pub chosen_first : (program : Program) (rows : List Row) (values : List Value) (choice : ℕ) → Chooses program rows values choice → Rising rows
@@ -105,15 +105,15 @@ chosen_first program rows values choice (choose.again _ fewer _ _ e rest) rising
     let still : Rising fewer =
     subst (λ (rs : List Row). Rising rs) (sym g.are) (rising_filter (λ r. not_literal g.literal (demand_at g.place r)) rows rising) in
     chosen_first program fewer values choice rest still row (stays_again rows fewer values g row among match) match
-chosen_first program rows values choice (choose.narrower _ fewer _ parts _ e rest) rising row among match =
-    let n : Narrows rows values fewer parts = subst (λ (found : Look). Looked rows values found) e (looked program rows values) in
+chosen_first program rows values choice (choose.specialized_rows _ fewer _ parts _ e rest) rising row among match =
+    let n : Specializes rows values fewer parts = subst (λ (found : Look). Looked rows values found) e (looked program rows values) in
     let size = length n.arguments in
     let kept = filter (λ r. n.test (demand_at n.place r)) rows in
     let still : Rising fewer =
     subst (λ (rs : List Row). Rising rs) (sym n.are)
-    (rising_narrowed n.place size kept (rising_filter (λ r. n.test (demand_at n.place r)) rows rising)) in
-    let stays = stays_narrowed rows fewer values parts n row among match in
-    chosen_first program fewer parts choice rest still (narrowed n.place size row) stays.0 stays.1
+    (rising_specialized n.place size kept (rising_filter (λ r. n.test (demand_at n.place r)) rows rising)) in
+    let stays = stays_specialized rows fewer values parts n row among match in
+    chosen_first program fewer parts choice rest still (specialized_row n.place size row) stays.0 stays.1
 
 -- a row of a program over so many values
 pub record Fits (program : Program) (size : ℕ) (row : Row) : Type 0 where
@@ -137,24 +137,24 @@ first_fits program rows values choice t fit =
     record { row = t.first; among = here; is = t.is; matches = free_match t.first.patterns values t.free (fit t.first here).long }
 
 -- what a row has at a place, and the row narrowed
-pub record Inside (program : Program) (rows fewer : List Row) (values parts : List Value) (n : Narrows rows values fewer parts) (row : Row) : Type 0 where
+pub record Inside (program : Program) (rows fewer : List Row) (values parts : List Value) (n : Specializes rows values fewer parts) (row : Row) : Type 0 where
   pub source : Row
   pub among : Among source rows
-  pub is : narrowed n.place (length n.arguments) source ≡ row
+  pub is : specialized_row n.place (length n.arguments) source ≡ row
   pub pattern : Pattern
   pub at : slice_get source.patterns n.place ≡ Some pattern
   pub admitted : admits n.here (demand_of pattern) ≡ true
   pub fits : fits_pattern program pattern ≡ true
   pub size : length (arguments_of (length n.arguments) pattern) ≡ length n.arguments
-  pub narrow : row.patterns ≡ spliced n.place (arguments_of (length n.arguments) pattern) source.patterns
+  pub specialized_look : row.patterns ≡ spliced n.place (arguments_of (length n.arguments) pattern) source.patterns
 
-inside : (program : Program) (rows fewer : List Row) (values parts : List Value) (n : Narrows rows values fewer parts)
+inside : (program : Program) (rows fewer : List Row) (values parts : List Value) (n : Specializes rows values fewer parts)
     → AllFit program (length values) rows → list_all (is_of program) values ≡ true → (row : Row) → Among row fewer
     → Inside program rows fewer values parts n row
 inside program rows fewer values parts n fit known row among =
     let size = length n.arguments in
     let test = λ (r : Row). n.test (demand_at n.place r) in
-    let origin = mapped_among (narrowed n.place size) row (filter test rows) (subst (λ (rs : List Row). Among row rs) n.are among) in
+    let origin = mapped_among (specialized_row n.place size) row (filter test rows) (subst (λ (rs : List Row). Among row rs) n.are among) in
     let kept = filtered_among test origin.source rows origin.among in
     let fits = fit origin.source kept.0 in
     let there = also_there n.place origin.source.patterns values n.here fits.long n.at in
@@ -170,10 +170,10 @@ inside program rows fewer values parts n fit known row among =
       admitted = admitted;
       fits = pattern_fits;
       size = arguments_size program there.0 n.here n.arguments n.inner admitted pattern_fits (passed_at (is_of program) values n.place n.here known n.at);
-      narrow = ap (λ (r : Row). r.patterns) (sym origin.is) ∙ narrowed_patterns n.place size origin.source there.0 there.1;
+      specialized_look = ap (λ (r : Row). r.patterns) (sym origin.is) ∙ specialized_patterns n.place size origin.source there.0 there.1;
     }
 
-inside_fits : (program : Program) (rows fewer : List Row) (values parts : List Value) (n : Narrows rows values fewer parts)
+inside_fits : (program : Program) (rows fewer : List Row) (values parts : List Value) (n : Specializes rows values fewer parts)
     → AllFit program (length values) rows → list_all (is_of program) values ≡ true → AllFit program (length parts) fewer
 inside_fits program rows fewer values parts n fit known row among =
     let i = inside program rows fewer values parts n fit known row among in
@@ -181,20 +181,20 @@ inside_fits program rows fewer values parts n fit known row among =
     let others = arguments_of (length n.arguments) i.pattern in
     record {
       long =
-          ap length i.narrow ∙ same_splice n.place i.source.patterns others values n.arguments outer.long i.size ∙ ap length (sym n.parts_are);
+          ap length i.specialized_look ∙ same_splice n.place i.source.patterns others values n.arguments outer.long i.size ∙ ap length (sym n.parts_are);
       fit =
-          ap (list_all (fits_pattern program)) i.narrow
+          ap (list_all (fits_pattern program)) i.specialized_look
           ∙ all_splice (fits_pattern program) n.place others i.source.patterns (arguments_fit program (length n.arguments) i.pattern i.fits) outer.fit;
     }
 
-inside_taken : (program : Program) (rows fewer : List Row) (values parts : List Value) (choice : ℕ) (n : Narrows rows values fewer parts)
+inside_taken : (program : Program) (rows fewer : List Row) (values parts : List Value) (choice : ℕ) (n : Specializes rows values fewer parts)
     → AllFit program (length values) rows → list_all (is_of program) values ≡ true → Taken fewer parts choice → Taken rows values choice
 inside_taken program rows fewer values parts choice n fit known t =
     let i = inside program rows fewer values parts n fit known t.row t.among in
     let others = arguments_of (length n.arguments) i.pattern in
     let choices : i.source.choice ≡ t.row.choice = ap (λ (r : Row). r.choice) i.is in
     let whole : all_match (spliced n.place others i.source.patterns) (spliced n.place n.arguments values) ≡ true =
-    subst (λ (ps : List Pattern). all_match ps (spliced n.place n.arguments values) ≡ true) i.narrow
+    subst (λ (ps : List Pattern). all_match ps (spliced n.place n.arguments values) ≡ true) i.specialized_look
     (subst (λ (vs : List Value). all_match t.row.patterns vs ≡ true) n.parts_are t.matches) in
     record {
       row = i.source;
@@ -213,12 +213,12 @@ chosen_matches program rows values choice (choose.taken _ _ _ e) fit known =
 chosen_matches program rows values choice (choose.again _ fewer _ _ e rest) fit known =
     let g : GoesOn rows values fewer = subst (λ (found : Look). Looked rows values found) e (looked program rows values) in
     let test = λ (r : Row). not_literal g.literal (demand_at g.place r) in
-    let back : (row : Row) → Among row fewer → Among row rows =
+    let converse : (row : Row) → Among row fewer → Among row rows =
     λ row among. (filtered_among test row rows (subst (λ (rs : List Row). Among row rs) g.are among)).0 in
-    let t = chosen_matches program fewer values choice rest (λ row among. fit row (back row among)) known in
-    record { row = t.row; among = back t.row t.among; is = t.is; matches = t.matches }
-chosen_matches program rows values choice (choose.narrower _ fewer _ parts _ e rest) fit known =
-    let n : Narrows rows values fewer parts = subst (λ (found : Look). Looked rows values found) e (looked program rows values) in
+    let t = chosen_matches program fewer values choice rest (λ row among. fit row (converse row among)) known in
+    record { row = t.row; among = converse t.row t.among; is = t.is; matches = t.matches }
+chosen_matches program rows values choice (choose.specialized_rows _ fewer _ parts _ e rest) fit known =
+    let n : Specializes rows values fewer parts = subst (λ (found : Look). Looked rows values found) e (looked program rows values) in
     let inner : list_all (is_of program) parts ≡ true =
     subst (λ (vs : List Value). list_all (is_of program) vs ≡ true) (sym n.parts_are)
     (all_splice (is_of program) n.place n.arguments values

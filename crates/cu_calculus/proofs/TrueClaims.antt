@@ -12,7 +12,7 @@ use Rattle.cu_calculus.specs.Shape.{are_of, is_of, takes}
 use Rattle.cu_calculus.specs.Valid.{IsValid}
 use Rattle.cu_calculus.specs.Value.{count}
 use Rattle.cu_calculus.proofs.CallStatements.{concludes_of}
-use Rattle.cu_calculus.proofs.MoreClaims.{front_or_back, rows_one}
+use Rattle.cu_calculus.proofs.MoreClaims.{prefix_or_suffix, rows_one}
 
 -- a test that each element passes is passed by all
 pub all_passed : {A : Type 0} (test : A → Bool) (xs : List A) → ((k : ℕ) (x : A) → slice_get xs k ≡ Some x → IsTrue (test x))
@@ -64,7 +64,7 @@ pub true_joined : (program : Program) (levels : List ℕ) (level : ℕ) (claims 
 unfolding AreTrue
 true_joined program levels zero claims others h k = ap₂ (λ (a b : List Claim). a ++ b) h k
 true_joined program levels (suc level) claims others h k = λ n claim e.
-    elim (front_or_back claims others n claim e) [ inl first ↦ h n claim first | inr second ↦ k second.0 claim second.1 ]
+    elim (prefix_or_suffix claims others n claim e) [ inl first ↦ h n claim first | inr second ↦ k second.0 claim second.1 ]
 
 pub true_next : (program : Program) (levels : List ℕ) (level : ℕ) (claims : List Claim) → AreTrue program levels level claims
     → AreTrue program levels (suc level) claims

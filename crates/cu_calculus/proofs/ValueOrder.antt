@@ -33,11 +33,11 @@ then_equal Less two e = let no : ⊥ = cc in absurd no
 then_equal Equal two e = (refl, e)
 then_equal Greater two e = let no : ⊥ = cc in absurd no
 
-then_back : (one two back_one back_two : Ordering) → one ≡ ordering_reverse back_one → two ≡ ordering_reverse back_two
-    → ordering_then one two ≡ ordering_reverse (ordering_then back_one back_two)
-then_back one two Less back_two e f = ap (λ (o : Ordering). ordering_then o two) e
-then_back one two Equal back_two e f = ap (λ (o : Ordering). ordering_then o two) e ∙ f
-then_back one two Greater back_two e f = ap (λ (o : Ordering). ordering_then o two) e
+then_swapped : (one two swapped_one swapped_two : Ordering) → one ≡ ordering_reverse swapped_one → two ≡ ordering_reverse swapped_two
+    → ordering_then one two ≡ ordering_reverse (ordering_then swapped_one swapped_two)
+then_swapped one two Less swapped_two e f = ap (λ (o : Ordering). ordering_then o two) e
+then_swapped one two Equal swapped_two e f = ap (λ (o : Ordering). ordering_then o two) e ∙ f
+then_swapped one two Greater swapped_two e f = ap (λ (o : Ordering). ordering_then o two) e
 
 -- Less comes from the first, or from the second where the first is equal
 then_less : (one two three first second third : Ordering) → (one ≡ Less → two ≡ Less → three ≡ Less) → (one ≡ Equal → two ≡ three)
@@ -64,9 +64,9 @@ same_right : {K : Type 0} (R : K → K → Ordering) (x y z : K) → (R y z ≡ 
 same_right R x y z h e = ap (λ k. R x k) (h e)
 
 -- heads
-head_back : (h k : Head) → head_order h k ≡ ordering_reverse (head_order k h)
-head_back h k =
-    then_back (nat_cmp (head_kind h) (head_kind k)) (nat_cmp (head_number h) (head_number k)) (nat_cmp (head_kind k) (head_kind h))
+head_swapped : (h k : Head) → head_order h k ≡ ordering_reverse (head_order k h)
+head_swapped h k =
+    then_swapped (nat_cmp (head_kind h) (head_kind k)) (nat_cmp (head_number h) (head_number k)) (nat_cmp (head_kind k) (head_kind h))
     (nat_cmp (head_number k) (head_number h)) (nat_cmp_total.antisymm (head_kind h) (head_kind k))
     (nat_cmp_total.antisymm (head_number h) (head_number k))
 
@@ -86,11 +86,11 @@ head_same (head.Set f) (head.Set g) e = ap head.Set (function_same f g e)
 head_same _ _ e = let no : ⊥ = cc in absurd no
 
 -- literals
-literal_back : (l m : Lit) → literal_order l m ≡ ordering_reverse (literal_order m l)
-literal_back (Int m) (Int n) = int_cmp_total.antisymm m n
-literal_back (Int m) (Char n) = refl
-literal_back (Char m) (Int n) = refl
-literal_back (Char m) (Char n) = nat_cmp_total.antisymm m n
+literal_swapped : (l m : Lit) → literal_order l m ≡ ordering_reverse (literal_order m l)
+literal_swapped (Int m) (Int n) = int_cmp_total.antisymm m n
+literal_swapped (Int m) (Char n) = refl
+literal_swapped (Char m) (Int n) = refl
+literal_swapped (Char m) (Char n) = nat_cmp_total.antisymm m n
 
 literal_less : (l m n : Lit) → literal_order l m ≡ Less → literal_order m n ≡ Less → literal_order l n ≡ Less
 literal_less (Int l) (Int m) (Int n) e f = int_cmp_total.trans l m n e f
@@ -127,22 +127,22 @@ mutual
       ap₂ value.MoreValues (order_same u v parts.0) (orders_same us vs parts.1)
 
 mutual
-  pub order_back : (u v : Value) → value_order u v ≡ ordering_reverse (value_order v u)
-  order_back value.Bottom value.Bottom = refl
-  order_back (value.Variable x) (value.Variable y) = nat_cmp_total.antisymm x y
-  order_back (value.Literal l) (value.Literal m) = literal_back l m
-  order_back (value.Constructed c us) (value.Constructed d vs) =
-      then_back (nat_cmp c.0 d.0) (values_order us vs) (nat_cmp d.0 c.0) (values_order vs us) (nat_cmp_total.antisymm c.0 d.0) (orders_back us vs)
-  order_back (value.Partial h us) (value.Partial k vs) =
-      then_back (head_order h k) (values_order us vs) (head_order k h) (values_order vs us) (head_back h k) (orders_back us vs)
-  order_back _ _ = refl
+  pub order_swapped : (u v : Value) → value_order u v ≡ ordering_reverse (value_order v u)
+  order_swapped value.Bottom value.Bottom = refl
+  order_swapped (value.Variable x) (value.Variable y) = nat_cmp_total.antisymm x y
+  order_swapped (value.Literal l) (value.Literal m) = literal_swapped l m
+  order_swapped (value.Constructed c us) (value.Constructed d vs) =
+      then_swapped (nat_cmp c.0 d.0) (values_order us vs) (nat_cmp d.0 c.0) (values_order vs us) (nat_cmp_total.antisymm c.0 d.0) (orders_swapped us vs)
+  order_swapped (value.Partial h us) (value.Partial k vs) =
+      then_swapped (head_order h k) (values_order us vs) (head_order k h) (values_order vs us) (head_swapped h k) (orders_swapped us vs)
+  order_swapped _ _ = refl
 
-  pub orders_back : (us vs : Values) → values_order us vs ≡ ordering_reverse (values_order vs us)
-  orders_back value.NoValue value.NoValue = refl
-  orders_back value.NoValue (value.MoreValues v vs) = refl
-  orders_back (value.MoreValues u us) value.NoValue = refl
-  orders_back (value.MoreValues u us) (value.MoreValues v vs) =
-      then_back (value_order u v) (values_order us vs) (value_order v u) (values_order vs us) (order_back u v) (orders_back us vs)
+  pub orders_swapped : (us vs : Values) → values_order us vs ≡ ordering_reverse (values_order vs us)
+  orders_swapped value.NoValue value.NoValue = refl
+  orders_swapped value.NoValue (value.MoreValues v vs) = refl
+  orders_swapped (value.MoreValues u us) value.NoValue = refl
+  orders_swapped (value.MoreValues u us) (value.MoreValues v vs) =
+      then_swapped (value_order u v) (values_order us vs) (value_order v u) (values_order vs us) (order_swapped u v) (orders_swapped us vs)
 
 -- values of different kinds are in the order of their kinds
 by_kinds : (u v : Value) → (kind_of u ≡ kind_of v → ⊥) → value_order u v ≡ nat_cmp (kind_of u) (kind_of v)
@@ -199,7 +199,7 @@ mutual
   orders_less (value.MoreValues u us) (value.MoreValues v vs) value.NoValue e f = let no : ⊥ = cc in absurd no
 
 pub order_itself : (v : Value) → value_order v v ≡ Equal
-order_itself v = by (value_order v v) (order_back v v)
+order_itself v = by (value_order v v) (order_swapped v v)
   where
     by : (o : Ordering) → o ≡ ordering_reverse o → o ≡ Equal
     by Less e = let no : ⊥ = cc in absurd no
@@ -208,7 +208,7 @@ order_itself v = by (value_order v v) (order_back v v)
 
 pub order_total : IsTotalOrder value_order
 order_total = record {
-  antisymm = order_back;
+  antisymm = order_swapped;
   trans = order_less;
   congr = λ u v w e. ap (λ (x : Value). value_order x w) (order_same u v e);
 }

@@ -83,10 +83,10 @@ below_none _ _ (below.more w v ws vs p ps) e = let no : ⊥ = cc in absurd no
 
 -- values below some values and one more are values and one more
 pub record Split (ws us : Values) (u : Value) : Type 0 where
-  pub front : Values
+  pub prefix : Values
   pub last : Value
-  pub is : ws ≡ and_then front last
-  pub below_front : AllBelow front us
+  pub is : ws ≡ and_then prefix last
+  pub below_prefix : AllBelow prefix us
   pub below_last : Below last u
 
 pub split : (us ws : Values) (u : Value) → AllBelow ws (and_then us u) → Split ws us u
@@ -94,20 +94,20 @@ split value.NoValue ws u h =
     let low = below_more ws (and_then value.NoValue u) h u value.NoValue refl in
     let none : low.others ≡ value.NoValue = below_none low.others value.NoValue low.below_others refl in
     record {
-      front = value.NoValue;
+      prefix = value.NoValue;
       last = low.first;
       is = low.is ∙ ap (value.MoreValues low.first) none;
-      below_front = below.none;
+      below_prefix = below.none;
       below_last = low.below_first;
     }
 split (value.MoreValues v us) ws u h =
     let low = below_more ws (and_then (value.MoreValues v us) u) h v (and_then us u) refl in
     let rest = split us low.others u low.below_others in
     record {
-      front = value.MoreValues low.first rest.front;
+      prefix = value.MoreValues low.first rest.prefix;
       last = rest.last;
       is = low.is ∙ ap (value.MoreValues low.first) rest.is;
-      below_front = below.more low.first v rest.front us low.below_first rest.below_front;
+      below_prefix = below.more low.first v rest.prefix us low.below_first rest.below_prefix;
       below_last = rest.below_last;
     }
 
@@ -231,11 +231,11 @@ lower_extended program claims k us more u _ (same ws p) m l =
     let fewer : IsTrue (takes_more (arity_in program k) (count ws)) =
     subst (λ (n : ℕ). IsTrue (takes_more (arity_in program k) n)) (sym (same_count ws more p)) l in
     inr (record {
-      function = value.Partial k parts.front;
+      function = value.Partial k parts.prefix;
       argument = parts.last;
-      below_function = below.partial k parts.front us parts.below_front;
+      below_function = below.partial k parts.prefix us parts.below_prefix;
       below_argument = parts.below_last;
-      applied = gives.extended k parts.front ws parts.last parts.is fewer;
+      applied = gives.extended k parts.prefix ws parts.last parts.is fewer;
     })
 
 pub lower_completed : (program : Program) (claims : List Claim) (k : Head) (us all : Values) (u x : Value) → Lowered program claims k all x
@@ -246,11 +246,11 @@ lower_completed program claims k us all u x (inr found) m l =
     let as_many : IsTrue (takes (arity_in program k) (count found.0)) =
     subst (λ (n : ℕ). IsTrue (takes (arity_in program k) n)) (sym (same_count found.0 all found.1)) l in
     inr (record {
-      function = value.Partial k parts.front;
+      function = value.Partial k parts.prefix;
       argument = parts.last;
-      below_function = below.partial k parts.front us parts.below_front;
+      below_function = below.partial k parts.prefix us parts.below_prefix;
       below_argument = parts.below_last;
-      applied = gives.completed k parts.front found.0 parts.last x parts.is as_many found.2;
+      applied = gives.completed k parts.prefix found.0 parts.last x parts.is as_many found.2;
     })
 
 pub lower_applied : (program : Program) (claims : List Claim) (high : Environment) (f a : Term) (w u x : Value) → LoweredTo program claims w u x

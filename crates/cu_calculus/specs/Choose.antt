@@ -63,14 +63,14 @@ demand_at position row =
     elim (slice_get row.patterns position) [ Some p ↦ demand_of p | None ↦ Nothing ]
 
 -- whether this literal is demanded
-abbrev pub wants_literal : Lit → Demand → Bool
-wants_literal l (ALiteral m) = same_literal l m
-wants_literal l _ = false
+abbrev pub demands_literal : Lit → Demand → Bool
+demands_literal l (ALiteral m) = same_literal l m
+demands_literal l _ = false
 
 -- whether this constructor is demanded
-abbrev pub wants_constructor : ConId → Demand → Bool
-wants_constructor c (AConstructor d) = same_constructor c d
-wants_constructor c _ = false
+abbrev pub demands_constructor : ConId → Demand → Bool
+demands_constructor c (AConstructor d) = same_constructor c d
+demands_constructor c _ = false
 
 -- whether anything but this literal is demanded, or nothing
 abbrev pub not_literal : Lit → Demand → Bool
@@ -78,22 +78,22 @@ not_literal l (ALiteral m) = not (same_literal l m)
 not_literal l _ = true
 
 -- whether nothing is demanded
-abbrev pub wants_nothing : Demand → Bool
-wants_nothing Nothing = true
-wants_nothing (ALiteral l) = false
-wants_nothing (AConstructor c) = false
+abbrev pub demands_nothing : Demand → Bool
+demands_nothing Nothing = true
+demands_nothing (ALiteral l) = false
+demands_nothing (AConstructor c) = false
 
 -- whether some row demands nothing at a position
 abbrev pub has_variable : ℕ → List Row → Bool
-has_variable position rows = list_any (λ row. wants_nothing (demand_at position row)) rows
+has_variable position rows = list_any (λ row. demands_nothing (demand_at position row)) rows
 
 -- a list in which the arguments of what stands at a position take its place
 abbrev pub spliced : {A : Type 0} → ℕ → List A → List A → List A
 spliced position arguments xs = take position xs ++ arguments ++ drop (position + 1) xs
 
 -- a row in which the patterns for n arguments take the place of the pattern at a position
-abbrev pub narrowed : ℕ → ℕ → Row → Row
-narrowed position n row = record {
+abbrev pub specialized_row : ℕ → ℕ → Row → Row
+specialized_row position n row = record {
   patterns =
       spliced position (elim (slice_get row.patterns position) [
         | Some p ↦ arguments_of n p
@@ -112,12 +112,12 @@ pub data Look : Type 0 where
   Again : List Row → Look
   -- Fewer rows are left, over the arguments of what stands at a position. (This is specialization
   -- of a clause matrix, and binds no variable.)
-  Narrow : List Row → List Value → Look
+  Specialize : List Row → List Value → Look
 
 -- specialization: the rows that pass a test at a position, over the arguments of what stands there
-abbrev pub narrow : ℕ → (Demand → Bool) → List Row → List Value → List Value → Look
-narrow position test rows arguments values =
-    Narrow (map (narrowed position (length arguments))
+abbrev pub specialized_look : ℕ → (Demand → Bool) → List Row → List Value → List Value → Look
+specialized_look position test rows arguments values =
+    Specialize (map (specialized_row position (length arguments))
     (filter (λ row. test (demand_at position row)) rows)) (spliced position arguments values)
 
 -- whether two constructors are of one type of the program
@@ -136,10 +136,11 @@ same_type program c d = elim (constructor_of program c) [
 -- one or a constructor go; where it wants another literal, the rows that want that one go; where it
 -- wants a constructor, no alternative is taken.
 abbrev pub at_literal : ℕ → Lit → Demand → Bool → List Row → List Value → Look
-at_literal position l first false rows values = narrow position (wants_literal l) rows [] values
+at_literal position l first false rows values =
+    specialized_look position (demands_literal l) rows [] values
 at_literal position l (ALiteral m) true rows values =
-    if same_literal l m then narrow position (λ d. wants_nothing d || wants_literal l d) rows
-    [] values
+    if same_literal l m
+    then specialized_look position (λ d. demands_nothing d || demands_literal l d) rows [] values
     else Again (filter (λ row. not_literal m (demand_at position row)) rows)
 at_literal position l (AConstructor c) true rows values = Nowhere
 at_literal position l Nothing true rows values = Nowhere
@@ -152,10 +153,11 @@ at_literal position l Nothing true rows values = Nowhere
 abbrev pub at_constructor : Program → ℕ → ConId → Demand → Bool → List Row → List Value → List Value
     → Look
 at_constructor program position c first false rows arguments values =
-    narrow position (wants_constructor c) rows arguments values
+    specialized_look position (demands_constructor c) rows arguments values
 at_constructor program position c (AConstructor d) true rows arguments values =
     if same_type program c d
-    then narrow position (λ e. wants_nothing e || wants_constructor c e) rows arguments values
+    then specialized_look position (λ e. demands_nothing e || demands_constructor c e) rows arguments
+    values
     else Nowhere
 at_constructor program position c (ALiteral m) true rows arguments values =
     Again (filter (λ row. not_literal m (demand_at position row)) rows)
@@ -191,8 +193,8 @@ pub data Chooses (program : Program) : List Row → List Value → ℕ → Type 
   again : (rows fewer : List Row) (values : List Value) (choice : ℕ)
       → look program rows values ≡ Again fewer
       → Chooses program fewer values choice → Chooses program rows values choice
-  narrower : (rows fewer : List Row) (values parts : List Value) (choice : ℕ)
-      → look program rows values ≡ Narrow fewer parts
+  specialized_rows : (rows fewer : List Row) (values parts : List Value) (choice : ℕ)
+      → look program rows values ≡ Specialize fewer parts
       → Chooses program fewer parts choice → Chooses program rows values choice
 
 -- the rows of alternatives, of which the first has the number n

@@ -1,7 +1,7 @@
 -- Which alternative values take, as a function: the one that `Chooses` relates to them, where they
 -- take one.
 use Rattle.std.specs.Prelude.{ℕ, ◌+◌, zero, suc, List, [], ◌∷◌, Option, None, Some}
-use Rattle.cu_calculus.specs.Choose.{Again, Look, Narrow, Nowhere, Row, Take, look}
+use Rattle.cu_calculus.specs.Choose.{Again, Look, Specialize, Nowhere, Row, Take, look}
 use Rattle.cu_calculus.specs.Program.{Program}
 use Rattle.cu_calculus.specs.Term.{Any, Built, Exactly, MorePatterns, Named, NoPattern, Pattern, Patterns}
 use Rattle.cu_calculus.specs.Value.{Value}
@@ -34,7 +34,7 @@ abbrev pub chosen_after : (List Row → List Value → Option ℕ) → List Valu
 chosen_after again values Nowhere = None
 chosen_after again values (Take choice) = Some choice
 chosen_after again values (Again rows) = again rows values
-chosen_after again values (Narrow rows parts) = again rows parts
+chosen_after again values (Specialize rows parts) = again rows parts
 
 -- the alternative that is taken within at most n looks
 abbrev pub chosen_within : ℕ → Program → List Row → List Value → Option ℕ

@@ -9,7 +9,7 @@ ghost use Rattle.cu_calculus.specs.Answered.{answered, same_value};
 ghost use Rattle.cu_calculus.specs.Below.{AllBelow, Below, BindingsBelow, EnvBelow};
 ghost use Rattle.cu_calculus.specs.Builtin.{AllCompare, Answers, Compares};
 ghost use Rattle.cu_calculus.specs.Calls.{call_statement};
-ghost use Rattle.cu_calculus.specs.Choose.{Again, Chooses, Demand, Narrow, Row, Selects, alternative_at, look, rows_from};
+ghost use Rattle.cu_calculus.specs.Choose.{Again, Chooses, Demand, Specialize, Row, Selects, alternative_at, look, rows_from};
 ghost use Rattle.cu_calculus.specs.Chosen.{chosen, chosen_after, looks};
 ghost use Rattle.cu_calculus.specs.Claims.{AreLeastLevels, AreTrue, Concludes, Derives, DerivesAt, IsExact, level_of};
 ghost use Rattle.cu_calculus.specs.Coin as coin;
@@ -77,8 +77,8 @@ pub fn choosing_is_a_function()
         (look program rows values) }
     ensures again { (program : Program) (rows fewer : List Row) (values : List Value)
         → look program rows values ≡ Again fewer → looks fewer < looks rows }
-    ensures narrow { (program : Program) (rows fewer : List Row) (values parts : List Value)
-        → look program rows values ≡ Narrow fewer parts → looks fewer < looks rows }
+    ensures specialize { (program : Program) (rows fewer : List Row) (values parts : List Value)
+        → look program rows values ≡ Specialize fewer parts → looks fewer < looks rows }
 {}
 
 /// The alternative that a value takes matches it, where both are of the

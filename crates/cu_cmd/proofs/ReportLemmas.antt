@@ -7,7 +7,7 @@ use Rattle.cu_flattext.specs.Naming.{Lowered}
 use Rattle.cu_flattext.specs.Text.{text_of_module}
 use Rattle.cu_front.specs.CompileAnswers.{TellsRefusal}
 use Rattle.cu_front.specs.Compiling as compiling
-use Rattle.cu_front.specs.Compiling.{Compiles, ModuleCompiles, ModulesRefused, Refuses}
+use Rattle.cu_front.specs.Compiling.{Compiles, RootCompiles, ModulesRefused, RequestRefused}
 use Rattle.cu_front.specs.Refusal.{Refusal}
 use Rattle.cu_front.specs.RefusalLine.{refusal_line}
 use Rattle.cu_front.specs.RefusalMeaning.{refusal_meaning}
@@ -24,14 +24,14 @@ use Rattle.cu_machine.specs.declared.End.TheVariants as ends_so
 use Rattle.cu_machine.specs.declared.SearchLimits.{SearchLimits}
 use Rattle.cu_names.specs.declared.names.NameId.{NameId}
 use Rattle.cu_search.specs.Totals.{totals_of}
-use Rattle.cu_search.specs.Written.{Adds, AddsFront}
+use Rattle.cu_search.specs.Written.{Adds, AddsPrefix}
 use Rattle.cu_words.specs.Words.{Command, Compile, Compiling, IsCommand, ReadsAs, Solve, Solving, Trial, Trying}
 use Rattle.cu_theorem.specs.Listed.{listing_of}
 use Rattle.cu_cmd.specs.Report.{
   AsksNothing,
   CommandReport,
   CompileReport,
-  Held,
+  Folders,
   Report,
   SolveReport,
   TrialReport,
@@ -49,7 +49,7 @@ use Rattle.cu_cmd.specs.Report.{
   usage,
   usage_line,
 }
-use Rattle.cu_cmd.specs.Runs.{Ends, EndsWhole, Faults, HasRunCause, HasWriteCause, IsSolved, status_after}
+use Rattle.cu_cmd.specs.Runs.{Ends, EndsWhole, Faults, HasRunCause, HasWriteCause, IsCompleted, status_after}
 use Rattle.cu_cmd.specs.Trials.{totals_pieces, totals_text, trial_goal, trial_held, trial_library, trial_limits}
 use Rattle.cu_cmd.specs.Written.{Writes, WritesReport, WritesResult, WritesWhole, WritesWholly, nothing, prefix}
 use Rattle.cu_cmd.specs.declared.fault.RunFault.{RunFault}
@@ -62,7 +62,7 @@ use Rattle.cu_cmd.specs.declared.status.Status.TheVariants as status
 -- what was written is the report, or a prefix of it
 ends : (Due : List (List ℕ) → Status → Type 0) (r : Result Status RunFault) (before after : Option (List ℕ)) (written : List (List ℕ)) (answer : Status)
     → Due written answer → IfOk r (λ found. found ≡ answer) → OnOk r (Adds before after (concat written))
-    → OnErr r (AddsFront before after (concat written)) → Ends r Due before after
+    → OnErr r (AddsPrefix before after (concat written)) → Ends r Due before after
 ends Due (Ok found) before after written answer report is adds part = record {
   written = written;
   is_report = subst (Due written) (sym is) report;
@@ -76,22 +76,22 @@ one_line : (r : Result Status RunFault) (line : List ℕ) (before after : Option
 one_line (Ok found) line before after adds = subst (Adds before after) (sym (append-nil line)) adds
 one_line (Err f) line before after adds = tt
 
-part_of_line : (r : Result Status RunFault) (line : List ℕ) (before after : Option (List ℕ)) → OnErr r (AddsFront before after line)
-    → OnErr r (AddsFront before after (concat (line ∷ [])))
+part_of_line : (r : Result Status RunFault) (line : List ℕ) (before after : Option (List ℕ)) → OnErr r (AddsPrefix before after line)
+    → OnErr r (AddsPrefix before after (concat (line ∷ [])))
 part_of_line (Ok found) line before after adds = tt
-part_of_line (Err f) line before after adds = subst (AddsFront before after) (sym (append-nil line)) adds
+part_of_line (Err f) line before after adds = subst (AddsPrefix before after) (sym (append-nil line)) adds
 
 -- ---- a solve
 
 pub refusal_ends : (r : Result Status RunFault) (s : Solve) (holdings : Option Holdings) (names : List (List ℕ)) (told : CompileFault) (refusal : code.Refusal)
     (before after : Option (List ℕ)) → told ≡ compile.Refused refusal
-    → IfSome holdings (λ held. TellsRefusal names (Refuses (held.module_at s.folder) s.name s.goal) told)
+    → IfSome holdings (λ held. TellsRefusal names (RequestRefused (held.module_at s.folder) s.name s.goal) told)
     → IfOk r (λ found. found ≡ status.Refused) → OnOk r (Adds before after (refusal_line (refusal_meaning names refusal)))
-    → OnErr r (AddsFront before after (refusal_line (refusal_meaning names refusal)))
+    → OnErr r (AddsPrefix before after (refusal_line (refusal_meaning names refusal)))
     → IfSome holdings (λ held. Ends r (SolveReport held.module_at s) before after)
 refusal_ends r s None names told refusal before after same refuses is adds part = tt
 refusal_ends r s (Some held) names told refusal before after same refuses is adds part =
-    let told_so = subst (TellsRefusal names (Refuses (held.module_at s.folder) s.name s.goal)) same refuses in
+    let told_so = subst (TellsRefusal names (RequestRefused (held.module_at s.folder) s.name s.goal)) same refuses in
     let line = refusal_line (refusal_meaning names refusal) in
     ends (SolveReport held.module_at s) r before after (line ∷ []) status.Refused (refused (refusal_meaning names refusal) told_so) is
     (one_line r line before after adds) (part_of_line r line before after part)
@@ -100,7 +100,7 @@ pub listing_ends : (r : Result Status RunFault) (s : Solve) (holdings : Option H
     (goal : Goal) (before after : Option (List ℕ)) → IfSome holdings (λ held. Compiles (held.module_at s.folder) s.name s.goal names program flat)
     → program.goal ≡ Some goal → IfOk r (λ found. found ≡ status_of (listing_of s.limits flat goal).end)
     → OnOk r (Adds before after (listing_text names program goal (listing_of s.limits flat goal)))
-    → OnErr r (AddsFront before after (listing_text names program goal (listing_of s.limits flat goal)))
+    → OnErr r (AddsPrefix before after (listing_text names program goal (listing_of s.limits flat goal)))
     → IfSome holdings (λ held. Ends r (SolveReport held.module_at s) before after)
 listing_ends r s None names program flat goal before after compiles has is adds part = tt
 listing_ends r s (Some held) names program flat goal before after compiles has is adds part =
@@ -115,7 +115,7 @@ pub module_refusal_ends : (r : Result Status RunFault) (m : Compile) (holdings :
     (refusal : code.Refusal) (before after : Option (List ℕ)) → told ≡ compile.Refused refusal
     → IfSome holdings (λ held. TellsRefusal names (ModulesRefused (held.module_at m.folder) m.name) told)
     → IfOk r (λ found. found ≡ status.Refused) → OnOk r (Adds before after (refusal_line (refusal_meaning names refusal)))
-    → OnErr r (AddsFront before after (refusal_line (refusal_meaning names refusal)))
+    → OnErr r (AddsPrefix before after (refusal_line (refusal_meaning names refusal)))
     → IfSome holdings (λ held. Ends r (CompileReport held.module_at m) before after)
 module_refusal_ends r m None names told refusal before after same refuses is adds part = tt
 module_refusal_ends r m (Some held) names told refusal before after same refuses is adds part =
@@ -126,10 +126,10 @@ module_refusal_ends r m (Some held) names told refusal before after same refuses
 
 pub text_ends : (r : Result Status RunFault) (m : Compile) (holdings : Option Holdings) (names : List (List ℕ)) (program : Kernel)
     (interface : List TypeExpr) (flat : calculus.Program) (id : NameId) (before after : Option (List ℕ))
-    → IfSome holdings (λ held. ModuleCompiles (held.module_at m.folder) m.name names program interface flat) → slice_get names id.0 ≡ Some m.name
+    → IfSome holdings (λ held. RootCompiles (held.module_at m.folder) m.name names program interface flat) → slice_get names id.0 ≡ Some m.name
     → IfOk r (λ found. found ≡ status.Done)
     → OnOk r (Adds before after (text_of_module (record { names = names; kernel = program; interface = interface; flat = flat }) id))
-    → OnErr r (AddsFront before after (text_of_module (record { names = names; kernel = program; interface = interface; flat = flat }) id))
+    → OnErr r (AddsPrefix before after (text_of_module (record { names = names; kernel = program; interface = interface; flat = flat }) id))
     → IfSome holdings (λ held. Ends r (CompileReport held.module_at m) before after)
 text_ends r m None names program interface flat id before after compiles named is adds part = tt
 text_ends r m (Some held) names program interface flat id before after compiles named is adds part =
@@ -141,11 +141,11 @@ text_ends r m (Some held) names program interface flat id before after compiles 
 
 pub trial_refusal_ends : (r : Result Status RunFault) (t : Trial) (names : List (List ℕ)) (told : CompileFault) (refusal : code.Refusal)
     (before after : Option (List ℕ)) → told ≡ compile.Refused refusal
-    → TellsRefusal names (Refuses trial_held (codes "Trial") (trial_goal t.depth)) told
+    → TellsRefusal names (RequestRefused trial_held (codes "Trial") (trial_goal t.depth)) told
     → IfOk r (λ found. found ≡ status.Refused) → OnOk r (Adds before after (refusal_line (refusal_meaning names refusal)))
-    → OnErr r (AddsFront before after (refusal_line (refusal_meaning names refusal))) → Ends r (TrialReport t) before after
+    → OnErr r (AddsPrefix before after (refusal_line (refusal_meaning names refusal))) → Ends r (TrialReport t) before after
 trial_refusal_ends r t names told refusal before after same refuses is adds part =
-    let told_so = subst (TellsRefusal names (Refuses trial_held (codes "Trial") (trial_goal t.depth))) same refuses in
+    let told_so = subst (TellsRefusal names (RequestRefused trial_held (codes "Trial") (trial_goal t.depth))) same refuses in
     let line = refusal_line (refusal_meaning names refusal) in
     ends (TrialReport t) r before after (line ∷ []) status.Refused (trial_refused (refusal_meaning names refusal) told_so) is
     (one_line r line before after adds) (part_of_line r line before after part)
@@ -155,7 +155,7 @@ pub totals_end : (r : Result Status RunFault) (t : Trial) (limits : SearchLimits
     → Compiles trial_held (codes "Trial") (trial_goal t.depth) names program flat
     → program.goal ≡ Some goal → IfOk r (λ found. found ≡ status_of (listing_of limits flat goal).end)
     → OnOk r (Adds before after (totals_text (listing_of limits flat goal)))
-    → OnErr r (AddsFront before after (totals_text (listing_of limits flat goal))) → Ends r (TrialReport t) before after
+    → OnErr r (AddsPrefix before after (totals_text (listing_of limits flat goal))) → Ends r (TrialReport t) before after
 totals_end r t limits names program flat goal before after same compiles has is adds part =
     let found = listing_of limits flat goal in
     let written = totals_pieces (totals_of found) found.end in
@@ -173,11 +173,11 @@ trial_compiles library text depth names program flat is is_goal h =
 
 pub trial_tells : (library : Shelf) (text : List ℕ) (depth : ℕ) (names : List (List ℕ)) (told : CompileFault)
     → library ≡ trial_library → text ≡ trial_goal depth
-    → TellsRefusal names (Refuses ((shelf_holdings library).module_at (codes "")) (codes "Trial") text) told
-    → TellsRefusal names (Refuses trial_held (codes "Trial") (trial_goal depth)) told
+    → TellsRefusal names (RequestRefused ((shelf_holdings library).module_at (codes "")) (codes "Trial") text) told
+    → TellsRefusal names (RequestRefused trial_held (codes "Trial") (trial_goal depth)) told
 trial_tells library text depth names told is is_goal h =
-    subst (λ (l : Shelf). TellsRefusal names (Refuses ((shelf_holdings l).module_at (codes "")) (codes "Trial") (trial_goal depth)) told) is
-    (subst (λ (goal : List ℕ). TellsRefusal names (Refuses ((shelf_holdings library).module_at (codes "")) (codes "Trial") goal) told) is_goal h)
+    subst (λ (l : Shelf). TellsRefusal names (RequestRefused ((shelf_holdings l).module_at (codes "")) (codes "Trial") (trial_goal depth)) told) is
+    (subst (λ (goal : List ℕ). TellsRefusal names (RequestRefused ((shelf_holdings library).module_at (codes "")) (codes "Trial") goal) told) is_goal h)
 
 -- ---- counts of faults
 
@@ -199,7 +199,7 @@ run_cause (Err fault.NoMemory) m n j k e cause = same_faults n k m j e cause
 -- ---- whole runs
 
 -- the report of a command is that of the words that ask for it
-command_ends : (r : Result Status RunFault) (words : List (List ℕ)) (held : Held) (asked : Command) (before after : Option (List ℕ)) → ReadsAs words asked
+command_ends : (r : Result Status RunFault) (words : List (List ℕ)) (held : Folders) (asked : Command) (before after : Option (List ℕ)) → ReadsAs words asked
     → Ends r (CommandReport held asked) before after → Ends r (Report words held) before after
 command_ends (Ok answer) words held asked before after reads e = record {
   written = e.written;
@@ -211,7 +211,7 @@ command_ends (Err f) words held asked before after reads (prefix written answer 
     prefix written answer (command asked written answer reads report) part
 
 -- the status of a run that came to an end of a command
-solved : (Due : List (List ℕ) → Status → Type 0) (r : Result Status RunFault) (before after : Option (List ℕ)) → IfOk r IsSolved
+solved : (Due : List (List ℕ) → Status → Type 0) (r : Result Status RunFault) (before after : Option (List ℕ)) → IfOk r IsCompleted
     → Ends r Due before after → Writes (status_after r) Due before after
 solved Due (Ok status.Done) before after is e = e
 solved Due (Ok status.Floundered) before after is e = e
@@ -227,7 +227,7 @@ solved Due (Err fault.Write) before after is e = e
 solved Due (Err fault.NoMemory) before after is e = e
 
 pub command_writes : (r : Result Status RunFault) (words : List (List ℕ)) (asked : Command) (holdings : Option Holdings) (before after : Option (List ℕ))
-    → ReadsAs words asked → IfOk r IsSolved → IfSome holdings (λ held. Ends r (CommandReport held.module_at asked) before after)
+    → ReadsAs words asked → IfOk r IsCompleted → IfSome holdings (λ held. Ends r (CommandReport held.module_at asked) before after)
     → IfSome holdings (λ held. Writes (status_after r) (Report words held.module_at) before after)
 command_writes r words asked None before after reads is e = tt
 command_writes r words asked (Some held) before after reads is e =
@@ -242,15 +242,15 @@ usage_ends Due (Err fault.Write) before after is e = e
 usage_ends Due (Err fault.NoMemory) before after is e = e
 
 -- words outside the grammar, whatever is held
-pub usage_writes : (r : Result Status RunFault) (words : List (List ℕ)) (held : Held) (before after : Option (List ℕ)) → (IsCommand words → ⊥)
-    → IfOk r (λ found. found ≡ status.Usage) → OnOk r (Adds before after usage_line) → OnErr r (AddsFront before after usage_line)
+pub usage_writes : (r : Result Status RunFault) (words : List (List ℕ)) (held : Folders) (before after : Option (List ℕ)) → (IsCommand words → ⊥)
+    → IfOk r (λ found. found ≡ status.Usage) → OnOk r (Adds before after usage_line) → OnErr r (AddsPrefix before after usage_line)
     → Writes (status_after r) (Report words held) before after
 usage_writes r words held before after outside is adds part =
     usage_ends (Report words held) r before after is
     (ends (Report words held) r before after (usage_line ∷ []) status.Usage (usage outside) is (one_line r usage_line before after adds) (part_of_line r usage_line before after part))
 
 pub usage_writes_held : (r : Result Status RunFault) (words : List (List ℕ)) (holdings : Option Holdings) (before after : Option (List ℕ)) → (IsCommand words → ⊥)
-    → IfOk r (λ found. found ≡ status.Usage) → OnOk r (Adds before after usage_line) → OnErr r (AddsFront before after usage_line)
+    → IfOk r (λ found. found ≡ status.Usage) → OnOk r (Adds before after usage_line) → OnErr r (AddsPrefix before after usage_line)
     → IfSome holdings (λ held. Writes (status_after r) (Report words held.module_at) before after)
 usage_writes_held r words None before after outside is adds part = tt
 usage_writes_held r words (Some held) before after outside is adds part = usage_writes r words held.module_at before after outside is adds part
@@ -319,7 +319,7 @@ usage_whole (Err fault.Write) words before after j k is adds cause = tt
 usage_whole (Err fault.NoMemory) words before after j k is adds cause = tt
 
 pub command_whole : (r : Result Status RunFault) (words : List (List ℕ)) (asked : Command) (before after : Option (List ℕ)) → ReadsAs words asked
-    → IfOk r IsSolved → EndsWhole r asked before after → WritesWhole words (status_after r) before after
+    → IfOk r IsCompleted → EndsWhole r asked before after → WritesWhole words (status_after r) before after
 command_whole (Ok status.Done) words asked before after reads is whole = (asked, reads, whole)
 command_whole (Ok status.Floundered) words asked before after reads is whole = (asked, reads, whole)
 command_whole (Ok status.Limit) words asked before after reads is whole = (asked, reads, whole)
@@ -342,14 +342,14 @@ asks_as one other same asks = subst (λ (c : Command). AsksNothing c) (sym same)
 -- ---- what a solve lists
 
 -- what holds of the listings of all goals holds of that of a solve
-pub lists_held : (P : compiling.Held → List ℕ → List ℕ → SearchLimits → Type 0) (holdings : Option Holdings) (words : List (List ℕ))
-    → ((held : compiling.Held) (root text : List ℕ) (limits : SearchLimits) → P held root text limits)
+pub lists_held : (P : compiling.Folder → List ℕ → List ℕ → SearchLimits → Type 0) (holdings : Option Holdings) (words : List (List ℕ))
+    → ((held : compiling.Folder) (root text : List ℕ) (limits : SearchLimits) → P held root text limits)
     → IfSome holdings (λ held. (solve : Solve) → ReadsAs words (Solving solve) → P (held.module_at solve.folder) solve.name solve.goal solve.limits)
 lists_held P None words all = tt
 lists_held P (Some held) words all = λ solve reads. all (held.module_at solve.folder) solve.name solve.goal solve.limits
 
 -- ---- statuses
 
-pub done_is_solved : (r : Result Status RunFault) → IfOk r (λ answer. answer ≡ status.Done) → IfOk r IsSolved
-done_is_solved (Ok answer) is = subst IsSolved (sym is) tt
+pub done_is_solved : (r : Result Status RunFault) → IfOk r (λ answer. answer ≡ status.Done) → IfOk r IsCompleted
+done_is_solved (Ok answer) is = subst IsCompleted (sym is) tt
 done_is_solved (Err f) is = tt

@@ -12,7 +12,7 @@ use Rattle.cu_machine.specs.State.{start_of}
 use Rattle.cu_search.specs.Lines.{Notation, listing_bytes}
 use Rattle.cu_search.specs.Standing.{Standing, left_of, opened}
 use Rattle.cu_search.specs.Totals.{totals_of}
-use Rattle.cu_search.specs.Written.{Adds, AddsFront}
+use Rattle.cu_search.specs.Written.{Adds, AddsPrefix}
 use Rattle.cu_search.specs.declared.totals.Totals.{Totals}
 use Rattle.cu_theorem.specs.Listed.{listing_of}
 use Rattle.cu_cmd.specs.Report.{listing_text, notation_of}
@@ -60,10 +60,10 @@ totals_are totals end left found is_totals is_end same =
 
 -- ---- exits
 
-pub part_written : {A E : Type 0} (r : Result A E) (before after : Option (List ℕ)) (bytes text : List ℕ) → bytes ≡ text → AddsFront before after bytes
-    → OnErr r (AddsFront before after text)
+pub part_written : {A E : Type 0} (r : Result A E) (before after : Option (List ℕ)) (bytes text : List ℕ) → bytes ≡ text → AddsPrefix before after bytes
+    → OnErr r (AddsPrefix before after text)
 part_written (Ok a) before after bytes text same adds = tt
-part_written (Err e) before after bytes text same adds = subst (AddsFront before after) same adds
+part_written (Err e) before after bytes text same adds = subst (AddsPrefix before after) same adds
 
 pub all_written : (before after : Option (List ℕ)) (bytes text : List ℕ) → bytes ≡ text → Adds before after bytes → Adds before after text
 all_written before after bytes text same adds = subst (Adds before after) same adds

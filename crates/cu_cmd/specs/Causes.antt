@@ -28,6 +28,6 @@ IsUsage status.NoMemory = Unit {0}
 IsUsage answer = ⊥
 
 -- The status is one that words of the command grammar may give: any but Usage.
-abbrev pub IsNoUsage : Status → Type 0
-IsNoUsage status.Usage = ⊥
-IsNoUsage answer = Unit {0}
+abbrev pub IsNotUsage : Status → Type 0
+IsNotUsage status.Usage = ⊥
+IsNotUsage answer = Unit {0}

@@ -2,7 +2,7 @@
 use Rattle.std.specs.Prelude.{◌≡◌, ◌≤◌, ◌⊎◌, ℕ, List, Some}
 use Rattle.cu_calculus.specs.Program.{Program}
 use Rattle.cu_flat.specs.Layout.{laid_out}
-use Rattle.cu_front.specs.Compiling.{Compiles, Held}
+use Rattle.cu_front.specs.Compiling.{Compiles, Folder}
 use Rattle.cu_kernel.specs.Kernel.{Goal, Kernel}
 use Rattle.cu_machine.specs.Among.{Among}
 use Rattle.cu_machine.specs.Earlier.{EndedBefore, IsListed, IsReached, earlier}
@@ -48,7 +48,7 @@ ListedAnswersAreOfTheirRound flat goal limits = (round : ℕ) (reading : Reading
 
 -- Whatever program a goal in a module comes to, each answer of its search tree is listed in the
 -- round of its depth, and each answer that is listed is of the depth of its round.
-pub record ListsByDepth (held : Held) (root text : List ℕ) (limits : SearchLimits) : Type 0 where
+pub record ListsByDepth (held : Folder) (root text : List ℕ) (limits : SearchLimits) : Type 0 where
   pub answers_are_listed : (names : List (List ℕ)) (program : Kernel) (flat : Program)
       (goal : Goal) → Compiles held root text names program flat → program.goal ≡ Some goal
       → AnswersAreListed flat goal limits

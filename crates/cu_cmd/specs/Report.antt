@@ -17,7 +17,7 @@ use Rattle.std.specs.Prelude.{
 use Rattle.std.specs.List.{concat}
 use Rattle.cu_calculus.specs.Program as calculus
 use Rattle.cu_flattext.specs.Text.{text_of_module}
-use Rattle.cu_front.specs.Compiling.{Compiles, ModuleCompiles, ModulesRefused, Refuses}
+use Rattle.cu_front.specs.Compiling.{Compiles, RootCompiles, ModulesRefused, RequestRefused}
 use Rattle.cu_front.specs.Refusal.{Refusal}
 use Rattle.cu_front.specs.RefusalLine.{refusal_line}
 use Rattle.cu_kernel.specs.Kernel.{Goal, Kernel}
@@ -47,8 +47,8 @@ use Rattle.cu_cmd.specs.declared.status.Status.{Status}
 use Rattle.cu_cmd.specs.declared.status.Status.TheVariants as status
 
 -- the library as a function: the text of the module of a name in a folder, where there is one
-abbrev pub Held : Type 0
-Held = List ℕ → List ℕ → Option (List ℕ)
+abbrev pub Folders : Type 0
+Folders = List ℕ → List ℕ → Option (List ℕ)
 
 -- ---- refusals
 
@@ -85,9 +85,9 @@ status_of (ends.Stopped stop d) = status.Stopped
 
 -- What a `solve` writes, in pieces, and the status that it ends with: the line of a refusal, or the
 -- goal's listing.
-pub data SolveReport (held : Held) (solve : Solve) : List (List ℕ) → Status → Type 0 where
+pub data SolveReport (held : Folders) (solve : Solve) : List (List ℕ) → Status → Type 0 where
   -- The module or the goal is refused.
-  refused : (refusal : Refusal) → Refuses (held solve.folder) solve.name solve.goal refusal
+  refused : (refusal : Refusal) → RequestRefused (held solve.folder) solve.name solve.goal refusal
       → SolveReport held solve (refusal_line refusal ∷ []) status.Refused
   -- The goal's listing is written.
   listed : (names : List (List ℕ)) (program : Kernel) (flat : calculus.Program) (goal : Goal)
@@ -99,14 +99,14 @@ pub data SolveReport (held : Held) (solve : Solve) : List (List ℕ) → Status 
 
 -- What a `compile` writes, in pieces, and the status that it ends with: the line of a refusal, or
 -- the module's text in FlatCurry.
-pub data CompileReport (held : Held) (compile : Compile) : List (List ℕ) → Status → Type 0 where
+pub data CompileReport (held : Folders) (compile : Compile) : List (List ℕ) → Status → Type 0 where
   -- The module is refused.
   module_refused : (refusal : Refusal) → ModulesRefused (held compile.folder) compile.name refusal
       → CompileReport held compile (refusal_line refusal ∷ []) status.Refused
   -- The text of the module is written.
   printed : (names : List (List ℕ)) (program : Kernel) (interface : List TypeExpr)
       (flat : calculus.Program) (id : NameId) (text : List ℕ)
-      → ModuleCompiles (held compile.folder) compile.name names program interface flat
+      → RootCompiles (held compile.folder) compile.name names program interface flat
       → slice_get names id.0 ≡ Some compile.name
       → text ≡ text_of_module
       (record { names = names; kernel = program; interface = interface; flat = flat }) id
@@ -117,7 +117,7 @@ pub data CompileReport (held : Held) (compile : Compile) : List (List ℕ) → S
 pub data TrialReport (trial : Trial) : List (List ℕ) → Status → Type 0 where
   -- The module or the goal of the trial is refused.
   trial_refused : (refusal : Refusal)
-      → Refuses trial_held (codes "Trial") (trial_goal trial.depth) refusal
+      → RequestRefused trial_held (codes "Trial") (trial_goal trial.depth) refusal
       → TrialReport trial (refusal_line refusal ∷ []) status.Refused
   -- What the lines of the goal's listing come to is written.
   tried : (names : List (List ℕ)) (program : Kernel) (flat : calculus.Program) (goal : Goal)
@@ -128,7 +128,7 @@ pub data TrialReport (trial : Trial) : List (List ℕ) → Status → Type 0 whe
       → TrialReport trial written answer
 
 -- What a command writes, in pieces, and the status that it ends with.
-abbrev pub CommandReport : Held → Command → List (List ℕ) → Status → Type 0
+abbrev pub CommandReport : Folders → Command → List (List ℕ) → Status → Type 0
 CommandReport held (Solving solve) = SolveReport held solve
 CommandReport held (Compiling compile) = CompileReport held compile
 CommandReport held (Trying trial) = TrialReport trial
@@ -143,7 +143,7 @@ AsksNothing (Trying trial) = Unit {0}
 
 -- What a run writes, in pieces, and the status that it ends with, by its words and by what the
 -- library holds.
-pub data Report (words : List (List ℕ)) (held : Held) : List (List ℕ) → Status → Type 0 where
+pub data Report (words : List (List ℕ)) (held : Folders) : List (List ℕ) → Status → Type 0 where
   -- The words are outside the command grammar.
   usage : (IsCommand words → ⊥) → Report words held (usage_line ∷ []) status.Usage
   -- The words are in the command grammar, and the command that they ask for is run.

@@ -44,13 +44,13 @@ EndsWhole (Err Read) asked before after = after ≡ before
 EndsWhole (Err fault) asked before after = Unit {0}
 
 -- The status is that of a command that didn't break off.
-abbrev pub IsSolved : Status → Type 0
-IsSolved status.Done = Unit {0}
-IsSolved status.Floundered = Unit {0}
-IsSolved status.Limit = Unit {0}
-IsSolved status.Refused = Unit {0}
-IsSolved status.Stopped = Unit {0}
-IsSolved answer = ⊥
+abbrev pub IsCompleted : Status → Type 0
+IsCompleted status.Done = Unit {0}
+IsCompleted status.Floundered = Unit {0}
+IsCompleted status.Limit = Unit {0}
+IsCompleted status.Refused = Unit {0}
+IsCompleted status.Stopped = Unit {0}
+IsCompleted answer = ⊥
 
 -- ---- counts of faults
 

@@ -8,7 +8,7 @@ use Rattle.cu_front.specs.RefusalLine.{refusal_line}
 use Rattle.cu_machine.specs.Listing.{Listing}
 use Rattle.cu_names.specs.declared.names.NameId.{NameId}
 use Rattle.cu_search.specs.Lines.{Notation, listing_bytes}
-use Rattle.cu_search.specs.Written.{Adds, AddsFront}
+use Rattle.cu_search.specs.Written.{Adds, AddsPrefix}
 use Rattle.cu_words.specs.Words.{Command, Compiling, ReadsAs, Solving, Trying}
 use Rattle.cu_cmd.specs.Report.{status_of, usage_line}
 use Rattle.cu_cmd.specs.Trials.{totals_text}
@@ -20,7 +20,7 @@ pub data WritesPrefix (Due : List (List ℕ) → Status → Type 0) (before afte
     : Type 0 where
   nothing : after ≡ before → WritesPrefix Due before after
   prefix : (written : List (List ℕ)) (answer : Status) → Due written answer
-      → AddsFront before after (concat written) → WritesPrefix Due before after
+      → AddsPrefix before after (concat written) → WritesPrefix Due before after
 
 -- The whole report was written, and the run ends with its status.
 pub record WritesReport (answer : Status) (Due : List (List ℕ) → Status → Type 0)

@@ -1,7 +1,7 @@
 //! The commands of the line.
 ghost use Rattle.std.specs.Prelude.{◌≡◌, ◌≤◌, IfOk, IfSome};
 ghost use Rattle.cu_cmd.specs.Report.{AsksNothing, CommandReport};
-ghost use Rattle.cu_cmd.specs.Runs.{Ends, EndsWhole, HasRunCause, IsSolved};
+ghost use Rattle.cu_cmd.specs.Runs.{Ends, EndsWhole, HasRunCause, IsCompleted};
 ghost use Rattle.cu_words.specs.Words.{HasItsRanges, asked};
 
 use crate::compiling::compile;
@@ -9,7 +9,7 @@ use crate::fault::RunFault;
 use crate::search::Workers;
 use crate::solving::solve;
 use crate::status::Status;
-use crate::trying::try_search;
+use crate::trying::run_trial;
 use cu_io::{Library, Sink};
 use cu_pile::Gate;
 use cu_words::Asked;
@@ -44,7 +44,7 @@ pub(crate) fn run<R: Threads + Sync, G: Gate + Sync, L: Library, S: Sink>(
         (S.written output.old) (S.written output.new)) }
     ensures whole { EndsWhole result (asked command.entry)
         (S.written output.old) (S.written output.new) }
-    ensures solved { IfOk result IsSolved }
+    ensures solved { IfOk result IsCompleted }
     ensures cause { HasRunCause result
         (record { library = L.fault_count library.old; output = S.fault_count output.old })
         (record { library = L.fault_count library.new; output = S.fault_count output.new }) }
@@ -53,6 +53,6 @@ pub(crate) fn run<R: Threads + Sync, G: Gate + Sync, L: Library, S: Sink>(
     match command {
         Asked::Solve(asked) => solve(alloc, workers, asked, library, output),
         Asked::Compile(asked) => compile(alloc, asked, library, output),
-        Asked::Trial(trial) => try_search(alloc, workers, trial, output),
+        Asked::Trial(trial) => run_trial(alloc, workers, trial, output),
     }
 }

@@ -1,10 +1,10 @@
 //! The command `compile`.
 ghost use Rattle.std.specs.Prelude.{◌≡◌, IfOk, IfSome, OnErr, OnOk};
 ghost use Rattle.cu_cmd.specs.Report.{CompileReport};
-ghost use Rattle.cu_cmd.specs.Runs.{Ends, EndsWhole, HasRunCause, HasWriteCause, IsSolved};
+ghost use Rattle.cu_cmd.specs.Runs.{Ends, EndsWhole, HasRunCause, HasWriteCause, IsCompleted};
 ghost use Rattle.cu_cmd.specs.declared.status.Status.TheVariants.{Done};
 ghost use Rattle.cu_flattext.specs.Text.{lowered, text_of_module};
-ghost use Rattle.cu_search.specs.Written.{Adds, AddsFront};
+ghost use Rattle.cu_search.specs.Written.{Adds, AddsPrefix};
 ghost use Rattle.cu_words.specs.Words.{Compiling, compile_of};
 
 use crate::fault::RunFault;
@@ -30,7 +30,7 @@ pub(crate) fn compile<L: Library, S: Sink>(
         (S.written output.old) (S.written output.new)) }
     ensures whole { EndsWhole result (Compiling (compile_of compile.entry))
         (S.written output.old) (S.written output.new) }
-    ensures solved { IfOk result IsSolved }
+    ensures solved { IfOk result IsCompleted }
     ensures cause { HasRunCause result
         (record { library = L.fault_count library.old; output = S.fault_count output.old })
         (record { library = L.fault_count library.new; output = S.fault_count output.new }) }
@@ -66,7 +66,7 @@ fn write_module<S: Sink>(
     ensures whole { OnOk result (Adds (S.written output.old) (S.written output.new)
         (text_of_module (lowered names.now compiled.now.program compiled.now.interface
         compiled.now.flat) id)) }
-    ensures prefix { OnErr result (AddsFront (S.written output.old) (S.written output.new)
+    ensures prefix { OnErr result (AddsPrefix (S.written output.old) (S.written output.new)
         (text_of_module (lowered names.now compiled.now.program compiled.now.interface
         compiled.now.flat) id)) }
     ensures cause { HasWriteCause result (S.fault_count output.old) (S.fault_count output.new) }

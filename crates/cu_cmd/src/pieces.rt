@@ -1,7 +1,7 @@
 //! Writing a piece of the output.
 ghost use Rattle.std.specs.Prelude.{OnErr, OnOk};
 ghost use Rattle.cu_cmd.specs.Runs.{HasWriteCause};
-ghost use Rattle.cu_search.specs.Written.{Adds, AddsFront};
+ghost use Rattle.cu_search.specs.Written.{Adds, AddsPrefix};
 
 use crate::fault::RunFault;
 use cu_io::{Put, Sink};
@@ -10,7 +10,7 @@ use cu_io::{Put, Sink};
 pub(crate) fn write_piece<K: Sink>(sink: &mut K, piece: &str) -> Result<(), RunFault>
     ensures whole { OnOk result (Adds (K.written sink.old) (K.written sink.new) piece.now) }
     ensures prefix { OnErr result
-        (AddsFront (K.written sink.old) (K.written sink.new) piece.now) }
+        (AddsPrefix (K.written sink.old) (K.written sink.new) piece.now) }
     ensures cause { HasWriteCause result (K.fault_count sink.old) (K.fault_count sink.new) }
 {
     match sink.put(piece.as_bytes()) {

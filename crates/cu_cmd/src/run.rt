@@ -1,12 +1,12 @@
 //! The call that runs a command: `top`.
 ghost use Rattle.std.specs.Prelude.{◌≡◌, IfOk, IfSome, List, OnErr, OnOk, map, string_bytes, ℕ};
-ghost use Rattle.cu_cmd.specs.Causes.{HasCause, IsNoUsage, IsUsage};
+ghost use Rattle.cu_cmd.specs.Causes.{HasCause, IsNotUsage, IsUsage};
 ghost use Rattle.cu_cmd.specs.Depths.{ListsByDepth};
-ghost use Rattle.cu_cmd.specs.Report.{AsksNothing, Held, Report, usage_line};
+ghost use Rattle.cu_cmd.specs.Report.{AsksNothing, Folders, Report, usage_line};
 ghost use Rattle.cu_cmd.specs.Runs.{HasWriteCause};
 ghost use Rattle.cu_cmd.specs.Written.{Writes, WritesWhole};
 ghost use Rattle.cu_cmd.specs.declared.status.Status.TheVariants.{Usage};
-ghost use Rattle.cu_search.specs.Written.{Adds, AddsFront};
+ghost use Rattle.cu_search.specs.Written.{Adds, AddsPrefix};
 ghost use Rattle.cu_theorem.specs.Listed.{ListsSolutions};
 ghost use Rattle.cu_words.specs.Words.{Command, IsCommand, ReadsAs, Solve, Solving};
 
@@ -80,8 +80,8 @@ pub fn top<R: Threads + Sync, L: Library, O: Source, S: Sink, G: Gate + Sync>(
     ensures usage { (IsCommand (map string_bytes words.now) → ⊥) → IsUsage result }
     ensures usage_library { (IsCommand (map string_bytes words.now) → ⊥)
         → library.new ≡ library.old }
-    ensures no_usage { IsCommand (map string_bytes words.now) → IsNoUsage result }
-    ensures usage_report { (IsCommand (map string_bytes words.now) → ⊥) → (held : Held)
+    ensures no_usage { IsCommand (map string_bytes words.now) → IsNotUsage result }
+    ensures usage_report { (IsCommand (map string_bytes words.now) → ⊥) → (held : Folders)
         → Writes result (Report (map string_bytes words.now) held)
         (S.written output.old) (S.written output.new) }
     // A trial asks nothing of the library.
@@ -110,7 +110,7 @@ fn write_usage<S: Sink>(output: &mut S) -> Result<Status, RunFault>
     ensures status { IfOk result (λ status. status ≡ Usage) }
     ensures whole { OnOk result (Adds (S.written output.old) (S.written output.new) usage_line) }
     ensures prefix { OnErr result
-        (AddsFront (S.written output.old) (S.written output.new) usage_line) }
+        (AddsPrefix (S.written output.old) (S.written output.new) usage_line) }
     ensures cause { HasWriteCause result (S.fault_count output.old) (S.fault_count output.new) }
 {
     write_piece(output, "bad command line\n")?;

@@ -3,12 +3,12 @@ ghost use Rattle.std.specs.Prelude.{◌≡◌, ◌≤◌, IfOk, OnErr, OnOk, Som
 ghost use Rattle.cu_calculus.specs.FlatProgram as flats;
 ghost use Rattle.cu_cmd.specs.Report as report;
 ghost use Rattle.cu_cmd.specs.Report.{listing_text};
-ghost use Rattle.cu_cmd.specs.Runs.{HasWriteCause, IsSolved};
+ghost use Rattle.cu_cmd.specs.Runs.{HasWriteCause, IsCompleted};
 ghost use Rattle.cu_flat.specs.Layout.{laid_out};
 ghost use Rattle.cu_front.specs.CompileAnswers.{HasGoal};
 ghost use Rattle.cu_kernel.specs.Kernel.{Goal};
 ghost use Rattle.cu_search.specs.Standing.{widest};
-ghost use Rattle.cu_search.specs.Written.{Adds, AddsFront};
+ghost use Rattle.cu_search.specs.Written.{Adds, AddsPrefix};
 ghost use Rattle.cu_theorem.specs.Listed.{listing_of};
 
 use crate::fault::RunFault;
@@ -47,13 +47,13 @@ pub(crate) fn list<R: Threads + Sync, G: Gate + Sync, S: Sink>(
     ensures status { (goal : Goal) → problem.now.compiled.now.program.goal ≡ Some goal
         → IfOk result (λ status. status ≡ report.status_of (listing_of problem.now.limits
         (flats.program_of problem.now.compiled.now.flat) goal).end) }
-    ensures solved { IfOk result IsSolved }
+    ensures solved { IfOk result IsCompleted }
     ensures whole { (goal : Goal) → problem.now.compiled.now.program.goal ≡ Some goal
         → OnOk result (Adds (S.written output.old) (S.written output.new)
         (listing_text problem.now.names.now problem.now.compiled.now.program goal
         (listing_of problem.now.limits (flats.program_of problem.now.compiled.now.flat) goal))) }
     ensures prefix { (goal : Goal) → problem.now.compiled.now.program.goal ≡ Some goal
-        → OnErr result (AddsFront (S.written output.old) (S.written output.new)
+        → OnErr result (AddsPrefix (S.written output.old) (S.written output.new)
         (listing_text problem.now.names.now problem.now.compiled.now.program goal
         (listing_of problem.now.limits (flats.program_of problem.now.compiled.now.flat) goal))) }
     ensures cause { HasWriteCause result (S.fault_count output.old) (S.fault_count output.new) }
@@ -77,7 +77,7 @@ pub(crate) fn list<R: Threads + Sync, G: Gate + Sync, S: Sink>(
 /// The status of a run whose listing has this end.
 pub(crate) fn status_of(end: End) -> Status
     ensures status { result ≡ report.status_of end }
-    ensures solved { IsSolved result }
+    ensures solved { IsCompleted result }
 {
     match end {
         End::NoMore(0) => Status::Done,

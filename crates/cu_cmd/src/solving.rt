@@ -1,12 +1,12 @@
 //! The command `solve`.
 ghost use Rattle.std.specs.Prelude.{◌≡◌, ◌≤◌, IfOk, IfSome, OnErr, OnOk};
 ghost use Rattle.cu_cmd.specs.Report.{SolveReport};
-ghost use Rattle.cu_cmd.specs.Runs.{Ends, EndsWhole, HasRunCause, HasWriteCause, IsSolved};
+ghost use Rattle.cu_cmd.specs.Runs.{Ends, EndsWhole, HasRunCause, HasWriteCause, IsCompleted};
 ghost use Rattle.cu_cmd.specs.declared.status.Status.TheVariants.{Refused};
 ghost use Rattle.cu_front.specs.RefusalLine.{refusal_line};
 ghost use Rattle.cu_front.specs.RefusalMeaning.{RefusalIsKnown, refusal_meaning};
 ghost use Rattle.cu_search.specs.Standing.{widest};
-ghost use Rattle.cu_search.specs.Written.{Adds, AddsFront};
+ghost use Rattle.cu_search.specs.Written.{Adds, AddsPrefix};
 ghost use Rattle.cu_words.specs.Words.{Solving, solve_of};
 
 use crate::fault::RunFault;
@@ -38,7 +38,7 @@ pub(crate) fn solve<R: Threads + Sync, G: Gate + Sync, L: Library, S: Sink>(
         (S.written output.old) (S.written output.new)) }
     ensures whole { EndsWhole result (Solving (solve_of solve.entry))
         (S.written output.old) (S.written output.new) }
-    ensures solved { IfOk result IsSolved }
+    ensures solved { IfOk result IsCompleted }
     ensures cause { HasRunCause result
         (record { library = L.fault_count library.old; output = S.fault_count output.old })
         (record { library = L.fault_count library.new; output = S.fault_count output.new }) }
@@ -75,7 +75,7 @@ pub(crate) fn refuse<S: Sink>(
     ensures status { IfOk result (λ status. status ≡ Refused) }
     ensures whole { OnOk result (Adds (S.written output.old) (S.written output.new)
         (refusal_line (refusal_meaning names.now refusal.now))) }
-    ensures prefix { OnErr result (AddsFront (S.written output.old) (S.written output.new)
+    ensures prefix { OnErr result (AddsPrefix (S.written output.old) (S.written output.new)
         (refusal_line (refusal_meaning names.now refusal.now))) }
     ensures cause { HasWriteCause result (S.fault_count output.old) (S.fault_count output.new) }
 {

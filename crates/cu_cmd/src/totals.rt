@@ -3,14 +3,14 @@ ghost use Rattle.std.specs.Prelude.{◌≡◌, ◌≤◌, IfOk, OnErr, OnOk, Som
 ghost use Rattle.std.specs.List.{concat};
 ghost use Rattle.cu_calculus.specs.FlatProgram as flats;
 ghost use Rattle.cu_cmd.specs.Report as report;
-ghost use Rattle.cu_cmd.specs.Runs.{HasWriteCause, IsSolved};
+ghost use Rattle.cu_cmd.specs.Runs.{HasWriteCause, IsCompleted};
 ghost use Rattle.cu_cmd.specs.Trials as trials;
 ghost use Rattle.cu_cmd.specs.Trials.{totals_pieces, totals_text};
 ghost use Rattle.cu_flat.specs.Layout.{laid_out};
 ghost use Rattle.cu_front.specs.CompileAnswers.{HasGoal};
 ghost use Rattle.cu_kernel.specs.Kernel.{Goal};
 ghost use Rattle.cu_search.specs.Standing.{widest};
-ghost use Rattle.cu_search.specs.Written.{Adds, AddsFront};
+ghost use Rattle.cu_search.specs.Written.{Adds, AddsPrefix};
 ghost use Rattle.cu_theorem.specs.Listed.{listing_of};
 
 use crate::fault::RunFault;
@@ -43,12 +43,12 @@ pub(crate) fn total<R: Threads + Sync, G: Gate + Sync, S: Sink>(
     ensures status { (goal : Goal) → problem.now.compiled.now.program.goal ≡ Some goal
         → IfOk result (λ status. status ≡ report.status_of (listing_of problem.now.limits
         (flats.program_of problem.now.compiled.now.flat) goal).end) }
-    ensures solved { IfOk result IsSolved }
+    ensures solved { IfOk result IsCompleted }
     ensures whole { (goal : Goal) → problem.now.compiled.now.program.goal ≡ Some goal
         → OnOk result (Adds (S.written output.old) (S.written output.new) (totals_text
         (listing_of problem.now.limits (flats.program_of problem.now.compiled.now.flat) goal))) }
     ensures prefix { (goal : Goal) → problem.now.compiled.now.program.goal ≡ Some goal
-        → OnErr result (AddsFront (S.written output.old) (S.written output.new) (totals_text
+        → OnErr result (AddsPrefix (S.written output.old) (S.written output.new) (totals_text
         (listing_of problem.now.limits (flats.program_of problem.now.compiled.now.flat) goal))) }
     ensures cause { HasWriteCause result (S.fault_count output.old) (S.fault_count output.new) }
 {
@@ -80,7 +80,7 @@ fn write_totals<S: Sink>(
         (Adds (S.written output.old) (S.written output.new)
         (concat (totals_pieces totals end))) }
     ensures prefix { OnErr result
-        (AddsFront (S.written output.old) (S.written output.new)
+        (AddsPrefix (S.written output.old) (S.written output.new)
         (concat (totals_pieces totals end))) }
     ensures cause { HasWriteCause result (S.fault_count output.old) (S.fault_count output.new) }
 {

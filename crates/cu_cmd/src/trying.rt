@@ -1,7 +1,7 @@
 //! The command `trial`.
 ghost use Rattle.std.specs.Prelude.{◌≡◌, ◌≤◌, IfOk, string_bytes};
 ghost use Rattle.cu_cmd.specs.Report.{TrialReport};
-ghost use Rattle.cu_cmd.specs.Runs.{Ends, EndsWhole, HasWriteCause, IsSolved};
+ghost use Rattle.cu_cmd.specs.Runs.{Ends, EndsWhole, HasWriteCause, IsCompleted};
 ghost use Rattle.cu_cmd.specs.Trials as trials;
 ghost use Rattle.cu_search.specs.Standing.{widest};
 ghost use Rattle.cu_words.specs.Words.{Trying, trial_of};
@@ -23,7 +23,7 @@ use std::thread::Threads;
 
 /// Writes what the listing of a trial comes to, and answers how the run ends.
 /// The module of trials is held in memory, and no other library is asked.
-pub(crate) fn try_search<R: Threads + Sync, G: Gate + Sync, S: Sink>(
+pub(crate) fn run_trial<R: Threads + Sync, G: Gate + Sync, S: Sink>(
     alloc: Global,
     workers: &Workers<'_, R, G>,
     trial: Trial,
@@ -35,7 +35,7 @@ pub(crate) fn try_search<R: Threads + Sync, G: Gate + Sync, S: Sink>(
         (S.written output.old) (S.written output.new) }
     ensures whole { EndsWhole result (Trying (trial_of trial))
         (S.written output.old) (S.written output.new) }
-    ensures solved { IfOk result IsSolved }
+    ensures solved { IfOk result IsCompleted }
     ensures cause { HasWriteCause result (S.fault_count output.old) (S.fault_count output.new) }
 {
     let mut library = trial_library(alloc)?;

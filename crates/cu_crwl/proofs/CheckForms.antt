@@ -112,19 +112,19 @@ whole_short program claims cited env h ts t v is less =
     sym (whole_row program claims cs env h ts t v is
     ∙ ap (λ b. b && applies program claims h (values_said (take n cs)) (drop n cs) v) (short_about (take n cs) env (terms_of ts.items) few))
 
-pub whole_given : (program : Program) (claims : List calculus.Claim) (cited front back : List (Bor Statement)) (n : ℕ) (env bindings : Bindings) (h : Head)
-    (ts : Vec Term Global) (us : List Term) (t : Term) (v : Value) → t ≡ term.Whole h ts → n ≡ length ts.items → front ≡ take n cited → back ≡ drop n cited
+pub whole_given : (program : Program) (claims : List calculus.Claim) (cited prefix suffix : List (Bor Statement)) (n : ℕ) (env bindings : Bindings) (h : Head)
+    (ts : Vec Term Global) (us : List Term) (t : Term) (v : Value) → t ≡ term.Whole h ts → n ≡ length ts.items → prefix ≡ take n cited → suffix ≡ drop n cited
     → bindings ≡ env → us ≡ ts.items
     → row_follows program claims (statements_at cited) env (term_of t) v
-    ≡ whole_follows program claims (statements_at front) (statements_at back) bindings h (terms_of us) v
-whole_given program claims cited front back n env bindings h ts us t v is size first second same terms =
+    ≡ whole_follows program claims (statements_at prefix) (statements_at suffix) bindings h (terms_of us) v
+whole_given program claims cited prefix suffix n env bindings h ts us t v is size first second same terms =
     let at = λ (s : Bor Statement). statement_of s.now in
     let count : term_count (terms_of ts.items) ≡ n = term_counts ts.items ∙ sym size in
     whole_row program claims (statements_at cited) env h ts t v is
     ∙ ap (λ k. whole_follows program claims (take k (statements_at cited)) (drop k (statements_at cited)) env h (terms_of ts.items) v) count
     ∙ ap₂ (λ (xs ys : List clean.Statement). whole_follows program claims xs ys env h (terms_of ts.items) v)
     (take-map at n cited ∙ ap statements_at (sym first)) (drop-map at n cited ∙ ap statements_at (sym second))
-    ∙ ap₂ (λ (e : Bindings) (xs : List Term). whole_follows program claims (statements_at front) (statements_at back) e h (terms_of xs) v) (sym same) (sym terms)
+    ∙ ap₂ (λ (e : Bindings) (xs : List Term). whole_follows program claims (statements_at prefix) (statements_at suffix) e h (terms_of xs) v) (sym same) (sym terms)
 
 -- the whole check
 

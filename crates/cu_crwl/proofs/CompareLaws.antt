@@ -7,10 +7,10 @@ use Rattle.cu_calculus.specs.Literal.{same_literal}
 use Rattle.cu_calculus.specs.Match.{same_constructor}
 use Rattle.cu_calculus.specs.Value as value
 use Rattle.cu_calculus.specs.Value.{Value, Values, count}
-use Rattle.cu_values.specs.Cells.{arity_of, back, first, front, put, read_all, spell, IsSpelled}
+use Rattle.cu_values.specs.Cells.{arity_of, suffix, first, prefix, put, read_all, spell, IsSpelled}
 use Rattle.cu_values.specs.declared.cell.Cell.{Cell}
 use Rattle.cu_values.specs.declared.cell.Cell.TheVariants as cell
-use Rattle.cu_values.proofs.CellLemmas.{behind, count_read_all, read_all_one, some_cell, spelled_one, Behind}
+use Rattle.cu_values.proofs.CellLemmas.{after, count_read_all, read_all_one, some_cell, spelled_one, After}
 use Rattle.cu_values.proofs.OrderLemmas.{put_parts, whole_enough}
 use Rattle.cu_crwl.specs.Comparing.{heads_meet}
 use Rattle.cu_crwl.specs.declared.compare.Met.{Met}
@@ -43,9 +43,9 @@ arguments_met false us vs = refl
 
 -- the heads decide first, and then the arguments
 heads_compared : (c d : Cell) (us vs : Values)
-    → compared (first (put c us)) (first (put d vs)) ≡ answer_of (heads_meet c d) (front (arity_of c) us) (front (arity_of d) vs)
+    → compared (first (put c us)) (first (put d vs)) ≡ answer_of (heads_meet c d) (prefix (arity_of c) us) (prefix (arity_of d) vs)
 heads_compared (cell.Lit l) (cell.Lit m) us vs = literals_met (same_literal l m)
-heads_compared (cell.Con c m) (cell.Con d n) us vs = arguments_met (same_constructor c d) (front m us) (front n vs)
+heads_compared (cell.Con c m) (cell.Con d n) us vs = arguments_met (same_constructor c d) (prefix m us) (prefix n vs)
 heads_compared _ _ us vs = refl
 
 and_assoc : (a b c : Option Bool) → and_compared (and_compared a b) c ≡ and_compared a (and_compared b c)
@@ -54,19 +54,19 @@ and_assoc (Some true) b c = refl
 and_assoc (Some false) b c = refl
 
 -- as many arguments, and then what stands after them
-pairs_front : (m q : ℕ) (us vs : Values) (last : Option Bool) → m ≤ count us → m ≤ count vs
-    → and_compared (all_compared (front m us) (front m vs)) (pairs_compared q (back m us) (back m vs) last) ≡ pairs_compared (q + m) us vs last
-pairs_front zero q us vs last e f = rw add-zero refl
-pairs_front (suc m) q value.NoValue vs last e f = absurd (omega (arith, e))
-pairs_front (suc m) q (value.MoreValues u us) value.NoValue last e f = absurd (omega (arith, f))
-pairs_front (suc m) q (value.MoreValues u us) (value.MoreValues v vs) last e f =
+pairs_prefix : (m q : ℕ) (us vs : Values) (last : Option Bool) → m ≤ count us → m ≤ count vs
+    → and_compared (all_compared (prefix m us) (prefix m vs)) (pairs_compared q (suffix m us) (suffix m vs) last) ≡ pairs_compared (q + m) us vs last
+pairs_prefix zero q us vs last e f = rw add-zero refl
+pairs_prefix (suc m) q value.NoValue vs last e f = absurd (omega (arith, e))
+pairs_prefix (suc m) q (value.MoreValues u us) value.NoValue last e f = absurd (omega (arith, f))
+pairs_prefix (suc m) q (value.MoreValues u us) (value.MoreValues v vs) last e f =
     rw add-suc
-    (and_assoc (compared u v) (all_compared (front m us) (front m vs)) (pairs_compared q (back m us) (back m vs) last)
-    ∙ ap (and_compared (compared u v)) (pairs_front m q us vs last (omega (arith, e)) (omega (arith, f))))
+    (and_assoc (compared u v) (all_compared (prefix m us) (prefix m vs)) (pairs_compared q (suffix m us) (suffix m vs) last)
+    ∙ ap (and_compared (compared u v)) (pairs_prefix m q us vs last (omega (arith, e)) (omega (arith, f))))
 
 -- more arguments on one side
 pairs_unlike : (m n k : ℕ) (us vs : Values) (rest : Option Bool) → (m ≡ n → ⊥) → k ≡ min m n → m ≤ count us → n ≤ count vs
-    → and_compared (all_compared (front m us) (front n vs)) rest ≡ pairs_compared k us vs None
+    → and_compared (all_compared (prefix m us) (prefix n vs)) rest ≡ pairs_compared k us vs None
 pairs_unlike zero zero k us vs rest differ is e f = absurd (differ refl)
 pairs_unlike zero (suc n) k us value.NoValue rest differ is e f = absurd (omega (arith, f))
 pairs_unlike zero (suc n) zero us (value.MoreValues v vs) rest differ is e f = refl
@@ -77,16 +77,16 @@ pairs_unlike (suc m) zero (suc k) (value.MoreValues u us) vs rest differ is e f 
 pairs_unlike (suc m) (suc n) k (value.MoreValues u us) value.NoValue rest differ is e f = absurd (omega (arith, f))
 pairs_unlike (suc m) (suc n) zero (value.MoreValues u us) (value.MoreValues v vs) rest differ is e f = absurd (omega (arith, is))
 pairs_unlike (suc m) (suc n) (suc k) (value.MoreValues u us) (value.MoreValues v vs) rest differ is e f =
-    and_assoc (compared u v) (all_compared (front m us) (front n vs)) rest
+    and_assoc (compared u v) (all_compared (prefix m us) (prefix n vs)) rest
     ∙ ap (and_compared (compared u v)) (pairs_unlike m n k us vs rest (λ g. differ (ap suc g)) (omega (arith, is)) (omega (arith, e)) (omega (arith, f)))
 
 pairs_heads : (c d : Cell) (us vs : Values) (q : ℕ) (last : Option Bool)
     → pairs_compared (suc q) (put c us) (put d vs) last
-    ≡ and_compared (answer_of (heads_meet c d) (front (arity_of c) us) (front (arity_of d) vs)) (pairs_compared q (back (arity_of c) us) (back (arity_of d) vs) last)
+    ≡ and_compared (answer_of (heads_meet c d) (prefix (arity_of c) us) (prefix (arity_of d) vs)) (pairs_compared q (suffix (arity_of c) us) (suffix (arity_of d) vs) last)
 pairs_heads c d us vs q last =
     ap (λ (x : Values). pairs_compared (suc q) x (put d vs) last) (put_parts c us)
-    ∙ ap (λ (x : Values). pairs_compared (suc q) (value.MoreValues (first (put c us)) (back (arity_of c) us)) x last) (put_parts d vs)
-    ∙ ap (λ x. and_compared x (pairs_compared q (back (arity_of c) us) (back (arity_of d) vs) last)) (heads_compared c d us vs)
+    ∙ ap (λ (x : Values). pairs_compared (suc q) (value.MoreValues (first (put c us)) (suffix (arity_of c) us)) x last) (put_parts d vs)
+    ∙ ap (λ x. and_compared x (pairs_compared q (suffix (arity_of c) us) (suffix (arity_of d) vs) last)) (heads_compared c d us vs)
 
 -- cells of values of which some pairs are still to be compared, the answer where these are the
 -- same, and what the comparison answers
@@ -101,12 +101,12 @@ pub record Compares (cs ds : List Cell) (left : ℕ) (last answer : Option Bool)
 met_first : (met : Met) (c d : Cell) (cs ds : List Cell) (q : ℕ) (last answer : Option Bool) → met ≡ heads_meet c d
     → Compares (c ∷ cs) (d ∷ ds) (suc q) last answer
     → answer
-    ≡ and_compared (answer_of met (front (arity_of c) (read_all cs)) (front (arity_of d) (read_all ds)))
-    (pairs_compared q (back (arity_of c) (read_all cs)) (back (arity_of d) (read_all ds)) last)
+    ≡ and_compared (answer_of met (prefix (arity_of c) (read_all cs)) (prefix (arity_of d) (read_all ds)))
+    (pairs_compared q (suffix (arity_of c) (read_all cs)) (suffix (arity_of d) (read_all ds)) last)
 met_first met c d cs ds q last answer is p =
     p.decides ∙ pairs_heads c d (read_all cs) (read_all ds) q last
-    ∙ ap (λ m. and_compared (answer_of m (front (arity_of c) (read_all cs)) (front (arity_of d) (read_all ds)))
-    (pairs_compared q (back (arity_of c) (read_all cs)) (back (arity_of d) (read_all ds)) last)) (sym is)
+    ∙ ap (λ m. and_compared (answer_of m (prefix (arity_of c) (read_all cs)) (prefix (arity_of d) (read_all ds)))
+    (pairs_compared q (suffix (arity_of c) (read_all cs)) (suffix (arity_of d) (read_all ds)) last)) (sym is)
 
 -- what is left after heads that are alike
 pub record Left (m n q : ℕ) (whole : Bool) (left : ℕ) (now : Bool) : Type 0 where
@@ -119,21 +119,21 @@ step_same : (c d : Cell) (cs ds : List Cell) (q : ℕ) (whole : Bool) (answer : 
 step_same c d cs ds q whole answer left now alike p l e =
     let us = read_all cs in
     let vs = read_all ds in
-    let b : Behind c cs = behind c cs p.spelled in
-    let k : Behind d ds = behind d ds p.others in
+    let b : After c cs = after c cs p.spelled in
+    let k : After d ds = after d ds p.others in
     let n : left ≡ q + arity_of c = (l.same e).0 in
     let o : now ≡ whole = (l.same e).1 in
     let mine : arity_of c ≤ count us = whole_enough c cs b in
     let theirs : arity_of c ≤ count vs = rw e (whole_enough d ds k) in
     let begun = met_first met.Alike c d cs ds q (ending whole) answer alike p in
-    let even : answer ≡ and_compared (all_compared (front (arity_of c) us) (front (arity_of c) vs)) (pairs_compared q (back (arity_of c) us) (back (arity_of c) vs) (ending whole)) =
-    subst (λ (m : ℕ). answer ≡ and_compared (all_compared (front (arity_of c) us) (front m vs)) (pairs_compared q (back (arity_of c) us) (back m vs) (ending whole))) (sym e) begun in
+    let even : answer ≡ and_compared (all_compared (prefix (arity_of c) us) (prefix (arity_of c) vs)) (pairs_compared q (suffix (arity_of c) us) (suffix (arity_of c) vs) (ending whole)) =
+    subst (λ (m : ℕ). answer ≡ and_compared (all_compared (prefix (arity_of c) us) (prefix m vs)) (pairs_compared q (suffix (arity_of c) us) (suffix m vs) (ending whole))) (sym e) begun in
     rw (n, o) record {
       spelled = b.others;
       others = k.others;
       mine = omega (arith, b.counted, p.mine);
       theirs = omega (arith, k.counted, p.theirs, e);
-      decides = even ∙ pairs_front (arity_of c) q us vs (ending whole) mine theirs;
+      decides = even ∙ pairs_prefix (arity_of c) q us vs (ending whole) mine theirs;
     }
 
 step_differ : (c d : Cell) (cs ds : List Cell) (q : ℕ) (whole : Bool) (answer : Option Bool) (left : ℕ) (now : Bool)
@@ -142,8 +142,8 @@ step_differ : (c d : Cell) (cs ds : List Cell) (q : ℕ) (whole : Bool) (answer 
 step_differ c d cs ds q whole answer left now alike p l differ =
     let us = read_all cs in
     let vs = read_all ds in
-    let b : Behind c cs = behind c cs p.spelled in
-    let k : Behind d ds = behind d ds p.others in
+    let b : After c cs = after c cs p.spelled in
+    let k : After d ds = after d ds p.others in
     let n : left ≡ min (arity_of c) (arity_of d) = (l.differ differ).0 in
     let o : now ≡ false = (l.differ differ).1 in
     let mine : arity_of c ≤ count us = whole_enough c cs b in
@@ -156,7 +156,7 @@ step_differ c d cs ds q whole answer left now alike p l differ =
       theirs = omega (arith, n, theirs);
       decides =
           begun
-          ∙ pairs_unlike (arity_of c) (arity_of d) left us vs (pairs_compared q (back (arity_of c) us) (back (arity_of d) vs) (ending whole)) differ n mine theirs;
+          ∙ pairs_unlike (arity_of c) (arity_of d) left us vs (pairs_compared q (suffix (arity_of c) us) (suffix (arity_of d) vs) (ending whole)) differ n mine theirs;
     }
 
 step : (c d : Cell) (cs ds : List Cell) (q : ℕ) (whole : Bool) (answer : Option Bool) (left : ℕ) (now : Bool)
@@ -223,7 +223,7 @@ pub arity_room : (cells others : List Cell) (i left : ℕ) (d : Cell) (last answ
     → Compares (drop i cells) (drop i others) left last answer → left + arity_of (get_or cells i d) ≤ length cells + 1
 arity_room cells others i left d last answer some p =
     let q = here cells others i left d last answer some p in
-    let b : Behind (get_or cells i d) (drop (suc i) cells) = behind (get_or cells i d) (drop (suc i) cells) q.spelled in
+    let b : After (get_or cells i d) (drop (suc i) cells) = after (get_or cells i d) (drop (suc i) cells) q.spelled in
     omega (arith, b.counted, q.mine, count_read_all (drop (suc i) cells), length-drop (suc i) cells, some)
 
 pub left_from : (m n a b left : ℕ) (whole : Bool) (k : ℕ) (now : Bool) → m ≡ a → n ≡ b → 0 < left

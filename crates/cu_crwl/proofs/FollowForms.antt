@@ -16,7 +16,7 @@ use Rattle.cu_values.specs.Parts.{arguments_of, head_of}
 use Rattle.cu_values.specs.declared.cell.Cell.TheVariants as cell
 use Rattle.cu_crwl.specs.Environments.{says}
 use Rattle.cu_crwl.specs.Table.{alternative_gives, application_gives, applied_to}
-use Rattle.cu_crwl.proofs.MatchLoops.{values_back}
+use Rattle.cu_crwl.proofs.MatchLoops.{values_restored}
 
 pub count_is : (vs : List Value) → count (values_of vs) ≡ length vs
 count_is [] = refl
@@ -32,7 +32,7 @@ pub application_form : (program : Program) (claims : List Claim) (f u v : Value)
 application_form program claims (value.Partial k us) u v h n args new last head arguments added =
     let same : k ≡ h = cc in
     let values : values_of new ≡ and_then us u =
-    ap values_of added ∙ one_more args u ∙ ap (λ (xs : Values). and_then xs u) (ap values_of arguments ∙ values_back us) in
+    ap values_of added ∙ one_more args u ∙ ap (λ (xs : Values). and_then xs u) (ap values_of arguments ∙ values_restored us) in
     ap₂ (λ (x : Head) (ys : Values). applied_to program claims x ys last v) same (sym values)
 application_form program claims value.Bottom u v h n args new last head arguments added = let never : ⊥ = cc in absurd never
 application_form program claims (value.Variable x) u v h n args new last head arguments added = let never : ⊥ = cc in absurd never

@@ -16,9 +16,9 @@ use Rattle.cu_values.specs.Parts.{arguments_of, head_of}
 use Rattle.cu_values.specs.declared.cell.Cell.TheVariants as cell
 use Rattle.cu_crwl.proofs.Pairwise.{left}
 
-pub values_back : (vs : Values) → values_of (list_of vs) ≡ vs
-values_back value.NoValue = refl
-values_back (value.MoreValues v vs) = ap (value.MoreValues v) (values_back vs)
+pub values_restored : (vs : Values) → values_of (list_of vs) ≡ vs
+values_restored value.NoValue = refl
+values_restored (value.MoreValues v vs) = ap (value.MoreValues v) (values_restored vs)
 
 same_place : (c d : ConId) → c.0 ≡ d.0 → c ≡ d
 same_place c d e = ap (λ (n : ℕ). let place : ConId = record { 0 = n } in place) e
@@ -31,7 +31,7 @@ constructor_matched p (value.Constructed e vs) c d n ps qs us is head same patte
     ap (λ (x : Pattern). matched (pattern_of x) (value.Constructed e vs)) is
     ∙ ap (λ x. matched x (value.Constructed e vs)) (pattern_of-Con c ps)
     ∙ taken place
-    ∙ ap₂ (λ (xs : List Pattern) (ys : Values). all_matched (patterns_of xs) ys) (sym patterns) (sym (ap values_of values ∙ values_back vs))
+    ∙ ap₂ (λ (xs : List Pattern) (ys : Values). all_matched (patterns_of xs) ys) (sym patterns) (sym (ap values_of values ∙ values_restored vs))
   where
     taken : c ≡ e → matched (clean.Built c (patterns_of ps.items)) (value.Constructed e vs) ≡ all_matched (patterns_of ps.items) vs
     taken place =

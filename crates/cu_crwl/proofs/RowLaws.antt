@@ -9,7 +9,7 @@ use Rattle.std.specs.declared.vec.Vec.{Vec}
 use Rattle.cu_calculus.specs.declared.ConId.{ConId}
 use Rattle.cu_calculus.specs.declared.Lit.{Lit}
 use Rattle.cu_calculus.specs.Choose as calculus
-use Rattle.cu_calculus.specs.Choose.{arguments_of, list_patterns, narrowed}
+use Rattle.cu_calculus.specs.Choose.{arguments_of, list_patterns, specialized_row}
 use Rattle.cu_calculus.specs.Chosen.{chosen, chosen_after}
 use Rattle.cu_calculus.specs.Program.{Program}
 use Rattle.cu_calculus.specs.Value.{Value}
@@ -56,8 +56,8 @@ over n found = elim found [ Some p ↦ arguments_of n p | None ↦ [] ]
 abbrev with_patterns : Row → List clean.Pattern → calculus.Row
 with_patterns row ps = record { patterns = ps; choice = row.choice }
 
-pub narrowed_past : (row : Row) (i n : ℕ) → length row.patterns.items ≤ i → row_meaning row ≡ narrowed i n (row_meaning row)
-narrowed_past row i n past =
+pub specialized_past : (row : Row) (i n : ℕ) → length row.patterns.items ≤ i → row_meaning row ≡ specialized_row i n (row_meaning row)
+specialized_past row i n past =
     let ps = patterns_at row.patterns.items in
     let short : length ps ≤ i = omega (arith, length-map row.patterns.items (λ (p : Bor Pattern). pattern_of p.now)) in
     let whole : ps ≡ (take i ps ++ over n (slice_get ps i)) ++ drop (i + 1) ps =
@@ -66,16 +66,16 @@ narrowed_past row i n past =
     (drop_all (i + 1) ps (omega arith)) ∙ append-nil ps) in
     ap (with_patterns row) whole
 
-pub narrowed_here : (row : Row) (i n : ℕ) (p : Bor Pattern) (begun one two first mid new : List (Bor Pattern)) → i < length row.patterns.items
+pub specialized_here : (row : Row) (i n : ℕ) (p : Bor Pattern) (begun one two first mid new : List (Bor Pattern)) → i < length row.patterns.items
     → p ≡ get_or row.patterns.items i p → begun ≡ [] → one ≡ row.patterns.items → two ≡ row.patterns.items → first ≡ begun ++ take i one
     → patterns_at mid ≡ patterns_at first ++ arguments_of n (pattern_of p.now) → new ≡ mid ++ take (length two - (i + 1)) (drop (i + 1) two)
-    → with_patterns row (patterns_at new) ≡ narrowed i n (row_meaning row)
-narrowed_here row i n p begun one two first mid new below is none same other front middle all =
+    → with_patterns row (patterns_at new) ≡ specialized_row i n (row_meaning row)
+specialized_here row i n p begun one two first mid new below is none same other prefix middle all =
     let items = row.patterns.items in
     let at = λ (q : Bor Pattern). pattern_of q.now in
     let ps = patterns_at items in
     let beginning : patterns_at first ≡ take i ps =
-    ap patterns_at (front ∙ ap₂ (λ (xs ys : List (Bor Pattern)). xs ++ take i ys) none same) ∙ sym (take-map at i items) in
+    ap patterns_at (prefix ∙ ap₂ (λ (xs ys : List (Bor Pattern)). xs ++ take i ys) none same) ∙ sym (take-map at i items) in
     let rest : take (length two - (i + 1)) (drop (i + 1) two) ≡ drop (i + 1) items =
     take_all (length two - (i + 1)) (drop (i + 1) two) (omega (arith, length-drop (i + 1) two)) ∙ ap (drop (i + 1)) other in
     let found : slice_get ps i ≡ Some (pattern_of p.now) =
@@ -99,7 +99,7 @@ pub again_chosen : (program : Program) (rows fewer : List calculus.Row) (values 
 again_chosen program rows fewer values whole e before =
     sym (chosen_looks program rows values ∙ ap (chosen_after (chosen program) values) e) ∙ before
 
-pub narrow_chosen : (program : Program) (rows fewer : List calculus.Row) (values parts : List Value) (whole : Option ℕ)
-    → calculus.look program rows values ≡ calculus.Narrow fewer parts → chosen program rows values ≡ whole → chosen program fewer parts ≡ whole
-narrow_chosen program rows fewer values parts whole e before =
+pub specialize_chosen : (program : Program) (rows fewer : List calculus.Row) (values parts : List Value) (whole : Option ℕ)
+    → calculus.look program rows values ≡ calculus.Specialize fewer parts → chosen program rows values ≡ whole → chosen program fewer parts ≡ whole
+specialize_chosen program rows fewer values parts whole e before =
     sym (chosen_looks program rows values ∙ ap (chosen_after (chosen program) values) e) ∙ before

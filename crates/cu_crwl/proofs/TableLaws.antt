@@ -384,9 +384,9 @@ module _ (program : Program) (claims : List Claim) where
   whole_to parts last env h ts us v say applied =
       let about = all_say_about parts env ts us say in
       let size : length parts ≡ term_count ts = about_count parts env ts about.0 in
-      let front : take (term_count ts) (parts ++ last) ≡ parts = ap (λ (n : ℕ). take n (parts ++ last)) (sym size) ∙ take-append_seam parts last in
-      let back : drop (term_count ts) (parts ++ last) ≡ last = ap (λ (n : ℕ). drop n (parts ++ last)) (sym size) ∙ drop-append_seam parts last in
-      ap₂ (λ (xs ys : List Statement). whole_follows program claims xs ys env h ts v) front back
+      let prefix : take (term_count ts) (parts ++ last) ≡ parts = ap (λ (n : ℕ). take n (parts ++ last)) (sym size) ∙ take-append_seam parts last in
+      let suffix : drop (term_count ts) (parts ++ last) ≡ last = ap (λ (n : ℕ). drop n (parts ++ last)) (sym size) ∙ drop-append_seam parts last in
+      ap₂ (λ (xs ys : List Statement). whole_follows program claims xs ys env h ts v) prefix suffix
       ∙ and_from (all_about parts env ts) (applies program claims h (values_said parts) last v) about.0
       (ap (λ (xs : Values). applies program claims h xs last v) about.1 ∙ applies_to h us last v applied)
 

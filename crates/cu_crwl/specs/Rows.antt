@@ -3,7 +3,7 @@
 use Rattle.std.specs.Prelude.{Bool, ◌||◌, List, map}
 use denote.Ref.{Bor}
 use Rattle.cu_calculus.specs.Choose as calculus
-use Rattle.cu_calculus.specs.Choose.{not_literal, wants_constructor, wants_literal, wants_nothing}
+use Rattle.cu_calculus.specs.Choose.{not_literal, demands_constructor, demands_literal, demands_nothing}
 use Rattle.cu_calculus.specs.Term as clean
 use Rattle.cu_kernel.specs.TermsOf.{pattern_of}
 use Rattle.cu_kernel.specs.declared.term.Pattern.{Pattern}
@@ -35,15 +35,16 @@ rows_meaning rows = map row_meaning rows
 
 -- whether a row with this demand stays
 abbrev pub keeps : Keep → calculus.Demand → Bool
-keeps (keep.OnlyLiteral l) d = wants_literal l d
-keeps (keep.LiteralOrNothing l) d = wants_nothing d || wants_literal l d
+keeps (keep.OnlyLiteral l) d = demands_literal l d
+keeps (keep.LiteralOrNothing l) d = demands_nothing d || demands_literal l d
 keeps (keep.NotLiteral l) d = not_literal l d
-keeps (keep.OnlyConstructor c) d = wants_constructor c d
-keeps (keep.ConstructorOrNothing c) d = wants_nothing d || wants_constructor c d
+keeps (keep.OnlyConstructor c) d = demands_constructor c d
+keeps (keep.ConstructorOrNothing c) d = demands_nothing d || demands_constructor c d
 
 -- the outcome of a look that one of the code stands for
 abbrev pub look_meaning : Look → calculus.Look
 look_meaning look.Nowhere = calculus.Nowhere
 look_meaning (look.Take k) = calculus.Take k
 look_meaning (look.Again rows) = calculus.Again (rows_meaning rows.items)
-look_meaning (look.Narrow rows values) = calculus.Narrow (rows_meaning rows.items) values.items
+look_meaning (look.Specialize rows values) =
+    calculus.Specialize (rows_meaning rows.items) values.items

@@ -1,7 +1,7 @@
 //! Which alternative of a case distinction a value takes.
 ghost use Rattle.std.specs.Prelude.{◌≡◌, ◌∷◌, [], ◌++◌, ◌<◌, ◌≤◌, Bool, IfOk, IsTrue, List, OnOk, filter, replicate, length, map, option_map, take, drop, slice_get};
 ghost use Rattle.cu_calculus.specs.Choose as calculus;
-ghost use Rattle.cu_calculus.specs.Choose.{arguments_of, demand_at, demand_of, has_variable, is_demanding, leftmost, narrowed, not_literal, rows_from, same_type, spliced};
+ghost use Rattle.cu_calculus.specs.Choose.{arguments_of, demand_at, demand_of, has_variable, is_demanding, leftmost, specialized_row, not_literal, rows_from, same_type, spliced};
 ghost use Rattle.cu_calculus.specs.Chosen.{chosen};
 ghost use Rattle.cu_kernel.specs.Heads.{heads_program};
 ghost use Rattle.cu_kernel.specs.TermsOf.{alternatives_of, pattern_of};
@@ -51,7 +51,7 @@ pub(crate) enum Look<'a> {
     /// Fewer rows are left, over the same values.
     Again(Vec<Row<'a>>),
     /// Fewer rows are left, over the arguments of the value that was looked at.
-    Narrow(Vec<Row<'a>>, Vec<Value>),
+    Specialize(Vec<Row<'a>>, Vec<Value>),
 }
 
 /// What a pattern demands of a value.
@@ -145,8 +145,13 @@ impl<'a> Row<'a> {
 
     /// The row over the arguments of what stands at a position; there are
     /// `count` of them.
-    fn narrowed(&self, alloc: Global, position: usize, count: usize) -> Result<Row<'a>, AllocError>
-        ensures { IfOk result (λ row. row_meaning row ≡ narrowed position count
+    fn specialized_row(
+        &self,
+        alloc: Global,
+        position: usize,
+        count: usize,
+    ) -> Result<Row<'a>, AllocError>
+        ensures { IfOk result (λ row. row_meaning row ≡ specialized_row position count
             (row_meaning self.now)) }
     {
         if position >= self.patterns.len() {
@@ -267,25 +272,25 @@ fn kept<'a>(
 
 /// The rows that stay by the test, over the arguments of what stands at a
 /// position.
-fn all_narrowed<'a>(
+fn all_specialized<'a>(
     alloc: Global,
     rows: &[Row<'a>],
     position: usize,
     count: usize,
 ) -> Result<Vec<Row<'a>>, AllocError>
-    ensures { IfOk result (λ all. rows_meaning all.items ≡ map (narrowed position count)
+    ensures { IfOk result (λ all. rows_meaning all.items ≡ map (specialized_row position count)
         (rows_meaning rows.now)) }
 {
     let mut all = Vec::new(alloc);
     for row in rows {
-        all.push(row.narrowed(alloc, position, count)?)?;
+        all.push(row.specialized_row(alloc, position, count)?)?;
     }
     Ok(all)
 }
 
 /// The rows that stay by the test, and the values, over the arguments of what
 /// stands at a position: specialization of the clause matrix.
-fn narrow<'a>(
+fn specialized_look<'a>(
     alloc: Global,
     rows: &[Row<'a>],
     values: &[Value],
@@ -294,13 +299,14 @@ fn narrow<'a>(
     arguments: &[Value],
 ) -> Result<Look<'a>, AllocError>
     requires { position < length values.now }
-    ensures { IfOk result (λ look. look_meaning look ≡ calculus.narrow position (keeps keep)
-        (rows_meaning rows.now) arguments.now values.now) }
+    ensures { IfOk result (λ look. look_meaning look
+        ≡ calculus.specialized_look position (keeps keep) (rows_meaning rows.now) arguments.now
+        values.now) }
 {
     let some = kept(alloc, rows, position, keep)?;
-    let fewer = all_narrowed(alloc, some.as_slice(), position, arguments.len())?;
+    let fewer = all_specialized(alloc, some.as_slice(), position, arguments.len())?;
     let parts = spliced(alloc, values, position, arguments)?;
-    Ok(Look::Narrow(fewer, parts))
+    Ok(Look::Specialize(fewer, parts))
 }
 
 /// The rows that don't demand this literal at a position, over the same values.
@@ -333,7 +339,7 @@ fn at_literal<'a>(
         (has_variable position (rows_meaning rows.now)) (rows_meaning rows.now) values.now) }
 {
     if !some_is_free(rows, position) {
-        return narrow(
+        return specialized_look(
             alloc,
             rows,
             values,
@@ -345,9 +351,9 @@ fn at_literal<'a>(
     match first {
         Demand::Nothing => Ok(Look::Nowhere),
         Demand::Constructor(_) => Ok(Look::Nowhere),
-        Demand::Literal(wanted) => {
-            if literal == wanted {
-                narrow(
+        Demand::Literal(demanded) => {
+            if literal == demanded {
+                specialized_look(
                     alloc,
                     rows,
                     values,
@@ -356,7 +362,7 @@ fn at_literal<'a>(
                     &[],
                 )
             } else {
-                again(alloc, rows, position, wanted)
+                again(alloc, rows, position, demanded)
             }
         }
     }
@@ -393,7 +399,7 @@ fn at_constructor<'a>(
         (rows_meaning rows.now) arguments.now values.now) }
 {
     if !some_is_free(rows, position) {
-        return narrow(
+        return specialized_look(
             alloc,
             rows,
             values,
@@ -404,9 +410,9 @@ fn at_constructor<'a>(
     }
     match first {
         Demand::Nothing => Ok(Look::Nowhere),
-        Demand::Constructor(wanted) => {
-            if of_one_type(heads, constructor, wanted) {
-                narrow(
+        Demand::Constructor(demanded) => {
+            if of_one_type(heads, constructor, demanded) {
+                specialized_look(
                     alloc,
                     rows,
                     values,
@@ -418,7 +424,7 @@ fn at_constructor<'a>(
                 Ok(Look::Nowhere)
             }
         }
-        Demand::Literal(wanted) => again(alloc, rows, position, wanted),
+        Demand::Literal(demanded) => again(alloc, rows, position, demanded),
     }
 }
 
@@ -517,7 +523,7 @@ pub(crate) fn chosen(
             Look::Nowhere => return Ok(None),
             Look::Take(choice) => return Ok(Some(choice)),
             Look::Again(fewer) => rows = fewer,
-            Look::Narrow(fewer, parts) => {
+            Look::Specialize(fewer, parts) => {
                 rows = fewer;
                 values = parts;
             }

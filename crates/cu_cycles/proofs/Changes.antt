@@ -3,11 +3,11 @@ use Rattle.std.proofs.Common.{◌≡◌, ◌≢◌, ℕ, suc, ◌+◌, ◌-◌, 
 use Rattle.std.proofs.Math.ListN.{length-set}
 use Rattle.std.specs.declared.alloc.Global.{Global}
 use Rattle.std.specs.declared.vec.Vec.{Vec}
-use Rattle.cu_cycles.proofs.Lists.{get_front, get_last}
+use Rattle.cu_cycles.proofs.Lists.{get_prefix, get_last}
 use Rattle.cu_cycles.proofs.Closing.{closed, le_false, le_true, stays_open}
 use Rattle.cu_cycles.proofs.Entering.{entered, part_at}
 use Rattle.cu_cycles.proofs.Joining.{before_or_not, joined, still_reaches}
-use Rattle.cu_cycles.proofs.Places.{last_place, nothing_behind, one_element, same_or_not, set_cases, set_elsewhere, set_there, split_last, take_front, there, within}
+use Rattle.cu_cycles.proofs.Places.{last_place, nothing_after, one_element, same_or_not, set_cases, set_elsewhere, set_there, split_last, take_prefix, there, within}
 use Rattle.cu_cycles.proofs.Reaching.{by_edge, onward}
 use Rattle.cu_cycles.proofs.Weights.{weigh_opened, weigh_shut}
 use Rattle.cu_cycles.specs.Graph.{Graph, IsWhole, Reach}
@@ -123,7 +123,7 @@ shut_step places now path rest c f open_at at_open are v = by (same_or_not v f)
     at_f : slice_get (path ++ f ∷ rest) (length path) ≡ Some f
     at_f =
         subst (λ (x : List ℕ). slice_get x (length path) ≡ Some f) (append_assoc path (f ∷ []) rest)
-        (get_front (path ++ f ∷ []) rest (length path) f (get_last path f))
+        (get_prefix (path ++ f ∷ []) rest (length path) f (get_last path f))
 
     was : slice_get places f ≡ Some (Open (length path))
     was = open_at (length path) f at_f
@@ -149,7 +149,7 @@ pub closes_first : (start : ℕ) (s : Search) → start ≤ length s.path.items
 closes_first start s low at_open = record {
   places = shut_first s.places.items s.path.items s.closed at_open;
   sized = refl;
-  path = ([], nothing_behind s.path.items);
+  path = ([], nothing_after s.path.items);
   low = low;
   pending = refl;
   parts = refl;
@@ -168,7 +168,7 @@ module _ (start : ℕ) (old now : Search) (path : List ℕ) (f : ℕ)
   at_f =
       subst (λ (x : List ℕ). slice_get x (length path) ≡ Some f)
       (sym (closes.path.1 ∙ ap (λ (x : List ℕ). x ++ closes.path.0) popped))
-      (get_front (path ++ f ∷ []) closes.path.0 (length path) f (get_last path f))
+      (get_prefix (path ++ f ∷ []) closes.path.0 (length path) f (get_last path f))
 
   pub popped_within : f < length now.places.items
   popped_within =
@@ -205,7 +205,7 @@ closes_path start old now closes high =
     let low = closes.low in
     let same : length now.path.items ≡ start = omega arith in
     sym (ap (λ (x : List ℕ). take start x) closes.path.1 ∙ ap (λ (k : ℕ). take k (now.path.items ++ closes.path.0)) (sym same)
-    ∙ take_front now.path.items closes.path.0)
+    ∙ take_prefix now.path.items closes.path.0)
 
 module _ (g : Graph) (places new : List Place) (path path_then pending pending_then : List ℕ) (parts popped parts_then : List Part)
     (count count_then n : ℕ) (top : Part) (last : IsLast parts top) (size : n ≡ length parts) (rest : popped ≡ take (n - 1) parts)
@@ -240,14 +240,14 @@ reach_pending g places path pending parts count top w good last less is t u e = 
     some : 0 < length parts
     some = last_place parts top last
 
-    behind : (j : ℕ) (q : Part) → length parts - 1 < j → slice_get parts j ≡ Some q → ⊥
-    behind j q more f = let low = within parts j q f in omega (arith, some)
+    after : (j : ℕ) (q : Part) → length parts - 1 < j → slice_get parts j ≡ Some q → ⊥
+    after j q more f = let low = within parts j q f in omega (arith, some)
 
     owns : (s : ℕ) → top.start ≤ s → Own parts s (length parts - 1) top
-    owns s h = record { is_part = last; from = h; until = λ j q more f. absurd (behind j q more f) }
+    owns s h = record { is_part = last; from = h; until = λ j q more f. absurd (after j q more f) }
 
     awaits : Awaits parts (length pending - 1) (length parts - 1) top
-    awaits = record { is_part = last; from = omega arith; until = λ j q more f. absurd (behind j q more f) }
+    awaits = record { is_part = last; from = omega arith; until = λ j q more f. absurd (after j q more f) }
 
     source : Source g path parts (length parts - 1) top w
     source = good.source (length parts - 1) top (length pending - 1) w awaits is
@@ -262,7 +262,7 @@ reach_pending g places path pending parts count top w good last less is t u e = 
 
     by : (t < top.start) ⊎ (top.start ≤ t) → Reach g u w
     by (inl low) = onward g u first.0 w (good.later t top.start u first.0 (omega arith) e first.1) from_first
-    by (inr high) = onward g u first.0 w (good.back (length parts - 1) top t u first.0 (owns t high) e first.1) from_first
+    by (inr high) = onward g u first.0 w (good.to_start (length parts - 1) top t u first.0 (owns t high) e first.1) from_first
 
 -- no part has more pending than the last one, or begins later
 pub at_most_last : (g : Graph) (places : List Place) (path pending : List ℕ) (parts : List Part) (count : ℕ) (top : Part)
@@ -318,7 +318,7 @@ forget_open g s joined top w at good last less is e only may before =
       awaited = λ i p f.
           let low =
           at_most_last g s.places.items s.path.items s.pending.items s.parts.items s.closed top good last i p
-          (subst (λ (x : List Part). slice_get x i ≡ Some p) (sym only.parts.1) (get_front joined.parts.items only.parts.0 i p f)) in
+          (subst (λ (x : List Part). slice_get x i ≡ Some p) (sym only.parts.1) (get_prefix joined.parts.items only.parts.0 i p f)) in
           let same : length joined.pending.items ≡ length s.pending.items = ap length only.pending in
           omega arith;
       followed = λ i p f. search_.opened at (subst (λ (x : List ℕ). slice_get x at ≡ Some w) (sym only.path) is_open) (low i p f);

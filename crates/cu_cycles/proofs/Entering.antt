@@ -3,8 +3,8 @@ use Rattle.std.proofs.Common.{◌≡◌, ◌≢◌, ℕ, ◌+◌, ◌<◌, ◌�
 use Rattle.std.proofs.Math.ListN.{length-set}
 use Rattle.std.specs.declared.alloc.Global.{Global}
 use Rattle.std.specs.declared.vec.Vec.{Vec}
-use Rattle.cu_cycles.proofs.Lists.{get_behind, get_front, get_last}
-use Rattle.cu_cycles.proofs.Places.{front_or_behind, front_or_last, no_length, not_empty, one_element, set_cases, set_elsewhere, set_there, within}
+use Rattle.cu_cycles.proofs.Lists.{get_suffix, get_prefix, get_last}
+use Rattle.cu_cycles.proofs.Places.{prefix_or_suffix, prefix_or_last, no_length, not_empty, one_element, set_cases, set_elsewhere, set_there, within}
 use Rattle.cu_cycles.proofs.Reaching.{itself}
 use Rattle.cu_cycles.proofs.Weights.{weigh_opened}
 use Rattle.cu_cycles.specs.Graph.{Edge, Graph, Reach}
@@ -45,7 +45,7 @@ module _ (g : Graph) (places : List Place) (path pending : List ℕ) (parts : Li
   not_open s e = let at = good.open_at s f e in cc
 
   open_at : (s v : ℕ) → slice_get path_then s ≡ Some v → slice_get places_then v ≡ Some (Open s)
-  open_at s v e = by (front_or_last path f s v e)
+  open_at s v e = by (prefix_or_last path f s v e)
     where
       by : (slice_get path s ≡ Some v) ⊎ ((s ≡ length path) × (f ≡ v)) → slice_get places_then v ≡ Some (Open s)
       by (inl old) =
@@ -67,10 +67,10 @@ module _ (g : Graph) (places : List Place) (path pending : List ℕ) (parts : Li
           let there : Open (length path) ≡ Open s = h.1 in
           let place : length path ≡ s = cc in
           cc
-      by (inr h) = get_front path (f ∷ []) s v (good.at_open v s h.1)
+      by (inr h) = get_prefix path (f ∷ []) s v (good.at_open v s h.1)
 
   bottom : (p : Part) → slice_get parts_then 0 ≡ Some p → p.start ≡ 0
-  bottom p e = by (front_or_last parts fresh 0 p e)
+  bottom p e = by (prefix_or_last parts fresh 0 p e)
     where
       by : (slice_get parts 0 ≡ Some p) ⊎ ((0 ≡ length parts) × (fresh ≡ p)) → p.start ≡ 0
       by (inl old) = good.bottom p old
@@ -80,7 +80,7 @@ module _ (g : Graph) (places : List Place) (path pending : List ℕ) (parts : Li
           sym start ∙ ap length none
 
   start : (i : ℕ) (p : Part) → slice_get parts_then i ≡ Some p → (p.start < length path_then) × (p.pending ≤ length pending_then)
-  start i p e = by (front_or_last parts fresh i p e)
+  start i p e = by (prefix_or_last parts fresh i p e)
     where
       by : (slice_get parts i ≡ Some p) ⊎ ((i ≡ length parts) × (fresh ≡ p)) → (p.start < length path_then) × (p.pending ≤ length pending_then)
       by (inl old) = let h = good.start i p old in (omega (arith, longer), omega (arith, more))
@@ -91,7 +91,7 @@ module _ (g : Graph) (places : List Place) (path pending : List ℕ) (parts : Li
 
   rising : (i j : ℕ) (p q : Part) → slice_get parts_then i ≡ Some p → slice_get parts_then j ≡ Some q → i < j
       → (p.start < q.start) × (p.pending ≤ q.pending)
-  rising i j p q e d less = by (front_or_last parts fresh i p e) (front_or_last parts fresh j q d)
+  rising i j p q e d less = by (prefix_or_last parts fresh i p e) (prefix_or_last parts fresh j q d)
     where
       by : (slice_get parts i ≡ Some p) ⊎ ((i ≡ length parts) × (fresh ≡ p)) → (slice_get parts j ≡ Some q) ⊎ ((j ≡ length parts) × (fresh ≡ q))
           → (p.start < q.start) × (p.pending ≤ q.pending)
@@ -105,7 +105,7 @@ module _ (g : Graph) (places : List Place) (path pending : List ℕ) (parts : Li
       by (inr h) (inr k) = let one : i ≡ length parts = h.0 in let two : j ≡ length parts = k.0 in absurd (omega arith)
 
   later : (s t u v : ℕ) → s ≤ t → slice_get path_then s ≡ Some u → slice_get path_then t ≡ Some v → Reach g u v
-  later s t u v less e d = by (front_or_last path f s u e) (front_or_last path f t v d)
+  later s t u v less e d = by (prefix_or_last path f s u e) (prefix_or_last path f t v d)
     where
       by : (slice_get path s ≡ Some u) ⊎ ((s ≡ length path) × (f ≡ u)) → (slice_get path t ≡ Some v) ⊎ ((t ≡ length path) × (f ≡ v)) → Reach g u v
       by (inl h) (inl k) = good.later s t u v less h k
@@ -114,29 +114,29 @@ module _ (g : Graph) (places : List Place) (path pending : List ℕ) (parts : Li
       by (inr h) (inr k) = itself g u v (sym h.1 ∙ k.1)
 
   own_cases : (t i : ℕ) (p : Part) → Own parts_then t i p → (Own parts t i p × (t < length path)) ⊎ ((i ≡ length parts) × (fresh ≡ p))
-  own_cases t i p own = by (front_or_last parts fresh i p own.is_part)
+  own_cases t i p own = by (prefix_or_last parts fresh i p own.is_part)
     where
       by : (slice_get parts i ≡ Some p) ⊎ ((i ≡ length parts) × (fresh ≡ p)) → (Own parts t i p × (t < length path)) ⊎ ((i ≡ length parts) × (fresh ≡ p))
       by (inl old) = inl (
-        record { is_part = old; from = own.from; until = λ j q less e. own.until j q less (get_front parts (fresh ∷ []) j q e) },
+        record { is_part = old; from = own.from; until = λ j q less e. own.until j q less (get_prefix parts (fresh ∷ []) j q e) },
         own.until (length parts) fresh (within parts i p old) (get_last parts fresh),
       )
       by (inr h) = inr h
 
   in_path : (t u : ℕ) → t < length path → slice_get path_then t ≡ Some u → slice_get path t ≡ Some u
-  in_path t u less e = elim (front_or_last path f t u e) [ inl old ↦ old | inr h ↦ let at : t ≡ length path = h.0 in absurd (omega arith) ]
+  in_path t u less e = elim (prefix_or_last path f t u e) [ inl old ↦ old | inr h ↦ let at : t ≡ length path = h.0 in absurd (omega arith) ]
 
   is_last : (t u : ℕ) → length path ≤ t → slice_get path_then t ≡ Some u → f ≡ u
-  is_last t u less e = elim (front_or_last path f t u e) [ inl old ↦ let low = within path t u old in absurd (omega arith) | inr h ↦ h.1 ]
+  is_last t u less e = elim (prefix_or_last path f t u e) [ inl old ↦ let low = within path t u old in absurd (omega arith) | inr h ↦ h.1 ]
 
-  back : (i : ℕ) (p : Part) (t u v : ℕ) → Own parts_then t i p → slice_get path_then t ≡ Some u → slice_get path_then p.start ≡ Some v → Reach g u v
-  back i p t u v own e d = by (own_cases t i p own)
+  to_start : (i : ℕ) (p : Part) (t u v : ℕ) → Own parts_then t i p → slice_get path_then t ≡ Some u → slice_get path_then p.start ≡ Some v → Reach g u v
+  to_start i p t u v own e d = by (own_cases t i p own)
     where
       by : (Own parts t i p × (t < length path)) ⊎ ((i ≡ length parts) × (fresh ≡ p)) → Reach g u v
       by (inl h) =
           let less : t < length path = h.1 in
           let from = own.from in
-          good.back i p t u v h.0 (in_path t u less e) (in_path p.start v (omega arith) d)
+          good.to_start i p t u v h.0 (in_path t u less e) (in_path p.start v (omega arith) d)
       by (inr h) =
           let starts : length path ≡ p.start = ap (λ (x : Part). x.start) h.1 in
           let from = own.from in
@@ -150,8 +150,8 @@ module _ (g : Graph) (places : List Place) (path pending : List ℕ) (parts : Li
 
   stays : (p : Part) (w : ℕ) → Followed places path pending p w → Followed places_then path_then pending_then p w
   stays p w (search_.closed c e) = search_.closed c (stays_closed w c e)
-  stays p w (search_.opened s e less) = search_.opened s (get_front path (f ∷ []) s w e) less
-  stays p w (search_.awaited j e less) = search_.awaited j (get_front pending row.items j w e) less
+  stays p w (search_.opened s e less) = search_.opened s (get_prefix path (f ∷ []) s w e) less
+  stays p w (search_.awaited j e less) = search_.awaited j (get_prefix pending row.items j w e) less
 
   follows : (i : ℕ) (p : Part) (t u w : ℕ) → Own parts_then t i p → slice_get path_then t ≡ Some u → Edge g u w
       → Followed places_then path_then pending_then p w
@@ -168,13 +168,13 @@ module _ (g : Graph) (places : List Place) (path pending : List ℕ) (parts : Li
           let one : edge.row ≡ row = one_element g f edge.row row its_row is_row in
           let target : slice_get row.items edge.place ≡ Some w =
           subst (λ (r : Vec ℕ Global). slice_get r.items edge.place ≡ Some w) one edge.is_there in
-          search_.awaited (length pending + edge.place) (get_behind pending row.items edge.place ∙ target) (omega arith)
+          search_.awaited (length pending + edge.place) (get_suffix pending row.items edge.place ∙ target) (omega arith)
 
   owned_then : (t i : ℕ) (p : Part) (u : ℕ) → Own parts t i p → slice_get path t ≡ Some u → Own parts_then t i p
   owned_then t i p u own e = record {
-    is_part = get_front parts (fresh ∷ []) i p own.is_part;
+    is_part = get_prefix parts (fresh ∷ []) i p own.is_part;
     from = own.from;
-    until = λ j q less d. by j q less (front_or_last parts fresh j q d);
+    until = λ j q less d. by j q less (prefix_or_last parts fresh j q d);
   }
     where
       by : (j : ℕ) (q : Part) → i < j → (slice_get parts j ≡ Some q) ⊎ ((j ≡ length parts) × (fresh ≡ q)) → t < q.start
@@ -185,7 +185,7 @@ module _ (g : Graph) (places : List Place) (path pending : List ℕ) (parts : Li
           omega arith
 
   source : (i : ℕ) (p : Part) (t w : ℕ) → Awaits parts_then t i p → slice_get pending_then t ≡ Some w → Source g path_then parts_then i p w
-  source i p t w awaits e = by (front_or_last parts fresh i p awaits.is_part) (front_or_behind pending row.items t w e)
+  source i p t w awaits e = by (prefix_or_last parts fresh i p awaits.is_part) (prefix_or_suffix pending row.items t w e)
     where
       by : (slice_get parts i ≡ Some p) ⊎ ((i ≡ length parts) × (fresh ≡ p))
           → (slice_get pending t ≡ Some w) ⊎ ((j : ℕ) × (t ≡ length pending + j) × (slice_get row.items j ≡ Some w))
@@ -194,14 +194,14 @@ module _ (g : Graph) (places : List Place) (path pending : List ℕ) (parts : Li
           let awaits_old : Awaits parts t i p = record {
             is_part = old;
             from = awaits.from;
-            until = λ j q less d. awaits.until j q less (get_front parts (fresh ∷ []) j q d);
+            until = λ j q less d. awaits.until j q less (get_prefix parts (fresh ∷ []) j q d);
           } in
           let s = good.source i p t w awaits_old k in
           record {
             place = s.place;
             node = s.node;
             owned = owned_then s.place i p s.node s.owned s.is_open;
-            is_open = get_front path (f ∷ []) s.place s.node s.is_open;
+            is_open = get_prefix path (f ∷ []) s.place s.node s.is_open;
             edge = s.edge;
           }
       by (inl old) (inr k) =
@@ -248,7 +248,7 @@ module _ (g : Graph) (places : List Place) (path pending : List ℕ) (parts : Li
     start = start;
     rising = rising;
     later = later;
-    back = back;
+    to_start = to_start;
     follows = follows;
     source = source;
     closed_below = λ v c e. good.closed_below v c (was_closed v c e);

@@ -1,7 +1,7 @@
 -- An edge that was followed is forgotten.
 use Rattle.std.proofs.Common.{◌≡◌, ℕ, ◌<◌, ◌⊎◌, inl, inr, List, [], ◌∷◌, ◌++◌, length, slice_get, Some, subst, arith, length-append}
-use Rattle.cu_cycles.proofs.Lists.{get_front}
-use Rattle.cu_cycles.proofs.Places.{front_or_last}
+use Rattle.cu_cycles.proofs.Lists.{get_prefix}
+use Rattle.cu_cycles.proofs.Places.{prefix_or_last}
 use Rattle.cu_cycles.specs.Graph.{Graph}
 use Rattle.cu_cycles.specs.Inside.Search as search_
 use Rattle.cu_cycles.specs.Inside.Search.{Awaits, Followed, Good, Own, Source}
@@ -20,7 +20,7 @@ module _ (g : Graph) (places : List Place) (path rest : List ℕ) (target : ℕ)
   passes : (i : ℕ) (p : Part) (w : ℕ) → slice_get parts i ≡ Some p → Followed places path (rest ++ target ∷ []) p w → Followed places path rest p w
   passes i p w is (search_.closed c e) = search_.closed c e
   passes i p w is (search_.opened s e less) = search_.opened s e less
-  passes i p w is (search_.awaited j e less) = by (front_or_last rest target j w e)
+  passes i p w is (search_.awaited j e less) = by (prefix_or_last rest target j w e)
     where
       by : (slice_get rest j ≡ Some w) ⊎ ((j ≡ length rest) × (target ≡ w)) → Followed places path rest p w
       by (inl old) = search_.awaited j old less
@@ -39,9 +39,9 @@ module _ (g : Graph) (places : List Place) (path rest : List ℕ) (target : ℕ)
     );
     rising = good.rising;
     later = good.later;
-    back = good.back;
+    to_start = good.to_start;
     follows = λ i p t u w own e edge. passes i p w own.is_part (good.follows i p t u w own e edge);
-    source = λ i p t w awaits e. good.source i p t w awaits (get_front rest (target ∷ []) t w e);
+    source = λ i p t w awaits e. good.source i p t w awaits (get_prefix rest (target ∷ []) t w e);
     closed_below = good.closed_below;
     closed_edges = good.closed_edges;
     alike = good.alike;

@@ -1,7 +1,7 @@
 -- Two parts that are joined keep a search good.
 use Rattle.std.proofs.Common.{◌≡◌, ℕ, zero, suc, ◌<◌, ◌≤◌, ◌⊎◌, inl, inr, List, [], ◌∷◌, ◌++◌, length, slice_get, Some, ap, subst, arith, length-append}
-use Rattle.cu_cycles.proofs.Lists.{get_front, get_last}
-use Rattle.cu_cycles.proofs.Places.{front_or_last, there, within}
+use Rattle.cu_cycles.proofs.Lists.{get_prefix, get_last}
+use Rattle.cu_cycles.proofs.Places.{prefix_or_last, there, within}
 use Rattle.cu_cycles.proofs.Reaching.{onward}
 use Rattle.cu_cycles.specs.Graph.{Edge, Graph, Reach}
 use Rattle.cu_cycles.specs.Inside.Search as search_
@@ -24,7 +24,7 @@ module _ (g : Graph) (places : List Place) (path pending : List ℕ) (rest : Lis
   top_is = get_last rest top
 
   kept : (i : ℕ) (p : Part) → slice_get rest i ≡ Some p → slice_get parts i ≡ Some p
-  kept i p e = get_front rest (top ∷ []) i p e
+  kept i p e = get_prefix rest (top ∷ []) i p e
 
   -- what stands below the last part
   pub below_top : (i : ℕ) (p : Part) → slice_get rest i ≡ Some p → (p.start < top.start) × (p.pending ≤ top.pending)
@@ -34,7 +34,7 @@ module _ (g : Graph) (places : List Place) (path pending : List ℕ) (rest : Lis
   own_below t i p own less = record {
     is_part = kept i p own.is_part;
     from = own.from;
-    until = λ j q more e. by j q more (front_or_last rest top j q e);
+    until = λ j q more e. by j q more (prefix_or_last rest top j q e);
   }
     where
       by : (j : ℕ) (q : Part) → i < j → (slice_get rest j ≡ Some q) ⊎ ((j ≡ length rest) × (top ≡ q)) → t < q.start
@@ -45,21 +45,21 @@ module _ (g : Graph) (places : List Place) (path pending : List ℕ) (rest : Lis
   awaits_below t i p awaits less = record {
     is_part = kept i p awaits.is_part;
     from = awaits.from;
-    until = λ j q more e. by j q more (front_or_last rest top j q e);
+    until = λ j q more e. by j q more (prefix_or_last rest top j q e);
   }
     where
       by : (j : ℕ) (q : Part) → i < j → (slice_get rest j ≡ Some q) ⊎ ((j ≡ length rest) × (top ≡ q)) → t < q.pending
       by j q more (inl e) = awaits.until j q more e
       by j q more (inr h) = subst (λ (x : Part). t < x.pending) h.1 less
 
-  none_behind : (j : ℕ) (q : Part) → length rest < j → slice_get parts j ≡ Some q → ⊥
-  none_behind j q more e = let low = within parts j q e in let size = length-append rest (top ∷ []) in omega arith
+  none_after : (j : ℕ) (q : Part) → length rest < j → slice_get parts j ≡ Some q → ⊥
+  none_after j q more e = let low = within parts j q e in let size = length-append rest (top ∷ []) in omega arith
 
   pub own_top : (t : ℕ) → top.start ≤ t → Own parts t (length rest) top
-  own_top t less = record { is_part = top_is; from = less; until = λ j q more e. absurd (none_behind j q more e) }
+  own_top t less = record { is_part = top_is; from = less; until = λ j q more e. absurd (none_after j q more e) }
 
   pub awaits_top : (t : ℕ) → top.pending ≤ t → Awaits parts t (length rest) top
-  awaits_top t less = record { is_part = top_is; from = less; until = λ j q more e. absurd (none_behind j q more e) }
+  awaits_top t less = record { is_part = top_is; from = less; until = λ j q more e. absurd (none_after j q more e) }
 
   -- a part below, where it owns a place behind the last part's start, is the last one below
   last_below : (t i : ℕ) (p : Part) → Own rest t i p → top.start ≤ t → (j : ℕ) (q : Part) → i < j → slice_get rest j ≡ Some q → ⊥
@@ -75,8 +75,8 @@ module _ (g : Graph) (places : List Place) (path pending : List ℕ) (rest : Lis
 
   module _ (at v : ℕ) (is_open : slice_get path at ≡ Some v) (less : at < top.start)
       (reaches : (u : ℕ) → slice_get path top.start ≡ Some u → Reach g u v) where
-    back : (i : ℕ) (p : Part) (t u w : ℕ) → Own rest t i p → slice_get path t ≡ Some u → slice_get path p.start ≡ Some w → Reach g u w
-    back i p t u w own e d = by (before_or_not t top.start)
+    to_start : (i : ℕ) (p : Part) (t u w : ℕ) → Own rest t i p → slice_get path t ≡ Some u → slice_get path p.start ≡ Some w → Reach g u w
+    to_start i p t u w own e d = by (before_or_not t top.start)
       where
         down : (at < p.start) ⊎ (p.start ≤ at) → top.start ≤ t → Reach g v w
         down (inl low) high = good.later at p.start v w (omega arith) is_open d
@@ -86,13 +86,13 @@ module _ (g : Graph) (places : List Place) (path pending : List ℕ) (rest : Lis
               from = low;
               until = λ j q more f. absurd (last_below t i p own high j q more f);
             } in
-            good.back i p at v w (own_below at i p own_at less) is_open d
+            good.to_start i p at v w (own_below at i p own_at less) is_open d
 
         by : (t < top.start) ⊎ (top.start ≤ t) → Reach g u w
-        by (inl low) = good.back i p t u w (own_below t i p own low) e d
+        by (inl low) = good.to_start i p t u w (own_below t i p own low) e d
         by (inr high) =
             let x = top_there in
-            onward g u x.0 w (good.back (length rest) top t u x.0 (own_top t high) e x.1)
+            onward g u x.0 w (good.to_start (length rest) top t u x.0 (own_top t high) e x.1)
             (onward g x.0 v w (reaches x.0 x.1) (down (before_or_not at p.start) high))
 
     lower : (i : ℕ) (p : Part) (w : ℕ) → slice_get rest i ≡ Some p → Followed places path pending top w → Followed places path pending p w
@@ -156,7 +156,7 @@ module _ (g : Graph) (places : List Place) (path pending : List ℕ) (rest : Lis
       start = λ i p e. good.start i p (kept i p e);
       rising = λ i j p q e d more. good.rising i j p q (kept i p e) (kept j q d) more;
       later = good.later;
-      back = back;
+      to_start = to_start;
       follows = follows;
       source = source;
       closed_below = good.closed_below;

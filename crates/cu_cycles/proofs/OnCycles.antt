@@ -2,7 +2,7 @@
 use Rattle.std.proofs.Common.{◌≡◌, ◌↔◌, ℕ, ◌+◌, ◌<◌, ◌≤◌, inl, inr, Bool, IsTrue, List, [], ◌∷◌, ◌++◌, Some, length, length-append, slice_get, ap, sym, ◌∙◌, subst, arith}
 use Rattle.std.specs.declared.alloc.Global.{Global}
 use Rattle.std.specs.declared.vec.Vec.{Vec}
-use Rattle.cu_cycles.proofs.Places.{front_or_last, one_element, there}
+use Rattle.cu_cycles.proofs.Places.{prefix_or_last, one_element, there}
 use Rattle.cu_cycles.specs.Graph as graph
 use Rattle.cu_cycles.specs.Graph.{Edge, Graph, IsWhole, LiesOnCycle, Reach}
 use Rattle.cu_cycles.specs.Inside.Ranks.{AreRanks}
@@ -26,7 +26,7 @@ module _ (g : Graph) (ranks : List ℕ) (whole : IsWhole g) (are : AreRanks g ra
   cycle_from u r row at e found = record {
     next = found.1;
     edge = record { row = row; is_row = at; place = found.0; is_there = found.2 };
-    back = are.alike found.1 u r found.3 e;
+    closes = are.alike found.1 u r found.3 e;
   }
 
   pub cycle_to : (u r : ℕ) (row : Vec ℕ Global) → slice_get g u ≡ Some row → slice_get ranks u ≡ Some r
@@ -35,7 +35,7 @@ module _ (g : Graph) (ranks : List ℕ) (whole : IsWhole g) (are : AreRanks g ra
       let edge = cycle.edge in
       let next = ranked cycle.next (whole.within u cycle.next edge) in
       let one : next.0 ≤ r = are.falling u cycle.next r next.0 edge e next.1 in
-      let two : r ≤ next.0 = falls cycle.next u next.0 r cycle.back next.1 e in
+      let two : r ≤ next.0 = falls cycle.next u next.0 r cycle.closes next.1 e in
       let same : next.0 ≡ r = omega arith in
       let row_is : edge.row ≡ row = one_element g u edge.row row edge.is_row at in (
         edge.place,
@@ -78,7 +78,7 @@ module _ (g : Graph) (ranks : List ℕ) (whole : IsWhole g) (are : AreRanks g ra
 
       each : (u : ℕ) (b : Bool) → slice_get new u ≡ Some b → (IsTrue b ↔ LiesOnCycle g u)
       each u b d =
-          elim (front_or_last old flag u b (subst (λ (x : List Bool). slice_get x u ≡ Some b) added d)) [
+          elim (prefix_or_last old flag u b (subst (λ (x : List Bool). slice_get x u ≡ Some b) added d)) [
             | inl h ↦ before.1 u b h
             | inr h ↦ at_n u b (h.0 ∙ before.0) h.1
           ]

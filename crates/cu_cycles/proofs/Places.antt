@@ -1,19 +1,19 @@
 -- Elements of lists, by their places.
 use Rattle.std.proofs.Common.{◌≡◌, ◌≢◌, ℕ, zero, suc, ◌+◌, ◌-◌, ◌<◌, ◌⊎◌, inl, inr, List, [], ◌∷◌, ◌++◌, length, map, set, take, slice_get, Some, refl, ap, sym, ◌∙◌, subst, arith}
 
-pub front_or_last : {A : Type 0} (xs : List A) (y : A) (k : ℕ) (x : A) → slice_get (xs ++ y ∷ []) k ≡ Some x
+pub prefix_or_last : {A : Type 0} (xs : List A) (y : A) (k : ℕ) (x : A) → slice_get (xs ++ y ∷ []) k ≡ Some x
     → (slice_get xs k ≡ Some x) ⊎ ((k ≡ length xs) × (y ≡ x))
-front_or_last [] y zero x e = inr (refl, cc)
-front_or_last [] y (suc k) x e = let no : ⊥ = cc in absurd no
-front_or_last (z ∷ xs) y zero x e = inl e
-front_or_last (z ∷ xs) y (suc k) x e = elim (front_or_last xs y k x e) [ inl h ↦ inl h | inr h ↦ inr (ap suc h.0, h.1) ]
+prefix_or_last [] y zero x e = inr (refl, cc)
+prefix_or_last [] y (suc k) x e = let no : ⊥ = cc in absurd no
+prefix_or_last (z ∷ xs) y zero x e = inl e
+prefix_or_last (z ∷ xs) y (suc k) x e = elim (prefix_or_last xs y k x e) [ inl h ↦ inl h | inr h ↦ inr (ap suc h.0, h.1) ]
 
-pub front_or_behind : {A : Type 0} (xs ys : List A) (k : ℕ) (x : A) → slice_get (xs ++ ys) k ≡ Some x
+pub prefix_or_suffix : {A : Type 0} (xs ys : List A) (k : ℕ) (x : A) → slice_get (xs ++ ys) k ≡ Some x
     → (slice_get xs k ≡ Some x) ⊎ ((j : ℕ) × (k ≡ length xs + j) × (slice_get ys j ≡ Some x))
-front_or_behind [] ys k x e = inr (k, omega arith, e)
-front_or_behind (z ∷ xs) ys zero x e = inl e
-front_or_behind (z ∷ xs) ys (suc k) x e =
-    elim (front_or_behind xs ys k x e) [ inl h ↦ inl h | inr h ↦ let n : k ≡ length xs + h.0 = h.1 in inr (h.0, omega arith, h.2) ]
+prefix_or_suffix [] ys k x e = inr (k, omega arith, e)
+prefix_or_suffix (z ∷ xs) ys zero x e = inl e
+prefix_or_suffix (z ∷ xs) ys (suc k) x e =
+    elim (prefix_or_suffix xs ys k x e) [ inl h ↦ inl h | inr h ↦ let n : k ≡ length xs + h.0 = h.1 in inr (h.0, omega arith, h.2) ]
 
 pub within : {A : Type 0} (xs : List A) (k : ℕ) (x : A) → slice_get xs k ≡ Some x → k < length xs
 within [] k x e = let no : ⊥ = cc in absurd no
@@ -102,14 +102,14 @@ split_last xs rest n x e size taken =
     let whole : xs ≡ take (length xs - 1) xs ++ x ∷ [] = at_last xs (length xs - 1) x (omega arith) e in
     whole ∙ ap (λ k. take (k - 1) xs ++ x ∷ []) (sym size) ∙ ap (λ ys. ys ++ x ∷ []) (sym taken)
 
-pub nothing_behind : {A : Type 0} (xs : List A) → xs ≡ xs ++ []
-nothing_behind [] = refl
-nothing_behind (x ∷ xs) = ap (λ ys. x ∷ ys) (nothing_behind xs)
+pub nothing_after : {A : Type 0} (xs : List A) → xs ≡ xs ++ []
+nothing_after [] = refl
+nothing_after (x ∷ xs) = ap (λ ys. x ∷ ys) (nothing_after xs)
 
-pub take_front : {A : Type 0} (xs ys : List A) → take (length xs) (xs ++ ys) ≡ xs
-take_front [] [] = refl
-take_front [] (y ∷ ys) = refl
-take_front (x ∷ xs) ys = ap (λ zs. x ∷ zs) (take_front xs ys)
+pub take_prefix : {A : Type 0} (xs ys : List A) → take (length xs) (xs ++ ys) ≡ xs
+take_prefix [] [] = refl
+take_prefix [] (y ∷ ys) = refl
+take_prefix (x ∷ xs) ys = ap (λ zs. x ∷ zs) (take_prefix xs ys)
 
 pub mapped_at : {A B : Type 0} (f : A → B) (xs : List A) (k : ℕ) (y : B) → slice_get (map f xs) k ≡ Some y → (x : A) × (slice_get xs k ≡ Some x) × (f x ≡ y)
 mapped_at f [] k y e = let no : ⊥ = cc in absurd no

@@ -33,7 +33,7 @@ first_good g = record {
   start = λ i p e. absurd (no_element i p e);
   rising = λ i j p q e d less. absurd (no_element i p e);
   later = λ s t u v less e d. absurd (no_element s u e);
-  back = λ i p t u v own e d. absurd (no_element t u e);
+  to_start = λ i p t u v own e d. absurd (no_element t u e);
   follows = λ i p t u w own e edge. absurd (no_element t u e);
   source = λ i p t w awaits e. absurd (no_element t w e);
   closed_below = λ v c e. let no = all_new (length g) v (Closed c) e in absurd (cc);

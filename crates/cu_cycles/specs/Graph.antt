@@ -27,7 +27,7 @@ pub record IsWhole (g : Graph) : Type 0 where
 pub record LiesOnCycle (g : Graph) (u : ℕ) : Type 0 where
   pub next : ℕ
   pub edge : Edge g u next
-  pub back : Reach g next u
+  pub closes : Reach g next u
 
 -- a flag for each node: whether it lies on a cycle
 pub record AreOnCycles (g : Graph) (flags : List Bool) : Type 0 where

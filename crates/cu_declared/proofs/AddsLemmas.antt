@@ -15,9 +15,9 @@ on_ok (Err e) f p = tt
 
 -- ---- lists that a loop walks over
 
-pub front : {X Y : Type 0} (F : List X → List Y) (f : X → List Y) → ((x : X) (xs : List X) → F (x ∷ xs) ≡ f x ++ F xs) → (xs : List X) (i : ℕ) (x : X) → x ≡ get_or xs i x → i < length xs
+pub prefix : {X Y : Type 0} (F : List X → List Y) (f : X → List Y) → ((x : X) (xs : List X) → F (x ∷ xs) ≡ f x ++ F xs) → (xs : List X) (i : ℕ) (x : X) → x ≡ get_or xs i x → i < length xs
     → f x ++ F (drop (i + 1) xs) ≡ F (drop i xs)
-front F f cons xs i x is within =
+prefix F f cons xs i x is within =
     sym (ap F (drop-cons xs i x within ∙ ap₂ (λ y n. y ∷ drop n xs) (sym is) (sym (add-one i))) ∙ cons x (drop (i + 1) xs))
 
 pub nothing_left : {X Y : Type 0} (F : List X → List Y) → F [] ≡ [] → (xs : List X) (i : ℕ) → length xs ≤ i → F (drop i xs) ≡ []
@@ -47,13 +47,13 @@ pub adds_as : (owner : NameId) (names : List (List ℕ)) (a b : List code.TypeUs
 adds_as owner names a b xs ys same adds = subst (λ zs. Adds owner names a zs b) same adds
 
 -- one round of a loop
-pub adds_front : {X : Type 0} (P : X → Type 0) (F : List X → List TypeUse) (f : X → List TypeUse)
+pub adds_prefix : {X : Type 0} (P : X → Type 0) (F : List X → List TypeUse) (f : X → List TypeUse)
     → ((x : X) (xs : List X) → F (x ∷ xs) ≡ f x ++ F xs)
     → (owner : NameId) (names : List (List ℕ)) (xs : List X) (i : ℕ) (x : X) (a b c : List code.TypeUse) → x ≡ get_or xs i x → i < length xs → All P xs
     → (P x → Adds owner names a (f x) b) → Adds owner names b (F (drop (i + 1) xs)) c → Adds owner names a (F (drop i xs)) c
-adds_front P F f cons owner names xs i x a b c is within all here behind =
-    subst (λ ys. Adds owner names a ys c) (front F f cons xs i x is within)
-    (adds_both (here (subst P (sym is) (All-get_or P xs i x within all))) behind)
+adds_prefix P F f cons owner names xs i x a b c is within all here suffix =
+    subst (λ ys. Adds owner names a ys c) (prefix F f cons xs i x is within)
+    (adds_both (here (subst P (sym is) (All-get_or P xs i x within all))) suffix)
 
 pub adds_end : {X : Type 0} (F : List X → List TypeUse) → F [] ≡ [] → (owner : NameId) (names : List (List ℕ)) (xs : List X) (i : ℕ) (a : List code.TypeUse) → length xs ≤ i
     → Adds owner names a (F (drop i xs)) a

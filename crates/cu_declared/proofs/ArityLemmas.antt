@@ -5,8 +5,8 @@ use Rattle.std.proofs.lemmas.List.Concat.{flat_map-cons}
 use Rattle.std.proofs.lemmas.List.Elements.{All-get_or}
 use Rattle.std.specs.List.{All}
 use Rattle.std.specs.Prelude.{nat_eq, slice_get}
-use Rattle.cu_cycles.proofs.Lists.{get_behind}
-use Rattle.cu_cycles.proofs.Places.{front_or_behind, one_element}
+use Rattle.cu_cycles.proofs.Lists.{get_suffix}
+use Rattle.cu_cycles.proofs.Places.{prefix_or_suffix, one_element}
 use Rattle.cu_entities.specs.Bindings.{Binding}
 use Rattle.cu_entities.specs.Entities.{Entity, Types}
 use Rattle.cu_modules.specs.Means.{Means}
@@ -24,7 +24,7 @@ use Rattle.cu_declared.specs.Inside.Told.{AreTold, Told, World, bindings_of}
 use Rattle.cu_declared.specs.Parameters.{Numbered, all_parameters, number_of}
 use Rattle.cu_declared.specs.TypeFaults.{Fault, IsArityFault, arity_fault, scope_at}
 use Rattle.cu_declared.specs.TypeUses.{TypeUse}
-use Rattle.cu_declared.proofs.AddsLemmas.{front, nothing_left}
+use Rattle.cu_declared.proofs.AddsLemmas.{prefix, nothing_left}
 
 pub named : (owner : NameId) (names : List (List ℕ)) (name : code.Name) → NameIsOf owner names name → IsNamed names name.qualifier name.base (name_meaning names name)
 named owner names name of = record { qualifier_is = refl; base_is = refl; qualifier_known = of.qualifier; base_known = of.base }
@@ -32,11 +32,11 @@ named owner names name of = record { qualifier_is = refl; base_is = refl; qualif
 -- ---- one entity
 
 is_alone : (es : List Entity) (found : Option Entity) → ((e : Entity) → found ≡ Some e → es ≡ e ∷ []) → ((e : Entity) → es ≡ e ∷ [] → found ≡ Some e) → found ≡ alone es
-is_alone [] None one back = refl
-is_alone [] (Some e) one back = let no : [] ≡ e ∷ [] = one e refl in let never : ⊥ = cc in absurd never
-is_alone (e ∷ []) found one back = back e refl
-is_alone (e ∷ f ∷ es) None one back = refl
-is_alone (e ∷ f ∷ es) (Some g) one back = let no : e ∷ f ∷ es ≡ g ∷ [] = one g refl in let never : ⊥ = cc in absurd never
+is_alone [] None one converse = refl
+is_alone [] (Some e) one converse = let no : [] ≡ e ∷ [] = one e refl in let never : ⊥ = cc in absurd never
+is_alone (e ∷ []) found one converse = converse e refl
+is_alone (e ∷ f ∷ es) None one converse = refl
+is_alone (e ∷ f ∷ es) (Some g) one converse = let no : e ∷ f ∷ es ≡ g ∷ [] = one g refl in let never : ⊥ = cc in absurd never
 
 -- what is alone is one entity
 pub alone_is : (es : List Entity) (e : Entity) → alone es ≡ Some e → es ≡ e ∷ []
@@ -46,7 +46,7 @@ alone_is (f ∷ g ∷ es) e is = let never : ⊥ = cc in absurd never
 
 pub is_meant : (w : World) (number : ℕ) (used : TypeUse) (found : Option Entity) → number ≡ w.number → slice_get w.modules w.number ≡ Some w.m
     → ((e : Entity) → (found ≡ Some e ↔ Means w.modules number Types used.name e)) → found ≡ entity_meant (bindings_of w) used
-is_meant w number used found same at means = is_alone (meant (bindings_of w) Types used.name) found there back
+is_meant w number used found same at means = is_alone (meant (bindings_of w) Types used.name) found there converse
   where
     there : (e : Entity) → found ≡ Some e → meant (bindings_of w) Types used.name ≡ e ∷ []
     there e is =
@@ -54,8 +54,8 @@ is_meant w number used found same at means = is_alone (meant (bindings_of w) Typ
         let module_is : m.m ≡ w.m = one_element w.modules w.number m.m w.m m.is_there at in
         subst (λ (x : Named). meant (scope_at w.modules w.number x) Types used.name ≡ e ∷ []) module_is m.is_alone
 
-    back : (e : Entity) → meant (bindings_of w) Types used.name ≡ e ∷ [] → found ≡ Some e
-    back e is = (means e).1 (subst (λ (n : ℕ). Means w.modules n Types used.name e) (sym same) (record { m = w.m; is_there = at; is_alone = is }))
+    converse : (e : Entity) → meant (bindings_of w) Types used.name ≡ e ∷ [] → found ≡ Some e
+    converse e is = (means e).1 (subst (λ (n : ℕ). Means w.modules n Types used.name e) (sym same) (record { m = w.m; is_there = at; is_alone = is }))
 
 -- ---- faults that were told
 
@@ -70,11 +70,11 @@ told_both {w = w} {c = c} {fs = fs} {gs = gs} one two = record {
 pub told_as : (w : World) (a b : FirstFault) (fs gs : List Fault) → fs ≡ gs → Told w a fs b → Told w a gs b
 told_as w a b fs gs same told = subst (λ hs. Told w a hs b) same told
 
-pub told_front : {X : Type 0} (P : X → Type 0) (F : List X → List Fault) (f : X → List Fault) → ((x : X) (xs : List X) → F (x ∷ xs) ≡ f x ++ F xs)
+pub told_prefix : {X : Type 0} (P : X → Type 0) (F : List X → List Fault) (f : X → List Fault) → ((x : X) (xs : List X) → F (x ∷ xs) ≡ f x ++ F xs)
     → (w : World) (xs : List X) (i : ℕ) (x : X) (a b c : FirstFault) → x ≡ get_or xs i x → i < length xs → All P xs
     → (P x → Told w a (f x) b) → Told w b (F (drop (i + 1) xs)) c → Told w a (F (drop i xs)) c
-told_front P F f cons w xs i x a b c is within all here behind =
-    subst (λ fs. Told w a fs c) (front F f cons xs i x is within) (told_both (here (subst P (sym is) (All-get_or P xs i x within all))) behind)
+told_prefix P F f cons w xs i x a b c is within all here suffix =
+    subst (λ fs. Told w a fs c) (prefix F f cons xs i x is within) (told_both (here (subst P (sym is) (All-get_or P xs i x within all))) suffix)
 
 pub told_end : {X : Type 0} (F : List X → List Fault) → F [] ≡ [] → (w : World) (xs : List X) (i : ℕ) (a : FirstFault) → length xs ≤ i → Told w a (F (drop i xs)) a
 told_end F empty w xs i a past = subst (λ fs. Told w a fs a) (sym (nothing_left F empty xs i past)) (told_none w a)
@@ -97,10 +97,10 @@ right_told w numbers used b first is right =
 abbrev pub in_uses : World → List Numbered → List uses.TypeUse → List Fault
 in_uses w numbers us = arity_faults numbers (bindings_of w) (uses_meaning w.names us)
 
-pub uses_front : (w : World) (numbers : List Numbered) (xs : List uses.TypeUse) (i : ℕ) (x : uses.TypeUse) (a b c : FirstFault) → x ≡ get_or xs i x → i < length xs → All (UseIsOf w.owner w.names) xs
+pub uses_prefix : (w : World) (numbers : List Numbered) (xs : List uses.TypeUse) (i : ℕ) (x : uses.TypeUse) (a b c : FirstFault) → x ≡ get_or xs i x → i < length xs → All (UseIsOf w.owner w.names) xs
     → (UseIsOf w.owner w.names x → Told w a (use_faults numbers (bindings_of w) (use_meaning w.names x)) b) → Told w b (in_uses w numbers (drop (i + 1) xs)) c → Told w a (in_uses w numbers (drop i xs)) c
-uses_front w numbers =
-    told_front (UseIsOf w.owner w.names) (in_uses w numbers) (λ x. use_faults numbers (bindings_of w) (use_meaning w.names x))
+uses_prefix w numbers =
+    told_prefix (UseIsOf w.owner w.names) (in_uses w numbers) (λ x. use_faults numbers (bindings_of w) (use_meaning w.names x))
     (λ x xs. flat_map-cons (use_faults numbers (bindings_of w)) (use_meaning w.names x) (uses_meaning w.names xs)) w
 
 -- what an element of a list is read as, where there is one, asks for no default
@@ -119,7 +119,7 @@ pub uses_next : (w : World) (numbers : List Numbered) (xs : List uses.TypeUse) (
     → (UseIsOf w.owner w.names (get_or xs i no_use) → Told w a (use_faults numbers (bindings_of w) (use_meaning w.names (get_or xs i no_use))) b) → Told w b (in_uses w numbers (drop (i + 1) xs)) c
     → Told w a (in_uses w numbers (drop i xs)) c
 uses_next w numbers xs i a b c within all here rest =
-    uses_front w numbers xs i (get_or xs i no_use) a b c (get_or_any xs i no_use (get_or xs i no_use) within) within all here rest
+    uses_prefix w numbers xs i (get_or xs i no_use) a b c (get_or_any xs i no_use (get_or xs i no_use) within) within all here rest
 
 pub uses_end : (w : World) (numbers : List Numbered) (xs : List uses.TypeUse) (i : ℕ) (a : FirstFault) → length xs ≤ i → Told w a (in_uses w numbers (drop i xs)) a
 uses_end w numbers = told_end (in_uses w numbers) refl w
@@ -167,7 +167,7 @@ pub arity_from : (numbers : List Numbered) (bindings : List Binding) (uses : Lis
     → (used : TypeUse) × (place : ℕ) × (slice_get uses place ≡ Some used) × IsWrongUse numbers bindings used × (f ≡ arity_fault used)
 arity_from numbers bindings [] k f e = let never : ⊥ = cc in absurd never
 arity_from numbers bindings (used ∷ uses) k f e =
-    elim (front_or_behind (use_faults numbers bindings used) (arity_faults numbers bindings uses) k f
+    elim (prefix_or_suffix (use_faults numbers bindings used) (arity_faults numbers bindings uses) k f
     (subst (λ fs. slice_get fs k ≡ Some f) (flat_map-cons (use_faults numbers bindings) used uses) e)) [
       | inl h ↦ let found = here_or_not numbers bindings used (is_wrong numbers bindings used) k f h in
           (used, 0, refl, wrong_from numbers bindings used found.0, found.1)
@@ -187,7 +187,7 @@ arity_by numbers bindings (u ∷ uses) (suc place) used e has =
     let rest = arity_by numbers bindings uses place used e has in (
       length (use_faults numbers bindings u) + rest.0,
       subst (λ fs. slice_get fs (length (use_faults numbers bindings u) + rest.0) ≡ Some (arity_fault used)) (sym (flat_map-cons (use_faults numbers bindings) u uses))
-          (get_behind (use_faults numbers bindings u) (arity_faults numbers bindings uses) rest.0 ∙ rest.1),
+          (get_suffix (use_faults numbers bindings u) (arity_faults numbers bindings uses) rest.0 ∙ rest.1),
     )
 
 -- these faults are those of a text with these uses

@@ -5,8 +5,8 @@ use Rattle.std.proofs.lemmas.List.Elements.{All-get_or, All-nil}
 use Rattle.std.proofs.lemmas.Option.{slice_get_read}
 use Rattle.std.specs.List.{All}
 use Rattle.std.specs.Prelude.{codes, slice_get, slice_index_or}
-use Rattle.cu_cycles.proofs.Lists.{get_behind, get_front}
-use Rattle.cu_cycles.proofs.Places.{front_or_behind, one_element, within}
+use Rattle.cu_cycles.proofs.Lists.{get_suffix, get_prefix}
+use Rattle.cu_cycles.proofs.Places.{prefix_or_suffix, one_element, within}
 use Rattle.cu_lex.specs.Reading.{position_of}
 use Rattle.cu_modules.specs.declared.modules.Module.{Module}
 use Rattle.cu_modules.specs.declared.scopes.Scopes.{Scopes}
@@ -47,7 +47,7 @@ use Rattle.cu_syntax.specs.Answer.{items_meaning, module_meaning}
 use Rattle.cu_syntax.specs.declared.text.Item.{Item}
 use Rattle.std.proofs.lemmas.List.Concat.{flat_map-cons}
 use Rattle.std.specs.List.{flat_map}
-use Rattle.cu_declared.proofs.AddsLemmas.{front}
+use Rattle.cu_declared.proofs.AddsLemmas.{prefix}
 use Rattle.cu_declared.proofs.ArityLemmas.{arity_is}
 use Rattle.cu_declared.proofs.ItemLemmas.{parameters_are, synonyms_are}
 use Rattle.cu_declared.proofs.NumberLemmas.{gains_as, gains_both, gains_end}
@@ -60,16 +60,16 @@ module_faults w cs = ([] ++ arity_faults (all_parameters w.modules) (bindings_of
 listed : (w : World) (cs : List Fault) (f : Fault) → AreCycles w cs → IsModuleFault w.modules w.number w.m f → (k : ℕ) × (slice_get (module_faults w cs) k ≡ Some f)
 listed w cs f are (inl is) =
     let found = (arity_is w.modules (bindings_of w) (items_uses w.m.syntax.items) f).0 is in
-    (found.0, get_front (arity_faults (all_parameters w.modules) (bindings_of w) (items_uses w.m.syntax.items)) cs found.0 f found.1)
+    (found.0, get_prefix (arity_faults (all_parameters w.modules) (bindings_of w) (items_uses w.m.syntax.items)) cs found.0 f found.1)
 listed w cs f are (inr is) =
     let found = are.all f is in (
       length (arity_faults (all_parameters w.modules) (bindings_of w) (items_uses w.m.syntax.items)) + found.0,
-      get_behind (arity_faults (all_parameters w.modules) (bindings_of w) (items_uses w.m.syntax.items)) cs found.0 ∙ found.1,
+      get_suffix (arity_faults (all_parameters w.modules) (bindings_of w) (items_uses w.m.syntax.items)) cs found.0 ∙ found.1,
     )
 
 of_module : (w : World) (cs : List Fault) (k : ℕ) (f : Fault) → AreCycles w cs → slice_get (module_faults w cs) k ≡ Some f → IsModuleFault w.modules w.number w.m f
 of_module w cs k f are e =
-    elim (front_or_behind (arity_faults (all_parameters w.modules) (bindings_of w) (items_uses w.m.syntax.items)) cs k f e) [
+    elim (prefix_or_suffix (arity_faults (all_parameters w.modules) (bindings_of w) (items_uses w.m.syntax.items)) cs k f e) [
       | inl h ↦ inl ((arity_is w.modules (bindings_of w) (items_uses w.m.syntax.items) f).1 (k, h))
       | inr h ↦ inr (are.each h.0 f h.2)
     ]
@@ -250,12 +250,12 @@ built_in_gained names prelude int char a b c prelude_is int_is char_is one two =
 abbrev pub parameters_left : List (List ℕ) → List Module → List Numbered
 parameters_left names ms = flat_map parameters_in (modules_of names ms)
 
-pub parameters_front : (names : List (List ℕ)) (ms : List Module) (i : ℕ) (m : Module) (text : List Item) (a b c : Numbers) → m ≡ get_or ms i m → i < length ms
+pub parameters_prefix : (names : List (List ℕ)) (ms : List Module) (i : ℕ) (m : Module) (text : List Item) (a b c : Numbers) → m ≡ get_or ms i m → i < length ms
     → items_meaning names text ≡ (module_of names m).syntax.items → Gains names a (items_parameters names (text_of names m.name) text) b → Gains names b (parameters_left names (drop (i + 1) ms)) c
     → Gains names a (parameters_left names (drop i ms)) c
-parameters_front names ms i m text a b c is within_ms meaning one rest =
+parameters_prefix names ms i m text a b c is within_ms meaning one rest =
     gains_as names a c (parameters_in (module_of names m) ++ parameters_left names (drop (i + 1) ms)) (parameters_left names (drop i ms))
-    (front (parameters_left names) (λ x. parameters_in (module_of names x)) (λ x xs. flat_map-cons parameters_in (module_of names x) (modules_of names xs)) ms i m is within_ms)
+    (prefix (parameters_left names) (λ x. parameters_in (module_of names x)) (λ x xs. flat_map-cons parameters_in (module_of names x) (modules_of names xs)) ms i m is within_ms)
     (gains_both (gains_as names a b (items_parameters names (text_of names m.name) text) (parameters_in (module_of names m))
     (parameters_are names (text_of names m.name) text ∙ ap (flat_map (parameters_by (text_of names m.name))) meaning) one) rest)
 

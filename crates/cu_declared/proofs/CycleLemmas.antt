@@ -5,8 +5,8 @@ use Rattle.std.proofs.lemmas.List.Concat.{flat_map-cons}
 use Rattle.std.specs.Prelude.{slice_get}
 use Rattle.std.specs.declared.alloc.Global.{Global}
 use Rattle.std.specs.declared.vec.Vec.{Vec}
-use Rattle.cu_cycles.proofs.Lists.{get_behind}
-use Rattle.cu_cycles.proofs.Places.{front_or_behind, mapped_at, there, within}
+use Rattle.cu_cycles.proofs.Lists.{get_suffix}
+use Rattle.cu_cycles.proofs.Places.{prefix_or_suffix, mapped_at, there, within}
 use Rattle.cu_cycles.specs.Graph as graph
 use Rattle.cu_cycles.specs.Graph.{AreOnCycles, Edge, Graph, IsWhole, LiesOnCycle, Reach}
 use Rattle.cu_entities.specs.Bindings.{Binding}
@@ -70,7 +70,7 @@ target_from : (numbers : List Numbered) (bindings : List Binding) (uses : List T
     → (used : TypeUse) × (place : ℕ) × (slice_get uses place ≡ Some used) × (target_of numbers bindings used ≡ Some j)
 target_from numbers bindings [] k j e = let no : ⊥ = cc in absurd no
 target_from numbers bindings (used ∷ uses) k j e =
-    elim (front_or_behind (listed (target_of numbers bindings used)) (targets numbers bindings uses) k j
+    elim (prefix_or_suffix (listed (target_of numbers bindings used)) (targets numbers bindings uses) k j
     (subst (λ (ts : List ℕ). slice_get ts k ≡ Some j) (flat_map-cons (λ u. listed (target_of numbers bindings u)) used uses) e)) [
       | inl h ↦ (used, 0, refl, listed_is (target_of numbers bindings used) k j h)
       | inr h ↦ let rest = target_from numbers bindings uses h.0 j h.2 in (rest.0, suc rest.1, rest.2, rest.3)
@@ -90,7 +90,7 @@ target_by numbers bindings (u ∷ uses) (suc place) j used e is =
     let rest = target_by numbers bindings uses place j used e is in (
       length (listed (target_of numbers bindings u)) + rest.0,
       subst (λ (ts : List ℕ). slice_get ts (length (listed (target_of numbers bindings u)) + rest.0) ≡ Some j) (sym (flat_map-cons (λ x. listed (target_of numbers bindings x)) u uses))
-          (get_behind (listed (target_of numbers bindings u)) (targets numbers bindings uses) rest.0 ∙ rest.1),
+          (get_suffix (listed (target_of numbers bindings u)) (targets numbers bindings uses) rest.0 ∙ rest.1),
     )
 
 abbrev flag_fault : Kept → Fault
@@ -175,10 +175,10 @@ module _ (bindings : List Binding) (m : Named) (g : Graph) (rows : rows_in g ≡
       let more = reach_by j k rest in (j, edge_of i j names, graph.there j more.0 k more.1 more.2)
 
   leads : (u : ℕ) → LiesOnCycle g u → LeadsTo bindings m u u
-  leads u cycle = leads_by u cycle.next u cycle.edge cycle.back
+  leads u cycle = leads_by u cycle.next u cycle.edge cycle.closes
 
   lies : (u : ℕ) → LeadsTo bindings m u u → LiesOnCycle g u
-  lies u leads_back = let found = reach_by u u leads_back in record { next = found.0; edge = found.1; back = found.2 }
+  lies u leads_converse = let found = reach_by u u leads_converse in record { next = found.0; edge = found.1; closes = found.2 }
 
   -- ---- faults
 
@@ -187,7 +187,7 @@ module _ (bindings : List Binding) (m : Named) (g : Graph) (rows : rows_in g ≡
   each_flagged [] ks k f e = let no : ⊥ = cc in absurd no
   each_flagged (b ∷ flags) [] k f e = let no : ⊥ = cc in absurd no
   each_flagged (b ∷ flags) (s ∷ ks) k f e =
-      elim (front_or_behind (flagged_fault b s) (flagged_faults flags ks) k f e) [
+      elim (prefix_or_suffix (flagged_fault b s) (flagged_faults flags ks) k f e) [
         | inl h ↦ let here = flagged_here b s k f h in (0, s, ap Some here.0, refl, here.1)
         | inr h ↦ let rest = each_flagged flags ks h.0 f h.2 in (suc rest.0, rest.1, rest.2, rest.3, rest.4)
       ]
@@ -202,7 +202,7 @@ module _ (bindings : List Binding) (m : Named) (g : Graph) (rows : rows_in g ≡
       (0, subst (λ (fs : List Fault). slice_get fs 0 ≡ Some (flag_fault s)) (ap₂ (λ (x : Bool) (y : Kept). flagged_fault x y ++ flagged_faults flags ks) (sym flag) (sym same)) refl)
   flagged_by (b ∷ flags) (t ∷ ks) (suc n) s e d =
       let rest = flagged_by flags ks n s e d in
-      (length (flagged_fault b t) + rest.0, get_behind (flagged_fault b t) (flagged_faults flags ks) rest.0 ∙ rest.1)
+      (length (flagged_fault b t) + rest.0, get_suffix (flagged_fault b t) (flagged_faults flags ks) rest.0 ∙ rest.1)
 
   pub cycles_are : (w : World) (flags : List Bool) → AreOnCycles g flags → bindings_of w ≡ bindings → w.m ≡ m → (ks : List Kept) → ks ≡ map kept (synonyms_in m) → AreCycles w (flagged_faults flags ks)
   cycles_are w flags on bindings_are m_is ks kept_are = record {

@@ -23,8 +23,8 @@ use Rattle.cu_declared.specs.Inside.Numbers.{Gains}
 use Rattle.cu_declared.specs.Parameters.{Numbered, numbered, parameters_by}
 use Rattle.cu_declared.specs.SynonymCycles.{Synonym, synonyms_by}
 use Rattle.cu_declared.specs.TypeUses.{TypeUse, constructor_uses, item_uses, items_uses}
-use Rattle.cu_declared.proofs.AddsLemmas.{adds_as, adds_end, adds_front}
-use Rattle.cu_declared.proofs.NumberLemmas.{gains_as, gains_end, gains_front}
+use Rattle.cu_declared.proofs.AddsLemmas.{adds_as, adds_end, adds_prefix}
+use Rattle.cu_declared.proofs.NumberLemmas.{gains_as, gains_end, gains_prefix}
 
 -- ---- uses
 
@@ -52,9 +52,9 @@ pub item_found : (owner : NameId) (names : List (List ℕ)) (i : Item) (v n : It
 item_found owner names i v n a b meaning is adds =
     adds_as owner names a b (in_item_node names n) (in_item names i) (item_by_node names i n (ap (item_node names) (sym is) ∙ meaning)) adds
 
-pub items_front : (P : Item → Type 0) (owner : NameId) (names : List (List ℕ)) (xs : List Item) (i : ℕ) (x : Item) (a b c : List code.TypeUse) → x ≡ get_or xs i x → i < length xs → All P xs
+pub items_prefix : (P : Item → Type 0) (owner : NameId) (names : List (List ℕ)) (xs : List Item) (i : ℕ) (x : Item) (a b c : List code.TypeUse) → x ≡ get_or xs i x → i < length xs → All P xs
     → (P x → Adds owner names a (in_item names x) b) → Adds owner names b (in_items names (drop (i + 1) xs)) c → Adds owner names a (in_items names (drop i xs)) c
-items_front P owner names = adds_front P (in_items names) (in_item names) (flat_map-cons (in_item names)) owner names
+items_prefix P owner names = adds_prefix P (in_items names) (in_item names) (flat_map-cons (in_item names)) owner names
 
 pub items_end : (owner : NameId) (names : List (List ℕ)) (xs : List Item) (i : ℕ) (a : List code.TypeUse) → length xs ≤ i → Adds owner names a (in_items names (drop i xs)) a
 items_end owner names = adds_end (in_items names) refl owner names
@@ -62,10 +62,10 @@ items_end owner names = adds_end (in_items names) refl owner names
 abbrev pub in_fields_of : List (List ℕ) → ConstructorDeclaration → List TypeUse
 in_fields_of names c = in_types names c.fields.items
 
-pub fields_front : (P : ConstructorDeclaration → Type 0) (owner : NameId) (names : List (List ℕ)) (xs : List ConstructorDeclaration) (i : ℕ) (x : ConstructorDeclaration) (a b c : List code.TypeUse)
+pub fields_prefix : (P : ConstructorDeclaration → Type 0) (owner : NameId) (names : List (List ℕ)) (xs : List ConstructorDeclaration) (i : ℕ) (x : ConstructorDeclaration) (a b c : List code.TypeUse)
     → x ≡ get_or xs i x → i < length xs → All P xs
     → (P x → Adds owner names a (in_fields_of names x) b) → Adds owner names b (in_fields names (drop (i + 1) xs)) c → Adds owner names a (in_fields names (drop i xs)) c
-fields_front P owner names = adds_front P (in_fields names) (in_fields_of names) (flat_map-cons (in_fields_of names)) owner names
+fields_prefix P owner names = adds_prefix P (in_fields names) (in_fields_of names) (flat_map-cons (in_fields_of names)) owner names
 
 pub fields_end : (owner : NameId) (names : List (List ℕ)) (xs : List ConstructorDeclaration) (i : ℕ) (a : List code.TypeUse) → length xs ≤ i → Adds owner names a (in_fields names (drop i xs)) a
 fields_end owner names = adds_end (in_fields names) refl owner names
@@ -102,9 +102,9 @@ parameters_found names owner i v n a b meaning is gains =
 pub counted : (names : List (List ℕ)) (owner name : List ℕ) (k n : ℕ) (a b : table.Numbers) → k ≡ n → Gains names a (numbered owner name k ∷ []) b → Gains names a (numbered owner name n ∷ []) b
 counted names owner name k n a b same gains = gains_as names a b (numbered owner name k ∷ []) (numbered owner name n ∷ []) (ap (λ j. numbered owner name j ∷ []) same) gains
 
-pub parameters_front : (P : Item → Type 0) (names : List (List ℕ)) (owner : List ℕ) (xs : List Item) (i : ℕ) (x : Item) (a b c : table.Numbers) → x ≡ get_or xs i x → i < length xs → All P xs
+pub parameters_prefix : (P : Item → Type 0) (names : List (List ℕ)) (owner : List ℕ) (xs : List Item) (i : ℕ) (x : Item) (a b c : table.Numbers) → x ≡ get_or xs i x → i < length xs → All P xs
     → (P x → Gains names a (item_parameters names owner x) b) → Gains names b (items_parameters names owner (drop (i + 1) xs)) c → Gains names a (items_parameters names owner (drop i xs)) c
-parameters_front P names owner = gains_front P (items_parameters names owner) (item_parameters names owner) (flat_map-cons (item_parameters names owner)) names
+parameters_prefix P names owner = gains_prefix P (items_parameters names owner) (item_parameters names owner) (flat_map-cons (item_parameters names owner)) names
 
 pub parameters_end : (names : List (List ℕ)) (owner : List ℕ) (xs : List Item) (i : ℕ) (a : table.Numbers) → length xs ≤ i → Gains names a (items_parameters names owner (drop i xs)) a
 parameters_end names owner = gains_end (items_parameters names owner) refl names

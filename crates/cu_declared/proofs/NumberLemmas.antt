@@ -15,7 +15,7 @@ use Rattle.cu_declared.specs.declared.numbers.Key.{Key}
 use Rattle.cu_declared.specs.declared.numbers.Numbers as code
 use Rattle.cu_declared.specs.Inside.Numbers.{AreNumbers, Gains, Have, first_or, number_for}
 use Rattle.cu_declared.specs.Parameters.{Numbered, belongs_to, number_at, numbered}
-use Rattle.cu_declared.proofs.AddsLemmas.{front, nothing_left}
+use Rattle.cu_declared.proofs.AddsLemmas.{prefix, nothing_left}
 
 same_id : (a b : NameId) → nat_eq a.0 b.0 ≡ true → a ≡ b
 same_id a b is = ap (λ (n : ℕ). record { 0 = n }) ((Decides-eqb a.0 b.0).0 is)
@@ -108,12 +108,12 @@ gains_both {names = names} {c = c} {xs = xs} {ys = ys} one two = record {
 pub gains_as : (names : List (List ℕ)) (a b : code.Numbers) (xs ys : List Numbered) → xs ≡ ys → Gains names a xs b → Gains names a ys b
 gains_as names a b xs ys same gains = subst (λ (zs : List Numbered). Gains names a zs b) same gains
 
-pub gains_front : {X : Type 0} (P : X → Type 0) (F : List X → List Numbered) (f : X → List Numbered) → ((x : X) (xs : List X) → F (x ∷ xs) ≡ f x ++ F xs)
+pub gains_prefix : {X : Type 0} (P : X → Type 0) (F : List X → List Numbered) (f : X → List Numbered) → ((x : X) (xs : List X) → F (x ∷ xs) ≡ f x ++ F xs)
     → (names : List (List ℕ)) (xs : List X) (i : ℕ) (x : X) (a b c : code.Numbers) → x ≡ get_or xs i x → i < length xs → All P xs
     → (P x → Gains names a (f x) b) → Gains names b (F (drop (i + 1) xs)) c → Gains names a (F (drop i xs)) c
-gains_front P F f cons names xs i x a b c is within all here behind =
-    subst (λ ys. Gains names a ys c) (front F f cons xs i x is within)
-    (gains_both (here (subst P (sym is) (All-get_or P xs i x within all))) behind)
+gains_prefix P F f cons names xs i x a b c is within all here suffix =
+    subst (λ ys. Gains names a ys c) (prefix F f cons xs i x is within)
+    (gains_both (here (subst P (sym is) (All-get_or P xs i x within all))) suffix)
 
 pub gains_end : {X : Type 0} (F : List X → List Numbered) → F [] ≡ [] → (names : List (List ℕ)) (xs : List X) (i : ℕ) (a : code.Numbers) → length xs ≤ i
     → Gains names a (F (drop i xs)) a

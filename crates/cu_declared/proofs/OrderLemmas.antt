@@ -2,8 +2,8 @@
 use Rattle.std.proofs.Common.{◌≡◌, ◌<◌, ◌⊎◌, ◌∙◌, None, Some, ◌||◌, ◌&&◌, ℕ, Bool, true, false, List, [], ◌∷◌, ◌++◌, refl, sym, subst, arith, inl, inr, true≢false, eq-eqb, eqb-true}
 use Rattle.std.proofs.lemmas.Bool.{and_parts, lt-ltb, ltb-true}
 use Rattle.std.specs.Prelude.{nat_eq, nat_lt, length, slice_get}
-use Rattle.cu_cycles.proofs.Lists.{get_front, get_last}
-use Rattle.cu_cycles.proofs.Places.{front_or_last}
+use Rattle.cu_cycles.proofs.Lists.{get_prefix, get_last}
+use Rattle.cu_cycles.proofs.Places.{prefix_or_last}
 use Rattle.cu_names.specs.declared.names.NameId.{NameId}
 use Rattle.cu_declared.specs.declared.found.Fault as code
 use Rattle.cu_declared.specs.declared.first_fault.FirstFault.{FirstFault}
@@ -76,7 +76,7 @@ pub first_alone : (f : Fault) → IsFirst ([] ++ f ∷ []) f
 first_alone f = record {
   place = 0;
   listed = refl;
-  first = λ k g e. each k g (front_or_last [] f k g e);
+  first = λ k g e. each k g (prefix_or_last [] f k g e);
 }
   where
     each : (k : ℕ) (g : Fault) → (slice_get [] k ≡ Some g) ⊎ ((k ≡ 0) × (f ≡ g)) → is_before g f ≡ false
@@ -86,8 +86,8 @@ first_alone f = record {
 pub first_stays : (faults : List Fault) (f g : Fault) → IsFirst faults f → is_before g f ≡ false → IsFirst (faults ++ g ∷ []) f
 first_stays faults f g is later = record {
   place = is.place;
-  listed = get_front faults (g ∷ []) is.place f is.listed;
-  first = λ k h e. each k h (front_or_last faults g k h e);
+  listed = get_prefix faults (g ∷ []) is.place f is.listed;
+  first = λ k h e. each k h (prefix_or_last faults g k h e);
 }
   where
     each : (k : ℕ) (h : Fault) → (slice_get faults k ≡ Some h) ⊎ ((k ≡ length faults) × (g ≡ h)) → is_before h f ≡ false
@@ -103,7 +103,7 @@ pub first_changes : (faults : List Fault) (f g : Fault) → IsFirst faults f →
 first_changes faults f g is earlier = record {
   place = length faults;
   listed = get_last faults g;
-  first = λ k h e. each k h (front_or_last faults g k h e);
+  first = λ k h e. each k h (prefix_or_last faults g k h e);
 }
   where
     each : (k : ℕ) (h : Fault) → (slice_get faults k ≡ Some h) ⊎ ((k ≡ length faults) × (g ≡ h)) → is_before h g ≡ false

@@ -27,7 +27,7 @@ use Rattle.cu_declared.specs.Parameters.{Numbered, numbered}
 use Rattle.cu_declared.specs.SynonymCycles.{Synonym}
 use Rattle.cu_declared.specs.TypeFaults as meant
 use Rattle.cu_declared.specs.TypeFaults.{Fault}
-use Rattle.cu_declared.proofs.AddsLemmas.{front, nothing_left}
+use Rattle.cu_declared.proofs.AddsLemmas.{prefix, nothing_left}
 use Rattle.cu_declared.proofs.ArityLemmas.{told_as, told_both, told_none}
 use Rattle.cu_declared.proofs.NumberLemmas.{gains_both, gains_none}
 
@@ -68,7 +68,7 @@ next_whole : (names : List (List ℕ)) (items : List Item) (i : ℕ) (x : Item) 
     → ss ++ items_synonyms names (drop i items) ≡ items_synonyms names items → (ss ++ item_synonyms names x) ++ items_synonyms names (drop (i + 1) items) ≡ items_synonyms names items
 next_whole names items i x ss is within whole =
     append_assoc ss (item_synonyms names x) (items_synonyms names (drop (i + 1) items))
-    ∙ ap (λ ys. ss ++ ys) (front (items_synonyms names) (item_synonyms names) (flat_map-cons (item_synonyms names)) items i x is within) ∙ whole
+    ∙ ap (λ ys. ss ++ ys) (prefix (items_synonyms names) (item_synonyms names) (flat_map-cons (item_synonyms names)) items i x is within) ∙ whole
 
 pub so_far_same : (owner : NameId) (names : List (List ℕ)) (items : List Item) (i : ℕ) (x : Item) (found : List code.Synonym) → x ≡ get_or items i x → i < length items
     → item_synonyms names x ≡ [] → KeptSoFar owner names items i found → KeptSoFar owner names items (i + 1) found
@@ -98,9 +98,9 @@ so_far_all owner names items i found past before =
 abbrev pub numbers_left : List (List ℕ) → NameId → List code.Synonym → ℕ → List Numbered
 numbers_left names owner xs i = kept_numbers i (text_of names owner) (map (kept_by names) (drop i xs))
 
-pub numbers_front : (names : List (List ℕ)) (owner : NameId) (xs : List code.Synonym) (i : ℕ) (x : code.Synonym) (a b c : table.Numbers) → x ≡ get_or xs i x → i < length xs
+pub numbers_prefix : (names : List (List ℕ)) (owner : NameId) (xs : List code.Synonym) (i : ℕ) (x : code.Synonym) (a b c : table.Numbers) → x ≡ get_or xs i x → i < length xs
     → Gains names a (numbered (text_of names owner) (text_of names x.name) i ∷ []) b → Gains names b (numbers_left names owner xs (i + 1)) c → Gains names a (numbers_left names owner xs i) c
-numbers_front names owner xs i x a b c is within one rest =
+numbers_prefix names owner xs i x a b c is within one rest =
     subst (λ (ys : List code.Synonym). Gains names a (kept_numbers i (text_of names owner) (map (kept_by names) ys)) c)
     (sym (drop-cons xs i x within ∙ ap₂ (λ y n. y ∷ drop n xs) (sym is) (sym (add-one i)))) (gains_both one rest)
 
@@ -110,17 +110,17 @@ numbers_end names owner xs i a past =
 
 -- ---- rows
 
-pub row_front : (names : List (List ℕ)) (kept_is : List Numbered) (bindings : List Binding) (xs : List uses.TypeUse) (i : ℕ) (x : uses.TypeUse) → x ≡ get_or xs i x → i < length xs
+pub row_prefix : (names : List (List ℕ)) (kept_is : List Numbered) (bindings : List Binding) (xs : List uses.TypeUse) (i : ℕ) (x : uses.TypeUse) → x ≡ get_or xs i x → i < length xs
     → listed (target_of kept_is bindings (use_meaning names x)) ++ targets kept_is bindings (uses_meaning names (drop (i + 1) xs)) ≡ targets kept_is bindings (uses_meaning names (drop i xs))
-row_front names kept_is bindings xs i x is within =
-    front (λ ys. targets kept_is bindings (uses_meaning names ys)) (λ y. listed (target_of kept_is bindings (use_meaning names y)))
+row_prefix names kept_is bindings xs i x is within =
+    prefix (λ ys. targets kept_is bindings (uses_meaning names ys)) (λ y. listed (target_of kept_is bindings (use_meaning names y)))
     (λ y ys. flat_map-cons (λ u. listed (target_of kept_is bindings u)) (use_meaning names y) (uses_meaning names ys)) xs i x is within
 
 pub row_none : (names : List (List ℕ)) (kept_is : List Numbered) (bindings : List Binding) (xs : List uses.TypeUse) (i : ℕ) (x : uses.TypeUse) (row all : List ℕ) (found : Option ℕ) → x ≡ get_or xs i x → i < length xs
     → found ≡ target_of kept_is bindings (use_meaning names x) → found ≡ None
     → row ++ targets kept_is bindings (uses_meaning names (drop i xs)) ≡ all → row ++ targets kept_is bindings (uses_meaning names (drop (i + 1) xs)) ≡ all
 row_none names kept_is bindings xs i x row all found is within target none before =
-    ap (λ ys. row ++ ys) (ap (λ o. listed o ++ targets kept_is bindings (uses_meaning names (drop (i + 1) xs))) (sym none ∙ target) ∙ row_front names kept_is bindings xs i x is within) ∙ before
+    ap (λ ys. row ++ ys) (ap (λ o. listed o ++ targets kept_is bindings (uses_meaning names (drop (i + 1) xs))) (sym none ∙ target) ∙ row_prefix names kept_is bindings xs i x is within) ∙ before
 
 pub row_more : (names : List (List ℕ)) (kept_is : List Numbered) (bindings : List Binding) (xs : List uses.TypeUse) (i : ℕ) (x : uses.TypeUse) (row new all : List ℕ) (found : Option ℕ) (n : ℕ) → x ≡ get_or xs i x → i < length xs
     → found ≡ target_of kept_is bindings (use_meaning names x) → found ≡ Some n → new ≡ row ++ n ∷ []
@@ -128,7 +128,7 @@ pub row_more : (names : List (List ℕ)) (kept_is : List Numbered) (bindings : L
 row_more names kept_is bindings xs i x row new all found n is within target some pushed before =
     ap (λ ys. ys ++ targets kept_is bindings (uses_meaning names (drop (i + 1) xs))) pushed
     ∙ append_assoc row (n ∷ []) (targets kept_is bindings (uses_meaning names (drop (i + 1) xs)))
-    ∙ ap (λ ys. row ++ ys) (ap (λ o. listed o ++ targets kept_is bindings (uses_meaning names (drop (i + 1) xs))) (sym some ∙ target) ∙ row_front names kept_is bindings xs i x is within) ∙ before
+    ∙ ap (λ ys. row ++ ys) (ap (λ o. listed o ++ targets kept_is bindings (uses_meaning names (drop (i + 1) xs))) (sym some ∙ target) ∙ row_prefix names kept_is bindings xs i x is within) ∙ before
 
 pub row_end : (names : List (List ℕ)) (kept_is : List Numbered) (bindings : List Binding) (xs : List uses.TypeUse) (i : ℕ) (row all : List ℕ) → length xs ≤ i
     → row ++ targets kept_is bindings (uses_meaning names (drop i xs)) ≡ all → row ≡ all
@@ -169,9 +169,9 @@ flag_silent w s flag a is = told_as w a a [] (flagged_fault flag s) (ap (λ (x :
 abbrev pub flags_left : World → List Bool → List code.Synonym → ℕ → List Fault
 flags_left w flags xs i = flagged_faults (drop i flags) (map (kept_by w.names) (drop i xs))
 
-pub flags_front : (w : World) (flags : List Bool) (xs : List code.Synonym) (i : ℕ) (x : code.Synonym) (flag : Bool) (a b c : FirstFault) → x ≡ get_or xs i x → i < length xs → flag ≡ get_or flags i flag → i < length flags
+pub flags_prefix : (w : World) (flags : List Bool) (xs : List code.Synonym) (i : ℕ) (x : code.Synonym) (flag : Bool) (a b c : FirstFault) → x ≡ get_or xs i x → i < length xs → flag ≡ get_or flags i flag → i < length flags
     → Told w a (flagged_fault flag (kept_by w.names x)) b → Told w b (flags_left w flags xs (i + 1)) c → Told w a (flags_left w flags xs i) c
-flags_front w flags xs i x flag a b c is within flag_is flag_within one rest =
+flags_prefix w flags xs i x flag a b c is within flag_is flag_within one rest =
     told_as w a c (flagged_fault flag (kept_by w.names x) ++ flags_left w flags xs (i + 1)) (flags_left w flags xs i)
     (sym (ap₂ (λ (fs : List Bool) (ys : List code.Synonym). flagged_faults fs (map (kept_by w.names) ys))
     (drop-cons flags i flag flag_within ∙ ap₂ (λ y n. y ∷ drop n flags) (sym flag_is) (sym (add-one i)))

@@ -32,7 +32,7 @@ use Rattle.cu_syntax.specs.Types.{function_type, type_meaning, type_node, types_
 use Rattle.cu_declared.specs.declared.found.TypeUse as code
 use Rattle.cu_declared.specs.Inside.Gathered.{Adds, in_alternatives, in_body, in_declaration, in_declarations, in_enumeration, in_expression, in_expressions, in_guards, in_maybe, in_operands, in_qualifier, in_qualifiers, in_right, in_type, in_types}
 use Rattle.cu_declared.specs.TypeUses.{TypeUse, declaration_uses, expression_uses, right_uses, type_count, type_uses, types_uses}
-use Rattle.cu_declared.proofs.AddsLemmas.{adds_as, adds_end, adds_front, adds_none}
+use Rattle.cu_declared.proofs.AddsLemmas.{adds_as, adds_end, adds_prefix, adds_none}
 
 -- ---- types
 
@@ -133,9 +133,9 @@ types_nil : (names : List (List ℕ)) → in_types names [] ≡ []
 unfolding in_types
 types_nil names = refl
 
-pub types_front : (P : TypeTerm → Type 0) (owner : NameId) (names : List (List ℕ)) (xs : List TypeTerm) (i : ℕ) (x : TypeTerm) (a b c : List code.TypeUse) → x ≡ get_or xs i x → i < length xs → All P xs
+pub types_prefix : (P : TypeTerm → Type 0) (owner : NameId) (names : List (List ℕ)) (xs : List TypeTerm) (i : ℕ) (x : TypeTerm) (a b c : List code.TypeUse) → x ≡ get_or xs i x → i < length xs → All P xs
     → (P x → Adds owner names a (in_type names x) b) → Adds owner names b (in_types names (drop (i + 1) xs)) c → Adds owner names a (in_types names (drop i xs)) c
-types_front P owner names = adds_front P (in_types names) (λ x. in_type names x) (types_cons names) owner names
+types_prefix P owner names = adds_prefix P (in_types names) (λ x. in_type names x) (types_cons names) owner names
 
 pub types_end : (owner : NameId) (names : List (List ℕ)) (xs : List TypeTerm) (i : ℕ) (a : List code.TypeUse) → length xs ≤ i → Adds owner names a (in_types names (drop i xs)) a
 types_end owner names = adds_end (in_types names) (types_nil names) owner names
@@ -148,9 +148,9 @@ expressions_nil : (names : List (List ℕ)) → in_expressions names [] ≡ []
 unfolding in_expressions
 expressions_nil names = refl
 
-pub expressions_front : (P : Expression → Type 0) (owner : NameId) (names : List (List ℕ)) (xs : List Expression) (i : ℕ) (x : Expression) (a b c : List code.TypeUse) → x ≡ get_or xs i x → i < length xs → All P xs
+pub expressions_prefix : (P : Expression → Type 0) (owner : NameId) (names : List (List ℕ)) (xs : List Expression) (i : ℕ) (x : Expression) (a b c : List code.TypeUse) → x ≡ get_or xs i x → i < length xs → All P xs
     → (P x → Adds owner names a (in_expression names x) b) → Adds owner names b (in_expressions names (drop (i + 1) xs)) c → Adds owner names a (in_expressions names (drop i xs)) c
-expressions_front P owner names = adds_front P (in_expressions names) (λ x. in_expression names x) (expressions_cons names) owner names
+expressions_prefix P owner names = adds_prefix P (in_expressions names) (λ x. in_expression names x) (expressions_cons names) owner names
 
 pub expressions_end : (owner : NameId) (names : List (List ℕ)) (xs : List Expression) (i : ℕ) (a : List code.TypeUse) → length xs ≤ i → Adds owner names a (in_expressions names (drop i xs)) a
 expressions_end owner names = adds_end (in_expressions names) (expressions_nil names) owner names
@@ -163,9 +163,9 @@ operands_nil : (names : List (List ℕ)) → in_operands names [] ≡ []
 unfolding in_operands
 operands_nil names = refl
 
-pub operands_front : (P : OperatorItem → Type 0) (owner : NameId) (names : List (List ℕ)) (xs : List OperatorItem) (i : ℕ) (x : OperatorItem) (a b c : List code.TypeUse) → x ≡ get_or xs i x → i < length xs → All P xs
+pub operands_prefix : (P : OperatorItem → Type 0) (owner : NameId) (names : List (List ℕ)) (xs : List OperatorItem) (i : ℕ) (x : OperatorItem) (a b c : List code.TypeUse) → x ≡ get_or xs i x → i < length xs → All P xs
     → (P x → Adds owner names a (in_expression names x.operand) b) → Adds owner names b (in_operands names (drop (i + 1) xs)) c → Adds owner names a (in_operands names (drop i xs)) c
-operands_front P owner names = adds_front P (in_operands names) (λ x. in_expression names x.operand) (operands_cons names) owner names
+operands_prefix P owner names = adds_prefix P (in_operands names) (λ x. in_expression names x.operand) (operands_cons names) owner names
 
 pub operands_end : (owner : NameId) (names : List (List ℕ)) (xs : List OperatorItem) (i : ℕ) (a : List code.TypeUse) → length xs ≤ i → Adds owner names a (in_operands names (drop i xs)) a
 operands_end owner names = adds_end (in_operands names) (operands_nil names) owner names
@@ -178,9 +178,9 @@ alternatives_nil : (names : List (List ℕ)) → in_alternatives names [] ≡ []
 unfolding in_alternatives
 alternatives_nil names = refl
 
-pub alternatives_front : (P : Alternative → Type 0) (owner : NameId) (names : List (List ℕ)) (xs : List Alternative) (i : ℕ) (x : Alternative) (a b c : List code.TypeUse) → x ≡ get_or xs i x → i < length xs → All P xs
+pub alternatives_prefix : (P : Alternative → Type 0) (owner : NameId) (names : List (List ℕ)) (xs : List Alternative) (i : ℕ) (x : Alternative) (a b c : List code.TypeUse) → x ≡ get_or xs i x → i < length xs → All P xs
     → (P x → Adds owner names a (in_right names x.right) b) → Adds owner names b (in_alternatives names (drop (i + 1) xs)) c → Adds owner names a (in_alternatives names (drop i xs)) c
-alternatives_front P owner names = adds_front P (in_alternatives names) (λ x. in_right names x.right) (alternatives_cons names) owner names
+alternatives_prefix P owner names = adds_prefix P (in_alternatives names) (λ x. in_right names x.right) (alternatives_cons names) owner names
 
 pub alternatives_end : (owner : NameId) (names : List (List ℕ)) (xs : List Alternative) (i : ℕ) (a : List code.TypeUse) → length xs ≤ i → Adds owner names a (in_alternatives names (drop i xs)) a
 alternatives_end owner names = adds_end (in_alternatives names) (alternatives_nil names) owner names
@@ -193,9 +193,9 @@ guards_nil : (names : List (List ℕ)) → in_guards names [] ≡ []
 unfolding in_guards
 guards_nil names = refl
 
-pub guards_front : (P : Guard → Type 0) (owner : NameId) (names : List (List ℕ)) (xs : List Guard) (i : ℕ) (x : Guard) (a b c : List code.TypeUse) → x ≡ get_or xs i x → i < length xs → All P xs
+pub guards_prefix : (P : Guard → Type 0) (owner : NameId) (names : List (List ℕ)) (xs : List Guard) (i : ℕ) (x : Guard) (a b c : List code.TypeUse) → x ≡ get_or xs i x → i < length xs → All P xs
     → (P x → Adds owner names a (in_expression names x.condition ++ in_expression names x.expression) b) → Adds owner names b (in_guards names (drop (i + 1) xs)) c → Adds owner names a (in_guards names (drop i xs)) c
-guards_front P owner names = adds_front P (in_guards names) (λ x. in_expression names x.condition ++ in_expression names x.expression) (guards_cons names) owner names
+guards_prefix P owner names = adds_prefix P (in_guards names) (λ x. in_expression names x.condition ++ in_expression names x.expression) (guards_cons names) owner names
 
 pub guards_end : (owner : NameId) (names : List (List ℕ)) (xs : List Guard) (i : ℕ) (a : List code.TypeUse) → length xs ≤ i → Adds owner names a (in_guards names (drop i xs)) a
 guards_end owner names = adds_end (in_guards names) (guards_nil names) owner names
@@ -208,9 +208,9 @@ declarations_nil : (names : List (List ℕ)) → in_declarations names [] ≡ []
 unfolding in_declarations
 declarations_nil names = refl
 
-pub declarations_front : (P : Declaration → Type 0) (owner : NameId) (names : List (List ℕ)) (xs : List Declaration) (i : ℕ) (x : Declaration) (a b c : List code.TypeUse) → x ≡ get_or xs i x → i < length xs → All P xs
+pub declarations_prefix : (P : Declaration → Type 0) (owner : NameId) (names : List (List ℕ)) (xs : List Declaration) (i : ℕ) (x : Declaration) (a b c : List code.TypeUse) → x ≡ get_or xs i x → i < length xs → All P xs
     → (P x → Adds owner names a (in_declaration names x) b) → Adds owner names b (in_declarations names (drop (i + 1) xs)) c → Adds owner names a (in_declarations names (drop i xs)) c
-declarations_front P owner names = adds_front P (in_declarations names) (λ x. in_declaration names x) (declarations_cons names) owner names
+declarations_prefix P owner names = adds_prefix P (in_declarations names) (λ x. in_declaration names x) (declarations_cons names) owner names
 
 pub declarations_end : (owner : NameId) (names : List (List ℕ)) (xs : List Declaration) (i : ℕ) (a : List code.TypeUse) → length xs ≤ i → Adds owner names a (in_declarations names (drop i xs)) a
 declarations_end owner names = adds_end (in_declarations names) (declarations_nil names) owner names
@@ -223,9 +223,9 @@ qualifiers_nil : (names : List (List ℕ)) → in_qualifiers names [] ≡ []
 unfolding in_qualifiers
 qualifiers_nil names = refl
 
-pub qualifiers_front : (P : Qualifier → Type 0) (owner : NameId) (names : List (List ℕ)) (xs : List Qualifier) (i : ℕ) (x : Qualifier) (a b c : List code.TypeUse) → x ≡ get_or xs i x → i < length xs → All P xs
+pub qualifiers_prefix : (P : Qualifier → Type 0) (owner : NameId) (names : List (List ℕ)) (xs : List Qualifier) (i : ℕ) (x : Qualifier) (a b c : List code.TypeUse) → x ≡ get_or xs i x → i < length xs → All P xs
     → (P x → Adds owner names a (in_qualifier names x) b) → Adds owner names b (in_qualifiers names (drop (i + 1) xs)) c → Adds owner names a (in_qualifiers names (drop i xs)) c
-qualifiers_front P owner names = adds_front P (in_qualifiers names) (λ x. in_qualifier names x) (qualifiers_cons names) owner names
+qualifiers_prefix P owner names = adds_prefix P (in_qualifiers names) (λ x. in_qualifier names x) (qualifiers_cons names) owner names
 
 pub qualifiers_end : (owner : NameId) (names : List (List ℕ)) (xs : List Qualifier) (i : ℕ) (a : List code.TypeUse) → length xs ≤ i → Adds owner names a (in_qualifiers names (drop i xs)) a
 qualifiers_end owner names = adds_end (in_qualifiers names) (qualifiers_nil names) owner names

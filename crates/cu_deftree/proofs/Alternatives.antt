@@ -15,7 +15,7 @@ use Rattle.cu_calculus.specs.Below.{Below}
 use Rattle.cu_calculus.specs.Builtin as builtin
 use Rattle.cu_calculus.specs.Builtin.{Answers, Compares, on_literals, truth_of}
 use Rattle.cu_calculus.specs.Choose as choose
-use Rattle.cu_calculus.specs.Choose.{ALiteral, AConstructor, Again, Chooses, Demand, Look, Narrow, Nothing, alternative_at, arguments_of, at_constructor, at_literal, demand_of, has_variable, is_demanding, leftmost, look, look_at, look_from, narrow, narrowed, not_literal, rows_from, same_type, spliced, wants_constructor, wants_literal, wants_nothing}
+use Rattle.cu_calculus.specs.Choose.{ALiteral, AConstructor, Again, Chooses, Demand, Look, Specialize, Nothing, alternative_at, arguments_of, at_constructor, at_literal, demand_of, has_variable, is_demanding, leftmost, look, look_at, look_from, specialized_look, specialized_row, not_literal, rows_from, same_type, spliced, demands_constructor, demands_literal, demands_nothing}
 use Rattle.cu_calculus.specs.Gives as gives
 use Rattle.cu_calculus.specs.Gives.{Applied, Claim, Gives}
 use Rattle.cu_calculus.specs.Literal.{same_literal}
@@ -73,18 +73,18 @@ alike_filter test other (row ∷ rows) (twin ∷ twins) a h =
     by false true e rest = let no : ⊥ = cc in absurd no
     by false false e rest = rest
 
-abbrev narrowed_patterns : ℕ → ℕ → List Pattern → List Pattern
-narrowed_patterns k n ps = spliced k (elim (slice_get ps k) [ Some p ↦ arguments_of n p | None ↦ [] ]) ps
+abbrev specialized_patterns : ℕ → ℕ → List Pattern → List Pattern
+specialized_patterns k n ps = spliced k (elim (slice_get ps k) [ Some p ↦ arguments_of n p | None ↦ [] ]) ps
 
-pub alike_narrowed : (k n : ℕ) (new : List ℕ) (rows : List Row) (twins : List choose.Row) → length new ≡ n → Alike rows twins
-    → Alike (map (specialized k new) rows) (map (narrowed k n) twins)
-alike_narrowed k n new [] [] e h = tt
-alike_narrowed k n new [] (twin ∷ twins) e h = absurd h
-alike_narrowed k n new (row ∷ rows) [] e h = absurd h
-alike_narrowed k n new (row ∷ rows) (twin ∷ twins) e h =
-    (ap₂ (narrowed_patterns k) (sym e) h.0, alike_narrowed k n new rows twins e h.1)
+pub alike_specialized : (k n : ℕ) (new : List ℕ) (rows : List Row) (twins : List choose.Row) → length new ≡ n → Alike rows twins
+    → Alike (map (specialized k new) rows) (map (specialized_row k n) twins)
+alike_specialized k n new [] [] e h = tt
+alike_specialized k n new [] (twin ∷ twins) e h = absurd h
+alike_specialized k n new (row ∷ rows) [] e h = absurd h
+alike_specialized k n new (row ∷ rows) (twin ∷ twins) e h =
+    (ap₂ (specialized_patterns k) (sym e) h.0, alike_specialized k n new rows twins e h.1)
 
-some_variable : (d : Demand) → wants_nothing d ≡ not (is_demanding d)
+some_variable : (d : Demand) → demands_nothing d ≡ not (is_demanding d)
 some_variable Nothing = refl
 some_variable (ALiteral l) = refl
 some_variable (AConstructor c) = refl
@@ -95,7 +95,7 @@ variable_there k [] [] h = refl
 variable_there k [] (twin ∷ twins) h = absurd h
 variable_there k (row ∷ rows) [] h = absurd h
 variable_there k (row ∷ rows) (twin ∷ twins) h =
-    ap₂ (λ (a b : Bool). a || b) (ap wants_nothing (same_demand k row twin h.0) ∙ some_variable (demand_at k row)) (variable_there k rows twins h.1)
+    ap₂ (λ (a b : Bool). a || b) (ap demands_nothing (same_demand k row twin h.0) ∙ some_variable (demand_at k row)) (variable_there k rows twins h.1)
 
 -- ---- rows that suit values and are chosen
 
@@ -164,15 +164,15 @@ found_again program claims env vs v test other rows twins a h e found =
 
 abbrev pub goes_too : Bool → (Demand → Bool) → Demand → Bool
 goes_too false test d = test d
-goes_too true test d = wants_nothing d || test d
+goes_too true test d = demands_nothing d || test d
 
 pub goes_same : (b : Bool) (test : Demand → Bool) (d : Demand) → goes_too b test d ≡ goes_on b test d
 goes_same false test d = by (test d)
   where
-    by : (c : Bool) → c ≡ (c || (false && wants_nothing d))
+    by : (c : Bool) → c ≡ (c || (false && demands_nothing d))
     by true = refl
     by false = refl
-goes_same true test d = by (wants_nothing d) (test d)
+goes_same true test d = by (demands_nothing d) (test d)
   where
     by : (a c : Bool) → (a || c) ≡ (c || (true && a))
     by true true = refl
@@ -452,32 +452,32 @@ module _ (program : Program) (k : ℕ) (row : Row) (rows : List Row) (twin : cho
 
   pub look_constructor_all : (c : ConId) (us : Values) → slice_get vs k ≡ Some (value.Constructed c us)
       → list_any (λ other. not (demands k other)) (row ∷ rows) ≡ false
-      → look program (twin ∷ twins) vs ≡ narrow k (goes_too false (wants_constructor c)) (twin ∷ twins) (list_of us) vs
+      → look program (twin ∷ twins) vs ≡ specialized_look k (goes_too false (demands_constructor c)) (twin ∷ twins) (list_of us) vs
   look_constructor_all c us e f =
       looks_at program k row twin twins vs (value.Constructed c us) alike.0 leftmost_is e
       ∙ ap (λ (b : Bool). at_constructor program k c (choose.demand_at k twin) b (twin ∷ twins) (list_of us) vs) (variables_are false f)
 
   pub look_literal_all : (l : Lit) → slice_get vs k ≡ Some (value.Literal l) → list_any (λ other. not (demands k other)) (row ∷ rows) ≡ false
-      → look program (twin ∷ twins) vs ≡ narrow k (goes_too false (wants_literal l)) (twin ∷ twins) [] vs
+      → look program (twin ∷ twins) vs ≡ specialized_look k (goes_too false (demands_literal l)) (twin ∷ twins) [] vs
   look_literal_all l e f =
       looks_at program k row twin twins vs (value.Literal l) alike.0 leftmost_is e
       ∙ ap (λ (b : Bool). at_literal k l (choose.demand_at k twin) b (twin ∷ twins) vs) (variables_are false f)
 
   pub look_constructor_some : (c d : ConId) (us : Values) → slice_get vs k ≡ Some (value.Constructed c us)
       → list_any (λ other. not (demands k other)) (row ∷ rows) ≡ true → demand_at k row ≡ AConstructor d → same_type program c d ≡ true
-      → look program (twin ∷ twins) vs ≡ narrow k (goes_too true (wants_constructor c)) (twin ∷ twins) (list_of us) vs
+      → look program (twin ∷ twins) vs ≡ specialized_look k (goes_too true (demands_constructor c)) (twin ∷ twins) (list_of us) vs
   look_constructor_some c d us e f g h =
       looks_at program k row twin twins vs (value.Constructed c us) alike.0 leftmost_is e
       ∙ ap₂ (λ (demand : Demand) (b : Bool). at_constructor program k c demand b (twin ∷ twins) (list_of us) vs)
       (same_demand k row twin alike.0 ∙ g) (variables_are true f)
-      ∙ ap (λ (b : Bool). if b then narrow k (goes_too true (wants_constructor c)) (twin ∷ twins) (list_of us) vs else choose.Nowhere) h
+      ∙ ap (λ (b : Bool). if b then specialized_look k (goes_too true (demands_constructor c)) (twin ∷ twins) (list_of us) vs else choose.Nowhere) h
 
   pub look_literal_same : (l : Lit) → slice_get vs k ≡ Some (value.Literal l) → list_any (λ other. not (demands k other)) (row ∷ rows) ≡ true
-      → demand_at k row ≡ ALiteral l → look program (twin ∷ twins) vs ≡ narrow k (goes_too true (wants_literal l)) (twin ∷ twins) [] vs
+      → demand_at k row ≡ ALiteral l → look program (twin ∷ twins) vs ≡ specialized_look k (goes_too true (demands_literal l)) (twin ∷ twins) [] vs
   look_literal_same l e f g =
       looks_at program k row twin twins vs (value.Literal l) alike.0 leftmost_is e
       ∙ ap₂ (λ (demand : Demand) (b : Bool). at_literal k l demand b (twin ∷ twins) vs) (same_demand k row twin alike.0 ∙ g) (variables_are true f)
-      ∙ ap (λ (b : Bool). if b then narrow k (goes_too true (wants_literal l)) (twin ∷ twins) [] vs
+      ∙ ap (λ (b : Bool). if b then specialized_look k (goes_too true (demands_literal l)) (twin ∷ twins) [] vs
       else Again (filter (λ one. not_literal l (choose.demand_at k one)) (twin ∷ twins))) (literal_itself l)
 
   pub look_literal_other : (m l : Lit) → slice_get vs k ≡ Some (value.Literal m) → list_any (λ other. not (demands k other)) (row ∷ rows) ≡ true
@@ -486,7 +486,7 @@ module _ (program : Program) (k : ℕ) (row : Row) (rows : List Row) (twin : cho
   look_literal_other m l e f g h =
       looks_at program k row twin twins vs (value.Literal m) alike.0 leftmost_is e
       ∙ ap₂ (λ (demand : Demand) (b : Bool). at_literal k m demand b (twin ∷ twins) vs) (same_demand k row twin alike.0 ∙ g) (variables_are true f)
-      ∙ ap (λ (b : Bool). if b then narrow k (goes_too true (wants_literal m)) (twin ∷ twins) [] vs
+      ∙ ap (λ (b : Bool). if b then specialized_look k (goes_too true (demands_literal m)) (twin ∷ twins) [] vs
       else Again (filter (λ one. not_literal l (choose.demand_at k one)) (twin ∷ twins))) h
 
   pub look_constructor_other : (c : ConId) (us : Values) (l : Lit) → slice_get vs k ≡ Some (value.Constructed c us)

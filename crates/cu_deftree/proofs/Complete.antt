@@ -36,7 +36,7 @@ use Rattle.cu_deftree.specs.Lowering.{AllLower, Distinguishes, Lowers, Tree, var
 use Rattle.cu_deftree.specs.LoweredProgram as lowered
 use Rattle.cu_deftree.specs.LoweredProgram.{Flattens, FunctionLowers}
 use Rattle.cu_deftree.specs.Rows.{Names, name_of, numbers, row_of_rule, rows_of}
-use Rattle.cu_deftree.proofs.Back.{bound_here, high_not_held, low_bound, low_on, named_bind, next_low, numbers_count, numbers_linear, numbers_low, still_named, variables_are, variables_at}
+use Rattle.cu_deftree.proofs.Converse.{bound_here, high_not_held, low_bound, low_on, named_bind, next_low, numbers_count, numbers_linear, numbers_low, still_named, variables_are, variables_at}
 use Rattle.cu_deftree.proofs.Levels.{stands_too}
 use Rattle.cu_deftree.proofs.Meets.{AllFit, all_matched_binds, all_matched_fits, all_shape_matched, bound_agrees, bound_in, others_stay}
 use Rattle.cu_deftree.proofs.Opening.{AllLow, Low, known_all}

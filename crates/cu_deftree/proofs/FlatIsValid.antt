@@ -17,7 +17,7 @@ use Rattle.cu_deftree.specs.Lowering.{IsOperation, Tree, variables}
 use Rattle.cu_deftree.specs.LoweredProgram as lowered
 use Rattle.cu_deftree.specs.LoweredProgram.{Flattens, FunctionLowers}
 use Rattle.cu_deftree.specs.Rows.{Names, constructor_arity, name_of, names_at_all, numbers, row_of_rule}
-use Rattle.cu_deftree.proofs.Back.{numbers_count, numbers_linear, variables_are}
+use Rattle.cu_deftree.proofs.Converse.{numbers_count, numbers_linear, variables_are}
 use Rattle.cu_deftree.proofs.FlatTrees.{all_from_each}
 use Rattle.cu_deftree.proofs.KeptConjunction.{Booleans, conjunction_kept}
 use Rattle.cu_deftree.proofs.Levels.{stands_too}

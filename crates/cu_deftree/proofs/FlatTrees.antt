@@ -6,7 +6,7 @@ use Rattle.cu_calculus.specs.declared.ConId.{ConId}
 use Rattle.cu_calculus.specs.declared.Lit.{Lit}
 use Rattle.cu_calculus.specs.declared.Mode.{Mode}
 use Rattle.cu_calculus.specs.declared.Mode.TheVariants.{Flex}
-use Rattle.cu_calculus.specs.Choose.{ALiteral, AConstructor, Demand, same_type, wants_constructor}
+use Rattle.cu_calculus.specs.Choose.{ALiteral, AConstructor, Demand, same_type, demands_constructor}
 use Rattle.cu_calculus.specs.Flat.{all_differ, are_flat_alternatives, are_flat_terms, are_variables, demands_of, is_flat, is_flat_body, is_flat_term, same_demand}
 use Rattle.cu_calculus.specs.Literal.{same_literal}
 use Rattle.cu_calculus.specs.Match.{same_constructor}
@@ -19,7 +19,7 @@ use Rattle.cu_deftree.specs.Lowering.{AllLower, Branches, Cases, Distinguishes, 
 use Rattle.cu_deftree.specs.LoweredProgram as lowered
 use Rattle.cu_deftree.specs.LoweredProgram.{Flattens, FunctionLowers}
 use Rattle.cu_deftree.specs.Rows.{Names, Row, constructor_ids, constructors_at, demand_at, first_occurrences, literal_in, literals_at, numbers, siblings}
-use Rattle.cu_deftree.proofs.Back.{negated, numbers_linear, variables_are}
+use Rattle.cu_deftree.proofs.Converse.{negated, numbers_linear, variables_are}
 use Rattle.cu_deftree.proofs.Levels.{stands_too}
 
 -- ---- rising constructors
@@ -139,7 +139,7 @@ occurrences_differ (l ∷ ls) =
 
 constructors_rise : (program : Program) (k : ℕ) (rows : List Row) → Rising (constructors_at program k rows)
 constructors_rise program k rows =
-    rising_filter (λ c. list_any (λ row. wants_constructor c (demand_at k row)) rows) (constructor_ids program)
+    rising_filter (λ c. list_any (λ row. demands_constructor c (demand_at k row)) rows) (constructor_ids program)
     (ids_rise 0 (length program.constructors))
 
 siblings_rise : (program : Program) (c : ConId) → Rising (siblings program c)

@@ -4,7 +4,7 @@ use Rattle.cu_calculus.specs.declared.ConId.{ConId}
 use Rattle.cu_calculus.specs.declared.Head.TheVariants as head
 use Rattle.cu_calculus.specs.declared.Mode.TheVariants.{Flex}
 use Rattle.cu_calculus.specs.declared.builtin.Special.{Special}
-use Rattle.cu_calculus.specs.Choose.{wants_constructor}
+use Rattle.cu_calculus.specs.Choose.{demands_constructor}
 use Rattle.cu_calculus.specs.Program.{Function, Program, Rule, Rules}
 use Rattle.cu_calculus.specs.Term as term
 use Rattle.cu_calculus.specs.Term.{Alternatives, Pattern, Term}
@@ -32,8 +32,8 @@ differ x y l = by (nat_eq x y) refl
     by true e = let same = eqb-true x y e in absurd (omega arith)
     by false e = refl
 
-differ_back : (x y : ℕ) → y < x → nat_eq x y ≡ false
-differ_back x y l = by (nat_eq x y) refl
+differ_swapped : (x y : ℕ) → y < x → nat_eq x y ≡ false
+differ_swapped x y l = by (nat_eq x y) refl
   where
     by : (b : Bool) → nat_eq x y ≡ b → b ≡ false
     by true e = let same = eqb-true x y e in absurd (omega arith)
@@ -65,7 +65,7 @@ none_after : (test : ConId → Bool) (f t from n : ℕ) → Passes test f t → 
 none_after test f t from zero passes l m = refl
 none_after test f t from (suc n) passes l m =
     take_by test (numbered from) (map numbered (numbers (suc from) n)) [] false
-    (passes (numbered from) ∙ or_false (nat_eq from f) (nat_eq from t) (differ_back from f (omega arith)) (differ_back from t m))
+    (passes (numbered from) ∙ or_false (nat_eq from f) (nat_eq from t) (differ_swapped from f (omega arith)) (differ_swapped from t m))
     (none_after test f t (suc from) n passes l (omega arith))
 
 one_from : (test : ConId → Bool) (f t from n : ℕ) → Passes test f t → f < t → f < from → from ≤ t → t < from + n
@@ -86,7 +86,7 @@ one_from test f t from (suc n) passes l m a b = by (nat_eq from t) refl (one_fro
     by false e later =
         let less : suc from ≤ t = above (nat_eq from t) refl e in
         take_by test (numbered from) rest (numbered t ∷ []) false
-        (passes (numbered from) ∙ or_false (nat_eq from f) (nat_eq from t) (differ_back from f m) e) (later less (omega arith))
+        (passes (numbered from) ∙ or_false (nat_eq from f) (nat_eq from t) (differ_swapped from f m) e) (later less (omega arith))
       where
         above : (d : Bool) → nat_eq from t ≡ d → d ≡ false → suc from ≤ t
         above d g h = not_same (λ (same : from ≡ t). true≢false (sym (eq-eqb from t same) ∙ g ∙ h))
@@ -180,7 +180,7 @@ module _ (program : Program) (booleans : Booleans program) where
   false_not_true = differ program.special.falsity.0 program.special.truth.0 booleans.ordered
 
   true_not_false : nat_eq program.special.truth.0 program.special.falsity.0 ≡ false
-  true_not_false = differ_back program.special.truth.0 program.special.falsity.0 booleans.ordered
+  true_not_false = differ_swapped program.special.truth.0 program.special.falsity.0 booleans.ordered
 
   -- the two constructors, where they are what is looked for
   two_looked_for : (test : ConId → Bool) → Passes test program.special.falsity.0 program.special.truth.0
@@ -217,25 +217,25 @@ module _ (program : Program) (booleans : Booleans program) where
       looked_for : constructors_at program 0 (true_row x ∷ false_row y ∷ []) ≡ program.special.falsity ∷ program.special.truth ∷ []
       looked_for = two_looked_for _ (λ c. swap_or (nat_eq c.0 program.special.truth.0) (nat_eq c.0 program.special.falsity.0))
 
-      for_false : specialize 0 [] (wants_constructor program.special.falsity) (true_row x ∷ false_row y ∷ [])
+      for_false : specialize 0 [] (demands_constructor program.special.falsity) (true_row x ∷ false_row y ∷ [])
           ≡ record { patterns = term.Any y ∷ []; names = (y, 2) ∷ []; body = term.Whole (head.Con program.special.falsity) term.NoTerm } ∷ []
       for_false =
           ap (λ (rs : List Row). map (specialized 0 []) rs)
-          (second_only (λ row. wants_constructor program.special.falsity (demand_at 0 row)) (true_row x) (false_row y) false_not_true same_falsity)
+          (second_only (λ row. demands_constructor program.special.falsity (demand_at 0 row)) (true_row x) (false_row y) false_not_true same_falsity)
 
-      for_true : specialize 0 [] (wants_constructor program.special.truth) (true_row x ∷ false_row y ∷ [])
+      for_true : specialize 0 [] (demands_constructor program.special.truth) (true_row x ∷ false_row y ∷ [])
           ≡ record { patterns = term.Any x ∷ []; names = (x, 2) ∷ []; body = term.Variable x } ∷ []
       for_true =
           ap (λ (rs : List Row). map (specialized 0 []) rs)
-          (first_only (λ row. wants_constructor program.special.truth (demand_at 0 row)) (true_row x) (false_row y) same_truth true_not_false)
+          (first_only (λ row. demands_constructor program.special.truth (demand_at 0 row)) (true_row x) (false_row y) same_truth true_not_false)
 
-      one : Tree program (2 ∷ []) 3 (specialize 0 [] (wants_constructor program.special.falsity) (true_row x ∷ false_row y ∷ []))
+      one : Tree program (2 ∷ []) 3 (specialize 0 [] (demands_constructor program.special.falsity) (true_row x ∷ false_row y ∷ []))
           (term.Whole (head.Con program.special.falsity) term.NoTerm)
       one =
           subst (λ (rs : List Row). Tree program (2 ∷ []) 3 rs (term.Whole (head.Con program.special.falsity) term.NoTerm)) (sym for_false)
           (lowering.rule (2 ∷ []) 3 _ _ refl (lowering.whole _ 3 (head.Con program.special.falsity) term.NoTerm term.NoTerm (lowering.no_term _ 3)))
 
-      two : Tree program (2 ∷ []) 3 (specialize 0 [] (wants_constructor program.special.truth) (true_row x ∷ false_row y ∷ [])) (term.Variable 2)
+      two : Tree program (2 ∷ []) 3 (specialize 0 [] (demands_constructor program.special.truth) (true_row x ∷ false_row y ∷ [])) (term.Variable 2)
       two =
           subst (λ (rs : List Row). Tree program (2 ∷ []) 3 rs (term.Variable 2)) (sym for_true)
           (lowering.rule (2 ∷ []) 3 _ _ refl
@@ -278,19 +278,19 @@ module _ (program : Program) (booleans : Booleans program) where
       looked_for : constructors_at program 0 (false_alternative x y ∷ true_alternative x y ∷ []) ≡ program.special.falsity ∷ program.special.truth ∷ []
       looked_for = two_looked_for _ (λ c. refl)
 
-      for_false : specialize 0 [] (goes_on false (wants_constructor program.special.falsity)) (false_alternative x y ∷ true_alternative x y ∷ [])
+      for_false : specialize 0 [] (goes_on false (demands_constructor program.special.falsity)) (false_alternative x y ∷ true_alternative x y ∷ [])
           ≡ record { patterns = []; names = both_names x y; body = term.Whole (head.Con program.special.falsity) term.NoTerm } ∷ []
       for_false =
           ap (λ (rs : List Row). map (specialized 0 []) rs)
-          (first_only (λ row. goes_on false (wants_constructor program.special.falsity) (demand_at 0 row)) (false_alternative x y) (true_alternative x y)
+          (first_only (λ row. goes_on false (demands_constructor program.special.falsity) (demand_at 0 row)) (false_alternative x y) (true_alternative x y)
           (or_yes (nat_eq program.special.falsity.0 program.special.falsity.0) same_falsity)
           (or_no (nat_eq program.special.falsity.0 program.special.truth.0) false_not_true))
 
-      for_true : specialize 0 [] (goes_on false (wants_constructor program.special.truth)) (false_alternative x y ∷ true_alternative x y ∷ [])
+      for_true : specialize 0 [] (goes_on false (demands_constructor program.special.truth)) (false_alternative x y ∷ true_alternative x y ∷ [])
           ≡ record { patterns = []; names = both_names x y; body = term.Variable y } ∷ []
       for_true =
           ap (λ (rs : List Row). map (specialized 0 []) rs)
-          (second_only (λ row. goes_on false (wants_constructor program.special.truth) (demand_at 0 row)) (false_alternative x y) (true_alternative x y)
+          (second_only (λ row. goes_on false (demands_constructor program.special.truth) (demand_at 0 row)) (false_alternative x y) (true_alternative x y)
           (or_no (nat_eq program.special.truth.0 program.special.falsity.0) true_not_false)
           (or_yes (nat_eq program.special.truth.0 program.special.truth.0) same_truth))
 
@@ -298,7 +298,7 @@ module _ (program : Program) (booleans : Booleans program) where
       name = other_name x y 1 ((y, 2) ∷ []) apart ∙ own_name y 2 []
 
       one : Distinguishes program Flex [] 3
-          (specialize 0 [] (goes_on false (wants_constructor program.special.falsity)) (false_alternative x y ∷ true_alternative x y ∷ []))
+          (specialize 0 [] (goes_on false (demands_constructor program.special.falsity)) (false_alternative x y ∷ true_alternative x y ∷ []))
           (term.Whole (head.Con program.special.falsity) term.NoTerm)
       one =
           subst (λ (rs : List Row). Distinguishes program Flex [] 3 rs (term.Whole (head.Con program.special.falsity) term.NoTerm)) (sym for_false)
@@ -306,7 +306,7 @@ module _ (program : Program) (booleans : Booleans program) where
           (lowering.whole _ 3 (head.Con program.special.falsity) term.NoTerm term.NoTerm (lowering.no_term _ 3)))
 
       two : Distinguishes program Flex [] 3
-          (specialize 0 [] (goes_on false (wants_constructor program.special.truth)) (false_alternative x y ∷ true_alternative x y ∷ [])) (term.Variable 2)
+          (specialize 0 [] (goes_on false (demands_constructor program.special.truth)) (false_alternative x y ∷ true_alternative x y ∷ [])) (term.Variable 2)
       two =
           subst (λ (rs : List Row). Distinguishes program Flex [] 3 rs (term.Variable 2)) (sym for_true)
           (lowering.taken Flex [] 3 _ [] _ refl

@@ -7,7 +7,7 @@ use Rattle.cu_calculus.specs.declared.FunId.{FunId}
 use Rattle.cu_calculus.specs.declared.Lit.{Lit}
 use Rattle.cu_calculus.specs.declared.Mode.{Mode}
 use Rattle.cu_calculus.specs.declared.builtin.Primitive.{Primitive}
-use Rattle.cu_calculus.specs.Choose.{Demand, not_literal, wants_constructor, wants_literal}
+use Rattle.cu_calculus.specs.Choose.{Demand, not_literal, demands_constructor, demands_literal}
 use Rattle.cu_calculus.specs.Claims.{Allows, AreLeastLevels, AreLevels, Collected, Mention, Plain, all_mentions, alternative_mentions, body_mentions, head_mentions, level_of, mentions}
 use Rattle.cu_calculus.specs.Program.{Body, External, Function, Program, Rule, Rules}
 use Rattle.cu_calculus.specs.Term as term
@@ -150,10 +150,10 @@ module _ (program : Program) (levels : List ℕ) (level : ℕ) (lowest_of : AreL
     branches_allowed _ _ _ _ _ _ _ (lowering.no_branch positions next k rows) h = tt
     branches_allowed _ _ _ _ _ _ _ (lowering.constructor_branch positions next k n xs rows c cs ls t a e f p q) h =
         allowed_append levels level (mentions t) (alternative_mentions a)
-        (tree_allowed _ (next + n) _ t p (specialize_allowed levels level k xs (wants_constructor c) rows h)) (branches_allowed positions next k rows cs ls a q h)
+        (tree_allowed _ (next + n) _ t p (specialize_allowed levels level k xs (demands_constructor c) rows h)) (branches_allowed positions next k rows cs ls a q h)
     branches_allowed _ _ _ _ _ _ _ (lowering.literal_branch positions next k rows l ls t a p q) h =
         allowed_append levels level (mentions t) (alternative_mentions a)
-        (tree_allowed _ next _ t p (specialize_allowed levels level k [] (wants_literal l) rows h)) (branches_allowed positions next k rows [] ls a q h)
+        (tree_allowed _ next _ t p (specialize_allowed levels level k [] (demands_literal l) rows h)) (branches_allowed positions next k rows [] ls a q h)
 
     pub distinguishes_allowed : (mode : Mode) (positions : List ℕ) (next : ℕ) (rows : List Row) (t : Term)
         → Distinguishes program mode positions next rows t → RowsAllowed levels level rows → AllAllowed levels level (mentions t)
@@ -166,7 +166,7 @@ module _ (program : Program) (levels : List ℕ) (level : ℕ) (lowest_of : AreL
     distinguishes_allowed _ _ _ _ _ (lowering.first_literal mode positions next k x equal l row rows a b e f g i is p q) h = (
       lowest levels level equal (lowest_of _ equal is),
       allowed_append levels level (mentions a) (mentions b ++ [])
-          (distinguishes_allowed mode _ next _ a p (specialize_allowed levels level k [] (goes_on true (wants_literal l)) (row ∷ rows) h))
+          (distinguishes_allowed mode _ next _ a p (specialize_allowed levels level k [] (goes_on true (demands_literal l)) (row ∷ rows) h))
           (allowed_append levels level (mentions b) []
           (distinguishes_allowed mode positions next _ b q (filter_allowed levels level (λ one. not_literal l (demand_at k one)) (row ∷ rows) h)) tt),
     )
@@ -176,11 +176,11 @@ module _ (program : Program) (levels : List ℕ) (level : ℕ) (lowest_of : AreL
     cases_allowed _ _ _ _ _ _ _ _ _ (lowering.no_case mode v positions next k rows) h = tt
     cases_allowed _ _ _ _ _ _ _ _ _ (lowering.constructor_case mode v positions next k n xs rows c cs ls t a e f p q) h =
         allowed_append levels level (mentions t) (alternative_mentions a)
-        (distinguishes_allowed mode _ (next + n) _ t p (specialize_allowed levels level k xs (goes_on v (wants_constructor c)) rows h))
+        (distinguishes_allowed mode _ (next + n) _ t p (specialize_allowed levels level k xs (goes_on v (demands_constructor c)) rows h))
         (cases_allowed mode v positions next k rows cs ls a q h)
     cases_allowed _ _ _ _ _ _ _ _ _ (lowering.literal_of_case mode v positions next k rows l ls t a p q) h =
         allowed_append levels level (mentions t) (alternative_mentions a)
-        (distinguishes_allowed mode _ next _ t p (specialize_allowed levels level k [] (goes_on v (wants_literal l)) rows h))
+        (distinguishes_allowed mode _ next _ t p (specialize_allowed levels level k [] (goes_on v (demands_literal l)) rows h))
         (cases_allowed mode v positions next k rows [] ls a q h)
 
 -- ---- functions

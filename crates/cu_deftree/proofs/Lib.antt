@@ -1,5 +1,5 @@
 pub mod Alternatives
-pub mod Back
+pub mod Converse
 pub mod Complete
 pub mod FlatTrees
 pub mod Levels

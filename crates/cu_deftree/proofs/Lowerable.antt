@@ -7,7 +7,7 @@ use Rattle.cu_calculus.specs.declared.ConId.{ConId}
 use Rattle.cu_calculus.specs.declared.Lit.{Lit}
 use Rattle.cu_calculus.specs.declared.Mode.{Mode}
 use Rattle.cu_calculus.specs.declared.Mode.TheVariants.{Flex}
-use Rattle.cu_calculus.specs.Choose.{ALiteral, AConstructor, Demand, Nothing, arguments_of, demand_of, is_demanding, leftmost, not_literal, spliced, wants_constructor, wants_literal, wants_nothing}
+use Rattle.cu_calculus.specs.Choose.{ALiteral, AConstructor, Demand, Nothing, arguments_of, demand_of, is_demanding, leftmost, not_literal, spliced, demands_constructor, demands_literal, demands_nothing}
 use Rattle.cu_calculus.specs.Program.{Body, External, Function, Program, Rules}
 use Rattle.cu_calculus.specs.Term as term
 use Rattle.cu_calculus.specs.Term.{Alternatives, Pattern, Term, Terms}
@@ -20,7 +20,7 @@ use Rattle.cu_deftree.specs.Rows.{Names, Row, constructor_arity, constructors_at
 use Rattle.cu_deftree.specs.LoweredProgram as lowered
 use Rattle.cu_deftree.specs.LoweredProgram.{Flattens, FunctionLowers}
 use Rattle.cu_deftree.proofs.Alternatives.{alternatives_fit}
-use Rattle.cu_deftree.proofs.Back.{low_bound, low_on, numbers_count, numbers_low}
+use Rattle.cu_deftree.proofs.Converse.{low_bound, low_on, numbers_count, numbers_low}
 use Rattle.cu_deftree.proofs.Opening.{AllLow, Low, spliced_put}
 use Rattle.cu_deftree.proofs.Sound.{all_rules_fit, rows_of_rules_fit}
 use Rattle.cu_deftree.proofs.Suits.{RowFits, RowsFit, built_count, filter_fits, opens_literal, specialize_fits, there_too}
@@ -32,17 +32,17 @@ use Rattle.cu_deftree.proofs.Weights.{all_demanding, alternatives_lighter, deman
 abbrev pub Counts : Program → ℕ → (Demand → Bool) → Type 0
 Counts program n test = (p : Pattern) → test (demand_of p) ≡ true → IsTrue (fits_pattern program p) → length (arguments_of n p) ≡ n
 
-pub counts_literal : (program : Program) (l : Lit) → Counts program 0 (wants_literal l)
+pub counts_literal : (program : Program) (l : Lit) → Counts program 0 (demands_literal l)
 counts_literal program l p w f = (opens_literal p l w).many
 
-pub counts_constructor : (program : Program) (c : ConId) (n : ℕ) → n ≡ constructor_arity program c → Counts program n (wants_constructor c)
+pub counts_constructor : (program : Program) (c : ConId) (n : ℕ) → n ≡ constructor_arity program c → Counts program n (demands_constructor c)
 counts_constructor program c n e p w f = built_count program c p n w f e
 
 replicated : (n x : ℕ) → length (replicate n (term.Any x)) ≡ n
 replicated zero x = refl
 replicated (suc n) x = ap suc (replicated n x)
 
-counts_any : (p : Pattern) (n : ℕ) → wants_nothing (demand_of p) ≡ true → length (arguments_of n p) ≡ n
+counts_any : (p : Pattern) (n : ℕ) → demands_nothing (demand_of p) ≡ true → length (arguments_of n p) ≡ n
 counts_any (term.Any x) n e = replicated n x
 counts_any (term.Named x p) n e = counts_any p n e
 counts_any (term.Exactly l) n e = let no : ⊥ = cc in absurd no
@@ -54,9 +54,9 @@ either false true c e = inr e
 either false false c e = let no : ⊥ = cc in absurd no
 
 pub counts_goes_on : (program : Program) (n : ℕ) (b : Bool) (test : Demand → Bool) → Counts program n test → Counts program n (goes_on b test)
-counts_goes_on program n b test counts p w f = by (either (test (demand_of p)) b (wants_nothing (demand_of p)) w)
+counts_goes_on program n b test counts p w f = by (either (test (demand_of p)) b (demands_nothing (demand_of p)) w)
   where
-    by : (test (demand_of p) ≡ true) ⊎ (wants_nothing (demand_of p) ≡ true) → length (arguments_of n p) ≡ n
+    by : (test (demand_of p) ≡ true) ⊎ (demands_nothing (demand_of p) ≡ true) → length (arguments_of n p) ≡ n
     by (inl wanted) = counts p wanted f
     by (inr nothing) = counts_any p n nothing
 
@@ -215,15 +215,15 @@ module _ (program : Program) (operations : HasOperations program) (n : ℕ) (bel
       → (a : Alternatives) × Branches program positions next k rows cs ls a
   branches positions next k position rows opened [] [] = (term.NoAlternative, lowering.no_branch positions next k rows)
   branches positions next k position rows opened [] (l ∷ ls) =
-      let one = below.trees (spliced k [] positions) next (specialize k [] (wants_literal l) rows) (opened.lighter [] (wants_literal l))
-      (literal_branch_fits program positions next k position (wants_literal l) rows opened.there (counts_literal program l) opened.fit) in
+      let one = below.trees (spliced k [] positions) next (specialize k [] (demands_literal l) rows) (opened.lighter [] (demands_literal l))
+      (literal_branch_fits program positions next k position (demands_literal l) rows opened.there (counts_literal program l) opened.fit) in
       let rest = branches positions next k position rows opened [] ls in
       (term.MoreAlternatives (term.Exactly l) one.0 rest.0, lowering.literal_branch positions next k rows l ls one.0 rest.0 one.1 rest.1)
   branches positions next k position rows opened (c ∷ cs) ls =
       let m = constructor_arity program c in
       let new = numbers next m in
-      let one = below.trees (spliced k new positions) (next + m) (specialize k new (wants_constructor c) rows) (opened.lighter new (wants_constructor c))
-      (branch_fits program positions next m k position new (wants_constructor c) rows refl opened.there (counts_constructor program c m refl) opened.fit) in
+      let one = below.trees (spliced k new positions) (next + m) (specialize k new (demands_constructor c) rows) (opened.lighter new (demands_constructor c))
+      (branch_fits program positions next m k position new (demands_constructor c) rows refl opened.there (counts_constructor program c m refl) opened.fit) in
       let rest = branches positions next k position rows opened cs ls in (
         term.MoreAlternatives (term.Built c (variables new)) one.0 rest.0,
         lowering.constructor_branch positions next k m new rows c cs ls one.0 rest.0 refl refl one.1 rest.1,
@@ -233,8 +233,8 @@ module _ (program : Program) (operations : HasOperations program) (n : ℕ) (bel
       → (cs : List ConId) (ls : List Lit) → (a : Alternatives) × Cases program mode b positions next k rows cs ls a
   case_branches mode b positions next k position rows opened [] [] = (term.NoAlternative, lowering.no_case mode b positions next k rows)
   case_branches mode b positions next k position rows opened [] (l ∷ ls) =
-      let test = goes_on b (wants_literal l) in
-      let counts = counts_goes_on program 0 b (wants_literal l) (counts_literal program l) in
+      let test = goes_on b (demands_literal l) in
+      let counts = counts_goes_on program 0 b (demands_literal l) (counts_literal program l) in
       let one = below.cases mode (spliced k [] positions) next (specialize k [] test rows) (opened.lighter [] test)
       (literal_branch_fits program positions next k position test rows opened.there counts opened.fit) in
       let rest = case_branches mode b positions next k position rows opened [] ls in
@@ -242,8 +242,8 @@ module _ (program : Program) (operations : HasOperations program) (n : ℕ) (bel
   case_branches mode b positions next k position rows opened (c ∷ cs) ls =
       let m = constructor_arity program c in
       let new = numbers next m in
-      let test = goes_on b (wants_constructor c) in
-      let counts = counts_goes_on program m b (wants_constructor c) (counts_constructor program c m refl) in
+      let test = goes_on b (demands_constructor c) in
+      let counts = counts_goes_on program m b (demands_constructor c) (counts_constructor program c m refl) in
       let one = below.cases mode (spliced k new positions) (next + m) (specialize k new test rows) (opened.lighter new test)
       (branch_fits program positions next m k position new test rows refl opened.there counts opened.fit) in
       let rest = case_branches mode b positions next k position rows opened cs ls in (
@@ -315,8 +315,8 @@ module _ (program : Program) (operations : HasOperations program) (n : ℕ) (bel
         lowering.first_constructor mode positions next k position c row rows found.0 e opened.there some d found.1,
       )
   some_variable mode positions next k position row rows l e opened some (ALiteral m) d =
-      let test = goes_on true (wants_literal m) in
-      let counts = counts_goes_on program 0 true (wants_literal m) (counts_literal program m) in
+      let test = goes_on true (demands_literal m) in
+      let counts = counts_goes_on program 0 true (demands_literal m) (counts_literal program m) in
       let less = not_literal_lighter row rows k m d in
       let same = below.cases mode (spliced k [] positions) next (specialize k [] test (row ∷ rows)) (opened.lighter [] test)
       (literal_branch_fits program positions next k position test (row ∷ rows) opened.there counts opened.fit) in

@@ -72,7 +72,7 @@ at_within (x ∷ xs) (suc k) n e l = at_within xs k (length xs) refl (omega arit
 -- the rows that the code starts with, and their positions
 pub record AreRulesRows (arity : ℕ) (rules : List calculus.Rule) (positions : List ℕ) (next : ℕ) (rows : List code.Row) : Type 0 where
   pub positions_are : positions ≡ numbers 1 arity
-  pub behind : next ≡ suc arity
+  pub after : next ≡ suc arity
   pub rows_are : all_rows rows ≡ map (row_of_rule (numbers 1 arity)) rules
 
 pub start : (arity : ℕ) (rules : List calculus.Rule) (items positions : List ℕ) (next : ℕ) (made rows : List code.Row)
@@ -80,7 +80,7 @@ pub start : (arity : ℕ) (rules : List calculus.Rule) (items positions : List �
     → AreRulesRows arity rules positions next rows
 start arity rules items positions next made rows is same e equal = record {
   positions_are = same ∙ is.0;
-  behind = let n = is.1 in omega (arith, n);
+  after = let n = is.1 in omega (arith, n);
   rows_are = ap all_rows equal ∙ e ∙ ap (λ (xs : List ℕ). map (row_of_rule xs) rules) (same ∙ is.0);
 }
 
@@ -88,14 +88,14 @@ pub to_rules : (program : calculus.Program) (arity : ℕ) (rules : List calculus
     → AreRulesRows arity rules positions next rows → Tree program positions next (all_rows rows) t → RulesTree program arity rules t
 to_rules program arity rules positions next rows t are tree =
     subst (λ (rs : List Row). Tree program (numbers 1 arity) (suc arity) rs t) are.rows_are
-    (subst (λ (n : ℕ). Tree program (numbers 1 arity) n (all_rows rows) t) are.behind
+    (subst (λ (n : ℕ). Tree program (numbers 1 arity) n (all_rows rows) t) are.after
     (subst (λ (xs : List ℕ). Tree program xs next (all_rows rows) t) are.positions_are tree))
 
 pub from_rules : (program : calculus.Program) (arity : ℕ) (rules : List calculus.Rule) (positions : List ℕ) (next : ℕ) (rows : List code.Row) (t : Term)
     → AreRulesRows arity rules positions next rows → RulesTree program arity rules t → Tree program positions next (all_rows rows) t
 from_rules program arity rules positions next rows t are tree =
     subst (λ (xs : List ℕ). Tree program xs next (all_rows rows) t) (sym are.positions_are)
-    (subst (λ (n : ℕ). Tree program (numbers 1 arity) n (all_rows rows) t) (sym are.behind)
+    (subst (λ (n : ℕ). Tree program (numbers 1 arity) n (all_rows rows) t) (sym are.after)
     (subst (λ (rs : List Row). Tree program (numbers 1 arity) (suc arity) rs t) (sym are.rows_are) tree))
 
 pub rules_stop : (program : calculus.Program) (arity : ℕ) (rules : List calculus.Rule) (positions : List ℕ) (next : ℕ) (rows : List code.Row) (old new : ℕ)

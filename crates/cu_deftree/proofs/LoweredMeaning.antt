@@ -15,7 +15,7 @@ use Rattle.cu_deftree.proofs.FlatIsValid.{flat_valid}
 use Rattle.cu_deftree.proofs.FlatTrees.{flattens_flat}
 use Rattle.cu_deftree.proofs.Levels.{levels_kept, operations_lowest}
 use Rattle.cu_deftree.proofs.LoweredFunctions.{flattens_of}
-use Rattle.cu_deftree.proofs.Meaning.{proved_back, proved_too}
+use Rattle.cu_deftree.proofs.Meaning.{proved_converse, proved_too}
 
 pub is_flat_program : (program flat : Program) → IsValid program → Lowering program (Ok flat) → IsTrue (is_flat flat)
 is_flat_program program flat valid low = flattens_flat program flat (flattens_of program flat low) valid.special.ordered
@@ -26,7 +26,7 @@ pub meaning_stays : (program flat : Program) → IsValid program → Lowering pr
 meaning_stays program flat valid low claims f vs v =
     let flattens = flattens_of program flat low in (
       proved_too program flat claims flattens valid (flat_valid program flat valid flattens) f vs v,
-      proved_back program flat claims flattens valid f vs v,
+      proved_converse program flat claims flattens valid f vs v,
     )
 
 pub levels_stay : (program flat : Program) → Lowering program (Ok flat) → (levels : List ℕ) → AreLeastLevels program levels

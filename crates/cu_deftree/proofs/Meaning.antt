@@ -19,9 +19,9 @@ use Rattle.cu_calculus.specs.Value as value
 use Rattle.cu_calculus.specs.Value.{Value, Values, count}
 use Rattle.cu_calculus.proofs.CallStatements.{concludes_proved, proved_concludes}
 use Rattle.cu_deftree.specs.LoweredProgram.{Flattens}
-use Rattle.cu_deftree.proofs.Back.{bottom_or}
+use Rattle.cu_deftree.proofs.Converse.{bottom_or}
 use Rattle.cu_deftree.proofs.Complete.{concludes_too}
-use Rattle.cu_deftree.proofs.Sound.{all_of_same, arity_same, concludes_back, of_same}
+use Rattle.cu_deftree.proofs.Sound.{all_of_same, arity_same, concludes_converse, of_same}
 
 -- an arity is there where its function is
 arity_there : (found : Option Function) → is_some found ≡ is_some (option_map (λ function. function.arity) found)
@@ -48,7 +48,7 @@ module _ (program flat : Program) (claims : List Claim) (flattens : Flattens pro
   -- a call of the program may have Bottom as a value, as every term
   concludes_any : (f : FunId) (vs : Values) (v : Value) → (v ≡ value.Bottom) ⊎ (v ≢ value.Bottom) → Concludes flat claims f vs v
       → Concludes program claims f vs v
-  concludes_any f vs v (inr some) h = concludes_back program flat claims flattens valid f vs v some h
+  concludes_any f vs v (inr some) h = concludes_converse program flat claims flattens valid f vs v some h
   concludes_any f vs v (inl e) h = (
     ap (λ (n : Option ℕ). takes n (count vs)) (sym (arity_same program flat claims flattens valid (head.Fun f))) ∙ h.0,
     sym (all_of_same program flat claims flattens valid vs) ∙ h.1,
@@ -63,9 +63,9 @@ module _ (program flat : Program) (claims : List Claim) (flattens : Flattens pro
       concludes_proved flat claims f vs v valid_too (claims_same claims ∙ claimed)
       (concludes_too program flat claims flattens valid claimed f vs v (proved_concludes program claims f vs v h))
 
-  pub proved_back : (f : FunId) (vs : Values) (v : Value) → IsProved flat claims (call_statement f vs v)
+  pub proved_converse : (f : FunId) (vs : Values) (v : Value) → IsProved flat claims (call_statement f vs v)
       → IsProved program claims (call_statement f vs v)
-  proved_back f vs v h =
+  proved_converse f vs v h =
       let claimed : IsTrue (list_all (is_claim_of flat) claims) = h.1.claimed in
       concludes_proved program claims f vs v valid (sym (claims_same claims) ∙ claimed)
       (concludes_any f vs v (bottom_or v) (proved_concludes flat claims f vs v h))

@@ -13,7 +13,7 @@ use Rattle.cu_calculus.specs.Value.{Value, Values, list_of}
 use Rattle.cu_calculus.proofs.Choosing.{literal_itself}
 use Rattle.cu_calculus.proofs.Answering.{literal_is}
 use Rattle.cu_calculus.proofs.Comparing.{same_is}
-use Rattle.cu_calculus.proofs.Matches.{behind, halves, tested}
+use Rattle.cu_calculus.proofs.Matches.{after, halves, tested}
 
 -- what is asked of a variable: nothing, or that an environment has the value
 abbrev pub Stands : Option Environment → ℕ → Value → Type 0
@@ -125,7 +125,7 @@ mutual
   matched_fits env (term.Any x) v b e h =
       let same : (x, v) ∷ [] ≡ b = cc in (subst (λ (a : Bindings). Agrees env a) (sym same) h).0
   matched_fits env (term.Named x p) v b e h =
-      let found = behind x v (matched p v) b e in
+      let found = after x v (matched p v) b e in
       let all = subst (λ (a : Bindings). Agrees env a) found.whole h in
       (all.0, matched_fits env p v found.rest found.is all.1)
   matched_fits env (term.Exactly l) v b e h = literal_fits l v b e
@@ -165,7 +165,7 @@ mutual
   pub matched_binds : (p : Pattern) (v : Value) (b : Bindings) → matched p v ≡ Some b → bound_in b ≡ variables_of p
   matched_binds (term.Any x) v b e = let same : (x, v) ∷ [] ≡ b = cc in ap bound_in (sym same)
   matched_binds (term.Named x p) v b e =
-      let found = behind x v (matched p v) b e in
+      let found = after x v (matched p v) b e in
       ap bound_in found.whole ∙ ap (λ xs. x ∷ xs) (matched_binds p v found.rest found.is)
   matched_binds (term.Exactly l) v b e = literal_binds l v b e
   matched_binds (term.Built c ps) v b e = let found = built_fits c ps v b e in all_matched_binds ps found.0 b found.2

@@ -83,63 +83,63 @@ all_forth program names next (t ∷ ts) us h =
 abbrev Listed : Program → Names → ℕ → List Term → clean.Terms → Type 0
 Listed program names next ts vs = (us : List clean.Term) × EachTerm program names next ts us × (vs ≡ terms_listed us)
 
-abbrev AllBack : Program → Names → ℕ → clean.Terms → clean.Terms → Type 0
-AllBack program names next clean.NoTerm vs = vs ≡ clean.NoTerm
-AllBack program names next (clean.MoreTerms t ts) vs =
+abbrev AllConverse : Program → Names → ℕ → clean.Terms → clean.Terms → Type 0
+AllConverse program names next clean.NoTerm vs = vs ≡ clean.NoTerm
+AllConverse program names next (clean.MoreTerms t ts) vs =
     (u : clean.Term) × (us : clean.Terms) × Lowers program names next t u × AllLower program names next ts us × (vs ≡ clean.MoreTerms u us)
 
-all_opened : (program : Program) (names : Names) (next : ℕ) (ts vs : clean.Terms) → AllLower program names next ts vs → AllBack program names next ts vs
+all_opened : (program : Program) (names : Names) (next : ℕ) (ts vs : clean.Terms) → AllLower program names next ts vs → AllConverse program names next ts vs
 all_opened program _ _ _ _ (lowering.no_term names next) = refl
 all_opened program _ _ _ _ (lowering.more_terms names next t u ts us p ps) = (u, us, p, ps, refl)
 
-all_back : (program : Program) (names : Names) (next : ℕ) (ts : List Term) (vs : clean.Terms) → AllLower program names next (terms_of ts) vs
+all_converse : (program : Program) (names : Names) (next : ℕ) (ts : List Term) (vs : clean.Terms) → AllLower program names next (terms_of ts) vs
     → Listed program names next ts vs
-all_back program names next [] vs h = ([], refl, all_opened program names next clean.NoTerm vs h)
-all_back program names next (t ∷ ts) vs h =
+all_converse program names next [] vs h = ([], refl, all_opened program names next clean.NoTerm vs h)
+all_converse program names next (t ∷ ts) vs h =
     let parts = all_opened program names next (clean.MoreTerms (term_of t) (terms_of ts)) vs h in
-    let rest = all_back program names next ts parts.1 parts.3 in
+    let rest = all_converse program names next ts parts.1 parts.3 in
     (parts.0 ∷ rest.0, (parts.0, rest.0, parts.2, rest.1, refl), parts.4 ∙ ap (clean.MoreTerms parts.0) rest.2)
 
 -- ---- what a term was lowered to
 
-abbrev LowersBack : Program → Names → ℕ → clean.Term → clean.Term → Type 0
-LowersBack program names next (clean.Variable x) v = v ≡ clean.Variable (name_of names x)
-LowersBack program names next (clean.Literal l) v = v ≡ clean.Literal l
-LowersBack program names next (clean.Whole h ts) v = (us : clean.Terms) × AllLower program names next ts us × (v ≡ clean.Whole h us)
-LowersBack program names next (clean.Part h ts) v = (us : clean.Terms) × AllLower program names next ts us × (v ≡ clean.Part h us)
-LowersBack program names next (clean.Apply f a) v =
+abbrev LowersConverse : Program → Names → ℕ → clean.Term → clean.Term → Type 0
+LowersConverse program names next (clean.Variable x) v = v ≡ clean.Variable (name_of names x)
+LowersConverse program names next (clean.Literal l) v = v ≡ clean.Literal l
+LowersConverse program names next (clean.Whole h ts) v = (us : clean.Terms) × AllLower program names next ts us × (v ≡ clean.Whole h us)
+LowersConverse program names next (clean.Part h ts) v = (us : clean.Terms) × AllLower program names next ts us × (v ≡ clean.Part h us)
+LowersConverse program names next (clean.Apply f a) v =
     (g b : clean.Term) × Lowers program names next f g × Lowers program names next a b × (v ≡ clean.Apply g b)
-LowersBack program names next (clean.Let x a b) v =
+LowersConverse program names next (clean.Let x a b) v =
     (c d : clean.Term) × Lowers program names next a c × Lowers program ((x, next) ∷ names) (suc next) b d × (v ≡ clean.Let next c d)
-LowersBack program names next (clean.Free x a) v =
+LowersConverse program names next (clean.Free x a) v =
     (b : clean.Term) × Lowers program ((x, next) ∷ names) (suc next) a b × (v ≡ clean.Free next b)
-LowersBack program names next (clean.Or a b) v =
+LowersConverse program names next (clean.Or a b) v =
     (c d : clean.Term) × Lowers program names next a c × Lowers program names next b d × (v ≡ clean.Or c d)
-LowersBack program names next (clean.Case mode (clean.Variable x) alternatives) v =
+LowersConverse program names next (clean.Case mode (clean.Variable x) alternatives) v =
     Distinguishes program mode (name_of names x ∷ []) next (rows_of names (name_of names x) alternatives) v
-LowersBack program names next (clean.Case mode a alternatives) v =
+LowersConverse program names next (clean.Case mode a alternatives) v =
     (b t : clean.Term) × Lowers program names next a b × Distinguishes program mode (next ∷ []) (suc next) (rows_of names next alternatives) t
     × (v ≡ clean.Let next b t)
 
-lowers_back : (program : Program) (names : Names) (next : ℕ) (t v : clean.Term) → Lowers program names next t v → LowersBack program names next t v
-lowers_back program _ _ _ _ (lowering.variable names next x) = refl
-lowers_back program _ _ _ _ (lowering.literal names next l) = refl
-lowers_back program _ _ _ _ (lowering.whole names next h ts us p) = (us, p, refl)
-lowers_back program _ _ _ _ (lowering.part names next h ts us p) = (us, p, refl)
-lowers_back program _ _ _ _ (lowering.applied names next f a g b p q) = (g, b, p, q, refl)
-lowers_back program _ _ _ _ (lowering.bound names next x a b c d p q) = (c, d, p, q, refl)
-lowers_back program _ _ _ _ (lowering.free names next x a b p) = (b, p, refl)
-lowers_back program _ _ _ _ (lowering.either names next a b c d p q) = (c, d, p, q, refl)
-lowers_back program _ _ _ v (lowering.on_variable names next x mode alternatives _ p) = p
-lowers_back program _ _ _ _ (lowering.on_term names next mode (clean.Variable x) b alternatives t is p q) = absurd (true≢false is)
-lowers_back program _ _ _ _ (lowering.on_term names next mode (clean.Literal l) b alternatives t is p q) = (b, t, p, q, refl)
-lowers_back program _ _ _ _ (lowering.on_term names next mode (clean.Whole h ts) b alternatives t is p q) = (b, t, p, q, refl)
-lowers_back program _ _ _ _ (lowering.on_term names next mode (clean.Part h ts) b alternatives t is p q) = (b, t, p, q, refl)
-lowers_back program _ _ _ _ (lowering.on_term names next mode (clean.Apply f a) b alternatives t is p q) = (b, t, p, q, refl)
-lowers_back program _ _ _ _ (lowering.on_term names next mode (clean.Let x a c) b alternatives t is p q) = (b, t, p, q, refl)
-lowers_back program _ _ _ _ (lowering.on_term names next mode (clean.Free x a) b alternatives t is p q) = (b, t, p, q, refl)
-lowers_back program _ _ _ _ (lowering.on_term names next mode (clean.Or a c) b alternatives t is p q) = (b, t, p, q, refl)
-lowers_back program _ _ _ _ (lowering.on_term names next mode (clean.Case m a others) b alternatives t is p q) = (b, t, p, q, refl)
+lowers_converse : (program : Program) (names : Names) (next : ℕ) (t v : clean.Term) → Lowers program names next t v → LowersConverse program names next t v
+lowers_converse program _ _ _ _ (lowering.variable names next x) = refl
+lowers_converse program _ _ _ _ (lowering.literal names next l) = refl
+lowers_converse program _ _ _ _ (lowering.whole names next h ts us p) = (us, p, refl)
+lowers_converse program _ _ _ _ (lowering.part names next h ts us p) = (us, p, refl)
+lowers_converse program _ _ _ _ (lowering.applied names next f a g b p q) = (g, b, p, q, refl)
+lowers_converse program _ _ _ _ (lowering.bound names next x a b c d p q) = (c, d, p, q, refl)
+lowers_converse program _ _ _ _ (lowering.free names next x a b p) = (b, p, refl)
+lowers_converse program _ _ _ _ (lowering.either names next a b c d p q) = (c, d, p, q, refl)
+lowers_converse program _ _ _ v (lowering.on_variable names next x mode alternatives _ p) = p
+lowers_converse program _ _ _ _ (lowering.on_term names next mode (clean.Variable x) b alternatives t is p q) = absurd (true≢false is)
+lowers_converse program _ _ _ _ (lowering.on_term names next mode (clean.Literal l) b alternatives t is p q) = (b, t, p, q, refl)
+lowers_converse program _ _ _ _ (lowering.on_term names next mode (clean.Whole h ts) b alternatives t is p q) = (b, t, p, q, refl)
+lowers_converse program _ _ _ _ (lowering.on_term names next mode (clean.Part h ts) b alternatives t is p q) = (b, t, p, q, refl)
+lowers_converse program _ _ _ _ (lowering.on_term names next mode (clean.Apply f a) b alternatives t is p q) = (b, t, p, q, refl)
+lowers_converse program _ _ _ _ (lowering.on_term names next mode (clean.Let x a c) b alternatives t is p q) = (b, t, p, q, refl)
+lowers_converse program _ _ _ _ (lowering.on_term names next mode (clean.Free x a) b alternatives t is p q) = (b, t, p, q, refl)
+lowers_converse program _ _ _ _ (lowering.on_term names next mode (clean.Or a c) b alternatives t is p q) = (b, t, p, q, refl)
+lowers_converse program _ _ _ _ (lowering.on_term names next mode (clean.Case m a others) b alternatives t is p q) = (b, t, p, q, refl)
 
 -- ---- nodes
 
@@ -147,9 +147,9 @@ pub whole_node : (program : Program) (names : Names) (next : ℕ) (h : Head) (ts
     → Node (EachTerm program names next ts) (total size) (Lowers program names next (clean.Whole h (terms_of ts))) size (λ us. clean.Whole h (terms_listed us)) 1
 whole_node program names next h ts = record {
   forth = λ us each. lowering.whole names next h (terms_of ts) (terms_listed us) (all_forth program names next ts us each);
-  back = λ t p.
-      let b = lowers_back program names next (clean.Whole h (terms_of ts)) t p in
-      let us = all_back program names next ts b.0 b.1 in (us.0, us.1, b.2 ∙ ap (clean.Whole h) us.2);
+  converse = λ t p.
+      let b = lowers_converse program names next (clean.Whole h (terms_of ts)) t p in
+      let us = all_converse program names next ts b.0 b.1 in (us.0, us.1, b.2 ∙ ap (clean.Whole h) us.2);
   more = λ us. let sum = total_sizes us in omega arith;
 }
 
@@ -157,9 +157,9 @@ pub part_node : (program : Program) (names : Names) (next : ℕ) (h : Head) (ts 
     → Node (EachTerm program names next ts) (total size) (Lowers program names next (clean.Part h (terms_of ts))) size (λ us. clean.Part h (terms_listed us)) 1
 part_node program names next h ts = record {
   forth = λ us each. lowering.part names next h (terms_of ts) (terms_listed us) (all_forth program names next ts us each);
-  back = λ t p.
-      let b = lowers_back program names next (clean.Part h (terms_of ts)) t p in
-      let us = all_back program names next ts b.0 b.1 in (us.0, us.1, b.2 ∙ ap (clean.Part h) us.2);
+  converse = λ t p.
+      let b = lowers_converse program names next (clean.Part h (terms_of ts)) t p in
+      let us = all_converse program names next ts b.0 b.1 in (us.0, us.1, b.2 ∙ ap (clean.Part h) us.2);
   more = λ us. let sum = total_sizes us in omega arith;
 }
 
@@ -172,7 +172,7 @@ pub apply_node : (program : Program) (names : Names) (next : ℕ) (f a : clean.T
     (λ both. clean.Apply both.0 both.1) 1
 apply_node program names next f a = record {
   forth = λ both p. lowering.applied names next f a both.0 both.1 p.0 p.1;
-  back = λ t p. let b = lowers_back program names next (clean.Apply f a) t p in ((b.0, b.1), (b.2, b.3), b.4);
+  converse = λ t p. let b = lowers_converse program names next (clean.Apply f a) t p in ((b.0, b.1), (b.2, b.3), b.4);
   more = λ both. omega arith;
 }
 
@@ -181,7 +181,7 @@ pub or_node : (program : Program) (names : Names) (next : ℕ) (a b : clean.Term
     (λ both. clean.Or both.0 both.1) 1
 or_node program names next a b = record {
   forth = λ both p. lowering.either names next a b both.0 both.1 p.0 p.1;
-  back = λ t p. let q = lowers_back program names next (clean.Or a b) t p in ((q.0, q.1), (q.2, q.3), q.4);
+  converse = λ t p. let q = lowers_converse program names next (clean.Or a b) t p in ((q.0, q.1), (q.2, q.3), q.4);
   more = λ both. omega arith;
 }
 
@@ -190,7 +190,7 @@ pub let_node : (program : Program) (names : Names) (next x : ℕ) (a b : clean.T
     (Lowers program names next (clean.Let x a b)) size (λ both. clean.Let next both.0 both.1) 1
 let_node program names next x a b = record {
   forth = λ both p. lowering.bound names next x a b both.0 both.1 p.0 p.1;
-  back = λ t p. let q = lowers_back program names next (clean.Let x a b) t p in ((q.0, q.1), (q.2, q.3), q.4);
+  converse = λ t p. let q = lowers_converse program names next (clean.Let x a b) t p in ((q.0, q.1), (q.2, q.3), q.4);
   more = λ both. omega arith;
 }
 
@@ -198,7 +198,7 @@ pub free_node : (program : Program) (names : Names) (next x : ℕ) (a : clean.Te
     → Node (Lowers program ((x, next) ∷ names) (suc next) a) size (Lowers program names next (clean.Free x a)) size (λ b. clean.Free next b) 1
 free_node program names next x a = record {
   forth = λ b p. lowering.free names next x a b p;
-  back = λ t p. let q = lowers_back program names next (clean.Free x a) t p in (q.0, q.1, q.2);
+  converse = λ t p. let q = lowers_converse program names next (clean.Free x a) t p in (q.0, q.1, q.2);
   more = λ b. omega arith;
 }
 
@@ -207,7 +207,7 @@ pub variable_case_node : (program : Program) (names : Names) (next x : ℕ) (mod
     (Lowers program names next (clean.Case mode (clean.Variable x) alternatives)) size (λ t. t) 0
 variable_case_node program names next x mode alternatives = record {
   forth = λ t p. lowering.on_variable names next x mode alternatives t p;
-  back = λ t p. (t, lowers_back program names next (clean.Case mode (clean.Variable x) alternatives) t p, refl);
+  converse = λ t p. (t, lowers_converse program names next (clean.Case mode (clean.Variable x) alternatives) t p, refl);
   more = λ t. omega arith;
 }
 
@@ -216,17 +216,17 @@ OnTerm program names next mode a alternatives v =
     (b t : clean.Term) × Lowers program names next a b × Distinguishes program mode (next ∷ []) (suc next) (rows_of names next alternatives) t
     × (v ≡ clean.Let next b t)
 
-on_term_back : (program : Program) (names : Names) (next : ℕ) (mode : Mode) (a : clean.Term) (alternatives : clean.Alternatives) (v : clean.Term)
+on_term_converse : (program : Program) (names : Names) (next : ℕ) (mode : Mode) (a : clean.Term) (alternatives : clean.Alternatives) (v : clean.Term)
     → is_variable a ≡ false → Lowers program names next (clean.Case mode a alternatives) v → OnTerm program names next mode a alternatives v
-on_term_back program names next mode (clean.Variable x) alternatives v is p = absurd (true≢false is)
-on_term_back program names next mode (clean.Literal l) alternatives v is p = lowers_back program names next (clean.Case mode (clean.Literal l) alternatives) v p
-on_term_back program names next mode (clean.Whole h ts) alternatives v is p = lowers_back program names next (clean.Case mode (clean.Whole h ts) alternatives) v p
-on_term_back program names next mode (clean.Part h ts) alternatives v is p = lowers_back program names next (clean.Case mode (clean.Part h ts) alternatives) v p
-on_term_back program names next mode (clean.Apply f a) alternatives v is p = lowers_back program names next (clean.Case mode (clean.Apply f a) alternatives) v p
-on_term_back program names next mode (clean.Let x a c) alternatives v is p = lowers_back program names next (clean.Case mode (clean.Let x a c) alternatives) v p
-on_term_back program names next mode (clean.Free x a) alternatives v is p = lowers_back program names next (clean.Case mode (clean.Free x a) alternatives) v p
-on_term_back program names next mode (clean.Or a c) alternatives v is p = lowers_back program names next (clean.Case mode (clean.Or a c) alternatives) v p
-on_term_back program names next mode (clean.Case m a others) alternatives v is p = lowers_back program names next (clean.Case mode (clean.Case m a others) alternatives) v p
+on_term_converse program names next mode (clean.Variable x) alternatives v is p = absurd (true≢false is)
+on_term_converse program names next mode (clean.Literal l) alternatives v is p = lowers_converse program names next (clean.Case mode (clean.Literal l) alternatives) v p
+on_term_converse program names next mode (clean.Whole h ts) alternatives v is p = lowers_converse program names next (clean.Case mode (clean.Whole h ts) alternatives) v p
+on_term_converse program names next mode (clean.Part h ts) alternatives v is p = lowers_converse program names next (clean.Case mode (clean.Part h ts) alternatives) v p
+on_term_converse program names next mode (clean.Apply f a) alternatives v is p = lowers_converse program names next (clean.Case mode (clean.Apply f a) alternatives) v p
+on_term_converse program names next mode (clean.Let x a c) alternatives v is p = lowers_converse program names next (clean.Case mode (clean.Let x a c) alternatives) v p
+on_term_converse program names next mode (clean.Free x a) alternatives v is p = lowers_converse program names next (clean.Case mode (clean.Free x a) alternatives) v p
+on_term_converse program names next mode (clean.Or a c) alternatives v is p = lowers_converse program names next (clean.Case mode (clean.Or a c) alternatives) v p
+on_term_converse program names next mode (clean.Case m a others) alternatives v is p = lowers_converse program names next (clean.Case mode (clean.Case m a others) alternatives) v p
 
 pub term_case_node : (program : Program) (names : Names) (next : ℕ) (mode : Mode) (a : clean.Term) (alternatives : clean.Alternatives)
     → is_variable a ≡ false
@@ -234,7 +234,7 @@ pub term_case_node : (program : Program) (names : Names) (next : ℕ) (mode : Mo
     (Lowers program names next (clean.Case mode a alternatives)) size (λ both. clean.Let next both.0 both.1) 1
 term_case_node program names next mode a alternatives is = record {
   forth = λ both p. lowering.on_term names next mode a both.0 alternatives both.1 is p.0 p.1;
-  back = λ t p. let q = on_term_back program names next mode a alternatives t is p in ((q.0, q.1), (q.2, q.3), q.4);
+  converse = λ t p. let q = on_term_converse program names next mode a alternatives t is p in ((q.0, q.1), (q.2, q.3), q.4);
   more = λ both. omega arith;
 }
 

@@ -4,13 +4,13 @@ use Rattle.std.specs.List.{flat_map, list_all, list_any}
 use Rattle.std.proofs.lemmas.Bool.{and_parts}
 use Rattle.cu_calculus.specs.declared.ConId.{ConId}
 use Rattle.cu_calculus.specs.declared.Lit.{Lit}
-use Rattle.cu_calculus.specs.Choose.{ALiteral, AConstructor, Demand, Nothing, same_type, wants_constructor, wants_literal}
+use Rattle.cu_calculus.specs.Choose.{ALiteral, AConstructor, Demand, Nothing, same_type, demands_constructor, demands_literal}
 use Rattle.cu_calculus.specs.Literal.{same_literal}
 use Rattle.cu_calculus.specs.Program.{Constructor, Program, constructor_of}
 use Rattle.cu_calculus.specs.Term.{Pattern}
 use Rattle.cu_calculus.proofs.Answering.{literal_is}
 use Rattle.cu_calculus.proofs.Comparing.{same_is}
-use Rattle.cu_calculus.proofs.Lists.{get_behind, get_front, get_map}
+use Rattle.cu_calculus.proofs.Lists.{get_suffix, get_prefix, get_map}
 use Rattle.cu_deftree.specs.Rows.{Row, constructor_ids, constructors_at, demand_at, demanded_by_all, demanded_from, demands, first_occurrences, literal_in, literals_at, numbers, siblings}
 use Rattle.cu_deftree.proofs.Suits.{there_too}
 
@@ -76,12 +76,12 @@ constructor_listed program c constructor e =
     )
 
 pub constructor_occurs : (program : Program) (k : ℕ) (rows : List Row) (c : ConId) (constructor : Constructor) (i : ℕ) (row : Row)
-    → constructor_of program c ≡ Some constructor → slice_get rows i ≡ Some row → wants_constructor c (demand_at k row) ≡ true
+    → constructor_of program c ≡ Some constructor → slice_get rows i ≡ Some row → demands_constructor c (demand_at k row) ≡ true
     → (j : ℕ) × (slice_get (constructors_at program k rows) j ≡ Some c)
 constructor_occurs program k rows c constructor i row e f h =
     let listed = constructor_listed program c constructor e in
-    filtered (λ d. list_any (λ other. wants_constructor d (demand_at k other)) rows) (constructor_ids program) listed.0 c listed.1
-    (any_at (λ other. wants_constructor c (demand_at k other)) rows i row f h)
+    filtered (λ d. list_any (λ other. demands_constructor d (demand_at k other)) rows) (constructor_ids program) listed.0 c listed.1
+    (any_at (λ other. demands_constructor c (demand_at k other)) rows i row f h)
 
 typed : (program : Program) (c d : ConId) → same_type program c d ≡ true → (constructor : Constructor) × (constructor_of program d ≡ Some constructor)
 typed program c d e = by (constructor_of program c) (constructor_of program d) e refl
@@ -118,17 +118,17 @@ flat_at : {A B : Type 0} (f : A → List B) (xs : List A) (i j : ℕ) (x : A) (y
 flat_at f [] i j x y e h = let no : ⊥ = cc in absurd no
 flat_at {A} {B} f (z ∷ xs) zero j x y e h =
     let same : z ≡ x = cc in
-    (j, get_front (f z) (flat_map f xs) j y (subst (λ (w : A). slice_get (f w) j ≡ Some y) (sym same) h))
+    (j, get_prefix (f z) (flat_map f xs) j y (subst (λ (w : A). slice_get (f w) j ≡ Some y) (sym same) h))
 flat_at f (z ∷ xs) (suc i) j x y e h =
-    let rest = flat_at f xs i j x y e h in (length (f z) + rest.0, get_behind (f z) (flat_map f xs) rest.0 ∙ rest.1)
+    let rest = flat_at f xs i j x y e h in (length (f z) + rest.0, get_suffix (f z) (flat_map f xs) rest.0 ∙ rest.1)
 
-literal_there : (l : Lit) (d : Demand) → wants_literal l d ≡ true → slice_get (literal_in d) 0 ≡ Some l
+literal_there : (l : Lit) (d : Demand) → demands_literal l d ≡ true → slice_get (literal_in d) 0 ≡ Some l
 literal_there l Nothing e = let no : ⊥ = cc in absurd no
 literal_there l (AConstructor c) e = let no : ⊥ = cc in absurd no
 literal_there l (ALiteral m) e = ap Some (sym (literal_is l m e))
 
 pub literal_occurs : (k : ℕ) (rows : List Row) (l : Lit) (i : ℕ) (row : Row) → slice_get rows i ≡ Some row
-    → wants_literal l (demand_at k row) ≡ true → (j : ℕ) × (slice_get (literals_at k rows) j ≡ Some l)
+    → demands_literal l (demand_at k row) ≡ true → (j : ℕ) × (slice_get (literals_at k rows) j ≡ Some l)
 literal_occurs k rows l i row e h =
     let all = flat_map (λ other. literal_in (demand_at k other)) rows in
     let there = flat_at (λ (other : Row). literal_in (demand_at k other)) rows i 0 row l e (literal_there l (demand_at k row) h) in

@@ -9,7 +9,7 @@ use Rattle.cu_calculus.specs.declared.Mode.{Mode}
 use Rattle.cu_calculus.specs.declared.Mode.TheVariants.{Flex}
 use Rattle.cu_calculus.specs.declared.builtin.Primitive.{Primitive}
 use Rattle.cu_calculus.specs.declared.builtin.Special.{Special}
-use Rattle.cu_calculus.specs.Choose.{Demand, Nothing, demand_of, is_demanding, leftmost, not_literal, spliced, wants_constructor, wants_literal}
+use Rattle.cu_calculus.specs.Choose.{Demand, Nothing, demand_of, is_demanding, leftmost, not_literal, spliced, demands_constructor, demands_literal}
 use Rattle.cu_calculus.specs.Program.{Constructor, Function, Program, Rule, Rules}
 use Rattle.cu_calculus.specs.Term as term
 use Rattle.cu_calculus.specs.Term.{Alternatives, Pattern, Term, Terms}
@@ -87,11 +87,11 @@ moved_siblings program mode positions next k m c d rows alternatives e f h =
     (subst (λ (n : ℕ). Cases program mode true positions next n rows (siblings program d) [] alternatives) e h)
 
 moved_same : (program : Program) (mode : Mode) (positions : List ℕ) (next k m : ℕ) (l n : Lit) (rows : List Row) (t : Term) → m ≡ k → n ≡ l
-    → Distinguishes program mode (spliced m [] positions) next (specialize m [] (goes_on true (wants_literal n)) rows) t
-    → Distinguishes program mode (spliced k [] positions) next (specialize k [] (goes_on true (wants_literal l)) rows) t
+    → Distinguishes program mode (spliced m [] positions) next (specialize m [] (goes_on true (demands_literal n)) rows) t
+    → Distinguishes program mode (spliced k [] positions) next (specialize k [] (goes_on true (demands_literal l)) rows) t
 moved_same program mode positions next k m l n rows t e f h =
-    subst (λ (a : Lit). Distinguishes program mode (spliced k [] positions) next (specialize k [] (goes_on true (wants_literal a)) rows) t) f
-    (subst (λ (i : ℕ). Distinguishes program mode (spliced i [] positions) next (specialize i [] (goes_on true (wants_literal n)) rows) t) e h)
+    subst (λ (a : Lit). Distinguishes program mode (spliced k [] positions) next (specialize k [] (goes_on true (demands_literal a)) rows) t) f
+    (subst (λ (i : ℕ). Distinguishes program mode (spliced i [] positions) next (specialize i [] (goes_on true (demands_literal n)) rows) t) e h)
 
 moved_other : (program : Program) (mode : Mode) (positions : List ℕ) (next k m : ℕ) (l n : Lit) (rows : List Row) (t : Term) → m ≡ k → n ≡ l
     → Distinguishes program mode positions next (filter (λ one. not_literal n (demand_at m one)) rows) t
@@ -112,18 +112,18 @@ moved_others program positions next k m rows t e h =
 
 moved_tree : (program : Program) (positions : List ℕ) (next k n m : ℕ) (arguments others : List ℕ) (c : ConId) (rows : List Row) (t : Term)
     → m ≡ n → others ≡ arguments
-    → Tree program (spliced k others positions) (next + m) (specialize k others (wants_constructor c) rows) t
-    → Tree program (spliced k arguments positions) (next + n) (specialize k arguments (wants_constructor c) rows) t
+    → Tree program (spliced k others positions) (next + m) (specialize k others (demands_constructor c) rows) t
+    → Tree program (spliced k arguments positions) (next + n) (specialize k arguments (demands_constructor c) rows) t
 moved_tree program positions next k n m arguments others c rows t e f h =
-    subst (λ (xs : List ℕ). Tree program (spliced k xs positions) (next + n) (specialize k xs (wants_constructor c) rows) t) f
-    (subst (λ (i : ℕ). Tree program (spliced k others positions) (next + i) (specialize k others (wants_constructor c) rows) t) e h)
+    subst (λ (xs : List ℕ). Tree program (spliced k xs positions) (next + n) (specialize k xs (demands_constructor c) rows) t) f
+    (subst (λ (i : ℕ). Tree program (spliced k others positions) (next + i) (specialize k others (demands_constructor c) rows) t) e h)
 
 moved_case : (program : Program) (mode : Mode) (b : Bool) (positions : List ℕ) (next k n m : ℕ) (arguments others : List ℕ) (c : ConId)
     (rows : List Row) (t : Term) → m ≡ n → others ≡ arguments
-    → Distinguishes program mode (spliced k others positions) (next + m) (specialize k others (goes_on b (wants_constructor c)) rows) t
-    → Distinguishes program mode (spliced k arguments positions) (next + n) (specialize k arguments (goes_on b (wants_constructor c)) rows) t
+    → Distinguishes program mode (spliced k others positions) (next + m) (specialize k others (goes_on b (demands_constructor c)) rows) t
+    → Distinguishes program mode (spliced k arguments positions) (next + n) (specialize k arguments (goes_on b (demands_constructor c)) rows) t
 moved_case program mode b positions next k n m arguments others c rows t e f h =
-    let test = goes_on b (wants_constructor c) in
+    let test = goes_on b (demands_constructor c) in
     subst (λ (xs : List ℕ). Distinguishes program mode (spliced k xs positions) (next + n) (specialize k xs test rows) t) f
     (subst (λ (i : ℕ). Distinguishes program mode (spliced k others positions) (next + i) (specialize k others test rows) t) e h)
 
@@ -225,12 +225,12 @@ mutual
       let count : m ≡ n = e' ∙ sym e in
       let arguments : ys ≡ xs = f' ∙ ap (numbers next) count ∙ sym f in
       one_branch c xs ys t u a b (sym arguments)
-      (tree_one program (spliced k xs positions) (next + n) (specialize k xs (wants_constructor c) rows) t u p
+      (tree_one program (spliced k xs positions) (next + n) (specialize k xs (demands_constructor c) rows) t u p
       (moved_tree program positions next k n m xs ys c rows u count arguments p')) (branches_one program positions next k rows cs ls a b q q')
   branches_one program _ _ _ _ _ _ _ _ (lowering.literal_branch positions next k rows l ls t a p q)
       (lowering.literal_branch _ _ _ _ _ _ u b p' q') =
       ap₂ (term.MoreAlternatives (term.Exactly l))
-      (tree_one program (spliced k [] positions) next (specialize k [] (wants_literal l) rows) t u p p')
+      (tree_one program (spliced k [] positions) next (specialize k [] (demands_literal l) rows) t u p p')
       (branches_one program positions next k rows [] ls a b q q')
 
   pub distinguishes_one : (program : Program) (mode : Mode) (positions : List ℕ) (next : ℕ) (rows : List Row) (t u : Term)
@@ -298,7 +298,7 @@ mutual
       let same : n ≡ l = cc in
       one_literal_case program equal equal' x y l n a b a' b' (operation_one program _ equal equal' j j')
       (same_position positions k m x y place g g') (sym same)
-      (distinguishes_one program mode (spliced k [] positions) next (specialize k [] (goes_on true (wants_literal l)) (row ∷ rows)) a a' p
+      (distinguishes_one program mode (spliced k [] positions) next (specialize k [] (goes_on true (demands_literal l)) (row ∷ rows)) a a' p
       (moved_same program mode positions next k m l n (row ∷ rows) a' place same p'))
       (distinguishes_one program mode positions next (filter (λ one. not_literal l (demand_at k one)) (row ∷ rows)) b b' q
       (moved_other program mode positions next k m l n (row ∷ rows) b' place same q'))
@@ -311,13 +311,13 @@ mutual
       let count : m ≡ n = e' ∙ sym e in
       let arguments : ys ≡ xs = f' ∙ ap (numbers next) count ∙ sym f in
       one_branch c xs ys t u a b (sym arguments)
-      (distinguishes_one program mode (spliced k xs positions) (next + n) (specialize k xs (goes_on v (wants_constructor c)) rows) t u p
+      (distinguishes_one program mode (spliced k xs positions) (next + n) (specialize k xs (goes_on v (demands_constructor c)) rows) t u p
       (moved_case program mode v positions next k n m xs ys c rows u count arguments p'))
       (cases_one program mode v positions next k rows cs ls a b q q')
   cases_one program _ _ _ _ _ _ _ _ _ _ (lowering.literal_of_case mode v positions next k rows l ls t a p q)
       (lowering.literal_of_case _ _ _ _ _ _ _ _ u b p' q') =
       ap₂ (term.MoreAlternatives (term.Exactly l))
-      (distinguishes_one program mode (spliced k [] positions) next (specialize k [] (goes_on v (wants_literal l)) rows) t u p p')
+      (distinguishes_one program mode (spliced k [] positions) next (specialize k [] (goes_on v (demands_literal l)) rows) t u p p')
       (cases_one program mode v positions next k rows [] ls a b q q')
 
 -- ---- programs

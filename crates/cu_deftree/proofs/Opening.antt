@@ -57,18 +57,18 @@ meet_at env zero (q ∷ ps) (w ∷ vs) p v e f h =
     subst (λ (x : Value). Meets env p x) other (subst (λ (x : Pattern). Meets env x w) one h.0)
 meet_at env (suc k) (q ∷ ps) (w ∷ vs) p v e f h = meet_at env k ps vs p v e f h.1
 
-pub meet_back : (env : Option Environment) (k : ℕ) (mid ps : List Pattern) (args vs : List Value) (p : Pattern) (v : Value)
+pub meet_converse : (env : Option Environment) (k : ℕ) (mid ps : List Pattern) (args vs : List Value) (p : Pattern) (v : Value)
     → slice_get ps k ≡ Some p → slice_get vs k ≡ Some v → length mid ≡ length args → AllMeet env (put k mid ps) (put k args vs)
     → AllMeet env mid args × (Meets env p v → AllMeet env ps vs)
-meet_back env k mid [] args vs p v e f n h = let no : ⊥ = cc in absurd no
-meet_back env k mid (q ∷ ps) args [] p v e f n h = let no : ⊥ = cc in absurd no
-meet_back env zero mid (q ∷ ps) args (w ∷ vs) p v e f n h =
+meet_converse env k mid [] args vs p v e f n h = let no : ⊥ = cc in absurd no
+meet_converse env k mid (q ∷ ps) args [] p v e f n h = let no : ⊥ = cc in absurd no
+meet_converse env zero mid (q ∷ ps) args (w ∷ vs) p v e f n h =
     let one : p ≡ q = cc in
     let other : v ≡ w = cc in
     let parts = meet_parts env mid ps args vs n h in
     (parts.0, λ m. (subst (λ (x : Value). Meets env q x) other (subst (λ (x : Pattern). Meets env x v) one m), parts.1))
-meet_back env (suc k) mid (q ∷ ps) args (w ∷ vs) p v e f n h =
-    let rest = meet_back env k mid ps args vs p v e f n h.1 in (rest.0, λ m. (h.0, rest.1 m))
+meet_converse env (suc k) mid (q ∷ ps) args (w ∷ vs) p v e f n h =
+    let rest = meet_converse env k mid ps args vs p v e f n h.1 in (rest.0, λ m. (h.0, rest.1 m))
 
 -- ---- variables at positions
 

@@ -18,7 +18,7 @@ stops meaning measure R part weight S old mid new last stop.NoMemory has h = tt
 
 pub record Node {B D : Type 0} (S : D → Type 0) (weight : D → ℕ) (R : B → Type 0) (measure : B → ℕ) (f : D → B) (n : ℕ) : Type 0 where
   pub forth : (u : D) → S u → R (f u)
-  pub back : (t : B) → R t → (u : D) × S u × (t ≡ f u)
+  pub converse : (t : B) → R t → (u : D) × S u × (t ≡ f u)
   pub more : (u : D) → measure (f u) ≡ weight u + n
 
 pub node_stops : {A B C D : Type 0} (meaning : A → B) (part : C → D) (S : D → Type 0) (weight : D → ℕ) (R : B → Type 0) (measure : B → ℕ) (f : D → B)
@@ -26,7 +26,7 @@ pub node_stops : {A B C D : Type 0} (meaning : A → B) (part : C → D) (S : D 
     → Within meaning measure R old last (Err e)
 node_stops meaning part S weight R measure f n old mid new last e node taken h =
     stops meaning measure R part weight S old mid new last e
-    (λ y r. let b = node.back y r in let same = ap measure b.2 in let more = node.more b.0 in (b.0, b.1, omega arith)) h
+    (λ y r. let b = node.converse y r in let same = ap measure b.2 in let more = node.more b.0 in (b.0, b.1, omega arith)) h
 
 pub node_done : {A B C D : Type 0} (meaning : A → B) (part : C → D) (S : D → Type 0) (weight : D → ℕ) (R : B → Type 0) (measure : B → ℕ) (f : D → B)
     (n old mid new : ℕ) (x : C) (y : A) → Node S weight R measure f n → mid + n ≡ old → Within part weight S mid new (Ok x) → meaning y ≡ f (part x)
@@ -40,7 +40,7 @@ node_done meaning part S weight R measure f n old mid new x y node taken h e =
 pub node_spent : {A B D : Type 0} (meaning : A → B) (S : D → Type 0) (weight : D → ℕ) (R : B → Type 0) (measure : B → ℕ) (f : D → B)
     (n old new last : ℕ) (e : Stop) → Node S weight R measure f n → Spends n old new (Err e) → Within meaning measure R old last (Err e)
 node_spent meaning S weight R measure f n old new last stop.TooBig node h =
-    λ y r. let b = node.back y r in let same = ap measure b.2 in let more = node.more b.0 in omega arith
+    λ y r. let b = node.converse y r in let same = ap measure b.2 in let more = node.more b.0 in omega arith
 node_spent meaning S weight R measure f n old new last stop.NoMemory node h = absurd h
 
 -- a term is of some expressions
@@ -64,11 +64,11 @@ one_spent meaning R old new last stop.NoMemory h = absurd h
 
 pub record Progress {X Y : Type 0} (R : X → Y → Type 0) (measure : Y → ℕ) (xs rest : List X) (done : List Y) (now initial : ℕ) : Type 0 where
   pub forth : (ys : List Y) → Each R rest ys → Each R xs (done ++ ys)
-  pub back : (ys : List Y) → Each R xs ys → (more : List Y) × Each R rest more × (ys ≡ done ++ more)
+  pub converse : (ys : List Y) → Each R xs ys → (more : List Y) × Each R rest more × (ys ≡ done ++ more)
   pub spent : now + total measure done ≡ initial
 
 pub begun : {X Y : Type 0} (R : X → Y → Type 0) (measure : Y → ℕ) (xs : List X) (n : ℕ) → Progress R measure xs xs [] n n
-begun R measure xs n = record { forth = λ ys h. h; back = λ ys h. (ys, h, refl); spent = omega arith }
+begun R measure xs n = record { forth = λ ys h. h; converse = λ ys h. (ys, h, refl); spent = omega arith }
 
 total_more : {Y : Type 0} (measure : Y → ℕ) (ys : List Y) (y : Y) → total measure (ys ++ y ∷ []) ≡ total measure ys + measure y
 total_more measure [] y = omega arith
@@ -84,8 +84,8 @@ gone_on {X} {Y} R measure xs rest more x y done new now next initial e r one tak
     (record {
       forth = λ ys h. subst (λ (zs : List Y). Each R xs zs) (sym (append_assoc done (y ∷ []) ys))
           (p.forth (y ∷ ys) (subst (λ (zs : List X). Each R zs (y ∷ ys)) (sym e) (y, ys, r, h, refl)));
-      back = λ ys h.
-          let b = p.back ys h in
+      converse = λ ys h.
+          let b = p.converse ys h in
           let parts = subst (λ (zs : List X). Each R zs b.0) e b.1 in (
             parts.1,
             parts.3,
@@ -105,7 +105,7 @@ pub gone_wrong : {A B X Y : Type 0} (meaning : A → List Y) (part : B → Y) (R
 gone_wrong {A} {B} {X} {Y} meaning part R measure xs rest more x done now next last initial e same p h =
     stops meaning (total measure) (Each R xs) part measure (R x) initial now next last e
     (λ ys each.
-    let b = p.back ys each in
+    let b = p.converse ys each in
     let parts = subst (λ (zs : List X). Each R zs b.0) same b.1 in
     let whole = ap (total measure) (b.2 ∙ ap (λ (zs : List Y). done ++ zs) parts.4) in
     let sum = total_both measure done (parts.0 ∷ parts.1) in
@@ -154,5 +154,5 @@ pub through : {A B : Type 0} {S R : B → Type 0} {measure : B → ℕ} (meaning
     → Node S measure R measure (λ t. t) 0 → Within meaning measure S old new r → Within meaning measure R old new r
 through meaning old new (Ok x) node h = (node.forth (meaning x) h.0, h.1)
 through {A} {B} {S} {R} {measure} meaning old new (Err stop.TooBig) node h =
-    λ y q. let b = node.back y q in let same = ap measure b.2 in let less = h b.0 b.1 in omega arith
+    λ y q. let b = node.converse y q in let same = ap measure b.2 in let less = h b.0 b.1 in omega arith
 through meaning old new (Err stop.NoMemory) node h = tt

@@ -7,7 +7,7 @@ use Rattle.cu_calculus.specs.declared.Head.TheVariants as head
 use Rattle.cu_calculus.specs.declared.Lit.{Lit}
 use Rattle.cu_calculus.specs.declared.Mode.{Mode}
 use Rattle.cu_calculus.specs.declared.Mode.TheVariants.{Flex}
-use Rattle.cu_calculus.specs.Choose.{ALiteral, AConstructor, Demand, alternative_at, arguments_of, demand_of, is_demanding, leftmost, spliced, wants_constructor, wants_literal}
+use Rattle.cu_calculus.specs.Choose.{ALiteral, AConstructor, Demand, alternative_at, arguments_of, demand_of, is_demanding, leftmost, spliced, demands_constructor, demands_literal}
 use Rattle.cu_calculus.specs.Flat.{all_differ, are_flat_alternatives, demands_of, is_flat_term, met_by}
 use Rattle.cu_calculus.specs.Gives as gives
 use Rattle.cu_calculus.specs.Gives.{AllGive, Claim, Gives}
@@ -28,7 +28,7 @@ use Rattle.cu_calculus.proofs.OfProgram.{EnvOf, bind_all_of, matched_of}
 use Rattle.cu_deftree.specs.Lowering as lowering
 use Rattle.cu_deftree.specs.Lowering.{Branches, Cases, Distinguishes, IsOperation, Lowers, Tree, goes_on, literal_case, test_of, variables}
 use Rattle.cu_deftree.specs.Rows.{Names, Row, constructor_arity, constructors_at, demand_at, demanded_by_all, demands, literals_at, name_of, specialize, specialized}
-use Rattle.cu_deftree.proofs.Back.{Ready, after_match, count_at, none_inside, numbers_count, numbers_low, opens_at, ready_opened}
+use Rattle.cu_deftree.proofs.Converse.{Ready, after_match, count_at, none_inside, numbers_count, numbers_low, opens_at, ready_opened}
 use Rattle.cu_deftree.proofs.FlatTrees.{swapped, tree_flat}
 use Rattle.cu_deftree.proofs.Meets.{AllFit, AllMeet, Meets, all_shape_matched, built_matches, literal_matches}
 use Rattle.cu_deftree.proofs.Occurs.{all_demand_it, constructor_occurs, filtered, literal_occurs}
@@ -192,14 +192,14 @@ demanded E (term.Named x p) w m e = demanded E p w m e
 demanded E (term.Exactly l) w m e = this_literal l refl m
 demanded E (term.Built c ps) w m e = this_constructor c m.0 refl m.1
 
-wants_itself : (c : ConId) (d : Demand) → d ≡ AConstructor c → wants_constructor c d ≡ true
-wants_itself c d e = ap (wants_constructor c) e ∙ eq-eqb c.0 c.0 refl
+demands_itself : (c : ConId) (d : Demand) → d ≡ AConstructor c → demands_constructor c d ≡ true
+demands_itself c d e = ap (demands_constructor c) e ∙ eq-eqb c.0 c.0 refl
 
-wants_this : (l : Lit) (d : Demand) → d ≡ ALiteral l → wants_literal l d ≡ true
-wants_this l d e = ap (wants_literal l) e ∙ literal_itself l
+demands_this : (l : Lit) (d : Demand) → d ≡ ALiteral l → demands_literal l d ≡ true
+demands_this l d e = ap (demands_literal l) e ∙ literal_itself l
 
 -- a constructor that a pattern demands is one of the program
-known_constructor : (program : Program) (c : ConId) (p : Pattern) → wants_constructor c (demand_of p) ≡ true → IsTrue (fits_pattern program p)
+known_constructor : (program : Program) (c : ConId) (p : Pattern) → demands_constructor c (demand_of p) ≡ true → IsTrue (fits_pattern program p)
     → (constructor : Constructor) × (constructor_of program c ≡ Some constructor)
 known_constructor program c (term.Any x) e f = let no : ⊥ = cc in absurd no
 known_constructor program c (term.Exactly l) e f = let no : ⊥ = cc in absurd no
@@ -218,18 +218,18 @@ known_constructor program c (term.Built d ps) e f =
     by (Some constructor) g h = (constructor, g)
 
 pub known_at_position : (program : Program) (positions : List ℕ) (next k position : ℕ) (row : Row) (c : ConId) → RowFits program positions next row
-    → slice_get positions k ≡ Some position → wants_constructor c (demand_at k row) ≡ true
+    → slice_get positions k ≡ Some position → demands_constructor c (demand_at k row) ≡ true
     → (constructor : Constructor) × (constructor_of program c ≡ Some constructor)
-known_at_position program positions next k position row c fits e wants =
+known_at_position program positions next k position row c fits e demands_choice =
     let there = there_too row.patterns positions k position fits.many e in
-    known_constructor program c there.0 (ap (wants_constructor c) (sym (demand_is k row there.0 there.1)) ∙ wants)
+    known_constructor program c there.0 (ap (demands_constructor c) (sym (demand_is k row there.0 there.1)) ∙ demands_choice)
     (pattern_fits program row.patterns k there.0 fits.known there.1)
 
 -- where the branch for what stands at a position is, and that a row goes on there
 data Into (k : ℕ) (row : Row) (w : Value) (cs : List ConId) (ls : List Lit) : Type 0 where
   into_constructor : (c : ConId) (us : Values) (j : ℕ) → w ≡ value.Constructed c us → slice_get cs j ≡ Some c
-      → wants_constructor c (demand_at k row) ≡ true → Into k row w cs ls
-  into_literal : (l : Lit) (j : ℕ) → w ≡ value.Literal l → slice_get ls j ≡ Some l → wants_literal l (demand_at k row) ≡ true → Into k row w cs ls
+      → demands_constructor c (demand_at k row) ≡ true → Into k row w cs ls
+  into_literal : (l : Lit) (j : ℕ) → w ≡ value.Literal l → slice_get ls j ≡ Some l → demands_literal l (demand_at k row) ≡ true → Into k row w cs ls
 
 branch_into : (program : Program) (positions : List ℕ) (next k position : ℕ) (rows : List Row) (E env : Environment) (vs : List Value) (i : ℕ) (row : Row)
     → demanded_by_all rows ≡ Some k → slice_get positions k ≡ Some position → slice_get rows i ≡ Some row → RowHolds E env vs row
@@ -248,14 +248,14 @@ branch_into program positions next k position rows E env vs i row e f there h re
     by : (d : Demand) → demand_at k row ≡ d → Demanded d (env position) → RowFits program positions next row
         → Into k row (env position) (constructors_at program k rows) (literals_at k rows)
     by d g (this_literal l is w) fits =
-        let wants = wants_this l (demand_at k row) (g ∙ is) in
-        let found = literal_occurs k rows l i row there wants in
-        into_literal l found.0 w found.1 wants
+        let demands_choice = demands_this l (demand_at k row) (g ∙ is) in
+        let found = literal_occurs k rows l i row there demands_choice in
+        into_literal l found.0 w found.1 demands_choice
     by d g (this_constructor c us is w) fits =
-        let wants = wants_itself c (demand_at k row) (g ∙ is) in
-        let known = known_at_position program positions next k position row c fits f wants in
-        let found = constructor_occurs program k rows c known.0 i row known.1 there wants in
-        into_constructor c us found.0 w found.1 wants
+        let demands_choice = demands_itself c (demand_at k row) (g ∙ is) in
+        let known = known_at_position program positions next k position row c fits f demands_choice in
+        let found = constructor_occurs program k rows c known.0 i row known.1 there demands_choice in
+        into_constructor c us found.0 w found.1 demands_choice
 
 -- ---- trees
 
@@ -317,11 +317,11 @@ module _ (program flat : Program) (claims : List Claim) (ordered : program.speci
         → Ready program positions next rows env vs → Into k row (env position) cs ls
         → Branched program flat claims env a (env position) v E row.body
     branches_reached _ _ _ _ _ _ _ (lowering.no_branch positions next k rows) E position env vs v i row place there h known ready
-        (into_constructor c us j is at wants) = let no : ⊥ = cc in absurd no
+        (into_constructor c us j is at demands_choice) = let no : ⊥ = cc in absurd no
     branches_reached _ _ _ _ _ _ _ (lowering.no_branch positions next k rows) E position env vs v i row place there h known ready
-        (into_literal l j is at wants) = let no : ⊥ = cc in absurd no
+        (into_literal l j is at demands_choice) = let no : ⊥ = cc in absurd no
     branches_reached _ _ _ _ _ _ _ (lowering.constructor_branch positions next k n xs rows c cs ls s a count is p rest) E position env vs v i row place
-        there h known ready (into_constructor d us zero w at wants) =
+        there h known ready (into_constructor d us zero w at demands_choice) =
         let same : c ≡ d = cc in
         let many : length xs ≡ n = ap length is ∙ numbers_count next n in
         let met = constructor_met program n xs c d us (env position) same count many w (known position) in
@@ -329,8 +329,8 @@ module _ (program flat : Program) (claims : List Claim) (ordered : program.speci
         let after = after_match env next n xs c (env position) met.0 is met.1 in
         let args = list_of after.us in
         let low = subst (λ (zs : List ℕ). AllLow (next + n) zs) (sym is) (numbers_low next (next + n) n (omega arith)) in
-        let test = wants_constructor c in
-        let passes : test (demand_at k row) ≡ true = ap (λ (b : ConId). wants_constructor b (demand_at k row)) same ∙ wants in
+        let test = demands_constructor c in
+        let passes : test (demand_at k row) ≡ true = ap (λ (b : ConId). demands_constructor b (demand_at k row)) same ∙ demands_choice in
         let kept = filtered (λ (r : Row). test (demand_at k r)) rows i row there passes in
         let fits = row_fits program positions next rows i row ready.fit there in
         record {
@@ -350,21 +350,21 @@ module _ (program flat : Program) (claims : List Claim) (ordered : program.speci
               (λ r g f. count_at program claims ordered c xs r n many count g f) after.at after.same ready);
         }
     branches_reached _ _ _ _ _ _ _ (lowering.constructor_branch positions next k n xs rows c cs ls s a count is p rest) E position env vs v i row place
-        there h known ready (into_constructor d us (suc j) w at wants) =
+        there h known ready (into_constructor d us (suc j) w at demands_choice) =
         later program flat claims env (term.Built c (variables xs)) s a (env position) v E row.body
-        (branches_reached positions next k rows cs ls a rest E position env vs v i row place there h known ready (into_constructor d us j w at wants))
+        (branches_reached positions next k rows cs ls a rest E position env vs v i row place there h known ready (into_constructor d us j w at demands_choice))
     branches_reached _ _ _ _ _ _ _ (lowering.constructor_branch positions next k n xs rows c cs ls s a count is p rest) E position env vs v i row place
-        there h known ready (into_literal l j w at wants) =
+        there h known ready (into_literal l j w at demands_choice) =
         later program flat claims env (term.Built c (variables xs)) s a (env position) v E row.body
-        (branches_reached positions next k rows cs ls a rest E position env vs v i row place there h known ready (into_literal l j w at wants))
+        (branches_reached positions next k rows cs ls a rest E position env vs v i row place there h known ready (into_literal l j w at demands_choice))
     branches_reached _ _ _ _ _ _ _ (lowering.literal_branch positions next k rows l ls s a p rest) E position env vs v i row place there h known ready
-        (into_constructor d us j w at wants) = let no : ⊥ = cc in absurd no
+        (into_constructor d us j w at demands_choice) = let no : ⊥ = cc in absurd no
     branches_reached _ _ _ _ _ _ _ (lowering.literal_branch positions next k rows l ls s a p rest) E position env vs v i row place there h known ready
-        (into_literal m zero w at wants) =
+        (into_literal m zero w at demands_choice) =
         let same : l ≡ m = cc in
         let here : env position ≡ value.Literal l = w ∙ ap value.Literal (sym same) in
-        let test = wants_literal l in
-        let passes : test (demand_at k row) ≡ true = ap (λ (b : Lit). wants_literal b (demand_at k row)) same ∙ wants in
+        let test = demands_literal l in
+        let passes : test (demand_at k row) ≡ true = ap (λ (b : Lit). demands_literal b (demand_at k row)) same ∙ demands_choice in
         let kept = filtered (λ (r : Row). test (demand_at k r)) rows i row there passes in
         let fits = row_fits program positions next rows i row ready.fit there in
         record {
@@ -383,6 +383,6 @@ module _ (program flat : Program) (claims : List Claim) (ordered : program.speci
               (λ r g f. (opens_literal r l g).many) tt (λ x b. refl) ready);
         }
     branches_reached _ _ _ _ _ _ _ (lowering.literal_branch positions next k rows l ls s a p rest) E position env vs v i row place there h known ready
-        (into_literal m (suc j) w at wants) =
+        (into_literal m (suc j) w at demands_choice) =
         later program flat claims env (term.Exactly l) s a (env position) v E row.body
-        (branches_reached positions next k rows [] ls a rest E position env vs v i row place there h known ready (into_literal m j w at wants))
+        (branches_reached positions next k rows [] ls a rest E position env vs v i row place there h known ready (into_literal m j w at demands_choice))

@@ -112,11 +112,11 @@ pub opened_here : (items : List (Bor Pattern)) (k n : ℕ) (p : Bor Pattern) (be
     → p ≡ get_or items k p → begun ≡ [] → first ≡ begun ++ take k items → patterns_at mid ≡ patterns_at first ++ arguments_of n (pattern_of p.now)
     → new ≡ mid ++ take (length items - (k + 1)) (drop (k + 1) items)
     → patterns_at new ≡ spliced k (arguments_at n k (patterns_at items)) (patterns_at items)
-opened_here items k n p begun first mid new below is none front middle all =
+opened_here items k n p begun first mid new below is none prefix middle all =
     let at = λ (q : Bor Pattern). pattern_of q.now in
     let ps = patterns_at items in
     let beginning : patterns_at first ≡ take k ps =
-    ap patterns_at (front ∙ ap (λ (xs : List (Bor Pattern)). xs ++ take k items) none) ∙ sym (take-map at k items) in
+    ap patterns_at (prefix ∙ ap (λ (xs : List (Bor Pattern)). xs ++ take k items) none) ∙ sym (take-map at k items) in
     let rest : take (length items - (k + 1)) (drop (k + 1) items) ≡ drop (k + 1) items =
     take_all (length items - (k + 1)) (drop (k + 1) items) (omega (arith, length-drop (k + 1) items)) in
     let found : slice_get ps k ≡ Some (pattern_of p.now) = found_at items k p below is in

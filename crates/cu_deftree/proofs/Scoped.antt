@@ -6,7 +6,7 @@ use Rattle.cu_calculus.specs.Term as term
 use Rattle.cu_calculus.specs.Term.{Alternatives, Pattern, Patterns, Term, Terms}
 use Rattle.cu_calculus.specs.Valid.{all_variables, also, also_all, fits_pattern, fits_term, holds, variables_of}
 use Rattle.cu_deftree.specs.Rows.{Names, Row, argument_names, demand_at, name_of, names_at, names_at_all, numbers, specialize, specialized}
-use Rattle.cu_deftree.proofs.Back.{none_inside}
+use Rattle.cu_deftree.proofs.Converse.{none_inside}
 use Rattle.cu_deftree.proofs.Opening.{inner, inner_all, put}
 use Rattle.cu_deftree.proofs.Suits.{RowsFit, demand_is, opened, pattern_fits, specialized_is, there_too}
 
@@ -203,30 +203,30 @@ variables_named x [] (term.MorePatterns p ps) l h = absurd (omega arith)
 variables_named x (y ∷ ys) (term.MorePatterns p ps) l h =
     by (holds_in x (variables_of p) (all_variables ps) h) (variable_named x y p) (variables_named x ys ps (omega arith))
   where
-    front : List ℕ
-    front = named_in (names_at y p)
+    prefix : List ℕ
+    prefix = named_in (names_at y p)
 
     rest : List ℕ
     rest = named_in (names_at_all ys (list_patterns ps))
 
-    whole : holds x (front ++ rest) ≡ true → holds x (named_in (names_at y p ++ names_at_all ys (list_patterns ps))) ≡ true
+    whole : holds x (prefix ++ rest) ≡ true → holds x (named_in (names_at y p ++ names_at_all ys (list_patterns ps))) ≡ true
     whole k = ap (holds x) (named_append (names_at y p) (names_at_all ys (list_patterns ps))) ∙ k
 
     by : (holds x (variables_of p) ≡ true) ⊎ (holds x (all_variables ps) ≡ true)
-        → (holds x (variables_of p) ≡ true → (holds x front ≡ true) ⊎ (holds x (inner p) ≡ true))
+        → (holds x (variables_of p) ≡ true → (holds x prefix ≡ true) ⊎ (holds x (inner p) ≡ true))
         → (holds x (all_variables ps) ≡ true → (holds x rest ≡ true) ⊎ (holds x (inner_all (list_patterns ps)) ≡ true))
         → (holds x (named_in (names_at y p ++ names_at_all ys (list_patterns ps))) ≡ true) ⊎ (holds x (inner p ++ inner_all (list_patterns ps)) ≡ true)
     by (inl here) one more = first (one here)
       where
-        first : (holds x front ≡ true) ⊎ (holds x (inner p) ≡ true)
+        first : (holds x prefix ≡ true) ⊎ (holds x (inner p) ≡ true)
             → (holds x (named_in (names_at y p ++ names_at_all ys (list_patterns ps))) ≡ true) ⊎ (holds x (inner p ++ inner_all (list_patterns ps)) ≡ true)
-        first (inl k) = inl (whole (holds_left x front rest k))
+        first (inl k) = inl (whole (holds_left x prefix rest k))
         first (inr k) = inr (holds_left x (inner p) (inner_all (list_patterns ps)) k)
     by (inr there) one more = second (more there)
       where
         second : (holds x rest ≡ true) ⊎ (holds x (inner_all (list_patterns ps)) ≡ true)
             → (holds x (named_in (names_at y p ++ names_at_all ys (list_patterns ps))) ≡ true) ⊎ (holds x (inner p ++ inner_all (list_patterns ps)) ≡ true)
-        second (inl k) = inl (whole (holds_right x front rest k))
+        second (inl k) = inl (whole (holds_right x prefix rest k))
         second (inr k) = inr (holds_right x (inner p) (inner_all (list_patterns ps)) k)
 
 inner_named : (x : ℕ) (positions : List ℕ) (p : Pattern) → length (arguments_of (length positions) p) ≡ length positions → holds x (inner p) ≡ true
@@ -242,9 +242,9 @@ inner_in : (x : ℕ) (ps qs : List Pattern) → holds x (inner_all qs) ≡ true 
 inner_in x [] qs h = h
 inner_in x (p ∷ ps) qs h = holds_right x (inner p) (inner_all (ps ++ qs)) (inner_in x ps qs h)
 
-inner_front : (x : ℕ) (ps qs : List Pattern) → holds x (inner_all ps) ≡ true → holds x (inner_all (ps ++ qs)) ≡ true
-inner_front x [] qs h = let no : ⊥ = cc in absurd no
-inner_front x (p ∷ ps) qs h = by (holds_in x (inner p) (inner_all ps) h) (inner_front x ps qs)
+inner_prefix : (x : ℕ) (ps qs : List Pattern) → holds x (inner_all ps) ≡ true → holds x (inner_all (ps ++ qs)) ≡ true
+inner_prefix x [] qs h = let no : ⊥ = cc in absurd no
+inner_prefix x (p ∷ ps) qs h = by (holds_in x (inner p) (inner_all ps) h) (inner_prefix x ps qs)
   where
     by : (holds x (inner p) ≡ true) ⊎ (holds x (inner_all ps) ≡ true) → (holds x (inner_all ps) ≡ true → holds x (inner_all (ps ++ qs)) ≡ true)
         → holds x (inner p ++ inner_all (ps ++ qs)) ≡ true
@@ -254,7 +254,7 @@ inner_front x (p ∷ ps) qs h = by (holds_in x (inner p) (inner_all ps) h) (inne
 inner_middle : (x k : ℕ) (mid ps : List Pattern) (p : Pattern) → slice_get ps k ≡ Some p → holds x (inner_all mid) ≡ true
     → holds x (inner_all (put k mid ps)) ≡ true
 inner_middle x k mid [] p e h = let no : ⊥ = cc in absurd no
-inner_middle x zero mid (q ∷ ps) p e h = inner_front x mid ps h
+inner_middle x zero mid (q ∷ ps) p e h = inner_prefix x mid ps h
 inner_middle x (suc k) mid (q ∷ ps) p e h = holds_right x (inner q) (inner_all (put k mid ps)) (inner_middle x k mid ps p e h)
 
 inner_still : (x k : ℕ) (mid ps : List Pattern) (p : Pattern) → slice_get ps k ≡ Some p → holds x (inner_all ps) ≡ true

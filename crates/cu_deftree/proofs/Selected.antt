@@ -13,7 +13,7 @@ use Rattle.cu_calculus.specs.declared.builtin.Primitive.TheVariants as prim
 use Rattle.cu_calculus.specs.Builtin as builtin
 use Rattle.cu_calculus.specs.Builtin.{Compares, truth_of}
 use Rattle.cu_calculus.specs.Choose as choose
-use Rattle.cu_calculus.specs.Choose.{ALiteral, AConstructor, Again, Chooses, Demand, Look, Narrow, Nowhere, Take, at_constructor, at_literal, demand_of, leftmost, look, look_from, narrow, narrowed, not_literal, rows_from, same_type, spliced, wants_constructor, wants_literal}
+use Rattle.cu_calculus.specs.Choose.{ALiteral, AConstructor, Again, Chooses, Demand, Look, Specialize, Nowhere, Take, at_constructor, at_literal, demand_of, leftmost, look, look_from, specialized_look, specialized_row, not_literal, rows_from, same_type, spliced, demands_constructor, demands_literal}
 use Rattle.cu_calculus.specs.Choose.{alternative_at}
 use Rattle.cu_calculus.specs.Gives as gives
 use Rattle.cu_calculus.specs.Gives.{Claim, Gives}
@@ -36,8 +36,8 @@ use Rattle.cu_deftree.specs.Lowering.{Cases, Distinguishes, IsOperation, goes_on
 use Rattle.cu_deftree.specs.LoweredProgram as lowered
 use Rattle.cu_deftree.specs.LoweredProgram.{Flattens, FunctionLowers}
 use Rattle.cu_deftree.specs.Rows.{Names, Row, name_of, names_at, rows_of, constructors_at, demand_at, demands, literals_at, siblings, specialize, specialized}
-use Rattle.cu_deftree.proofs.Alternatives.{Agree, Alike, alike_filter, alike_narrowed, alternative_of, alternatives_alike, alternatives_fit, goes_same, goes_too, kept_at, look_constructor_all, look_constructor_other, look_constructor_some, look_literal_all, look_literal_other, look_literal_same, looks_at, map_at, same_demand, same_type_swaps, tests_agree, variable_there}
-use Rattle.cu_deftree.proofs.Back.{Ready, after_match, goes_at, goes_literal, numbers_count, numbers_low, ready_opened}
+use Rattle.cu_deftree.proofs.Alternatives.{Agree, Alike, alike_filter, alike_specialized, alternative_of, alternatives_alike, alternatives_fit, goes_same, goes_too, kept_at, look_constructor_all, look_constructor_other, look_constructor_some, look_literal_all, look_literal_other, look_literal_same, looks_at, map_at, same_demand, same_type_swaps, tests_agree, variable_there}
+use Rattle.cu_deftree.proofs.Converse.{Ready, after_match, goes_at, goes_literal, numbers_count, numbers_low, ready_opened}
 use Rattle.cu_deftree.proofs.FlatTrees.{distinguishes_flat}
 use Rattle.cu_deftree.proofs.Levels.{stands_too}
 use Rattle.cu_deftree.proofs.Meets.{bound_agrees, bound_in, built_matches, fits_meets, literal_matches, matched_binds, matched_fits, others_stay}
@@ -53,13 +53,13 @@ abbrev After : Program → List Value → ℕ → Look → Type 0
 After program values choice Nowhere = ⊥
 After program values choice (Take taken) = taken ≡ choice
 After program values choice (Again fewer) = Chooses program fewer values choice
-After program values choice (Narrow fewer parts) = Chooses program fewer parts choice
+After program values choice (Specialize fewer parts) = Chooses program fewer parts choice
 
 after : (program : Program) (rows : List choose.Row) (values : List Value) (choice : ℕ) (found : Look) → Chooses program rows values choice
     → look program rows values ≡ found → After program values choice found
 after program _ _ _ found (choose.taken rows values choice e) f = subst (λ (l : Look). After program values choice l) (sym e ∙ f) refl
 after program _ _ _ found (choose.again rows fewer values choice e p) f = subst (λ (l : Look). After program values choice l) (sym e ∙ f) p
-after program _ _ _ found (choose.narrower rows fewer values parts choice e p) f =
+after program _ _ _ found (choose.specialized_rows rows fewer values parts choice e p) f =
     subst (λ (l : Look). After program values choice l) (sym e ∙ f) p
 
 abbrev kept_twins : (Demand → Bool) → ℕ → List choose.Row → List choose.Row
@@ -67,7 +67,7 @@ kept_twins test k twins = filter (λ twin. test (choose.demand_at k twin)) twins
 
 -- where an alternative is taken among rows that pass a test, some row passes it
 some_passes : (program : Program) (k n : ℕ) (test : Demand → Bool) (rows : List Row) (twins : List choose.Row) (parts : List Value) (choice : ℕ)
-    → Alike rows twins → Chooses program (map (narrowed k n) (kept_twins test k twins)) parts choice
+    → Alike rows twins → Chooses program (map (specialized_row k n) (kept_twins test k twins)) parts choice
     → (i : ℕ) × (row : Row) × (slice_get rows i ≡ Some row) × (test (demand_at k row) ≡ true)
 some_passes program k n test [] [] parts choice alike chosen = absurd (after program [] parts choice Nowhere chosen refl)
 some_passes program k n test [] (twin ∷ twins) parts choice alike chosen = absurd alike
@@ -76,8 +76,8 @@ some_passes program k n test (row ∷ rows) (twin ∷ twins) parts choice alike 
     by (test (choose.demand_at k twin)) refl chosen (λ p. some_passes program k n test rows twins parts choice alike.1 p)
   where
     by : (b : Bool) → test (choose.demand_at k twin) ≡ b
-        → Chooses program (map (narrowed k n) (cond b (twin ∷ kept_twins test k twins) (kept_twins test k twins))) parts choice
-        → (Chooses program (map (narrowed k n) (kept_twins test k twins)) parts choice
+        → Chooses program (map (specialized_row k n) (cond b (twin ∷ kept_twins test k twins) (kept_twins test k twins))) parts choice
+        → (Chooses program (map (specialized_row k n) (kept_twins test k twins)) parts choice
         → (i : ℕ) × (r : Row) × (slice_get rows i ≡ Some r) × (test (demand_at k r) ≡ true))
         → (i : ℕ) × (r : Row) × (slice_get (row ∷ rows) i ≡ Some r) × (test (demand_at k r) ≡ true)
     by true e p rest = (0, row, refl, ap test (sym (same_demand k row twin alike.0)) ∙ e)
@@ -97,18 +97,18 @@ hold_kept : (E env : Environment) (vs : List Value) (test : Row → Bool) (other
 hold_kept E env vs test other rows twins choice body agree alike h i row twin e f number =
     let before = kept_at rows twins test other i row twin agree alike e f in h before.place row twin before.there before.twin_there number
 
-hold_narrowed : (program : Program) (positions : List ℕ) (next k position : ℕ) (new : List ℕ) (test other : Demand → Bool) (rows : List Row)
+hold_specialized : (program : Program) (positions : List ℕ) (next k position : ℕ) (new : List ℕ) (test other : Demand → Bool) (rows : List Row)
     (twins : List choose.Row) (E env inside : Environment) (vs args : List Value) (choice : ℕ) (body : Term) → slice_get positions k ≡ Some position
     → ((p : Pattern) → test (demand_of p) ≡ true → IsTrue (fits_pattern program p) → Opens (length new) p (env position) args)
     → At inside new args → SameBelow next env inside → Ready program positions next rows env vs → Alike rows twins
     → ((d : Demand) → other d ≡ test d) → HoldAt E env vs rows twins choice body
-    → HoldAt E inside (put k args vs) (specialize k new test rows) (map (narrowed k (length args)) (kept_twins other k twins)) choice body
-hold_narrowed program positions next k position new test other rows twins E env inside vs args choice body place opens at same ready alike agree h i row twin
+    → HoldAt E inside (put k args vs) (specialize k new test rows) (map (specialized_row k (length args)) (kept_twins other k twins)) choice body
+hold_specialized program positions next k position new test other rows twins E env inside vs args choice body place opens at same ready alike agree h i row twin
     e f number =
     let passes = λ (r : Row). test (demand_at k r) in
     let passes_too = λ (one : choose.Row). other (choose.demand_at k one) in
     let one = map_at (specialized k new) (filter passes rows) i row e in
-    let two = map_at (narrowed k (length args)) (filter passes_too twins) i twin f in
+    let two = map_at (specialized_row k (length args)) (filter passes_too twins) i twin f in
     let before = kept_at rows twins passes passes_too i one.0 two.0 (tests_agree k test other agree) alike one.1 two.1 in
     let choices : two.0.choice ≡ choice = ap (λ (r : choose.Row). r.choice) (sym two.2) ∙ number in
     let holding = h before.place one.0 two.0 before.there before.twin_there choices in
@@ -124,15 +124,15 @@ hold_narrowed program positions next k position new test other rows twins E env 
 data Goes (program : Program) (b : Bool) (k : ℕ) (twins : List choose.Row) (vs : List Value) (choice : ℕ) (w : Value) (cs : List ConId)
     (ls : List Lit) : Type 0 where
   to_constructor : (c : ConId) (us : Values) (j : ℕ) → w ≡ value.Constructed c us → slice_get cs j ≡ Some c
-      → Chooses program (map (narrowed k (length (list_of us))) (kept_twins (goes_too b (wants_constructor c)) k twins)) (put k (list_of us) vs) choice
+      → Chooses program (map (specialized_row k (length (list_of us))) (kept_twins (goes_too b (demands_constructor c)) k twins)) (put k (list_of us) vs) choice
       → Goes program b k twins vs choice w cs ls
   to_literal : (l : Lit) (j : ℕ) → w ≡ value.Literal l → slice_get ls j ≡ Some l
-      → Chooses program (map (narrowed k 0) (kept_twins (goes_too b (wants_literal l)) k twins)) (put k [] vs) choice
+      → Chooses program (map (specialized_row k 0) (kept_twins (goes_too b (demands_literal l)) k twins)) (put k [] vs) choice
       → Goes program b k twins vs choice w cs ls
 
 -- what the test of a literal answers, and that the alternative is taken among the rows that are left
 data Differs (program : Program) (k : ℕ) (l : Lit) (twins : List choose.Row) (vs : List Value) (choice : ℕ) (w : Value) : Type 0 where
-  is_same : w ≡ value.Literal l → Chooses program (map (narrowed k 0) (kept_twins (goes_too true (wants_literal l)) k twins)) (put k [] vs) choice
+  is_same : w ≡ value.Literal l → Chooses program (map (specialized_row k 0) (kept_twins (goes_too true (demands_literal l)) k twins)) (put k [] vs) choice
       → Differs program k l twins vs choice w
   is_other : Compares w (value.Literal l) false → Chooses program (kept_twins (not_literal l) k twins) vs choice
       → Differs program k l twins vs choice w
@@ -163,20 +163,20 @@ module _ (program : Program) (positions : List ℕ) (next k position : ℕ) (row
       by (value.Variable x) is = absurd (stuck (value.Variable x) is refl)
       by (value.Partial h us) is = absurd (stuck (value.Partial h us) is refl)
       by (value.Literal l) is =
-          let test = goes_too false (wants_literal l) in
-          let fewer = map (narrowed k 0) (kept_twins test k (twin ∷ twins)) in
+          let test = goes_too false (demands_literal l) in
+          let fewer = map (specialized_row k 0) (kept_twins test k (twin ∷ twins)) in
           let rest =
-          after program (twin ∷ twins) vs choice (narrow k test (twin ∷ twins) [] vs) chosen
+          after program (twin ∷ twins) vs choice (specialized_look k test (twin ∷ twins) [] vs) chosen
           (look_literal_all program k row rows twin twins vs alike leftmost_is l (value_there ∙ ap Some is) none) in
           let some = some_passes program k 0 test (row ∷ rows) (twin ∷ twins) (spliced k [] vs) choice alike rest in
           let found = literal_occurs k (row ∷ rows) l some.0 some.1 some.2 some.3 in
           to_literal l found.0 is found.1 (parts_put fewer [] rest)
       by (value.Constructed c us) is =
-          let test = goes_too false (wants_constructor c) in
+          let test = goes_too false (demands_constructor c) in
           let args = list_of us in
-          let fewer = map (narrowed k (length args)) (kept_twins test k (twin ∷ twins)) in
+          let fewer = map (specialized_row k (length args)) (kept_twins test k (twin ∷ twins)) in
           let rest =
-          after program (twin ∷ twins) vs choice (narrow k test (twin ∷ twins) args vs) chosen
+          after program (twin ∷ twins) vs choice (specialized_look k test (twin ∷ twins) args vs) chosen
           (look_constructor_all program k row rows twin twins vs alike leftmost_is c us (value_there ∙ ap Some is) none) in
           let some = some_passes program k (length args) test (row ∷ rows) (twin ∷ twins) (spliced k args vs) choice alike rest in
           let known =
@@ -205,20 +205,20 @@ module _ (program : Program) (positions : List ℕ) (next k position : ℕ) (row
           args = list_of us
 
           test : Demand → Bool
-          test = goes_too true (wants_constructor c)
+          test = goes_too true (demands_constructor c)
 
           by_type : (b : Bool) → same_type program c d ≡ b → Goes program true k (twin ∷ twins) vs choice (env position) (siblings program d) []
           by_type true e =
-              let fewer = map (narrowed k (length args)) (kept_twins test k (twin ∷ twins)) in
+              let fewer = map (specialized_row k (length args)) (kept_twins test k (twin ∷ twins)) in
               let rest =
-              after program (twin ∷ twins) vs choice (narrow k test (twin ∷ twins) args vs) chosen
+              after program (twin ∷ twins) vs choice (specialized_look k test (twin ∷ twins) args vs) chosen
               (look_constructor_some program k row rows twin twins vs alike leftmost_is c d us (value_there ∙ ap Some is) some demand e) in
               let found = sibling_occurs program d c (same_type_swaps program c d e) in
               to_constructor c us found.0 is found.1 (parts_put fewer args rest)
           by_type false e =
               absurd (stuck (value.Constructed c us) is
               (ap₂ (λ (m : Demand) (b : Bool). at_constructor program k c m b (twin ∷ twins) args vs) (same_demand k row twin alike.0 ∙ demand) variables
-              ∙ ap (λ (b : Bool). if b then narrow k test (twin ∷ twins) args vs else Nowhere) e))
+              ∙ ap (λ (b : Bool). if b then specialized_look k test (twin ∷ twins) args vs else Nowhere) e))
 
   first_literal_differs : (l : Lit) → list_any (λ other. not (demands k other)) (row ∷ rows) ≡ true → demand_at k row ≡ ALiteral l
       → Differs program k l (twin ∷ twins) vs choice (env position)
@@ -237,10 +237,10 @@ module _ (program : Program) (positions : List ℕ) (next k position : ℕ) (row
           by_literal : (b : Bool) → same_literal m l ≡ b → Differs program k l (twin ∷ twins) vs choice (env position)
           by_literal true e =
               let here : env position ≡ value.Literal l = is ∙ ap value.Literal (literal_is m l e) in
-              let test = goes_too true (wants_literal l) in
-              let fewer = map (narrowed k 0) (kept_twins test k (twin ∷ twins)) in
+              let test = goes_too true (demands_literal l) in
+              let fewer = map (specialized_row k 0) (kept_twins test k (twin ∷ twins)) in
               is_same here (parts_put fewer []
-              (after program (twin ∷ twins) vs choice (narrow k test (twin ∷ twins) [] vs) chosen
+              (after program (twin ∷ twins) vs choice (specialized_look k test (twin ∷ twins) [] vs) chosen
               (look_literal_same program k row rows twin twins vs alike leftmost_is l (value_there ∙ ap Some here) some demand)))
           by_literal false e =
               is_other (subst (λ (w : Value). Compares w (value.Literal l) false) (sym is) (builtin.two_literals m l false (sym e)))
@@ -282,7 +282,7 @@ literal_reached : (program flat : Program) (claims : List Claim) → Flattens pr
     (env : Environment) (equal : FunId) (x : ℕ) (l : Lit) (same other : Term) (v : Value) (E : Environment) (body : Term)
     → is_flat_term (literal_case program equal x l same other) ≡ true → IsOperation program prim.Equal equal
     → Differs program k l twins vs choice (env x)
-    → (env x ≡ value.Literal l → Chooses program (map (narrowed k 0) (kept_twins (goes_too true (wants_literal l)) k twins)) (put k [] vs) choice
+    → (env x ≡ value.Literal l → Chooses program (map (specialized_row k 0) (kept_twins (goes_too true (demands_literal l)) k twins)) (put k [] vs) choice
     → Reached program flat claims env same v E body)
     → (Chooses program (kept_twins (not_literal l) k twins) vs choice → Reached program flat claims env other v E body)
     → Reached program flat claims env (literal_case program equal x l same other) v E body
@@ -365,9 +365,9 @@ module _ (program flat : Program) (claims : List Claim) (flattens : Flattens pro
         chosen known ready = absurd alike
     distinguishes_reached _ _ _ _ _ (lowering.first_literal mode positions next k x equal l row rows a b e f g d is p q) E env vs v (twin ∷ twins) choice body
         alike h chosen known ready =
-        let test = goes_on true (wants_literal l) in
-        let test_too = goes_too true (wants_literal l) in
-        let agree = tests_agree k test test_too (goes_same true (wants_literal l)) in
+        let test = goes_on true (demands_literal l) in
+        let test_too = goes_too true (demands_literal l) in
+        let agree = tests_agree k test test_too (goes_same true (demands_literal l)) in
         let others = λ (one : Row). not_literal l (demand_at k one) in
         let others_too = λ (one : choose.Row). not_literal l (choose.demand_at k one) in
         let agree_others = tests_agree k (not_literal l) (not_literal l) (λ y. refl) in
@@ -377,11 +377,11 @@ module _ (program flat : Program) (claims : List Claim) (flattens : Flattens pro
         (first_literal_differs program positions next k x row rows twin twins env vs choice alike e f ready chosen l g d)
         (λ here taken.
         distinguishes_reached mode (spliced k [] positions) next (specialize k [] test (row ∷ rows)) a p E env (put k [] vs) v
-        (map (narrowed k 0) (kept_twins test_too k (twin ∷ twins))) choice body
-        (alike_narrowed k 0 [] (filter (λ one. test (demand_at k one)) (row ∷ rows)) (kept_twins test_too k (twin ∷ twins)) refl
+        (map (specialized_row k 0) (kept_twins test_too k (twin ∷ twins))) choice body
+        (alike_specialized k 0 [] (filter (λ one. test (demand_at k one)) (row ∷ rows)) (kept_twins test_too k (twin ∷ twins)) refl
         (alike_filter (λ one. test (demand_at k one)) (λ one. test_too (choose.demand_at k one)) (row ∷ rows) (twin ∷ twins) agree alike))
-        (hold_narrowed program positions next k x [] test test_too (row ∷ rows) (twin ∷ twins) E env env vs [] choice body f
-        (λ y w fit. goes_literal program claims ordered true l (env x) y here w) tt (λ y low. refl) ready alike (goes_same true (wants_literal l)) h)
+        (hold_specialized program positions next k x [] test test_too (row ∷ rows) (twin ∷ twins) E env env vs [] choice body f
+        (λ y w fit. goes_literal program claims ordered true l (env x) y here w) tt (λ y low. refl) ready alike (goes_same true (demands_literal l)) h)
         taken known
         (ready_opened program positions next next k x [] test (row ∷ rows) env env vs [] (omega arith) tt f
         (λ y w fit. (goes_literal program claims ordered true l (value.Literal l) y refl w).many) tt (λ y low. refl) ready))
@@ -410,15 +410,15 @@ module _ (program flat : Program) (claims : List Claim) (flattens : Flattens pro
         let args = list_of after_it.us in
         let as_many : length xs ≡ length args = many ∙ sym after_it.many in
         let low = subst (λ (zs : List ℕ). AllLow (next + n) zs) (sym is) (numbers_low next (next + n) n (omega arith)) in
-        let test = goes_on b (wants_constructor c) in
-        let test_too = goes_too b (wants_constructor c) in
-        let agree = tests_agree k test test_too (goes_same b (wants_constructor c)) in
+        let test = goes_on b (demands_constructor c) in
+        let test_too = goes_too b (demands_constructor c) in
+        let agree = tests_agree k test test_too (goes_same b (demands_constructor c)) in
         let both : value.Constructed d us ≡ value.Constructed c after_it.us = sym w ∙ after_it.is in
         let arguments : us ≡ after_it.us = cc in
-        let taken : Chooses program (map (narrowed k (length args)) (kept_twins test_too k twins)) (put k args vs) choice =
-        subst (λ (ws : Values). Chooses program (map (narrowed k (length (list_of ws))) (kept_twins test_too k twins)) (put k (list_of ws) vs) choice)
+        let taken : Chooses program (map (specialized_row k (length args)) (kept_twins test_too k twins)) (put k args vs) choice =
+        subst (λ (ws : Values). Chooses program (map (specialized_row k (length (list_of ws))) (kept_twins test_too k twins)) (put k (list_of ws) vs) choice)
         arguments
-        (subst (λ (e : ConId). Chooses program (map (narrowed k (length (list_of us))) (kept_twins (goes_too b (wants_constructor e)) k twins))
+        (subst (λ (e : ConId). Chooses program (map (specialized_row k (length (list_of us))) (kept_twins (goes_too b (demands_constructor e)) k twins))
         (put k (list_of us) vs) choice) (sym same) chosen) in
         record {
           place = 0;
@@ -429,12 +429,12 @@ module _ (program flat : Program) (claims : List Claim) (flattens : Flattens pro
           matches = met.1;
           met = met.2;
           reached = distinguishes_reached mode (spliced k xs positions) (next + n) (specialize k xs test rows) s p E inside (put k args vs) v
-              (map (narrowed k (length args)) (kept_twins test_too k twins)) choice body
-              (alike_narrowed k (length args) xs (filter (λ one. test (demand_at k one)) rows) (kept_twins test_too k twins) as_many
+              (map (specialized_row k (length args)) (kept_twins test_too k twins)) choice body
+              (alike_specialized k (length args) xs (filter (λ one. test (demand_at k one)) rows) (kept_twins test_too k twins) as_many
               (alike_filter (λ one. test (demand_at k one)) (λ one. test_too (choose.demand_at k one)) rows twins agree alike))
-              (hold_narrowed program positions next k position xs test test_too rows twins E env inside vs args choice body place
+              (hold_specialized program positions next k position xs test test_too rows twins E env inside vs args choice body place
               (λ r g f. goes_at program claims ordered b c xs (env position) after_it.us r n many count after_it.is after_it.many g f) after_it.at
-              after_it.same ready alike (goes_same b (wants_constructor c)) h) taken
+              after_it.same ready alike (goes_same b (demands_constructor c)) h) taken
               (bind_all_of program env met.0 known (matched_of program (term.Built c (variables xs)) (env position) met.0 met.1 (known position)))
               (ready_opened program positions next (next + n) k position xs test rows env inside vs args (omega arith) low place
               (λ r g f.
@@ -457,11 +457,11 @@ module _ (program flat : Program) (claims : List Claim) (flattens : Flattens pro
         alike h known ready (to_literal m zero w at chosen) =
         let same : l ≡ m = cc in
         let here : env position ≡ value.Literal l = w ∙ ap value.Literal (sym same) in
-        let test = goes_on b (wants_literal l) in
-        let test_too = goes_too b (wants_literal l) in
-        let agree = tests_agree k test test_too (goes_same b (wants_literal l)) in
-        let taken : Chooses program (map (narrowed k 0) (kept_twins test_too k twins)) (put k [] vs) choice =
-        subst (λ (e : Lit). Chooses program (map (narrowed k 0) (kept_twins (goes_too b (wants_literal e)) k twins)) (put k [] vs) choice) (sym same)
+        let test = goes_on b (demands_literal l) in
+        let test_too = goes_too b (demands_literal l) in
+        let agree = tests_agree k test test_too (goes_same b (demands_literal l)) in
+        let taken : Chooses program (map (specialized_row k 0) (kept_twins test_too k twins)) (put k [] vs) choice =
+        subst (λ (e : Lit). Chooses program (map (specialized_row k 0) (kept_twins (goes_too b (demands_literal e)) k twins)) (put k [] vs) choice) (sym same)
         chosen in
         record {
           place = 0;
@@ -472,12 +472,12 @@ module _ (program flat : Program) (claims : List Claim) (flattens : Flattens pro
           matches = ap (matched (term.Exactly l)) here ∙ literal_matches l;
           met = ap met_by here;
           reached = distinguishes_reached mode (spliced k [] positions) next (specialize k [] test rows) s p E env (put k [] vs) v
-              (map (narrowed k 0) (kept_twins test_too k twins)) choice body
-              (alike_narrowed k 0 [] (filter (λ one. test (demand_at k one)) rows) (kept_twins test_too k twins) refl
+              (map (specialized_row k 0) (kept_twins test_too k twins)) choice body
+              (alike_specialized k 0 [] (filter (λ one. test (demand_at k one)) rows) (kept_twins test_too k twins) refl
               (alike_filter (λ one. test (demand_at k one)) (λ one. test_too (choose.demand_at k one)) rows twins agree alike))
-              (hold_narrowed program positions next k position [] test test_too rows twins E env env vs [] choice body place
+              (hold_specialized program positions next k position [] test test_too rows twins E env env vs [] choice body place
               (λ r g f. goes_literal program claims ordered b l (env position) r here g) tt (λ x low. refl) ready alike
-              (goes_same b (wants_literal l)) h) taken known
+              (goes_same b (demands_literal l)) h) taken known
               (ready_opened program positions next next k position [] test rows env env vs [] (omega arith) tt place
               (λ r g f. (goes_literal program claims ordered b l (value.Literal l) r refl g).many) tt (λ x low. refl) ready);
         }

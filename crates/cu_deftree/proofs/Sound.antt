@@ -37,7 +37,7 @@ use Rattle.cu_deftree.specs.Lowering.{Tree, is_variable, variables}
 use Rattle.cu_deftree.specs.LoweredProgram as lowered
 use Rattle.cu_deftree.specs.LoweredProgram.{Flattens, FunctionLowers}
 use Rattle.cu_deftree.specs.Rows.{Names, Row, name_of, names_at_all, numbers, row_of_rule}
-use Rattle.cu_deftree.proofs.Back.{FoundIn, bottom_or, high_not_held, numbers_count, numbers_linear, numbers_low, tree_back, variables_are, variables_at}
+use Rattle.cu_deftree.proofs.Converse.{FoundIn, bottom_or, high_not_held, numbers_count, numbers_linear, numbers_low, tree_converse, variables_are, variables_at}
 use Rattle.cu_deftree.proofs.Levels.{stands_too}
 use Rattle.cu_deftree.proofs.Meets.{all_matched_binds, all_matched_fits, all_shape_matched, bound_agrees, bound_in, others_stay}
 use Rattle.cu_deftree.proofs.Opening.{AllLow, At, Known, Low, known_all, low_names_at_all}
@@ -305,7 +305,7 @@ module _ (program flat : Program) (claims : List Claim) (flattens : Flattens pro
       let at = variables_at (bind_all empty bindings) xs us fit in
       let rules_fit = all_fit f function rules e b in
       rule_applies program claims f function rules xs bindings us v e b is rules_fit m at
-      (tree_back program claims valid.special.ordered xs (suc function.arity) (map (row_of_rule xs) rules) t tree (bind_all empty bindings) (list_of us) v some
+      (tree_converse program claims valid.special.ordered xs (suc function.arity) (map (row_of_rule xs) rules) t tree (bind_all empty bindings) (list_of us) v some
       (record {
         at = at;
         low = subst (λ (ys : List ℕ). AllLow (suc function.arity) ys) (sym is) (numbers_low 1 (suc function.arity) function.arity (omega arith));
@@ -425,8 +425,8 @@ module _ (program flat : Program) (claims : List Claim) (flattens : Flattens pro
   call_gives f env n v some (gives.whole _ h ts us _ ps app) =
       gives.whole env (head.Fun f) (variables_from 0 n) us v (variables_give env 0 n us ps) (to_applied (head.Fun f) us v app some)
 
-  pub concludes_back : (f : FunId) (vs : Values) (v : Value) → v ≢ value.Bottom → Concludes flat claims f vs v → Concludes program claims f vs v
-  concludes_back f vs v some h = (
+  pub concludes_converse : (f : FunId) (vs : Values) (v : Value) → v ≢ value.Bottom → Concludes flat claims f vs v → Concludes program claims f vs v
+  concludes_converse f vs v some h = (
     ap (λ (n : Option ℕ). takes n (count vs)) (sym (arity_same (head.Fun f))) ∙ h.0,
     sym (all_of_same vs) ∙ h.1,
     call_gives f (arguments_env vs) (count vs) v some h.2,

@@ -10,7 +10,7 @@ use Rattle.cu_calculus.specs.declared.Lit.{Lit}
 use Rattle.cu_calculus.specs.declared.Mode.{Mode}
 use Rattle.cu_calculus.specs.declared.Mode.TheVariants.{Flex}
 use Rattle.cu_calculus.specs.declared.builtin.Primitive.TheVariants as prim
-use Rattle.cu_calculus.specs.Choose.{ALiteral, AConstructor, Demand, Nothing, arguments_of, demand_of, not_literal, spliced, wants_constructor, wants_literal}
+use Rattle.cu_calculus.specs.Choose.{ALiteral, AConstructor, Demand, Nothing, arguments_of, demand_of, not_literal, spliced, demands_constructor, demands_literal}
 use Rattle.cu_calculus.specs.Literal.{is_literal, same_literal}
 use Rattle.cu_calculus.specs.Program.{Constructor, Program, arity_in, constructor_of}
 use Rattle.cu_calculus.specs.Shape.{is_allowed, takes, takes_more}
@@ -21,7 +21,7 @@ use Rattle.cu_deftree.specs.Lowering as lowering
 use Rattle.cu_deftree.specs.Lowering.{AllLower, Branches, Cases, Distinguishes, IsOperation, Lowers, Tree, failure, goes_on, literal_case, test_of, variables}
 use Rattle.cu_deftree.specs.Rows.{Names, Row, constructor_arity, constructor_ids, constructors_at, demand_at, demands, first_occurrences, literal_in, literals_at, name_of, names_at, numbers, rows_of, siblings, specialize}
 use Rattle.cu_deftree.proofs.Alternatives.{alternatives_fit}
-use Rattle.cu_deftree.proofs.Back.{low_bound, low_on, numbers_count, numbers_linear, variables_are}
+use Rattle.cu_deftree.proofs.Converse.{low_bound, low_on, numbers_count, numbers_linear, variables_are}
 use Rattle.cu_deftree.proofs.Lowerable.{branch_fits, counts_constructor, counts_goes_on, counts_literal, literal_branch_fits}
 use Rattle.cu_deftree.proofs.Opening.{Low, inner, inner_all, spliced_put}
 use Rattle.cu_deftree.proofs.Scoped.{AllMay, RowsSee, Under, all_within, filter_sees, leaf_sees, may_at, may_put, more_names, new_may, new_names, or_cases, or_first, or_second, rows_opened, targets_at, under_also, under_one, variable_named, within_also}
@@ -399,7 +399,7 @@ module _ (program flat : Program) (alike : Alike program flat) where
     tree_fits _ _ _ _ (lowering.branch positions next k x row rows a e f p) may scoped =
         case_fits Flex x a may (may_at may k positions x f scoped.places)
         (branches_fit positions next k x (row ∷ rows) (constructors_at program k (row ∷ rows)) (literals_at k (row ∷ rows)) a p may f
-        (all_known program (λ c. list_any (λ r. wants_constructor c (demand_at k r)) (row ∷ rows)))
+        (all_known program (λ c. list_any (λ r. demands_constructor c (demand_at k r)) (row ∷ rows)))
         (literals_known program positions next k (row ∷ rows) scoped.fit) scoped)
     tree_fits _ _ _ _ (lowering.split positions next k row rows a b e f p q) may scoped =
         and_from (fits_term flat may a) (fits_term flat may b)
@@ -413,13 +413,13 @@ module _ (program flat : Program) (alike : Alike program flat) where
     branches_fit _ _ _ position _ _ _ _ (lowering.no_branch positions next k rows) may there cons lits scoped = refl
     branches_fit _ _ _ position _ _ _ _ (lowering.constructor_branch positions next k n xs rows c cs ls t a e f p q) may there cons lits scoped =
         constructor_fits c n next xs t a may e f cons.0
-        (tree_fits (spliced k xs positions) (next + n) (specialize k xs (wants_constructor c) rows) t p (also_all xs may)
-        (opened_constructor positions next n k position xs (wants_constructor c) may rows f there (counts_constructor program c n e) scoped))
+        (tree_fits (spliced k xs positions) (next + n) (specialize k xs (demands_constructor c) rows) t p (also_all xs may)
+        (opened_constructor positions next n k position xs (demands_constructor c) may rows f there (counts_constructor program c n e) scoped))
         (branches_fit positions next k position rows cs ls a q may there cons.1 lits scoped)
     branches_fit _ _ _ position _ _ _ _ (lowering.literal_branch positions next k rows l ls t a p q) may there cons lits scoped =
         literal_fits l t a may lits.0
-        (tree_fits (spliced k [] positions) next (specialize k [] (wants_literal l) rows) t p may
-        (opened_literal positions next k position (wants_literal l) may rows there (counts_literal program l) scoped))
+        (tree_fits (spliced k [] positions) next (specialize k [] (demands_literal l) rows) t p may
+        (opened_literal positions next k position (demands_literal l) may rows there (counts_literal program l) scoped))
         (branches_fit positions next k position rows [] ls a q may there tt lits.1 scoped)
 
     distinguishes_fits : (mode : Mode) (positions : List ℕ) (next : ℕ) (rows : List Row) (t : Term) → Distinguishes program mode positions next rows t
@@ -431,7 +431,7 @@ module _ (program flat : Program) (alike : Alike program flat) where
     distinguishes_fits _ _ _ _ _ (lowering.all_demand mode positions next k x row rows a e f none p) may scoped =
         case_fits mode x a may (may_at may k positions x f scoped.places)
         (cases_fit mode false positions next k x (row ∷ rows) (constructors_at program k (row ∷ rows)) (literals_at k (row ∷ rows)) a p may f
-        (all_known program (λ c. list_any (λ r. wants_constructor c (demand_at k r)) (row ∷ rows)))
+        (all_known program (λ c. list_any (λ r. demands_constructor c (demand_at k r)) (row ∷ rows)))
         (literals_known program positions next k (row ∷ rows) scoped.fit) scoped)
     distinguishes_fits _ _ _ _ _ (lowering.first_constructor mode positions next k x c row rows a e f some d p) may scoped =
         case_fits mode x a may (may_at may k positions x f scoped.places)
@@ -439,9 +439,9 @@ module _ (program flat : Program) (alike : Alike program flat) where
     distinguishes_fits _ _ _ _ _ (lowering.first_literal mode positions next k x equal l row rows same other e f some d is p q) may scoped =
         let here = may_at may k positions x f scoped.places in
         let known = row_literal program k row.patterns l scoped.fit.0.known d in
-        let test = goes_on true (wants_literal l) in
+        let test = goes_on true (demands_literal l) in
         let true_fits = distinguishes_fits mode (spliced k [] positions) next (specialize k [] test (row ∷ rows)) same p may
-        (opened_literal positions next k x test may (row ∷ rows) f (counts_goes_on program 0 true (wants_literal l) (counts_literal program l)) scoped) in
+        (opened_literal positions next k x test may (row ∷ rows) f (counts_goes_on program 0 true (demands_literal l) (counts_literal program l)) scoped) in
         let false_fits = distinguishes_fits mode positions next (filter (λ (one : Row). not_literal l (demand_at k one)) (row ∷ rows)) other q may
         (filtered positions next may (λ (one : Row). not_literal l (demand_at k one)) (row ∷ rows) scoped) in
         let one_more = term.MoreAlternatives (term.Built program.special.falsity term.NoPattern) other term.NoAlternative in
@@ -457,15 +457,15 @@ module _ (program flat : Program) (alike : Alike program flat) where
         → KnownConstructors program cs → KnownLiterals ls → Scoped positions next may rows → IsTrue (fit_alternatives flat may a)
     cases_fit _ _ _ _ _ position _ _ _ _ (lowering.no_case mode v positions next k rows) may there cons lits scoped = refl
     cases_fit _ _ _ _ _ position _ _ _ _ (lowering.constructor_case mode v positions next k n xs rows c cs ls t a e f p q) may there cons lits scoped =
-        let test = goes_on v (wants_constructor c) in
+        let test = goes_on v (demands_constructor c) in
         constructor_fits c n next xs t a may e f cons.0
         (distinguishes_fits mode (spliced k xs positions) (next + n) (specialize k xs test rows) t p (also_all xs may)
         (opened_constructor positions next n k position xs test may rows f there
-        (counts_goes_on program n v (wants_constructor c) (counts_constructor program c n e)) scoped))
+        (counts_goes_on program n v (demands_constructor c) (counts_constructor program c n e)) scoped))
         (cases_fit mode v positions next k position rows cs ls a q may there cons.1 lits scoped)
     cases_fit _ _ _ _ _ position _ _ _ _ (lowering.literal_of_case mode v positions next k rows l ls t a p q) may there cons lits scoped =
-        let test = goes_on v (wants_literal l) in
+        let test = goes_on v (demands_literal l) in
         literal_fits l t a may lits.0
         (distinguishes_fits mode (spliced k [] positions) next (specialize k [] test rows) t p may
-        (opened_literal positions next k position test may rows there (counts_goes_on program 0 v (wants_literal l) (counts_literal program l)) scoped))
+        (opened_literal positions next k position test may rows there (counts_goes_on program 0 v (demands_literal l) (counts_literal program l)) scoped))
         (cases_fit mode v positions next k position rows [] ls a q may there tt lits.1 scoped)

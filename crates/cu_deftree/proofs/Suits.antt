@@ -6,7 +6,7 @@ use Rattle.std.proofs.lemmas.Bool.{and_from, and_parts}
 use Rattle.cu_calculus.specs.declared.ConId.{ConId}
 use Rattle.cu_calculus.specs.declared.Head.TheVariants as head
 use Rattle.cu_calculus.specs.declared.Lit.{Lit}
-use Rattle.cu_calculus.specs.Choose.{Demand, Nothing, arguments_of, demand_of, list_patterns, spliced, wants_constructor, wants_literal, wants_nothing}
+use Rattle.cu_calculus.specs.Choose.{Demand, Nothing, arguments_of, demand_of, list_patterns, spliced, demands_constructor, demands_literal, demands_nothing}
 use Rattle.cu_calculus.specs.Gives.{Claim, Gives}
 use Rattle.cu_calculus.specs.Match.{Environment}
 use Rattle.cu_calculus.specs.Program.{Constructor, Program, arity_in, constructor_of}
@@ -21,7 +21,7 @@ use Rattle.cu_calculus.proofs.Comparing.{same_is}
 use Rattle.cu_calculus.proofs.Fitting.{any}
 use Rattle.cu_deftree.specs.Rows.{Names, Row, argument_names, constructor_arity, demand_at, name_of, specialize, specialized}
 use Rattle.cu_deftree.proofs.Meets.{AllFit, AllMeet, Meets, fits_meets, shape_fits}
-use Rattle.cu_deftree.proofs.Opening.{AllLow, At, Known, Low, SameBelow, inner, inner_all, inner_put, known_all, low_argument_names, meet_at, meet_back, meet_put, put, spliced_put}
+use Rattle.cu_deftree.proofs.Opening.{AllLow, At, Known, Low, SameBelow, inner, inner_all, inner_put, known_all, low_argument_names, meet_at, meet_converse, meet_put, put, spliced_put}
 
 -- ---- what stands at a position, and its arguments
 
@@ -33,7 +33,7 @@ pub record Opens (n : ℕ) (p : Pattern) (v : Value) (args : List Value) : Type 
   pub known : (E env : Environment) (new : List ℕ) (names : Names) (x : ℕ) → Meets (Some E) p v → At env new args
       → holds x (inner_all (arguments_of n p)) ≡ false → Known E env (argument_names new p ++ names) names x (inner p)
 
-pub opens_literal : (p : Pattern) (l : Lit) → wants_literal l (demand_of p) ≡ true → Opens 0 p (value.Literal l) []
+pub opens_literal : (p : Pattern) (l : Lit) → demands_literal l (demand_of p) ≡ true → Opens 0 p (value.Literal l) []
 opens_literal (term.Any x) l e = let no : ⊥ = cc in absurd no
 opens_literal (term.Named x p) l e =
     let rest = opens_literal p l e in record { many = rest.many; shape = rest.shape; deep = rest.deep; known = rest.known }
@@ -45,7 +45,7 @@ opens_literal (term.Exactly m) l e = record {
   known = λ E env new names x h a b. inr (refl, refl);
 }
 
-pub opens_any : (p : Pattern) (v : Value) (n : ℕ) (args : List Value) → wants_nothing (demand_of p) ≡ true → length args ≡ n → Opens n p v args
+pub opens_any : (p : Pattern) (v : Value) (n : ℕ) (args : List Value) → demands_nothing (demand_of p) ≡ true → length args ≡ n → Opens n p v args
 opens_any (term.Named x p) v n args e l =
     let rest = opens_any p v n args e l in record { many = rest.many; shape = rest.shape; deep = rest.deep; known = rest.known }
 opens_any (term.Built c ps) v n args e l = let no : ⊥ = cc in absurd no
@@ -77,7 +77,7 @@ takes_arity None m e = let no : ⊥ = cc in absurd no
 takes_arity (Some constructor) m e = eqb-true constructor.arity m e
 
 -- a constructor's pattern has as many arguments as it takes
-pub built_count : (program : Program) (c : ConId) (p : Pattern) (n : ℕ) → wants_constructor c (demand_of p) ≡ true
+pub built_count : (program : Program) (c : ConId) (p : Pattern) (n : ℕ) → demands_constructor c (demand_of p) ≡ true
     → IsTrue (fits_pattern program p) → n ≡ constructor_arity program c → length (arguments_of n p) ≡ n
 built_count program c (term.Any x) n e f a = let no : ⊥ = cc in absurd no
 built_count program c (term.Exactly l) n e f a = let no : ⊥ = cc in absurd no
@@ -98,7 +98,7 @@ to_list env term.NoPattern us h = subst (λ (x : Values). AllMeet env [] (list_o
 to_list env (term.MorePatterns p ps) us h =
     subst (λ (x : Values). AllMeet env (p ∷ list_patterns ps) (list_of x)) (sym h.2) (fits_meets env p h.0 h.3, to_list env ps h.1 h.4)
 
-pub opens_built : (program : Program) (c : ConId) (p : Pattern) (us : Values) (n : ℕ) → wants_constructor c (demand_of p) ≡ true
+pub opens_built : (program : Program) (c : ConId) (p : Pattern) (us : Values) (n : ℕ) → demands_constructor c (demand_of p) ≡ true
     → IsTrue (fits_pattern program p) → n ≡ constructor_arity program c → length (list_of us) ≡ n
     → Opens n p (value.Constructed c us) (list_of us)
 opens_built program c (term.Any x) us n e f a l = let no : ⊥ = cc in absurd no
@@ -161,9 +161,9 @@ pub suits_closed : (program : Program) (claims : List Claim) (next k : ℕ) (new
     → Suits program claims more (put k args vs) v (opened k new p row) → Suits program claims env vs v row
 suits_closed program claims next k new p row env more vs u args v e f opens at same low suits =
     let mid = arguments_of (length new) p in
-    let back = meet_back None k mid row.patterns args vs p u e f opens.many suits.shape in
+    let converse = meet_converse None k mid row.patterns args vs p u e f opens.many suits.shape in
     record {
-      shape = back.1 (opens.shape back.0);
+      shape = converse.1 (opens.shape converse.0);
       gives = λ E meets named.
           let here = meet_at (Some E) k row.patterns vs p u e f meets in
           suits.gives E (meet_put (Some E) k mid row.patterns args vs (opens.deep E here) meets)

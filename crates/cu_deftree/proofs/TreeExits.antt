@@ -2,12 +2,12 @@
 use Rattle.std.proofs.Common.{◌≡◌, ℕ, zero, suc, ◌+◌, ◌<◌, ◌≤◌, Bool, true, false, not, List, [], ◌∷◌, ◌++◌, drop, filter, length, map, get_or, Option, None, Some, slice_get, Result, refl, ap, ap₂, sym, ◌∙◌, subst, arith, add-one, drop-cons, eqb-true, length-drop, take, ◌-◌, true≢false}
 use Rattle.std.specs.List.{list_any}
 use denote.Ref.{Bor}
-use Rattle.cu_calculus.specs.Choose.{AConstructor, ALiteral, Demand, Nothing, is_demanding, leftmost, not_literal, spliced, wants_literal}
+use Rattle.cu_calculus.specs.Choose.{AConstructor, ALiteral, Demand, Nothing, is_demanding, leftmost, not_literal, spliced, demands_literal}
 use Rattle.cu_calculus.specs.Program.{Program}
 use Rattle.cu_calculus.specs.Term as clean
 use Rattle.cu_calculus.specs.declared.Mode.{Mode}
 use Rattle.cu_deftree.specs.Inside.NamesOf.{names_of, names_of-WithAll}
-use Rattle.cu_deftree.specs.Inside.RowsOf.{all_rows, choices, patterns_at, row_of, wants}
+use Rattle.cu_deftree.specs.Inside.RowsOf.{all_rows, choices, patterns_at, row_of, demands_choice}
 use Rattle.cu_deftree.specs.Inside.Tasks.{BranchLowers, CaseLowers, FirstDemands, IsFree, IsMixed, IsOpened, IsSplit, MatrixLowers, RowsLower, TermLowers, Within, alternatives_in, both_size, branch_of, branch_pattern, branches_of, branch_size, opened_count}
 use Rattle.cu_deftree.specs.LoweredProgram.{size}
 use Rattle.cu_deftree.specs.Lowering.{Distinguishes, IsOperation, Lowers, Tree, failure, goes_on, is_variable, literal_case}
@@ -65,17 +65,17 @@ split_in program positions next k (row ∷ rows) first second one two h e f a b 
 
 pub branch_in : (program : Program) (m : Manner) (v : Bool) (matrix : Matrix) (k : ℕ) (c : Choice) (new xs ys : List ℕ) (next : ℕ) (rows one : List code.Row)
     → new ≡ numbers matrix.next (opened_count program c) → ys ≡ spliced k new matrix.positions.now → xs ≡ ys → next ≡ matrix.next + opened_count program c
-    → all_rows rows ≡ specialize k new (goes_on v (wants c)) (all_rows matrix.rows.now) → one ≡ rows
+    → all_rows rows ≡ specialize k new (goes_on v (demands_choice c)) (all_rows matrix.rows.now) → one ≡ rows
     → Node (RowsLower program m xs next (all_rows one)) size (BranchLowers program m v matrix k c) branch_size
     (λ t. (branch_pattern c (numbers matrix.next (opened_count program c)), t)) 0
-branch_in program m v matrix k c new xs ys next rows one is places same behind opened equal =
+branch_in program m v matrix k c new xs ys next rows one is places same after opened equal =
     let n = opened_count program c in
     let all = numbers matrix.next n in
-    let test = goes_on v (wants c) in
+    let test = goes_on v (demands_choice c) in
     let p = same ∙ places ∙ ap (λ (zs : List ℕ). spliced k zs matrix.positions.now) is in
     let q = ap all_rows equal ∙ opened ∙ ap (λ (zs : List ℕ). specialize k zs test (all_rows matrix.rows.now)) is in
     subst (λ (zs : List ℕ). Node (RowsLower program m zs next (all_rows one)) size (BranchLowers program m v matrix k c) branch_size (λ t. (branch_pattern c all, t)) 0) (sym p)
-    (subst (λ (i : ℕ). Node (RowsLower program m (spliced k all matrix.positions.now) i (all_rows one)) size (BranchLowers program m v matrix k c) branch_size (λ t. (branch_pattern c all, t)) 0) (sym behind)
+    (subst (λ (i : ℕ). Node (RowsLower program m (spliced k all matrix.positions.now) i (all_rows one)) size (BranchLowers program m v matrix k c) branch_size (λ t. (branch_pattern c all, t)) 0) (sym after)
     (subst (λ (rs : List Row). Node (RowsLower program m (spliced k all matrix.positions.now) (matrix.next + n) rs) size (BranchLowers program m v matrix k c) branch_size (λ t. (branch_pattern c all, t)) 0) (sym q)
     (branch_node program m v matrix k c)))
 
@@ -253,7 +253,7 @@ failing_tree program positions next whole f is op =
     subst (λ (rs : List Row). Node (λ (t : clean.Term). t ≡ failure f) size (Tree program positions next rs) size (λ t. t) 0) (sym is)
     (record {
       forth = λ t e. subst (λ (u : clean.Term). Tree program positions next [] u) (sym e) (lowering.no_rules positions next f op);
-      back = λ t h. (t, tree_one program positions next [] t (failure f) h (lowering.no_rules positions next f op), refl);
+      converse = λ t h. (t, tree_one program positions next [] t (failure f) h (lowering.no_rules positions next f op), refl);
       more = λ t. omega arith;
     })
 
@@ -264,7 +264,7 @@ failing_cases program mode positions next whole f is op =
     subst (λ (rs : List Row). Node (λ (t : clean.Term). t ≡ failure f) size (Distinguishes program mode positions next rs) size (λ t. t) 0) (sym is)
     (record {
       forth = λ t e. subst (λ (u : clean.Term). Distinguishes program mode positions next [] u) (sym e) (lowering.no_alternatives mode positions next f op);
-      back = λ t h. (t, distinguishes_one program mode positions next [] t (failure f) h (lowering.no_alternatives mode positions next f op), refl);
+      converse = λ t h. (t, distinguishes_one program mode positions next [] t (failure f) h (lowering.no_alternatives mode positions next f op), refl);
       more = λ t. omega arith;
     })
 
@@ -292,7 +292,7 @@ pub term_case_in : (program : Program) (scope : Scope) (mode : Mode) (next : ℕ
     → is_variable s ≡ false → next ≡ scope.next + 1 → all_rows rows ≡ rows_of (names_of scope.names.now) scope.next alternatives → one ≡ rows
     → Node (Two (TermLowers program scope s) (Distinguishes program mode (scope.next ∷ []) next (all_rows one))) both_size
     (TermLowers program scope (clean.Case mode s alternatives)) size (λ both. clean.Let scope.next both.0 both.1) 1
-term_case_in program scope mode next s alternatives rows one is behind e same =
+term_case_in program scope mode next s alternatives rows one is after e same =
     let names = names_of scope.names.now in
     let whole = ap all_rows same ∙ e in
     let follows : suc scope.next ≡ next = omega arith in
@@ -318,15 +318,15 @@ case_written made mode b v x is e =
 pub literal_in : (program : Program) (mode : Mode) (positions xs ys new : List ℕ) (next after k position : ℕ) (equal : FunId) (l : Lit) (whole : List Row)
     (rows one others two : List code.Row) → IsMixed k whole → FirstDemands k (ALiteral l) whole → slice_get positions k ≡ Some position
     → IsOperation program prim.Equal equal → new ≡ [] → ys ≡ spliced k new positions → xs ≡ ys → after ≡ next + 0
-    → all_rows rows ≡ specialize k new (goes_on true (wants_literal l)) whole → one ≡ rows
+    → all_rows rows ≡ specialize k new (goes_on true (demands_literal l)) whole → one ≡ rows
     → all_rows others ≡ filter (λ r. not_literal l (demand_at k r)) whole → two ≡ others
     → Node (Two (Distinguishes program mode xs after (all_rows one)) (Distinguishes program mode positions next (all_rows two))) both_size
     (Distinguishes program mode positions next whole) size (λ both. literal_case program equal position l both.0 both.1) 4
-literal_in program mode positions xs ys new next after k position equal l [] rows one others two h d there op none places same behind e f g i = absurd h
-literal_in program mode positions xs ys new next after k position equal l (row ∷ all) rows one others two h d there op none places same behind e f g i =
+literal_in program mode positions xs ys new next after k position equal l [] rows one others two h d there op none places same later e f g i = absurd h
+literal_in program mode positions xs ys new next after k position equal l (row ∷ all) rows one others two h d there op none places same later e f g i =
     literal_node program mode positions xs next after k position equal l row all (row ∷ all) (all_rows one) (all_rows two) refl
-    (same ∙ places ∙ ap (λ (zs : List ℕ). spliced k zs positions) none) behind
-    (ap all_rows f ∙ e ∙ ap (λ (zs : List ℕ). specialize k zs (goes_on true (wants_literal l)) (row ∷ all)) none) (ap all_rows i ∙ g) h.0 there h.1 d op
+    (same ∙ places ∙ ap (λ (zs : List ℕ). spliced k zs positions) none) later
+    (ap all_rows f ∙ e ∙ ap (λ (zs : List ℕ). specialize k zs (goes_on true (demands_literal l)) (row ∷ all)) none) (ap all_rows i ∙ g) h.0 there h.1 d op
 
 pub other_literals_less : (whole : List Row) (one made : List code.Row) (k : ℕ) (l : Lit) → FirstDemands k (ALiteral l) whole → one ≡ made
     → all_rows made ≡ filter (λ r. not_literal l (demand_at k r)) whole → rows_weight (all_rows one) < rows_weight whole

@@ -7,10 +7,10 @@ use Rattle.cu_calculus.specs.declared.Lit.{Lit}
 use Rattle.cu_calculus.specs.declared.Mode.TheVariants.{Flex}
 use Rattle.cu_calculus.specs.declared.Mode.{Mode}
 use Rattle.cu_calculus.specs.declared.builtin.Primitive.TheVariants as prim
-use Rattle.cu_calculus.specs.Choose.{ALiteral, AConstructor, Demand, leftmost, not_literal, spliced, wants_constructor, wants_literal, wants_nothing}
+use Rattle.cu_calculus.specs.Choose.{ALiteral, AConstructor, Demand, leftmost, not_literal, spliced, demands_constructor, demands_literal, demands_nothing}
 use Rattle.cu_calculus.specs.Program.{Program}
 use Rattle.cu_calculus.specs.Term as clean
-use Rattle.cu_deftree.specs.Inside.RowsOf.{all_rows, choices, wants}
+use Rattle.cu_deftree.specs.Inside.RowsOf.{all_rows, choices, demands_choice}
 use Rattle.cu_deftree.specs.Inside.Tasks.{BranchLowers, CaseLowers, Each, MatrixLowers, OpenedLower, RowsLower, alternatives_in, both_size, branch_pattern, branch_size, mode_of, opened_count, total}
 use Rattle.cu_deftree.specs.LoweredProgram.{branch_sizes, size}
 use Rattle.cu_deftree.specs.Lowering as lowering
@@ -24,7 +24,7 @@ use Rattle.cu_deftree.specs.declared.tasks.Matrix.{Matrix}
 use Rattle.cu_deftree.proofs.Nodes.{Two}
 use Rattle.cu_deftree.proofs.OneTree.{distinguishes_one, operation_one, tree_one}
 use Rattle.cu_deftree.proofs.Passing.{Node}
-use Rattle.cu_deftree.proofs.TreeViews.{all_demanded, branches_back, by_constructor, by_literal, cases_back, first_taken, tree_case, tree_overlap, tree_rule, tree_split}
+use Rattle.cu_deftree.proofs.TreeViews.{all_demanded, branches_converse, by_constructor, by_literal, cases_converse, first_taken, tree_case, tree_overlap, tree_rule, tree_split}
 
 -- ---- tests
 
@@ -39,7 +39,7 @@ or_none false b = refl
 
 pub plain : (k : ℕ) (new : List ℕ) (test : Demand → Bool) (rows : List Row) → specialize k new (goes_on false test) rows ≡ specialize k new test rows
 plain k new test rows =
-    ap (map (specialized k new)) (filter_same (λ r. goes_on false test (demand_at k r)) (λ r. test (demand_at k r)) (λ r. or_none (test (demand_at k r)) (wants_nothing (demand_at k r))) rows)
+    ap (map (specialized k new)) (filter_same (λ r. goes_on false test (demand_at k r)) (λ r. test (demand_at k r)) (λ r. or_none (test (demand_at k r)) (demands_nothing (demand_at k r))) rows)
 
 no_more : (n : ℕ) → n + 0 ≡ n
 no_more n = omega arith
@@ -61,7 +61,7 @@ cases_forth program mode v matrix k [] (l ∷ ls) bs h =
     subst (λ (a : clean.Alternatives). Cases program mode v positions matrix.next k rows [] (l ∷ ls) a)
     (ap (λ (p : clean.Pattern). clean.MoreAlternatives p h.0.1 (alternatives_in h.1)) (sym h.2.0) ∙ sym (ap alternatives_in h.4))
     (lowering.literal_of_case mode v positions matrix.next k rows l ls h.0.1 (alternatives_in h.1)
-    (subst (λ (n : ℕ). Distinguishes program mode (spliced k [] positions) n (specialize k [] (goes_on v (wants_literal l)) rows) h.0.1) (no_more matrix.next) h.2.1)
+    (subst (λ (n : ℕ). Distinguishes program mode (spliced k [] positions) n (specialize k [] (goes_on v (demands_literal l)) rows) h.0.1) (no_more matrix.next) h.2.1)
     (cases_forth program mode v matrix k [] ls h.1 h.3))
 cases_forth program mode v matrix k (c ∷ cs) ls bs h =
     let positions = matrix.positions.now in
@@ -80,19 +80,19 @@ cases_spelled : (program : Program) (mode : Mode) (v : Bool) (matrix : Matrix) (
     → Cases program mode v matrix.positions.now matrix.next k (all_rows matrix.rows.now) cs ls a
     → Spelled program (manner.Alternatives mode) v matrix k cs ls a
 cases_spelled program mode v matrix k [] [] a h =
-    ([], refl, cases_back program mode v matrix.positions.now matrix.next k (all_rows matrix.rows.now) [] [] a h)
+    ([], refl, cases_converse program mode v matrix.positions.now matrix.next k (all_rows matrix.rows.now) [] [] a h)
 cases_spelled program mode v matrix k [] (l ∷ ls) a h =
     let positions = matrix.positions.now in
     let rows = all_rows matrix.rows.now in
-    let b = cases_back program mode v positions matrix.next k rows [] (l ∷ ls) a h in
+    let b = cases_converse program mode v positions matrix.next k rows [] (l ∷ ls) a h in
     let rest = cases_spelled program mode v matrix k [] ls b.1 b.3 in
-    let low = subst (λ (n : ℕ). Distinguishes program mode (spliced k [] positions) n (specialize k [] (goes_on v (wants_literal l)) rows) b.0) (sym (no_more matrix.next)) b.2 in (
+    let low = subst (λ (n : ℕ). Distinguishes program mode (spliced k [] positions) n (specialize k [] (goes_on v (demands_literal l)) rows) b.0) (sym (no_more matrix.next)) b.2 in (
       (clean.Exactly l, b.0) ∷ rest.0,
       ((clean.Exactly l, b.0), rest.0, (refl, low), rest.1, refl),
       b.4 ∙ ap (clean.MoreAlternatives (clean.Exactly l) b.0) rest.2,
     )
 cases_spelled program mode v matrix k (c ∷ cs) ls a h =
-    let b = cases_back program mode v matrix.positions.now matrix.next k (all_rows matrix.rows.now) (c ∷ cs) ls a h in
+    let b = cases_converse program mode v matrix.positions.now matrix.next k (all_rows matrix.rows.now) (c ∷ cs) ls a h in
     let rest = cases_spelled program mode v matrix k cs ls b.1 b.3 in
     let p = clean.Built c (variables (numbers matrix.next (constructor_arity program c))) in
     ((p, b.0) ∷ rest.0, ((p, b.0), rest.0, (refl, b.2), rest.1, refl), b.4 ∙ ap (clean.MoreAlternatives p b.0) rest.2)
@@ -109,8 +109,8 @@ branches_forth program matrix k [] (l ∷ ls) bs h =
     subst (λ (a : clean.Alternatives). Branches program positions matrix.next k rows [] (l ∷ ls) a)
     (ap (λ (p : clean.Pattern). clean.MoreAlternatives p h.0.1 (alternatives_in h.1)) (sym h.2.0) ∙ sym (ap alternatives_in h.4))
     (lowering.literal_branch positions matrix.next k rows l ls h.0.1 (alternatives_in h.1)
-    (subst (λ (rs : List Row). Tree program (spliced k [] positions) matrix.next rs h.0.1) (plain k [] (wants_literal l) rows)
-    (subst (λ (n : ℕ). Tree program (spliced k [] positions) n (specialize k [] (goes_on false (wants_literal l)) rows) h.0.1) (no_more matrix.next) h.2.1))
+    (subst (λ (rs : List Row). Tree program (spliced k [] positions) matrix.next rs h.0.1) (plain k [] (demands_literal l) rows)
+    (subst (λ (n : ℕ). Tree program (spliced k [] positions) n (specialize k [] (goes_on false (demands_literal l)) rows) h.0.1) (no_more matrix.next) h.2.1))
     (branches_forth program matrix k [] ls h.1 h.3))
 branches_forth program matrix k (c ∷ cs) ls bs h =
     let positions = matrix.positions.now in
@@ -119,21 +119,21 @@ branches_forth program matrix k (c ∷ cs) ls bs h =
     subst (λ (a : clean.Alternatives). Branches program positions matrix.next k rows (c ∷ cs) ls a)
     (ap (λ (p : clean.Pattern). clean.MoreAlternatives p h.0.1 (alternatives_in h.1)) (sym h.2.0) ∙ sym (ap alternatives_in h.4))
     (lowering.constructor_branch positions matrix.next k n (numbers matrix.next n) rows c cs ls h.0.1 (alternatives_in h.1) refl refl
-    (subst (λ (rs : List Row). Tree program (spliced k (numbers matrix.next n) positions) (matrix.next + n) rs h.0.1) (plain k (numbers matrix.next n) (wants_constructor c) rows) h.2.1)
+    (subst (λ (rs : List Row). Tree program (spliced k (numbers matrix.next n) positions) (matrix.next + n) rs h.0.1) (plain k (numbers matrix.next n) (demands_constructor c) rows) h.2.1)
     (branches_forth program matrix k cs ls h.1 h.3))
 
 branches_spelled : (program : Program) (matrix : Matrix) (k : ℕ) (cs : List ConId) (ls : List Lit) (a : clean.Alternatives)
     → Branches program matrix.positions.now matrix.next k (all_rows matrix.rows.now) cs ls a
     → Spelled program manner.Rules false matrix k cs ls a
 branches_spelled program matrix k [] [] a h =
-    ([], refl, branches_back program matrix.positions.now matrix.next k (all_rows matrix.rows.now) [] [] a h)
+    ([], refl, branches_converse program matrix.positions.now matrix.next k (all_rows matrix.rows.now) [] [] a h)
 branches_spelled program matrix k [] (l ∷ ls) a h =
     let positions = matrix.positions.now in
     let rows = all_rows matrix.rows.now in
-    let b = branches_back program positions matrix.next k rows [] (l ∷ ls) a h in
+    let b = branches_converse program positions matrix.next k rows [] (l ∷ ls) a h in
     let rest = branches_spelled program matrix k [] ls b.1 b.3 in
-    let low = subst (λ (n : ℕ). Tree program (spliced k [] positions) n (specialize k [] (goes_on false (wants_literal l)) rows) b.0) (sym (no_more matrix.next))
-    (subst (λ (rs : List Row). Tree program (spliced k [] positions) matrix.next rs b.0) (sym (plain k [] (wants_literal l) rows)) b.2) in (
+    let low = subst (λ (n : ℕ). Tree program (spliced k [] positions) n (specialize k [] (goes_on false (demands_literal l)) rows) b.0) (sym (no_more matrix.next))
+    (subst (λ (rs : List Row). Tree program (spliced k [] positions) matrix.next rs b.0) (sym (plain k [] (demands_literal l) rows)) b.2) in (
       (clean.Exactly l, b.0) ∷ rest.0,
       ((clean.Exactly l, b.0), rest.0, (refl, low), rest.1, refl),
       b.4 ∙ ap (clean.MoreAlternatives (clean.Exactly l) b.0) rest.2,
@@ -142,10 +142,10 @@ branches_spelled program matrix k (c ∷ cs) ls a h =
     let positions = matrix.positions.now in
     let rows = all_rows matrix.rows.now in
     let n = constructor_arity program c in
-    let b = branches_back program positions matrix.next k rows (c ∷ cs) ls a h in
+    let b = branches_converse program positions matrix.next k rows (c ∷ cs) ls a h in
     let rest = branches_spelled program matrix k cs ls b.1 b.3 in
     let p = clean.Built c (variables (numbers matrix.next n)) in
-    let low = subst (λ (rs : List Row). Tree program (spliced k (numbers matrix.next n) positions) (matrix.next + n) rs b.0) (sym (plain k (numbers matrix.next n) (wants_constructor c) rows)) b.2 in
+    let low = subst (λ (rs : List Row). Tree program (spliced k (numbers matrix.next n) positions) (matrix.next + n) rs b.0) (sym (plain k (numbers matrix.next n) (demands_constructor c) rows)) b.2 in
     ((p, b.0) ∷ rest.0, ((p, b.0), rest.0, (refl, low), rest.1, refl), b.4 ∙ ap (clean.MoreAlternatives p b.0) rest.2)
 
 -- ---- one result
@@ -160,7 +160,7 @@ pub branch_one : (program : Program) (m : Manner) (v : Bool) (matrix : Matrix) (
 branch_one program m v matrix k c a b p q =
     let n = opened_count program c in
     let new = numbers matrix.next n in
-    let same = rows_one program m (spliced k new matrix.positions.now) (matrix.next + n) (specialize k new (goes_on v (wants c)) (all_rows matrix.rows.now)) b.1 a.1 q.1 p.1 in
+    let same = rows_one program m (spliced k new matrix.positions.now) (matrix.next + n) (specialize k new (goes_on v (demands_choice c)) (all_rows matrix.rows.now)) b.1 a.1 q.1 p.1 in
     ap₂ (λ (x : clean.Pattern) (y : clean.Term). (x, y)) (q.0 ∙ sym p.0) same
 
 -- ---- nodes
@@ -170,7 +170,7 @@ pub branch_node : (program : Program) (m : Manner) (v : Bool) (matrix : Matrix) 
     (BranchLowers program m v matrix k c) branch_size (λ t. (branch_pattern c (numbers matrix.next (opened_count program c)), t)) 0
 branch_node program m v matrix k c = record {
   forth = λ t h. (refl, h);
-  back = λ b h. (b.1, h.1, ap (λ (p : clean.Pattern). (p, b.1)) h.0);
+  converse = λ b h. (b.1, h.1, ap (λ (p : clean.Pattern). (p, b.1)) h.0);
   more = λ t. omega arith;
 }
 
@@ -184,7 +184,7 @@ pub case_node : (program : Program) (m : Manner) (v : Bool) (matrix : Matrix) (k
     (λ bs. clean.Case (mode_of m) (clean.Variable position) (alternatives_in bs)) 2
 case_node program m v matrix k cs position there = record {
   forth = λ bs each. record { position = position; branches = bs; there = there; each = each; is = refl };
-  back = λ t h.
+  converse = λ t h.
       let same : h.position ≡ position = one_position (slice_get matrix.positions.now k) h.position position h.there there in
       (h.branches, h.each, h.is ∙ ap (λ (x : ℕ). clean.Case (mode_of m) (clean.Variable x) (alternatives_in h.branches)) same);
   more = λ bs. let sum = total_branches bs in omega arith;
@@ -210,7 +210,7 @@ tree_as_case program matrix k row rows is f =
           subst (λ (rs : List Row). Tree program positions matrix.next rs t) (sym is)
           (subst (λ (u : clean.Term). Tree program positions matrix.next (row ∷ rows) u) (sym h.is)
           (lowering.branch positions matrix.next k h.position row rows (alternatives_in h.branches) f h.there moved));
-      back = λ t h.
+      converse = λ t h.
           let view = tree_case program positions matrix.next row rows k t f (subst (λ (rs : List Row). Tree program positions matrix.next rs t) is h) in
           let branches = subst (λ (rs : List Row). Branches program positions matrix.next k rs (constructors_at program k rs) (literals_at k rs) view.1) (sym is) view.3 in
           let bs = branches_spelled program matrix k (constructors_at program k all) (literals_at k all) view.1 branches in
@@ -231,7 +231,7 @@ all_as_case program mode matrix k row rows is f g =
           subst (λ (rs : List Row). Distinguishes program mode positions matrix.next rs t) (sym is)
           (subst (λ (u : clean.Term). Distinguishes program mode positions matrix.next (row ∷ rows) u) (sym h.is)
           (lowering.all_demand mode positions matrix.next k h.position row rows (alternatives_in h.branches) f h.there g moved));
-      back = λ t h.
+      converse = λ t h.
           let view = all_demanded program mode positions matrix.next row rows k t f g (subst (λ (rs : List Row). Distinguishes program mode positions matrix.next rs t) is h) in
           let cases = subst (λ (rs : List Row). Cases program mode false positions matrix.next k rs (constructors_at program k rs) (literals_at k rs) view.1) (sym is) view.3 in
           let bs = cases_spelled program mode false matrix k (constructors_at program k all) (literals_at k all) view.1 cases in
@@ -256,7 +256,7 @@ first_as_case program mode matrix k c row rows is f g d =
           subst (λ (rs : List Row). Distinguishes program mode positions matrix.next rs t) (sym is)
           (subst (λ (u : clean.Term). Distinguishes program mode positions matrix.next (row ∷ rows) u) (sym h.is)
           (lowering.first_constructor mode positions matrix.next k h.position c row rows (alternatives_in h.branches) f h.there g d moved));
-      back = λ t h.
+      converse = λ t h.
           let view = by_constructor program mode positions matrix.next row rows k c t f g d (subst (λ (rs : List Row). Distinguishes program mode positions matrix.next rs t) is h) in
           let cases = subst (λ (rs : List Row). Cases program mode true positions matrix.next k rs (siblings program c) [] view.1) (sym is) view.3 in
           let bs = cases_spelled program mode true matrix k (siblings program c) [] view.1 cases in
@@ -272,7 +272,7 @@ rule_node program positions next row whole is e =
     subst (λ (rs : List Row). Node (Lowers program row.names next row.body) size (Tree program positions next rs) size (λ t. t) 0) (sym is)
     (record {
       forth = λ t h. lowering.rule positions next row t e h;
-      back = λ t h. (t, tree_rule program positions next row t e h, refl);
+      converse = λ t h. (t, tree_rule program positions next row t e h, refl);
       more = λ t. omega arith;
     })
 
@@ -287,7 +287,7 @@ overlap_node program positions next row other rows whole rest is same e =
     (Tree program positions next (row ∷ other ∷ rows)) size (λ both. clean.Or both.0 both.1) 1) (sym same)
     (record {
       forth = λ both h. lowering.overlap positions next row other rows both.0 both.1 e h.0 h.1;
-      back = λ t h. let v = tree_overlap program positions next row other rows t e h in ((v.0, v.1), (v.2, v.3), v.4);
+      converse = λ t h. let v = tree_overlap program positions next row other rows t e h in ((v.0, v.1), (v.2, v.3), v.4);
       more = λ both. omega arith;
     }))
 
@@ -302,7 +302,7 @@ split_node program positions next k row rows whole first second is one two e f =
       let b = subst (λ (rs : List Row). Tree program positions next rs both.1) (two ∙ ap (filter (λ other. not (demands k other))) is) h.1 in
       subst (λ (rs : List Row). Tree program positions next rs (clean.Or both.0 both.1)) (sym is)
       (lowering.split positions next k row rows both.0 both.1 f e a b);
-  back = λ t h.
+  converse = λ t h.
       let v = tree_split program positions next row rows k t e f (subst (λ (rs : List Row). Tree program positions next rs t) is h) in
       let a = subst (λ (rs : List Row). Tree program positions next rs v.0) (sym (one ∙ ap (filter (demands k)) is)) v.2 in
       let b = subst (λ (rs : List Row). Tree program positions next rs v.1) (sym (two ∙ ap (filter (λ other. not (demands k other))) is)) v.3 in
@@ -317,20 +317,20 @@ taken_node program mode positions next row rows whole is e =
     subst (λ (rs : List Row). Node (Lowers program row.names next row.body) size (Distinguishes program mode positions next rs) size (λ t. t) 0) (sym is)
     (record {
       forth = λ t h. lowering.taken mode positions next row rows t e h;
-      back = λ t h. (t, first_taken program mode positions next row rows t e h, refl);
+      converse = λ t h. (t, first_taken program mode positions next row rows t e h, refl);
       more = λ t. omega arith;
     })
 
 pub literal_node : (program : Program) (mode : Mode) (positions opened : List ℕ) (next after k position : ℕ) (equal : FunId) (l : Lit) (row : Row)
     (rows whole first second : List Row) → whole ≡ row ∷ rows → opened ≡ spliced k [] positions → after ≡ next + 0
-    → first ≡ specialize k [] (goes_on true (wants_literal l)) whole → second ≡ filter (λ one. not_literal l (demand_at k one)) whole
+    → first ≡ specialize k [] (goes_on true (demands_literal l)) whole → second ≡ filter (λ one. not_literal l (demand_at k one)) whole
     → leftmost row.patterns ≡ Some k → slice_get positions k ≡ Some position → list_any (λ one. not (demands k one)) (row ∷ rows) ≡ true
     → demand_at k row ≡ ALiteral l → IsOperation program prim.Equal equal
     → Node (Two (Distinguishes program mode opened after first) (Distinguishes program mode positions next second)) both_size
     (Distinguishes program mode positions next whole) size (λ both. literal_case program equal position l both.0 both.1) 4
-literal_node program mode positions opened next after k position equal l row rows whole first second is places behind one two e there some d op =
-    let follows = behind ∙ no_more next in
-    let test = goes_on true (wants_literal l) in
+literal_node program mode positions opened next after k position equal l row rows whole first second is places later one two e there some d op =
+    let follows = later ∙ no_more next in
+    let test = goes_on true (demands_literal l) in
     let keep = λ (r : Row). not_literal l (demand_at k r) in
     let begun = one ∙ ap (specialize k [] test) is in
     let rest = two ∙ ap (filter keep) is in
@@ -342,7 +342,7 @@ literal_node program mode positions opened next after k position equal l row row
           let b = subst (λ (rs : List Row). Distinguishes program mode positions next rs both.1) rest h.1 in
           subst (λ (rs : List Row). Distinguishes program mode positions next rs (literal_case program equal position l both.0 both.1)) (sym is)
           (lowering.first_literal mode positions next k position equal l row rows both.0 both.1 e there some d op a b);
-      back = λ t h.
+      converse = λ t h.
           let v = by_literal program mode positions next row rows k l t e some d (subst (λ (rs : List Row). Distinguishes program mode positions next rs t) is h) in
           let a = subst (λ (xs : List ℕ). Distinguishes program mode xs after first v.2) (sym places)
           (subst (λ (n : ℕ). Distinguishes program mode (spliced k [] positions) n first v.2) (sym follows)

@@ -7,7 +7,7 @@ use Rattle.cu_calculus.specs.declared.Lit.{Lit}
 use Rattle.cu_calculus.specs.declared.Mode.{Mode}
 use Rattle.cu_calculus.specs.declared.Mode.TheVariants.{Flex}
 use Rattle.cu_calculus.specs.declared.builtin.Primitive.TheVariants as prim
-use Rattle.cu_calculus.specs.Choose.{ALiteral, AConstructor, Demand, leftmost, not_literal, spliced, wants_constructor, wants_literal}
+use Rattle.cu_calculus.specs.Choose.{ALiteral, AConstructor, Demand, leftmost, not_literal, spliced, demands_constructor, demands_literal}
 use Rattle.cu_calculus.specs.Program.{Program}
 use Rattle.cu_calculus.specs.Term as term
 use Rattle.cu_calculus.specs.Term.{Alternatives, Term}
@@ -125,7 +125,7 @@ by_constructor program _ _ _ _ _ k c _ f n d (lowering.first_literal mode positi
 abbrev pub LiteralView : Program → Mode → List ℕ → ℕ → ℕ → Lit → List Row → Term → Type 0
 LiteralView program mode positions next k l rows t =
     (position : ℕ) × (equal : FunId) × (a b : Term) × (slice_get positions k ≡ Some position) × IsOperation program prim.Equal equal
-    × Distinguishes program mode (spliced k [] positions) next (specialize k [] (goes_on true (wants_literal l)) rows) a
+    × Distinguishes program mode (spliced k [] positions) next (specialize k [] (goes_on true (demands_literal l)) rows) a
     × Distinguishes program mode positions next (filter (λ one. not_literal l (demand_at k one)) rows) b
     × (t ≡ literal_case program equal position l a b)
 
@@ -147,55 +147,55 @@ by_literal program _ _ _ _ _ k l _ f n d (lowering.first_literal mode positions 
 
 -- ---- branches
 
-abbrev BranchesBack : Program → List ℕ → ℕ → ℕ → List Row → List ConId → List Lit → Alternatives → Type 0
-BranchesBack program positions next k rows [] [] a = a ≡ term.NoAlternative
-BranchesBack program positions next k rows [] (l ∷ ls) a =
-    (t : Term) × (rest : Alternatives) × Tree program (spliced k [] positions) next (specialize k [] (wants_literal l) rows) t
+abbrev BranchesConverse : Program → List ℕ → ℕ → ℕ → List Row → List ConId → List Lit → Alternatives → Type 0
+BranchesConverse program positions next k rows [] [] a = a ≡ term.NoAlternative
+BranchesConverse program positions next k rows [] (l ∷ ls) a =
+    (t : Term) × (rest : Alternatives) × Tree program (spliced k [] positions) next (specialize k [] (demands_literal l) rows) t
     × Branches program positions next k rows [] ls rest × (a ≡ term.MoreAlternatives (term.Exactly l) t rest)
-BranchesBack program positions next k rows (c ∷ cs) ls a =
+BranchesConverse program positions next k rows (c ∷ cs) ls a =
     (t : Term) × (rest : Alternatives)
     × Tree program (spliced k (numbers next (constructor_arity program c)) positions) (next + constructor_arity program c)
-    (specialize k (numbers next (constructor_arity program c)) (wants_constructor c) rows) t
+    (specialize k (numbers next (constructor_arity program c)) (demands_constructor c) rows) t
     × Branches program positions next k rows cs ls rest
     × (a ≡ term.MoreAlternatives (term.Built c (variables (numbers next (constructor_arity program c)))) t rest)
 
-pub branches_back : (program : Program) (positions : List ℕ) (next k : ℕ) (rows : List Row) (cs : List ConId) (ls : List Lit) (a : Alternatives)
-    → Branches program positions next k rows cs ls a → BranchesBack program positions next k rows cs ls a
-branches_back program _ _ _ _ _ _ _ (lowering.no_branch positions next k rows) = refl
-branches_back program _ _ _ _ _ _ _ (lowering.literal_branch positions next k rows l ls t a p q) = (t, a, p, q, refl)
-branches_back program _ _ _ _ _ _ _ (lowering.constructor_branch positions next k n xs rows c cs ls t a e f p q) =
+pub branches_converse : (program : Program) (positions : List ℕ) (next k : ℕ) (rows : List Row) (cs : List ConId) (ls : List Lit) (a : Alternatives)
+    → Branches program positions next k rows cs ls a → BranchesConverse program positions next k rows cs ls a
+branches_converse program _ _ _ _ _ _ _ (lowering.no_branch positions next k rows) = refl
+branches_converse program _ _ _ _ _ _ _ (lowering.literal_branch positions next k rows l ls t a p q) = (t, a, p, q, refl)
+branches_converse program _ _ _ _ _ _ _ (lowering.constructor_branch positions next k n xs rows c cs ls t a e f p q) =
     let many = f ∙ ap (numbers next) e in (
       t,
       a,
-      subst (λ (ys : List ℕ). Tree program (spliced k ys positions) (next + constructor_arity program c) (specialize k ys (wants_constructor c) rows) t) many
-          (subst (λ (i : ℕ). Tree program (spliced k xs positions) (next + i) (specialize k xs (wants_constructor c) rows) t) e p),
+      subst (λ (ys : List ℕ). Tree program (spliced k ys positions) (next + constructor_arity program c) (specialize k ys (demands_constructor c) rows) t) many
+          (subst (λ (i : ℕ). Tree program (spliced k xs positions) (next + i) (specialize k xs (demands_constructor c) rows) t) e p),
       q,
       ap (λ (ys : List ℕ). term.MoreAlternatives (term.Built c (variables ys)) t a) many,
     )
 
-abbrev CasesBack : Program → Mode → Bool → List ℕ → ℕ → ℕ → List Row → List ConId → List Lit → Alternatives → Type 0
-CasesBack program mode v positions next k rows [] [] a = a ≡ term.NoAlternative
-CasesBack program mode v positions next k rows [] (l ∷ ls) a =
+abbrev CasesConverse : Program → Mode → Bool → List ℕ → ℕ → ℕ → List Row → List ConId → List Lit → Alternatives → Type 0
+CasesConverse program mode v positions next k rows [] [] a = a ≡ term.NoAlternative
+CasesConverse program mode v positions next k rows [] (l ∷ ls) a =
     (t : Term) × (rest : Alternatives)
-    × Distinguishes program mode (spliced k [] positions) next (specialize k [] (goes_on v (wants_literal l)) rows) t
+    × Distinguishes program mode (spliced k [] positions) next (specialize k [] (goes_on v (demands_literal l)) rows) t
     × Cases program mode v positions next k rows [] ls rest × (a ≡ term.MoreAlternatives (term.Exactly l) t rest)
-CasesBack program mode v positions next k rows (c ∷ cs) ls a =
+CasesConverse program mode v positions next k rows (c ∷ cs) ls a =
     (t : Term) × (rest : Alternatives)
     × Distinguishes program mode (spliced k (numbers next (constructor_arity program c)) positions) (next + constructor_arity program c)
-    (specialize k (numbers next (constructor_arity program c)) (goes_on v (wants_constructor c)) rows) t
+    (specialize k (numbers next (constructor_arity program c)) (goes_on v (demands_constructor c)) rows) t
     × Cases program mode v positions next k rows cs ls rest
     × (a ≡ term.MoreAlternatives (term.Built c (variables (numbers next (constructor_arity program c)))) t rest)
 
-pub cases_back : (program : Program) (mode : Mode) (v : Bool) (positions : List ℕ) (next k : ℕ) (rows : List Row) (cs : List ConId) (ls : List Lit)
-    (a : Alternatives) → Cases program mode v positions next k rows cs ls a → CasesBack program mode v positions next k rows cs ls a
-cases_back program _ _ _ _ _ _ _ _ _ (lowering.no_case mode v positions next k rows) = refl
-cases_back program _ _ _ _ _ _ _ _ _ (lowering.literal_of_case mode v positions next k rows l ls t a p q) = (t, a, p, q, refl)
-cases_back program _ _ _ _ _ _ _ _ _ (lowering.constructor_case mode v positions next k n xs rows c cs ls t a e f p q) =
+pub cases_converse : (program : Program) (mode : Mode) (v : Bool) (positions : List ℕ) (next k : ℕ) (rows : List Row) (cs : List ConId) (ls : List Lit)
+    (a : Alternatives) → Cases program mode v positions next k rows cs ls a → CasesConverse program mode v positions next k rows cs ls a
+cases_converse program _ _ _ _ _ _ _ _ _ (lowering.no_case mode v positions next k rows) = refl
+cases_converse program _ _ _ _ _ _ _ _ _ (lowering.literal_of_case mode v positions next k rows l ls t a p q) = (t, a, p, q, refl)
+cases_converse program _ _ _ _ _ _ _ _ _ (lowering.constructor_case mode v positions next k n xs rows c cs ls t a e f p q) =
     let many = f ∙ ap (numbers next) e in (
       t,
       a,
-      subst (λ (ys : List ℕ). Distinguishes program mode (spliced k ys positions) (next + constructor_arity program c) (specialize k ys (goes_on v (wants_constructor c)) rows) t) many
-          (subst (λ (i : ℕ). Distinguishes program mode (spliced k xs positions) (next + i) (specialize k xs (goes_on v (wants_constructor c)) rows) t) e p),
+      subst (λ (ys : List ℕ). Distinguishes program mode (spliced k ys positions) (next + constructor_arity program c) (specialize k ys (goes_on v (demands_constructor c)) rows) t) many
+          (subst (λ (i : ℕ). Distinguishes program mode (spliced k xs positions) (next + i) (specialize k xs (goes_on v (demands_constructor c)) rows) t) e p),
       q,
       ap (λ (ys : List ℕ). term.MoreAlternatives (term.Built c (variables ys)) t a) many,
     )

@@ -13,7 +13,7 @@ use Rattle.cu_calculus.specs.declared.Mode.{Mode}
 use Rattle.cu_calculus.specs.declared.Mode.TheVariants.{Flex, Rigid}
 use Rattle.cu_calculus.specs.declared.builtin.Primitive.{Primitive}
 use Rattle.cu_calculus.specs.declared.builtin.Primitive.TheVariants as prim
-use Rattle.cu_calculus.specs.Choose.{ALiteral, AConstructor, Demand, leftmost, not_literal, spliced, wants_constructor, wants_literal, wants_nothing}
+use Rattle.cu_calculus.specs.Choose.{ALiteral, AConstructor, Demand, leftmost, not_literal, spliced, demands_constructor, demands_literal, demands_nothing}
 use Rattle.cu_calculus.specs.Program.{External, Function, Program, function_of}
 use Rattle.cu_calculus.specs.Term as term
 use Rattle.cu_calculus.specs.Term.{Alternatives, Pattern, Patterns, Term, Terms}
@@ -61,7 +61,7 @@ is_variable _ = false
 -- whether a row goes on into the branch of a test: where alternatives have variables at the
 -- position, these do too
 abbrev pub goes_on : Bool → (Demand → Bool) → Demand → Bool
-goes_on has_variables test d = test d || (has_variables && wants_nothing d)
+goes_on has_variables test d = test d || (has_variables && demands_nothing d)
 
 mutual
   -- the flat term of a term, in which variables are called so
@@ -147,13 +147,13 @@ mutual
         (ls : List Lit) (t : Term) (alternatives : Alternatives) → n ≡ constructor_arity program c
         → arguments ≡ numbers next n
         → Tree program (spliced k arguments positions) (next + n)
-        (specialize k arguments (wants_constructor c) rows) t
+        (specialize k arguments (demands_constructor c) rows) t
         → Branches program positions next k rows cs ls alternatives
         → Branches program positions next k rows (c ∷ cs) ls
         (term.MoreAlternatives (term.Built c (variables arguments)) t alternatives)
     literal_branch : (positions : List ℕ) (next k : ℕ) (rows : List Row) (l : Lit) (ls : List Lit)
         (t : Term) (alternatives : Alternatives)
-        → Tree program (spliced k [] positions) next (specialize k [] (wants_literal l) rows) t
+        → Tree program (spliced k [] positions) next (specialize k [] (demands_literal l) rows) t
         → Branches program positions next k rows [] ls alternatives
         → Branches program positions next k rows [] (l ∷ ls)
         (term.MoreAlternatives (term.Exactly l) t alternatives)
@@ -197,7 +197,7 @@ mutual
         → IsTrue (list_any (λ one. not (demands k one)) (row ∷ rows)) → demand_at k row ≡ ALiteral l
         → IsOperation program prim.Equal equal
         → Distinguishes program mode (spliced k [] positions) next
-        (specialize k [] (goes_on true (wants_literal l)) (row ∷ rows)) same
+        (specialize k [] (goes_on true (demands_literal l)) (row ∷ rows)) same
         → Distinguishes program mode positions next
         (filter (λ one. not_literal l (demand_at k one)) (row ∷ rows)) other
         → Distinguishes program mode positions next (row ∷ rows)
@@ -215,7 +215,7 @@ mutual
         (c : ConId) (cs : List ConId) (ls : List Lit) (t : Term) (alternatives : Alternatives)
         → n ≡ constructor_arity program c → arguments ≡ numbers next n
         → Distinguishes program mode (spliced k arguments positions) (next + n)
-        (specialize k arguments (goes_on has_variables (wants_constructor c)) rows) t
+        (specialize k arguments (goes_on has_variables (demands_constructor c)) rows) t
         → Cases program mode has_variables positions next k rows cs ls alternatives
         → Cases program mode has_variables positions next k rows (c ∷ cs) ls
         (term.MoreAlternatives (term.Built c (variables arguments)) t alternatives)
@@ -223,7 +223,7 @@ mutual
         (rows : List Row) (l : Lit) (ls : List Lit)
         (t : Term) (alternatives : Alternatives)
         → Distinguishes program mode (spliced k [] positions) next
-        (specialize k [] (goes_on has_variables (wants_literal l)) rows) t
+        (specialize k [] (goes_on has_variables (demands_literal l)) rows) t
         → Cases program mode has_variables positions next k rows [] ls alternatives
         → Cases program mode has_variables positions next k rows [] (l ∷ ls)
         (term.MoreAlternatives (term.Exactly l) t alternatives)

@@ -5,7 +5,7 @@ use Rattle.std.specs.Prelude.{ℕ, zero, suc, Bool, not, List, [], ◌∷◌, �
 use Rattle.std.specs.List.{list_all, list_any, flat_map}
 use Rattle.cu_calculus.specs.declared.ConId.{ConId}
 use Rattle.cu_calculus.specs.declared.Lit.{Lit}
-use Rattle.cu_calculus.specs.Choose.{ALiteral, Demand, Nothing, arguments_of, demand_of, is_demanding, list_patterns, same_type, spliced, wants_constructor}
+use Rattle.cu_calculus.specs.Choose.{ALiteral, Demand, Nothing, arguments_of, demand_of, is_demanding, list_patterns, same_type, spliced, demands_constructor}
 use Rattle.cu_calculus.specs.Literal.{same_literal}
 use Rattle.cu_calculus.specs.Program.{Program, Rule, constructor_of}
 use Rattle.cu_calculus.specs.Term as term
@@ -103,7 +103,7 @@ constructor_ids program = map (λ n. record { 0 = n }) (numbers 0 (length progra
 -- the constructors that some row demands at a position
 abbrev pub constructors_at : Program → ℕ → List Row → List ConId
 constructors_at program k rows =
-    filter (λ c. list_any (λ row. wants_constructor c (demand_at k row)) rows)
+    filter (λ c. list_any (λ row. demands_constructor c (demand_at k row)) rows)
     (constructor_ids program)
 
 -- the constructors of the type of this one

@@ -1,7 +1,7 @@
 //! What patterns demand, bind and hold.
 ghost use Rattle.std.specs.Prelude.{◌≡◌, ◌+◌, ◌<◌, ◌^◌, ◌++◌, IfOk, OnOk, map, replicate};
 ghost use Rattle.cu_calculus.specs.Choose.{arguments_of, demand_of, is_demanding, leftmost, list_patterns};
-ghost use Rattle.cu_deftree.specs.Inside.RowsOf.{demand_meaning, keeps, list_from_option, patterns_at, wants};
+ghost use Rattle.cu_deftree.specs.Inside.RowsOf.{demand_meaning, keeps, list_from_option, patterns_at, demands_choice};
 ghost use Rattle.cu_deftree.specs.Lowering.{variables};
 ghost use Rattle.cu_deftree.specs.Rows.{argument_names, literal_in, names_at, names_at_all, numbers};
 ghost use Rattle.cu_kernel.specs.TermsOf.{pattern_of, patterns_of};
@@ -84,8 +84,8 @@ impl Demand {
 
 impl Choice {
     /// Whether this is demanded.
-    pub(crate) fn is_wanted(self, demand: Demand) -> bool
-        ensures { result ≡ wants self (demand_meaning demand) }
+    pub(crate) fn is_demanded(self, demand: Demand) -> bool
+        ensures { result ≡ demands_choice self (demand_meaning demand) }
     {
         match (self, demand) {
             (Choice::Constructor(constructor), Demand::Constructor(other)) => constructor.0
@@ -107,9 +107,9 @@ impl Keep {
         match self {
             Keep::Demanding => demand.is_some(),
             Keep::Undemanding => !demand.is_some(),
-            Keep::OtherThan(literal) => !Choice::Literal(literal).is_wanted(demand),
+            Keep::OtherThan(literal) => !Choice::Literal(literal).is_demanded(demand),
             Keep::Branch(choice, has_variables) => {
-                choice.is_wanted(demand) || (has_variables && !demand.is_some())
+                choice.is_demanded(demand) || (has_variables && !demand.is_some())
             }
         }
     }

@@ -3,7 +3,7 @@ ghost use Rattle.std.specs.Prelude.{◌≡◌, ◌<◌, ◌++◌, ◌∷◌, [],
 ghost use Rattle.std.specs.List.{list_all, list_any};
 ghost use Rattle.cu_calculus.specs.Choose.{spliced};
 ghost use Rattle.cu_deftree.specs.Inside.NamesOf.{names_of};
-ghost use Rattle.cu_deftree.specs.Inside.RowsOf.{all_rows, alternative_row, arguments_at, demand_meaning, keeps, patterns_at, row_of, wants};
+ghost use Rattle.cu_deftree.specs.Inside.RowsOf.{all_rows, alternative_row, arguments_at, demand_meaning, keeps, patterns_at, row_of, demands_choice};
 ghost use Rattle.cu_deftree.specs.Rows.{argument_names, demand_at, demanded_by_all, demands, row_of_rule, rows_of, specialize, specialized};
 ghost use Rattle.cu_kernel.specs.KernelOf.{rule_meaning};
 ghost use Rattle.cu_kernel.specs.TermsOf.{alternatives_of, pattern_of, term_of};
@@ -150,11 +150,12 @@ pub(crate) fn some_is_free(rows: &[Row], position: usize) -> bool
 }
 
 /// Whether some row demands this at a position.
-pub(crate) fn some_wants(rows: &[Row], position: usize, choice: Choice) -> bool
-    ensures { result ≡ list_any (λ row. wants choice (demand_at position row)) (all_rows rows.now) }
+pub(crate) fn some_demands(rows: &[Row], position: usize, choice: Choice) -> bool
+    ensures { result ≡ list_any (λ row. demands_choice choice (demand_at position row))
+        (all_rows rows.now) }
 {
     for row in rows {
-        if choice.is_wanted(row.demand_at(position)) {
+        if choice.is_demanded(row.demand_at(position)) {
             return true;
         }
     }

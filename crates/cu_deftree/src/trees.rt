@@ -4,7 +4,7 @@ ghost use Rattle.cu_calculus.specs.Choose.{spliced};
 ghost use Rattle.cu_calculus.specs.Choose as calculus;
 ghost use Rattle.cu_calculus.specs.Term as clean;
 ghost use Rattle.cu_deftree.specs.declared.tasks.Manner.TheVariants as manner;
-ghost use Rattle.cu_deftree.specs.Inside.RowsOf.{all_rows, wants};
+ghost use Rattle.cu_deftree.specs.Inside.RowsOf.{all_rows, demands_choice};
 ghost use Rattle.cu_deftree.specs.Inside.Tasks.{BothLower, BranchLowers, CaseLowers, Each, FirstDemands, IsFree, IsMixed, IsOpened, IsSplit, MatrixLowers, RowsLower, TaskLowers, TermLowers, Within, both_of, both_size, branch_of, branch_pattern, branch_size, branches_of, opened_count, terms_in, total};
 ghost use Rattle.cu_deftree.specs.LoweredProgram.{size};
 ghost use Rattle.cu_deftree.specs.Lowering.{failure, goes_on, is_variable, literal_case, test_of};
@@ -43,7 +43,7 @@ struct Opened<'a> {
     rows: Vec<Row<'a>>,
 }
 
-/// So many numbers from this one on, and the number behind them.
+/// So many numbers from this one on, and the number after them.
 pub(crate) fn fresh_numbers(
     alloc: Global,
     next: u32,
@@ -125,8 +125,8 @@ impl<'a> Lowerer<'a> {
         ensures next { IfOk result (λ opened. opened.next
             ≡ matrix.now.next + opened_count (program_in self.now) choice) }
         ensures rows { IfOk result (λ opened. all_rows opened.rows.items
-            ≡ specialize position opened.arguments.items (goes_on has_variables (wants choice))
-            (all_rows matrix.now.rows.now)) }
+            ≡ specialize position opened.arguments.items
+            (goes_on has_variables (demands_choice choice)) (all_rows matrix.now.rows.now)) }
     {
         let (arguments, next) = fresh_numbers(self.alloc, matrix.next, self.opened_count(choice))?;
         let positions = spliced(self.alloc, matrix.positions, position, arguments.as_slice())?;

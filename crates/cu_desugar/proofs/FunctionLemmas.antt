@@ -125,22 +125,22 @@ same_element (syntax.ListOf at es) = refl
 same_element (syntax.Enumeration at p q r) = refl
 same_element (syntax.Comprehension at e qs) = refl
 
-same_behind : (n : ℕ) (qs : syntax.Qualifiers) → form.behind_first n qs ≡ site.behind n qs
-same_behind zero qs = refl
-same_behind (suc n) syntax.NoQualifier = refl
-same_behind (suc n) (syntax.MoreQualifiers q qs) = same_behind n qs
+same_after : (n : ℕ) (qs : syntax.Qualifiers) → form.after_first n qs ≡ site.qualifiers_after n qs
+same_after zero qs = refl
+same_after (suc n) syntax.NoQualifier = refl
+same_after (suc n) (syntax.MoreQualifiers q qs) = same_after n qs
 
 abbrev generated_from : Around → Scope → Position → syntax.Pattern → syntax.Qualifiers → syntax.Expression → LocalFunction
 generated_from a local at p qs e = generator_function a at p (rest_of a (variable_entries (pattern_variables p) ++ local) e qs)
 
 pub generator_is : (t : Text) (a : Around) (local : Scope) (place : Place) (p : Pattern) (whole : Expression) (n : ℕ) (s : Site)
-    → s ≡ Generated (position_of place) (pattern_meaning t.names p) (site.behind n (site.qualifiers_in (expression_meaning t.names whole))) (site.element_in (expression_meaning t.names whole))
+    → s ≡ Generated (position_of place) (pattern_meaning t.names p) (site.qualifiers_after n (site.qualifiers_in (expression_meaning t.names whole))) (site.element_in (expression_meaning t.names whole))
     → generator_form (setting t a) local (position_of place) p whole n ∷ [] ≡ functions_at a local s
 unfolding generator_form pattern_binds
 generator_is t a local place p whole n s is =
     let e = expression_meaning t.names whole in
     ap₂ (λ qs element. generated_from a local (position_of place) (pattern_meaning t.names p) qs element ∷ [])
-    (same_behind n (form.qualifiers_in e) ∙ ap (site.behind n) (same_qualifiers e)) (same_element e)
+    (same_after n (form.qualifiers_in e) ∙ ap (site.qualifiers_after n) (same_qualifiers e)) (same_element e)
     ∙ sym (ap (functions_at a local) is)
 
 pub selectors_are : (t : Text) (a : Around) (local : Scope) (p : Pattern) (right : syntax.RightSide) (s : Site) → s ≡ Bound (pattern_meaning t.names p) right

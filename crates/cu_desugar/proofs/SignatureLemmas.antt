@@ -51,29 +51,29 @@ not_here t found here term declared is same whole = none_found t declared (ap (�
 
 -- ---- blocks
 
-abbrev behind_of : Text → List ℕ → List code.Declaration → ℕ → Option TypeTerm
-behind_of t text ds i = signature_of text (declarations_meaning t.names (drop i ds))
+abbrev after_of : Text → List ℕ → List code.Declaration → ℕ → Option TypeTerm
+after_of t text ds i = signature_of text (declarations_meaning t.names (drop i ds))
 
 step : (t : Text) (text : List ℕ) (ds : List code.Declaration) (i : ℕ) (d : code.Declaration) → i < length ds
-    → behind_of t text ds i ≡ or_else (signature_in text (declaration_meaning t.names (get_or ds i d))) (behind_of t text ds (i + 1))
+    → after_of t text ds i ≡ or_else (signature_in text (declaration_meaning t.names (get_or ds i d))) (after_of t text ds (i + 1))
 step t text ds i d within =
     ap (λ rest. signature_of text (declarations_meaning t.names rest)) (drop-cons ds i d within)
-    ∙ ap (λ k. or_else (signature_in text (declaration_meaning t.names (get_or ds i d))) (behind_of t text ds k)) (sym (add-one i))
+    ∙ ap (λ k. or_else (signature_in text (declaration_meaning t.names (get_or ds i d))) (after_of t text ds k)) (sym (add-one i))
 
 pub found_in : (t : Text) (text : List ℕ) (ds : List code.Declaration) (i : ℕ) (d : code.Declaration) (found : Option code_type.TypeTerm) (whole : Option TypeTerm)
-    → i < length ds → is_some found ≡ true → IsSignature t (signature_in text (declaration_meaning t.names (get_or ds i d))) found → behind_of t text ds i ≡ whole → IsSignature t whole found
+    → i < length ds → is_some found ≡ true → IsSignature t (signature_in text (declaration_meaning t.names (get_or ds i d))) found → after_of t text ds i ≡ whole → IsSignature t whole found
 found_in t text ds i d (Some term) whole within some one before = record {
-  meaning = ap (λ o. or_else o (behind_of t text ds (i + 1))) one.meaning ∙ sym (step t text ds i d within) ∙ before;
+  meaning = ap (λ o. or_else o (after_of t text ds (i + 1))) one.meaning ∙ sym (step t text ds i d within) ∙ before;
   owned = one.owned;
 }
 found_in t text ds i d None whole within some one before = let never : ⊥ = cc in absurd never
 
 pub not_in : (t : Text) (text : List ℕ) (ds : List code.Declaration) (i : ℕ) (d : code.Declaration) (found : Option code_type.TypeTerm) (whole : Option TypeTerm)
-    → i < length ds → is_some found ≡ false → IsSignature t (signature_in text (declaration_meaning t.names (get_or ds i d))) found → behind_of t text ds i ≡ whole → behind_of t text ds (i + 1) ≡ whole
+    → i < length ds → is_some found ≡ false → IsSignature t (signature_in text (declaration_meaning t.names (get_or ds i d))) found → after_of t text ds i ≡ whole → after_of t text ds (i + 1) ≡ whole
 not_in t text ds i d None whole within none one before =
-    ap (λ o. or_else o (behind_of t text ds (i + 1))) one.meaning ∙ sym (step t text ds i d within) ∙ before
+    ap (λ o. or_else o (after_of t text ds (i + 1))) one.meaning ∙ sym (step t text ds i d within) ∙ before
 not_in t text ds i d (Some term) whole within none one before = let never : ⊥ = cc in absurd never
 
-pub not_in_block : (t : Text) (text : List ℕ) (ds : List code.Declaration) (i : ℕ) (whole : Option TypeTerm) → length ds ≤ i → behind_of t text ds i ≡ whole → IsSignature t whole None
+pub not_in_block : (t : Text) (text : List ℕ) (ds : List code.Declaration) (i : ℕ) (whole : Option TypeTerm) → length ds ≤ i → after_of t text ds i ≡ whole → IsSignature t whole None
 not_in_block t text ds i whole past before =
     none_found t whole (sym (ap (λ rest. signature_of text (declarations_meaning t.names rest)) (drop_all i ds past)) ∙ before)

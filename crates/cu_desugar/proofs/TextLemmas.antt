@@ -41,13 +41,13 @@ found_start t whole found left groups none same are = record {
   owned = subst (All (GroupIsOf t.owner t.names)) (sym same) are.owned;
 }
 
-pub found_one : (t : Text) (whole : List meant.Group) (found after : List FunctionText) (left behind : List Group) (g : Group) (f : FunctionText) → left ≡ g ∷ behind
-    → after ≡ found ++ f ∷ [] → f.group ≡ g → IsText t f → All (GroupIsOf t.owner t.names) behind → Finding t whole found left → Finding t whole after behind
-found_one t whole found after left behind g f split pushed same is owned before = record {
-  are = ap (λ fs. map (function_in t) fs ++ map (group_meaning t.names) behind) pushed
-      ∙ ap (λ ys. ys ++ map (group_meaning t.names) behind) (map-append (function_in t) found (f ∷ []))
-      ∙ append_assoc (map (function_in t) found) (function_in t f ∷ []) (map (group_meaning t.names) behind)
-      ∙ ap (λ h. map (function_in t) found ++ group_meaning t.names h ∷ map (group_meaning t.names) behind) same
+pub found_one : (t : Text) (whole : List meant.Group) (found after : List FunctionText) (left later : List Group) (g : Group) (f : FunctionText) → left ≡ g ∷ later
+    → after ≡ found ++ f ∷ [] → f.group ≡ g → IsText t f → All (GroupIsOf t.owner t.names) later → Finding t whole found left → Finding t whole after later
+found_one t whole found after left later g f split pushed same is owned before = record {
+  are = ap (λ fs. map (function_in t) fs ++ map (group_meaning t.names) later) pushed
+      ∙ ap (λ ys. ys ++ map (group_meaning t.names) later) (map-append (function_in t) found (f ∷ []))
+      ∙ append_assoc (map (function_in t) found) (function_in t f ∷ []) (map (group_meaning t.names) later)
+      ∙ ap (λ h. map (function_in t) found ++ group_meaning t.names h ∷ map (group_meaning t.names) later) same
       ∙ ap (λ gs. map (function_in t) found ++ map (group_meaning t.names) gs) (sym split)
       ∙ before.are;
   known = subst (All (IsText t)) (sym pushed) (All-push (IsText t) found f before.known is);

@@ -43,8 +43,8 @@ same_option (Some a) (Some b) is = ap Some (same_id a b is)
 bytes_turned : (x y : List ℕ) → bytes_eq x y ≡ bytes_eq y x
 bytes_turned x y =
     let there = bytes_eq-Decides x y in
-    let back = bytes_eq-Decides y x in
-    same_from_decides (bytes_eq x y) (bytes_eq y x) there (λ e. sym (back.0 e), λ e. back.1 (sym e))
+    let converse = bytes_eq-Decides y x in
+    same_from_decides (bytes_eq x y) (bytes_eq y x) there (λ e. sym (converse.0 e), λ e. converse.1 (sym e))
 
 turned_name : (names : List (List ℕ)) (a b : NameId) → AllDiffer names → IsKnown names a → IsKnown names b → nat_eq a.0 b.0 ≡ bytes_eq (text_of names b) (text_of names a)
 turned_name names a b differ known_a known_b = same_name names a b differ known_a known_b ∙ bytes_turned (text_of names a) (text_of names b)

@@ -18,7 +18,7 @@ use Rattle.cu_translation.specs.FaultOrder.{FixityClash, fault}
 use Rattle.cu_translation.specs.Faults.{clash_unless}
 use Rattle.cu_translation.specs.GroupedTree.{grouped_tree}
 use Rattle.cu_translation.specs.Meaning.{Setting}
-use Rattle.cu_faults.specs.Inside.Patterns.{operators_clash, pieces_behind, pieces_of}
+use Rattle.cu_faults.specs.Inside.Patterns.{operators_clash, pieces_after, pieces_of}
 
 -- ---- grouped trees
 
@@ -35,22 +35,22 @@ no_tree fixity items at none = ap (clash_unless at) ((none_exactly fixity items)
 abbrev fixity_in : Setting → Operator → Fixity
 fixity_in w = fixity_with w.around.names.fixity
 
-alike_behind : (w : Setting) (whole : List Piece) (n : ℕ) (items : List ConstructorItem)
-    → ((k : ℕ) → slice_get whole (n + k) ≡ slice_get (pieces_behind w items) k)
-    → AllZip (Alike (fixity_at whole) (fixity_in w)) (numbered n (pieces_behind w items)) (pattern_rest_items (rest_meaning w.names items))
-alike_behind w whole n [] same = tt
-alike_behind w whole n (item ∷ items) same =
+alike_after : (w : Setting) (whole : List Piece) (n : ℕ) (items : List ConstructorItem)
+    → ((k : ℕ) → slice_get whole (n + k) ≡ slice_get (pieces_after w items) k)
+    → AllZip (Alike (fixity_at whole) (fixity_in w)) (numbered n (pieces_after w items)) (pattern_rest_items (rest_meaning w.names items))
+alike_after w whole n [] same = tt
+alike_after w whole n (item ∷ items) same =
     let first : n ≡ n + 0 = omega arith in
     let here = ap (slice_get whole) first ∙ same 0 in
-    let later : (k : ℕ) → slice_get whole (suc (suc n) + k) ≡ slice_get (pieces_behind w items) k =
+    let later : (k : ℕ) → slice_get whole (suc (suc n) + k) ≡ slice_get (pieces_after w items) k =
     λ k. (let e : suc (suc n) + k ≡ n + suc (suc k) = omega arith in ap (slice_get whole) e ∙ same (suc (suc k))) in
-    (ap fixity_of here, (tt, alike_behind w whole (suc (suc n)) items later))
+    (ap fixity_of here, (tt, alike_after w whole (suc (suc n)) items later))
 
 alike : (w : Setting) (items : PatItems)
     → AllZip (Alike (fixity_at (pieces_of w items)) (fixity_in w)) (items_of (pieces_of w items)) (pattern_items (pat_items_meaning w.names items))
 alike w items = (
   tt,
-  alike_behind w (pieces_of w items) 1 items.rest.items
+  alike_after w (pieces_of w items) 1 items.rest.items
       (λ k. (let e : 1 + k ≡ suc k = omega arith in ap (slice_get (pieces_of w items)) e)),
 )
 

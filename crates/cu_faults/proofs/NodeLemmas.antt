@@ -107,15 +107,15 @@ fault_in_function a n block g owner x y z is one two = fault_told a n (Function 
 -- the node that the code has come to, and those behind it
 pub record Opened (t : Text) (es : List ScopeEntry) (bs : List (Vec Declaration Global)) (found : nodes.Node) (others : List nodes.Node) (left : List Node) : Type 0 where
   pub node : Node
-  pub behind : List Node
-  pub left_is : left ≡ node ∷ behind
-  pub is : IsNode t es bs found node behind
-  pub are : AreNodes t es bs others behind
+  pub after : List Node
+  pub left_is : left ≡ node ∷ after
+  pub is : IsNode t es bs found node after
+  pub are : AreNodes t es bs others after
 
 opened_by : (t : Text) (es : List ScopeEntry) (bs : List (Vec Declaration Global)) (found : nodes.Node) (others : List nodes.Node) (left : List Node)
     → AreNodes t es bs (found ∷ others) left → Opened t es bs found others left
 opened_by t es bs found others [] are = absurd are
-opened_by t es bs found others (n ∷ ns) are = record { node = n; behind = ns; left_is = refl; is = are.0; are = are.1 }
+opened_by t es bs found others (n ∷ ns) are = record { node = n; after = ns; left_is = refl; is = are.0; are = are.1 }
 
 pub opened : (t : Text) (es : List ScopeEntry) (bs : List (Vec Declaration Global)) (xs : List nodes.Node) (i : ℕ) (x : nodes.Node) (left : List Node) → x ≡ get_or xs i x → i < length xs
     → AreNodes t es bs (drop i xs) left → Opened t es bs x (drop (i + 1) xs) left
@@ -131,9 +131,9 @@ pub closed : (t : Text) (es : List ScopeEntry) (bs : List (Vec Declaration Globa
     → AreNodes t es bs (drop i xs) left → left ≡ []
 closed t es bs xs i left past are = no_nodes t es bs left (subst (λ ys. AreNodes t es bs ys left) (drop_all i xs past) are)
 
-pub node_front : (owner : NameId) (f : Node → List Fault) (left : List Node) (n : Node) (behind : List Node) (a b c : First) → left ≡ n ∷ behind
-    → Told owner a (f n) b → Told owner b (flat_map f behind) c → Told owner a (flat_map f left) c
-node_front owner f left n behind a b c is one rest = told_as (sym (ap (flat_map f) is)) (told_both one rest)
+pub node_prefix : (owner : NameId) (f : Node → List Fault) (left : List Node) (n : Node) (after : List Node) (a b c : First) → left ≡ n ∷ after
+    → Told owner a (f n) b → Told owner b (flat_map f after) c → Told owner a (flat_map f left) c
+node_prefix owner f left n after a b c is one rest = told_as (sym (ap (flat_map f) is)) (told_both one rest)
 
 pub node_end : (owner : NameId) (f : Node → List Fault) (left : List Node) (a : First) → left ≡ [] → Told owner a (flat_map f left) a
 node_end owner f left a is = told_as (sym (ap (flat_map f) is)) (told_none owner a)

@@ -58,13 +58,13 @@ over_by : (f g h : Fault) (a b : Bool) → is_before h f ≡ a → is_before h g
     → earlier g (Some (if a then h else f)) ≡ earlier f (Some (if b then h else g))
 over_by f g h true true p q = rw (p, q) refl
 over_by f g h true false p q =
-    let behind : is_before g f ≡ true =
+    let after : is_before g f ≡ true =
     passed_over h.at.line h.at.column (rank h.wrong) g.at.line g.at.column (rank g.wrong) f.at.line f.at.column (rank f.wrong) p q in
-    rw (q, behind) refl
+    rw (q, after) refl
 over_by f g h false true p q =
-    let behind : is_before f g ≡ true =
+    let after : is_before f g ≡ true =
     passed_over h.at.line h.at.column (rank h.wrong) f.at.line f.at.column (rank f.wrong) g.at.line g.at.column (rank g.wrong) q p in
-    rw (p, behind) refl
+    rw (p, after) refl
 over_by f g h false false p q = turned g f
 
 over : (f g : Fault) (found : Option Fault) → earlier g (Some (earlier f found)) ≡ earlier f (Some (earlier g found))

@@ -17,7 +17,7 @@ use Rattle.cu_faults.specs.declared.patterns.Sought.{Sought}
 use Rattle.cu_faults.specs.declared.patterns.Sought.TheVariants.{Clashes, Counts}
 use Rattle.cu_faults.specs.Inside.Patterns.{constructed_told, operands_told, operators_clash, operators_told, pattern_told, patterns_told}
 use Rattle.cu_faults.specs.Telling.{Told}
-use Rattle.cu_faults.proofs.ToldLemmas.{told_as, told_end, told_front}
+use Rattle.cu_faults.proofs.ToldLemmas.{told_as, told_end, told_prefix}
 
 pub counted : (names : List (List ℕ)) (ps : List Pattern) → pattern_count (patterns_meaning names ps) ≡ length ps
 counted names [] = refl
@@ -79,9 +79,9 @@ unfolding patterns_told
 patterns_nil Clashes w = refl
 patterns_nil Counts w = refl
 
-pub patterns_front : (P : Pattern → Type 0) (s : Sought) (w : Setting) (xs : List Pattern) (i : ℕ) (x : Pattern) (a b c : First) → x ≡ get_or xs i x → i < length xs → All P xs
+pub patterns_prefix : (P : Pattern → Type 0) (s : Sought) (w : Setting) (xs : List Pattern) (i : ℕ) (x : Pattern) (a b c : First) → x ≡ get_or xs i x → i < length xs → All P xs
     → (P x → Told w.owner a (pattern_told s w x) b) → Told w.owner b (patterns_told s w (drop (i + 1) xs)) c → Told w.owner a (patterns_told s w (drop i xs)) c
-patterns_front P s w = told_front P (patterns_told s w) (pattern_told s w) (patterns_cons s w) w.owner
+patterns_prefix P s w = told_prefix P (patterns_told s w) (pattern_told s w) (patterns_cons s w) w.owner
 
 pub patterns_end : (s : Sought) (w : Setting) (xs : List Pattern) (i : ℕ) (a : First) → length xs ≤ i → Told w.owner a (patterns_told s w (drop i xs)) a
 patterns_end s w = told_end (patterns_told s w) (patterns_nil s w) w.owner
@@ -100,9 +100,9 @@ unfolding operands_told
 operands_nil Clashes w = refl
 operands_nil Counts w = refl
 
-pub operands_front : (P : ConstructorItem → Type 0) (s : Sought) (w : Setting) (xs : List ConstructorItem) (i : ℕ) (x : ConstructorItem) (a b c : First) → x ≡ get_or xs i x → i < length xs → All P xs
+pub operands_prefix : (P : ConstructorItem → Type 0) (s : Sought) (w : Setting) (xs : List ConstructorItem) (i : ℕ) (x : ConstructorItem) (a b c : First) → x ≡ get_or xs i x → i < length xs → All P xs
     → (P x → Told w.owner a (operand_told s w x) b) → Told w.owner b (operands_told s w (drop (i + 1) xs)) c → Told w.owner a (operands_told s w (drop i xs)) c
-operands_front P s w = told_front P (operands_told s w) (operand_told s w) (operands_cons s w) w.owner
+operands_prefix P s w = told_prefix P (operands_told s w) (operand_told s w) (operands_cons s w) w.owner
 
 pub operands_end : (s : Sought) (w : Setting) (xs : List ConstructorItem) (i : ℕ) (a : First) → length xs ≤ i → Told w.owner a (operands_told s w (drop i xs)) a
 operands_end s w = told_end (operands_told s w) (operands_nil s w) w.owner

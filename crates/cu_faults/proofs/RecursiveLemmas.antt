@@ -41,9 +41,9 @@ not_recursive nodes b p is other = ap (λ x. recursive_at nodes (binder_meaning 
 abbrev pub all_recursive : List Node → List code.Binder → List Fault
 all_recursive nodes bs = flat_map (recursive_at nodes) (map binder_meaning bs)
 
-pub all_front : (nodes : List Node) (owner : NameId) (bs : List code.Binder) (i : ℕ) (d : code.Binder) (x y z : First) → i < length bs
+pub all_prefix : (nodes : List Node) (owner : NameId) (bs : List code.Binder) (i : ℕ) (d : code.Binder) (x y z : First) → i < length bs
     → Told owner x (recursive_at nodes (binder_meaning (get_or bs i d))) y → Told owner y (all_recursive nodes (drop (i + 1) bs)) z → Told owner x (all_recursive nodes (drop i bs)) z
-all_front nodes owner bs i d x y z within one rest =
+all_prefix nodes owner bs i d x y z within one rest =
     told_as (sym (ap (all_recursive nodes) (drop-cons bs i d within ∙ ap (λ n. get_or bs i d ∷ drop n bs) (sym (add-one i))))) (told_both one rest)
 
 pub all_end : (nodes : List Node) (owner : NameId) (bs : List code.Binder) (i : ℕ) (x : First) → length bs ≤ i → Told owner x (all_recursive nodes (drop i bs)) x

@@ -46,9 +46,9 @@ other_count names f r rs other =
 dropped : (xs : List rules.Rule) (i : ℕ) (x : rules.Rule) → x ≡ get_or xs i x → i < length xs → drop i xs ≡ x ∷ drop (i + 1) xs
 dropped xs i x is within = drop-cons xs i x within ∙ ap₂ (λ y n. y ∷ drop n xs) (sym is) (sym (add-one i))
 
-pub others_front : (names : List (List ℕ)) (f : rules.Rule) (xs : List rules.Rule) (i : ℕ) (x : rules.Rule) → x ≡ get_or xs i x → i < length xs
+pub others_prefix : (names : List (List ℕ)) (f : rules.Rule) (xs : List rules.Rule) (i : ℕ) (x : rules.Rule) → x ≡ get_or xs i x → i < length xs
     → length x.parameters.items ≡ length f.parameters.items → others_faults names f (drop (i + 1) xs) ≡ others_faults names f (drop i xs)
-others_front names f xs i x is within same =
+others_prefix names f xs i x is within same =
     sym (ap (others_faults names f) (dropped xs i x is within) ∙ same_count names f x (drop (i + 1) xs) same)
 
 pub others_found : (names : List (List ℕ)) (f : rules.Rule) (xs : List rules.Rule) (i : ℕ) (x : rules.Rule) → x ≡ get_or xs i x → i < length xs

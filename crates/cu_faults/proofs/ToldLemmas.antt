@@ -9,7 +9,7 @@ use Rattle.cu_syntax.specs.Owners.{PlaceIsOf}
 use Rattle.cu_translation.specs.declared.fault.Fault as code
 use Rattle.cu_translation.specs.Answer.{fault_meaning}
 use Rattle.cu_translation.specs.FaultOrder.{Fault, earlier}
-use Rattle.cu_uses.proofs.FoundLemmas.{front, nothing_left}
+use Rattle.cu_uses.proofs.FoundLemmas.{prefix, nothing_left}
 use Rattle.cu_faults.specs.declared.first.First.{First}
 use Rattle.cu_faults.specs.Telling.{AreTold, Told}
 use Rattle.cu_faults.proofs.OrderLemmas.{one_more}
@@ -45,11 +45,11 @@ pub told_as : {owner : NameId} {a b : First} {fs gs : List Fault} → fs ≡ gs 
 told_as {owner = owner} {a = a} {b = b} same told = subst (λ hs. Told owner a hs b) same told
 
 -- one round of a loop
-pub told_front : {X : Type 0} (P : X → Type 0) (F : List X → List Fault) (f : X → List Fault) → ((x : X) (xs : List X) → F (x ∷ xs) ≡ f x ++ F xs)
+pub told_prefix : {X : Type 0} (P : X → Type 0) (F : List X → List Fault) (f : X → List Fault) → ((x : X) (xs : List X) → F (x ∷ xs) ≡ f x ++ F xs)
     → (owner : NameId) (xs : List X) (i : ℕ) (x : X) (a b c : First) → x ≡ get_or xs i x → i < length xs → All P xs
     → (P x → Told owner a (f x) b) → Told owner b (F (drop (i + 1) xs)) c → Told owner a (F (drop i xs)) c
-told_front P F f cons owner xs i x a b c is within all here behind =
-    told_as (front F f cons xs i x is within) (told_both (here (subst P (sym is) (All-get_or P xs i x within all))) behind)
+told_prefix P F f cons owner xs i x a b c is within all here suffix =
+    told_as (prefix F f cons xs i x is within) (told_both (here (subst P (sym is) (All-get_or P xs i x within all))) suffix)
 
 pub told_end : {X : Type 0} (F : List X → List Fault) → F [] ≡ [] → (owner : NameId) (xs : List X) (i : ℕ) (a : First) → length xs ≤ i → Told owner a (F (drop i xs)) a
 told_end F empty owner xs i a past = told_as (sym (nothing_left F empty xs i past)) (told_none owner a)

@@ -162,18 +162,18 @@ name_of_infix : (o : Operator) → operator_name (Infix o) ≡ named o
 name_of_infix (Minus at) = refl
 name_of_infix (Named name) = refl
 
-tree_behind : (a : Around) (local : Scope) (before : Option Name) (t : Tree Expression Operator) (rest : List (Item Expression Operator))
+tree_after : (a : Around) (local : Scope) (before : Option Name) (t : Tree Expression Operator) (rest : List (Item Expression Operator))
     → items_faults a local before (polish t ++ rest)
     ≡ before_faults a local before (leaf_name a local t) ++ (tree_faults a local t ++ items_faults a local None rest)
-tree_behind a local before (Leaf e) rest = refl
-tree_behind a local before (Applied o t) rest =
-    ap (λ fs. before_faults a local before None ++ fs) (tree_behind a local None t rest)
-tree_behind a local before (Between l o r) rest =
+tree_after a local before (Leaf e) rest = refl
+tree_after a local before (Applied o t) rest =
+    ap (λ fs. before_faults a local before None ++ fs) (tree_after a local None t rest)
+tree_after a local before (Between l o r) rest =
     ap (λ fs. before_faults a local before None ++ fs)
     (ap (λ b. items_faults a local b ((polish l ++ polish r) ++ rest)) (name_of_infix o)
     ∙ ap (items_faults a local (named o)) (append_assoc (polish l) (polish r) rest)
-    ∙ tree_behind a local (named o) l (polish r ++ rest)
-    ∙ ap₂ (λ fs gs. fs ++ (tree_faults a local l ++ gs)) (operation_is a local o (leaf_name a local l) (leaf_name a local r)) (tree_behind a local None r rest)
+    ∙ tree_after a local (named o) l (polish r ++ rest)
+    ∙ ap₂ (λ fs gs. fs ++ (tree_faults a local l ++ gs)) (operation_is a local o (leaf_name a local l) (leaf_name a local r)) (tree_after a local None r rest)
     ∙ ap (λ fs. operation_faults a local o (leaf_name a local l ∷ leaf_name a local r ∷ []) ++ fs)
     (sym (append_assoc (tree_faults a local l) (tree_faults a local r) (items_faults a local None rest)))
     ∙ sym (append_assoc (operation_faults a local o (leaf_name a local l ∷ leaf_name a local r ∷ []))
@@ -181,7 +181,7 @@ tree_behind a local before (Between l o r) rest =
 
 in_tree : (a : Around) (local : Scope) (t : Tree Expression Operator) → items_faults a local None (polish t) ≡ tree_faults a local t
 in_tree a local t =
-    ap (items_faults a local None) (sym (append-nil (polish t))) ∙ tree_behind a local None t [] ∙ append-nil (tree_faults a local t)
+    ap (items_faults a local None) (sym (append-nil (polish t))) ∙ tree_after a local None t [] ∙ append-nil (tree_faults a local t)
 
 -- ---- expressions with operators
 
@@ -330,10 +330,10 @@ operator_owned owner names (part.Operand e) of = tt
 operator_owned owner names (part.Minus at) of = tt
 operator_owned owner names (part.Operator name) of = of
 
-pub part_front : (w : Setting) (local : Scope) (before : Option names.Name) (xs : List (Part code.Expression)) (i : ℕ) (x : Part code.Expression) (a b c : First)
+pub part_prefix : (w : Setting) (local : Scope) (before : Option names.Name) (xs : List (Part code.Expression)) (i : ℕ) (x : Part code.Expression) (a b c : First)
     → x ≡ get_or xs i x → i < length xs → Told w.owner a (part_faults w local before x) b
     → Told w.owner b (parts_faults w local (operator_in x) (drop (i + 1) xs)) c → Told w.owner a (parts_faults w local before (drop i xs)) c
-part_front w local before xs i x a b c is within one rest =
+part_prefix w local before xs i x a b c is within one rest =
     told_as
     (part_cons w local before x (drop (i + 1) xs)
     ∙ ap (parts_faults w local before) (sym (drop-cons xs i x within ∙ ap₂ (λ y n. y ∷ drop n xs) (sym is) (sym (add-one i))))) (told_both one rest)

@@ -11,7 +11,7 @@ use Rattle.cu_fixity.specs.declared.piece.Piece.{Piece}
 use Rattle.cu_fixity.specs.declared.piece.Piece.TheVariants as piece
 use Rattle.cu_fixity.specs.declared.tree.Cell.{Cell}
 use Rattle.cu_fixity.specs.declared.tree.Cell.TheVariants as cell
-use Rattle.cu_fixity.specs.Grouping.{Applied, Between, Infix, Item, Leaf, Operand, Prefix, Tree, fits_behind, flatten, is_grouped, top}
+use Rattle.cu_fixity.specs.Grouping.{Applied, Between, Infix, Item, Leaf, Operand, Prefix, Tree, fits_after, flatten, is_grouped, top}
 use Rattle.cu_fixity.specs.Pieces.{fixity_at, item_of, items_of}
 use Rattle.cu_fixity.specs.Ranges.{Candidate, HasNoHead, IsHead, IsWithin, SolveAll, Solves, between, candidate, fits, parts, root, spelled_all}
 use Rattle.cu_fixity.specs.Spelling.{spelled}
@@ -206,7 +206,7 @@ minus_head pieces task n h first fit = record {
     taken : (tree : Tree ℕ ℕ) → Solves pieces task tree → TopOf pieces task n piece.Minus tree
         → (trees : List (Tree ℕ ℕ)) × SolveAll pieces (parts task (cell.Minus n)) trees × (spelled tree ≡ cell.Minus n ∷ spelled_all trees)
     taken _ s (applied t at is rest) =
-        let p = and_parts (fits_behind (fixity_at pieces) n (top t)) (is_grouped (fixity_at pieces) t) s.grouped.fits in
+        let p = and_parts (fits_after (fixity_at pieces) n (top t)) (is_grouped (fixity_at pieces) t) s.grouped.fits in
         (t ∷ [], ((record { grouped = record { flattens = rest; fits = p.1 }; fits = p.0 }), tt), ap (λ cs. cell.Minus n ∷ cs) (sym (append-nil (spelled t))))
     taken _ s (between_two l r is left right) = absurd cc
 

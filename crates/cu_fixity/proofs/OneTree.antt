@@ -3,7 +3,7 @@ use Rattle.std.specs.Prelude.{◌≡◌, ℕ, ◌+◌, ◌≤◌, true, List, []
 use Rattle.std.proofs.Common.{ap, ap₂, arith, sym, ◌∙◌, length-append}
 use Rattle.std.proofs.lemmas.Bool.{and_parts}
 use Rattle.cu_fixity.specs.declared.fixity.Fixity.{Fixity}
-use Rattle.cu_fixity.specs.Grouping.{Applied, Between, Infix, Leaf, Tree, fits_behind, flatten, is_grouped, top}
+use Rattle.cu_fixity.specs.Grouping.{Applied, Between, Infix, Leaf, Tree, fits_after, flatten, is_grouped, top}
 use Rattle.cu_fixity.specs.Ranges.{Candidate, root}
 use Rattle.cu_fixity.proofs.Roots.{fitting, root_found}
 
@@ -32,8 +32,8 @@ one_tree fixity (Leaf a) (Leaf b) d e h = let same : a ≡ b = cc in ap Leaf sam
 one_tree fixity (Applied o t) (Applied p u) d e h =
     let same : o ≡ p = cc in
     let rest : flatten t ≡ flatten u = cc in
-    ap₂ Applied same (one_tree fixity t u (and_parts (fits_behind fixity o (top t)) (is_grouped fixity t) d).1
-    (and_parts (fits_behind fixity p (top u)) (is_grouped fixity u) e).1 rest)
+    ap₂ Applied same (one_tree fixity t u (and_parts (fits_after fixity o (top t)) (is_grouped fixity t) d).1
+    (and_parts (fits_after fixity p (top u)) (is_grouped fixity u) e).1 rest)
 one_tree fixity (Between l o r) (Between m p s) d e h =
     let f = fitting fixity l o r d in
     let g = fitting fixity m p s e in

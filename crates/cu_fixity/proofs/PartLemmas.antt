@@ -142,13 +142,13 @@ no_tree value names fixity table written d none =
     (all_stand value names fixity table written d)) none
 
 -- The cells of a tree of all pieces have numbers of pieces.
-all_front : {X : Type 0} (P : X → Type 0) (xs ys : List X) → All P (xs ++ ys) → All P xs
-all_front P [] ys h = All-nil P
-all_front P (x ∷ xs) ys h = All-cons P x xs (All-head P x (xs ++ ys) h) (all_front P xs ys (All-tail P x (xs ++ ys) h))
+all_prefix : {X : Type 0} (P : X → Type 0) (xs ys : List X) → All P (xs ++ ys) → All P xs
+all_prefix P [] ys h = All-nil P
+all_prefix P (x ∷ xs) ys h = All-cons P x xs (All-head P x (xs ++ ys) h) (all_prefix P xs ys (All-tail P x (xs ++ ys) h))
 
-all_back : {X : Type 0} (P : X → Type 0) (xs ys : List X) → All P (xs ++ ys) → All P ys
-all_back P [] ys h = h
-all_back P (x ∷ xs) ys h = all_back P xs ys (All-tail P x (xs ++ ys) h)
+all_suffix : {X : Type 0} (P : X → Type 0) (xs ys : List X) → All P (xs ++ ys) → All P ys
+all_suffix P [] ys h = h
+all_suffix P (x ∷ xs) ys h = all_suffix P xs ys (All-tail P x (xs ++ ys) h)
 
 piece_place : (n : ℕ) (p : Piece) → place_of (pieces.item_of n p) ≡ n
 piece_place n piece.Operand = refl
@@ -169,12 +169,12 @@ cells_below end (Applied n t) h =
     All-cons (λ (c : Cell). number c < end) (cell.Minus n) (spelled t) (All-head (λ (i : Item ℕ ℕ). place_of i < end) (Prefix n) (flatten t) h)
     (cells_below end t (All-tail (λ (i : Item ℕ ℕ). place_of i < end) (Prefix n) (flatten t) h))
 cells_below end (Between l n r) h =
-    let behind = all_back (λ (i : Item ℕ ℕ). place_of i < end) (flatten l) (Infix n ∷ flatten r) h in
+    let after = all_suffix (λ (i : Item ℕ ℕ). place_of i < end) (flatten l) (Infix n ∷ flatten r) h in
     All-cons (λ (c : Cell). number c < end) (cell.Operator n) (spelled l ++ spelled r)
-    (All-head (λ (i : Item ℕ ℕ). place_of i < end) (Infix n) (flatten r) behind)
+    (All-head (λ (i : Item ℕ ℕ). place_of i < end) (Infix n) (flatten r) after)
     (All-append (λ (c : Cell). number c < end) (spelled l) (spelled r)
-    (cells_below end l (all_front (λ (i : Item ℕ ℕ). place_of i < end) (flatten l) (Infix n ∷ flatten r) h))
-    (cells_below end r (All-tail (λ (i : Item ℕ ℕ). place_of i < end) (Infix n) (flatten r) behind)))
+    (cells_below end l (all_prefix (λ (i : Item ℕ ℕ). place_of i < end) (flatten l) (Infix n ∷ flatten r) h))
+    (cells_below end r (All-tail (λ (i : Item ℕ ℕ). place_of i < end) (Infix n) (flatten r) after)))
 
 pub all_within : {T : Type 0} (table : Table) (written : List (Part T)) (ps : List Piece) (found : Tree ℕ ℕ) (cells : List Cell)
     → ps ≡ map (piece_of table) written → Grouped (fixity_at ps) (items_of ps) found → cells ≡ spelled found → All (λ c. number c < length written) cells

@@ -5,7 +5,7 @@ use Rattle.std.specs.Option.{option_map}
 use Rattle.std.proofs.Common.{ap, ap₂, append-nil, append_assoc, subst, sym, ◌∙◌}
 use Rattle.cu_fixity.specs.declared.fixity.Fixity.{Fixity}
 use Rattle.cu_syntax.specs.declared.items.Side.TheVariants.{Left, Right}
-use Rattle.cu_fixity.specs.Grouping.{Applied, Between, Grouped, HasNoTree, Infix, Item, Leaf, Operand, Prefix, Tree, both, fits_behind, fits_left, fits_right, flatten, is_grouped, top}
+use Rattle.cu_fixity.specs.Grouping.{Applied, Between, Grouped, HasNoTree, Infix, Item, Leaf, Operand, Prefix, Tree, both, fits_after, fits_left, fits_right, flatten, is_grouped, top}
 use Rattle.cu_fixity.specs.Operators.{polish}
 
 -- two operands, or operators of one fixity
@@ -15,16 +15,16 @@ Alike f g (Prefix o) (Prefix p) = f o ≡ g p
 Alike f g (Infix o) (Infix p) = f o ≡ g p
 Alike f g _ _ = ⊥
 
-alike_back : {A B O P : Type 0} (f : O → Fixity) (g : P → Fixity) (x : Item A O) (y : Item B P) → Alike f g x y → Alike g f y x
-alike_back f g (Operand a) (Operand b) e = tt
-alike_back f g (Prefix o) (Prefix p) e = sym e
-alike_back f g (Infix o) (Infix p) e = sym e
-alike_back f g (Operand a) (Prefix p) e = absurd e
-alike_back f g (Operand a) (Infix p) e = absurd e
-alike_back f g (Prefix o) (Operand b) e = absurd e
-alike_back f g (Prefix o) (Infix p) e = absurd e
-alike_back f g (Infix o) (Operand b) e = absurd e
-alike_back f g (Infix o) (Prefix p) e = absurd e
+alike_swapped : {A B O P : Type 0} (f : O → Fixity) (g : P → Fixity) (x : Item A O) (y : Item B P) → Alike f g x y → Alike g f y x
+alike_swapped f g (Operand a) (Operand b) e = tt
+alike_swapped f g (Prefix o) (Prefix p) e = sym e
+alike_swapped f g (Infix o) (Infix p) e = sym e
+alike_swapped f g (Operand a) (Prefix p) e = absurd e
+alike_swapped f g (Operand a) (Infix p) e = absurd e
+alike_swapped f g (Prefix o) (Operand b) e = absurd e
+alike_swapped f g (Prefix o) (Infix p) e = absurd e
+alike_swapped f g (Infix o) (Operand b) e = absurd e
+alike_swapped f g (Infix o) (Prefix p) e = absurd e
 
 -- What fits depends on fixities alone.
 left_alike : {O P : Type 0} (f : O → Fixity) (g : P → Fixity) (o : O) (p : P) → f o ≡ g p
@@ -43,12 +43,12 @@ right_alike f g o p e (Some q) None h = absurd cc
 right_alike f g o p e (Some q) (Some s) h =
     let k : g s ≡ f q = cc in ap₂ (λ x y. nat_lt x.level y.level || both Right x y) (sym e) k
 
-behind_alike : {O P : Type 0} (f : O → Fixity) (g : P → Fixity) (o : O) (p : P) → f o ≡ g p
-    → (q : Option O) (s : Option P) → option_map g s ≡ option_map f q → fits_behind g p s ≡ fits_behind f o q
-behind_alike f g o p e None None h = refl
-behind_alike f g o p e None (Some s) h = absurd cc
-behind_alike f g o p e (Some q) None h = absurd cc
-behind_alike f g o p e (Some q) (Some s) h =
+after_alike : {O P : Type 0} (f : O → Fixity) (g : P → Fixity) (o : O) (p : P) → f o ≡ g p
+    → (q : Option O) (s : Option P) → option_map g s ≡ option_map f q → fits_after g p s ≡ fits_after f o q
+after_alike f g o p e None None h = refl
+after_alike f g o p e None (Some s) h = absurd cc
+after_alike f g o p e (Some q) None h = absurd cc
+after_alike f g o p e (Some q) (Some s) h =
     let k : g s ≡ f q = cc in ap₂ (λ (x y : Fixity). nat_lt x.level y.level) (sym e) k
 
 zip_append : {X Y : Type 0} (R : X → Y → Type 0) (xs us : List X) (ys vs : List Y) → AllZip R xs ys → AllZip R us vs → AllZip R (xs ++ us) (ys ++ vs)
@@ -63,12 +63,12 @@ zip_map R S f [] (y ∷ ys) h = absurd h
 zip_map R S f (x ∷ xs) [] h = absurd h
 zip_map R S f (x ∷ xs) (y ∷ ys) h = (f x y h.0, zip_map R S f xs ys h.1)
 
-zip_back : {X Y : Type 0} (R : X → Y → Type 0) (S : Y → X → Type 0) → ((x : X) (y : Y) → R x y → S y x)
+zip_swapped : {X Y : Type 0} (R : X → Y → Type 0) (S : Y → X → Type 0) → ((x : X) (y : Y) → R x y → S y x)
     → (xs : List X) (ys : List Y) → AllZip R xs ys → AllZip S ys xs
-zip_back R S f [] [] h = tt
-zip_back R S f [] (y ∷ ys) h = absurd h
-zip_back R S f (x ∷ xs) [] h = absurd h
-zip_back R S f (x ∷ xs) (y ∷ ys) h = (f x y h.0, zip_back R S f xs ys h.1)
+zip_swapped R S f [] [] h = tt
+zip_swapped R S f [] (y ∷ ys) h = absurd h
+zip_swapped R S f (x ∷ xs) [] h = absurd h
+zip_swapped R S f (x ∷ xs) (y ∷ ys) h = (f x y h.0, zip_swapped R S f xs ys h.1)
 
 zip_nothing : {X Y : Type 0} (R : X → Y → Type 0) (ys : List Y) → AllZip R [] ys → ys ≡ []
 zip_nothing R [] h = refl
@@ -100,7 +100,7 @@ begins_applied f g R o t rest (Prefix p) ys e r k = record {
   whole = ap (λ zs. Prefix p ∷ zs) k.whole;
   others = k.others;
   tops = ap Some (sym e);
-  fits = ap₂ (λ b c. b && c) (behind_alike f g o p e (top t) (top k.tree) k.tops) k.fits;
+  fits = ap₂ (λ b c. b && c) (after_alike f g o p e (top t) (top k.tree) k.tops) k.fits;
   polished = (r, k.polished);
 }
 
@@ -166,6 +166,6 @@ renamed f g R alike xs ys t h d =
 pub none_renamed : {A B O P : Type 0} (f : O → Fixity) (g : P → Fixity) (xs : List (Item A O)) (ys : List (Item B P))
     → AllZip (Alike f g) xs ys → HasNoTree f xs → HasNoTree g ys
 none_renamed f g xs ys h none = λ u d.
-    let back = zip_back (Alike f g) (Alike g f) (alike_back f g) xs ys h in
-    let k = renamed g f (Alike g f) (λ y x e. e) ys xs u back d in
+    let converse = zip_swapped (Alike f g) (Alike g f) (alike_swapped f g) xs ys h in
+    let k = renamed g f (Alike g f) (λ y x e. e) ys xs u converse d in
     none k.tree k.grouped

@@ -4,7 +4,7 @@ use Rattle.std.proofs.Common.{ap, arith, ◌∙◌, inl}
 use Rattle.std.proofs.lemmas.Bool.{and_parts, ltb-true}
 use Rattle.cu_fixity.specs.declared.fixity.Fixity.{Fixity}
 use Rattle.cu_syntax.specs.declared.items.Side.TheVariants.{Left, Right}
-use Rattle.cu_fixity.specs.Grouping.{Applied, Between, Infix, Item, Leaf, Operand, Prefix, Tree, fits_behind, fits_left, fits_right, flatten, is_grouped, top}
+use Rattle.cu_fixity.specs.Grouping.{Applied, Between, Infix, Item, Leaf, Operand, Prefix, Tree, fits_after, fits_left, fits_right, flatten, is_grouped, top}
 use Rattle.cu_fixity.specs.Ranges.{Candidate, better, is_above, root}
 use Rattle.cu_fixity.proofs.Levels.{Near, Over, above, near_over, near_self, not_above, over_near, over_of}
 
@@ -40,9 +40,9 @@ right_of : {O : Type 0} (fixity : O → Fixity) (o : O) (p : Option O) → fits_
 right_of fixity o None e q h = absurd h
 right_of fixity o (Some p) e q h = over_near Right (fixity o) (fixity p) (fixity q) (over_of Right (fixity o) (fixity p) e) h
 
-behind_of : {O : Type 0} (fixity : O → Fixity) (o : O) (p : Option O) → fits_behind fixity o p ≡ true → (q : O) → NearTop fixity p q → Over Right (fixity o) (fixity q)
-behind_of fixity o None e q h = absurd h
-behind_of fixity o (Some p) e q h = over_near Right (fixity o) (fixity p) (fixity q) (inl (ltb-true (fixity o).level (fixity p).level e)) h
+after_of : {O : Type 0} (fixity : O → Fixity) (o : O) (p : Option O) → fits_after fixity o p ≡ true → (q : O) → NearTop fixity p q → Over Right (fixity o) (fixity q)
+after_of fixity o None e q h = absurd h
+after_of fixity o (Some p) e q h = over_near Right (fixity o) (fixity p) (fixity q) (inl (ltb-true (fixity o).level (fixity p).level e)) h
 
 -- what a tree whose operands fit has in its parts
 pub record Fitting {A O : Type 0} (fixity : O → Fixity) (l : Tree A O) (o : O) (r : Tree A O) : Type 0 where
@@ -61,10 +61,10 @@ fitting fixity l o r e =
 all_near : {A O : Type 0} (fixity : O → Fixity) (t : Tree A O) → is_grouped fixity t ≡ true → AllOperators (NearTop fixity (top t)) (flatten t)
 all_near fixity (Leaf a) e = tt
 all_near fixity (Applied o t) e =
-    let p = and_parts (fits_behind fixity o (top t)) (is_grouped fixity t) e in (
+    let p = and_parts (fits_after fixity o (top t)) (is_grouped fixity t) e in (
       near_self (fixity o),
       all_map (NearTop fixity (top t)) (λ q. Near (fixity o) (fixity q))
-          (λ q h. near_over Right (fixity o) (fixity q) (behind_of fixity o (top t) p.0 q h)) (flatten t) (all_near fixity t p.1),
+          (λ q h. near_over Right (fixity o) (fixity q) (after_of fixity o (top t) p.0 q h)) (flatten t) (all_near fixity t p.1),
     )
 all_near fixity (Between l o r) e =
     let f = fitting fixity l o r e in
@@ -140,9 +140,9 @@ top_at n (Between l o r) = Some (record { at = n + length (flatten l); operator 
 pub root_found : {A O : Type 0} (fixity : O → Fixity) (t : Tree A O) (n : ℕ) → is_grouped fixity t ≡ true → root fixity n None (flatten t) ≡ top_at n t
 root_found fixity (Leaf a) n e = refl
 root_found fixity (Applied o t) n e =
-    let p = and_parts (fits_behind fixity o (top t)) (is_grouped fixity t) e in
+    let p = and_parts (fits_after fixity o (top t)) (is_grouped fixity t) e in
     keeps fixity (n + 1) (record { at = n; operator = o }) (flatten t)
-    (all_map (NearTop fixity (top t)) (λ q. Over Right (fixity o) (fixity q)) (behind_of fixity o (top t) p.0) (flatten t) (all_near fixity t p.1))
+    (all_map (NearTop fixity (top t)) (λ q. Over Right (fixity o) (fixity q)) (after_of fixity o (top t) p.0) (flatten t) (all_near fixity t p.1))
 root_found fixity (Between l o r) n e =
     let f = fitting fixity l o r e in
     let here : Candidate _ = record { at = n + length (flatten l); operator = o } in

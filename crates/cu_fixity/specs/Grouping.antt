@@ -51,14 +51,14 @@ fits_right fixity o None = true
 fits_right fixity o (Some p) = nat_lt (fixity o).level (fixity p).level
     || both Right (fixity o) (fixity p)
 
-abbrev pub fits_behind : {O : Type 0} → (O → Fixity) → O → Option O → Bool
-fits_behind fixity o None = true
-fits_behind fixity o (Some p) = nat_lt (fixity o).level (fixity p).level
+abbrev pub fits_after : {O : Type 0} → (O → Fixity) → O → Option O → Bool
+fits_after fixity o None = true
+fits_after fixity o (Some p) = nat_lt (fixity o).level (fixity p).level
 
 -- whether the operands of all operators of a tree fit
 abbrev pub is_grouped : {A O : Type 0} → (O → Fixity) → Tree A O → Bool
 is_grouped fixity (Leaf a) = true
-is_grouped fixity (Applied o t) = fits_behind fixity o (top t) && is_grouped fixity t
+is_grouped fixity (Applied o t) = fits_after fixity o (top t) && is_grouped fixity t
 is_grouped fixity (Between l o r) =
     (fits_left fixity o (top l) && fits_right fixity o (top r))
     && (is_grouped fixity l && is_grouped fixity r)

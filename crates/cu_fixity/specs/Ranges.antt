@@ -11,7 +11,7 @@ use Rattle.cu_fixity.specs.declared.piece.Piece.{Piece}
 use Rattle.cu_fixity.specs.declared.piece.Piece.TheVariants as piece
 use Rattle.cu_fixity.specs.declared.tree.Cell.{Cell}
 use Rattle.cu_fixity.specs.declared.tree.Cell.TheVariants as cell
-use Rattle.cu_fixity.specs.Grouping.{Grouped, Infix, Item, Operand, Prefix, Tree, fits_behind, fits_left, fits_right, same_side, top}
+use Rattle.cu_fixity.specs.Grouping.{Grouped, Infix, Item, Operand, Prefix, Tree, fits_after, fits_left, fits_right, same_side, top}
 use Rattle.cu_fixity.specs.Pieces.{fixity_at, items_of}
 use Rattle.cu_fixity.specs.Spelling.{spelled}
 
@@ -64,7 +64,7 @@ between from to items = take (to - from) (drop from items)
 -- whether a tree with this operator at its top, or none, fits where it is to stand
 abbrev pub fits : (ℕ → Fixity) → Under → Option ℕ → Bool
 fits fixity under.Nothing p = true
-fits fixity (under.Minus n) p = fits_behind fixity n p
+fits fixity (under.Minus n) p = fits_after fixity n p
 fits fixity (under.LeftOf n) p = fits_left fixity n p
 fits fixity (under.RightOf n) p = fits_right fixity n p
 

@@ -15,15 +15,15 @@ spelled (Between l n r) = cell.Operator n ∷ spelled l ++ spelled r
 
 -- the trees that a cell and the trees after it make: an operator takes the first one or two as its
 -- operands
-abbrev pub behind : Cell → List (Tree ℕ ℕ) → List (Tree ℕ ℕ)
-behind (cell.Operand n) trees = Leaf n ∷ trees
-behind (cell.Minus n) (t ∷ trees) = Applied n t ∷ trees
-behind (cell.Operator n) (l ∷ r ∷ trees) = Between l n r ∷ trees
-behind _ trees = trees
+abbrev pub put : Cell → List (Tree ℕ ℕ) → List (Tree ℕ ℕ)
+put (cell.Operand n) trees = Leaf n ∷ trees
+put (cell.Minus n) (t ∷ trees) = Applied n t ∷ trees
+put (cell.Operator n) (l ∷ r ∷ trees) = Between l n r ∷ trees
+put _ trees = trees
 
 abbrev pub read_all : List Cell → List (Tree ℕ ℕ)
 read_all [] = []
-read_all (c ∷ cells) = behind c (read_all cells)
+read_all (c ∷ cells) = put c (read_all cells)
 
 abbrev pub first_of : List (Tree ℕ ℕ) → Tree ℕ ℕ
 first_of [] = Leaf 0
@@ -39,8 +39,8 @@ pub read_all-spelled : (t : Tree ℕ ℕ) (cells : List Cell)
 read_all-spelled (Leaf n) cells = refl
 read_all-spelled (Applied n t) cells = rw (read_all-spelled t cells) refl
 read_all-spelled (Between l n r) cells =
-    ap (λ cs. behind (cell.Operator n) (read_all cs)) (append_assoc (spelled l) (spelled r) cells)
-    ∙ ap (behind (cell.Operator n))
+    ap (λ cs. put (cell.Operator n) (read_all cs)) (append_assoc (spelled l) (spelled r) cells)
+    ∙ ap (put (cell.Operator n))
     (read_all-spelled l (spelled r ++ cells) ∙ ap (λ trees. l ∷ trees)
     (read_all-spelled r cells))
 

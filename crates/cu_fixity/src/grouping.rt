@@ -203,9 +203,9 @@ fn add_parts(tasks: &mut Vec<Task>, task: Task, cell: Cell) -> Result<(), AllocE
 {
     match cell {
         Cell::Operand(_) => {}
-        Cell::Minus(n) => tasks.push(behind(task, n, Under::Minus(n)))?,
+        Cell::Minus(n) => tasks.push(after(task, n, Under::Minus(n)))?,
         Cell::Operator(n) => {
-            tasks.push(behind(task, n, Under::RightOf(n)))?;
+            tasks.push(after(task, n, Under::RightOf(n)))?;
             tasks.push(before(task, n))?;
         }
     }
@@ -224,7 +224,7 @@ fn before(task: Task, n: usize) -> Task
 }
 
 /// What follows a piece in a range.
-fn behind(task: Task, n: usize, under: Under) -> Task
+fn after(task: Task, n: usize, under: Under) -> Task
     requires { n < 2 ^ 64 - 1 }
     ensures { result ≡ record { from = n + 1; to = task.to; under = under } }
 {

@@ -53,8 +53,8 @@ module _ (program : Code) (of : Program) (heads : HasHeads program of) where
       let may : ℕ → Bool = λ x. holds x params in
       let depth = length program.expressions in
       let count = nat_eq (pattern_count rule.params) arity in
-      let front = count && fit_patterns of rule.params && is_linear params in
-      let parts = and_parts front (fits_term of may rule.body) fit in
+      let prefix = count && fit_patterns of rule.params && is_linear params in
+      let parts = and_parts prefix (fits_term of may rule.body) fit in
       let counted = (and_parts count (fit_patterns of rule.params) (and_parts (count && fit_patterns of rule.params) (is_linear params) parts.0).0).0 in
       let plains = and_parts (are_variables rule.params && is_linear params) (is_flat_term rule.body) plain in
       let variables = and_parts (are_variables rule.params) (is_linear params) plains.0 in

@@ -24,7 +24,7 @@ use Rattle.cu_calculus.proofs.FlatTerms.{fits_branch}
 use Rattle.cu_calculus.proofs.Lists.{all_append}
 use Rattle.cu_flat.specs.Layout.{beside, binding, branch_layouts, branch_sizes, branches, branches_use, kept_of, layout, layouts, place, places, shallow_of, size, sizes, some_uses, uses}
 use Rattle.cu_flat.proofs.Lengths.{Stands, Stands-last, Stands-left, Stands-right, length-branch_layouts, length-layout, length-layouts, size-some}
-use Rattle.cu_flat.proofs.Scopes.{Holds, Holds-behind, Holds-binding, Holds-kept, Holds-without, kept-held, linear-binding, linear-kept, uses-may}
+use Rattle.cu_flat.proofs.Scopes.{Holds, Holds-after, Holds-binding, Holds-kept, Holds-without, kept-held, linear-binding, linear-kept, uses-may}
 
 -- ---- patterns
 
@@ -158,8 +158,8 @@ module _ (program : Code) (of : Program) (heads : HasHeads program of) where
       → (less : ℕ) (actual : List ℕ) → sizes ts + 1 ≤ suc less → Holds (some_uses ts) actual
       → IsTrue (is_allowed program h && enough (arity_of program h) (length (places n ts)) && list_all (fits less program actual) (places n ts))
   headed scope n h ts enough laid fit count less actual deep held =
-      let front : is_allowed program h && enough (arity_of program h) (length (places n ts)) ≡ true = rw (allowed h, heads.arities h, count) fit in
-      and_from (is_allowed program h && enough (arity_of program h) (length (places n ts))) (list_all (fits less program actual) (places n ts)) front
+      let prefix : is_allowed program h && enough (arity_of program h) (length (places n ts)) ≡ true = rw (allowed h, heads.arities h, count) fit in
+      and_from (is_allowed program h && enough (arity_of program h) (length (places n ts))) (list_all (fits less program actual) (places n ts)) prefix
       (laid.fitting less actual (omega arith) held)
 
   length-places : (n : ℕ) (ts : Terms) → length (places n ts) ≡ term_count ts
@@ -260,20 +260,20 @@ module _ (program : Code) (of : Program) (heads : HasHeads program of) where
         let xs = layout n scope a in
         let ys = layout m inner b in
         let e = code.Let x (place n a) (place m b) in
-        let behind : ℕ → Bool = λ y. beside (x ∷ []) y && uses b y in
+        let after : ℕ → Bool = λ y. beside (x ∷ []) y && uses b y in
         let plains = and_parts (is_flat_term a) (is_flat_term b) plain in
         let fit_parts = and_parts (fits_term of (but x may) a) (fits_term of (also x may) b) fit in
-        let first = laid-term (but x may) scope n a plains.0 fit_parts.0 linear (left-held (uses a) behind scope held) (first-part n xs ys e stands) in
+        let first = laid-term (but x may) scope n a plains.0 fit_parts.0 linear (left-held (uses a) after scope held) (first-part n xs ys e stands) in
         let second = laid-term (also x may) inner m b plains.1 fit_parts.1 (linear-binding scope (x ∷ []) linear refl)
-        (Holds-binding (uses b) scope (x ∷ []) (right-held (uses a) behind scope held))
+        (Holds-binding (uses b) scope (x ∷ []) (right-held (uses a) after scope held))
         (second-part n (size a) xs ys e stands (length-layout n scope a)) in
         made scope n (term.Let x a b) (xs ++ ys) e refl (lengths scope inner n a b) stands
         (λ less actual deep there. and_from (fits less program (without x actual) (place n a)) (fits less program (actual ++ x ∷ []) (place m b))
         (first.fitting less (without x actual) (omega arith)
         (Holds-without (uses a) x actual
         (λ y h. (and_parts (not (nat_eq x y)) (may y) (uses-may of (but x may) a y fit_parts.0 h)).0)
-        (left-held (uses a) behind actual there)))
-        (second.fitting less (actual ++ x ∷ []) (omega arith) (Holds-behind (uses b) actual (x ∷ []) (right-held (uses a) behind actual there))))
+        (left-held (uses a) after actual there)))
+        (second.fitting less (actual ++ x ∷ []) (omega arith) (Holds-after (uses b) actual (x ∷ []) (right-held (uses a) after actual there))))
         (λ less deep. two-same (term.Let x) _ _ a b (first.same less (omega arith)) (second.same less (omega arith)))
         (all_append (fits_case program) xs ys first.cases second.cases) refl
     laid-term may scope n (term.Free x t) plain fit linear held stands =
@@ -283,7 +283,7 @@ module _ (program : Code) (of : Program) (heads : HasHeads program of) where
         let part = laid-term (also x may) inner n t plain fit (linear-binding scope (x ∷ []) linear refl)
         (Holds-binding (uses t) scope (x ∷ []) held) (Stands-left program.expressions n xs (e ∷ []) stands) in
         made scope n (term.Free x t) xs e refl (omega (arith, length-layout n inner t)) stands
-        (λ less actual deep there. part.fitting less (actual ++ x ∷ []) (omega arith) (Holds-behind (uses t) actual (x ∷ []) there))
+        (λ less actual deep there. part.fitting less (actual ++ x ∷ []) (omega arith) (Holds-after (uses t) actual (x ∷ []) there))
         (λ less deep. ap (term.Free x) (part.same less (omega arith))) part.cases refl
     laid-term may scope n (term.Case mode a alternatives) plain fit linear held stands =
         let m = n + size a in
@@ -294,10 +294,10 @@ module _ (program : Code) (of : Program) (heads : HasHeads program of) where
         let e = code.Case mode kept (place n a) rows in
         let differ = flat.all_differ (demands_of alternatives) in
         let plains = and_parts (is_flat_term a && differ) (are_flat_alternatives alternatives) plain in
-        let front = and_parts (is_flat_term a) differ plains.0 in
+        let prefix = and_parts (is_flat_term a) differ plains.0 in
         let fit_parts = and_parts (fits_term of may a) (fit_alternatives of may alternatives) fit in
         let used = right-held (uses a) (branches_use alternatives) scope held in
-        let first = laid-term may scope n a front.0 fit_parts.0 linear (left-held (uses a) (branches_use alternatives) scope held)
+        let first = laid-term may scope n a prefix.0 fit_parts.0 linear (left-held (uses a) (branches_use alternatives) scope held)
         (first-part n xs ys e stands) in
         let second = laid-branches may scope m alternatives plains.1 fit_parts.1 linear used
         (second-part n (size a) xs ys e stands (length-layout n scope a)) in
@@ -309,10 +309,10 @@ module _ (program : Code) (of : Program) (heads : HasHeads program of) where
         (and_from (list_all (λ z. holds z actual) kept) (fits less program actual (place n a))
         (kept-held (branches_use alternatives) scope actual (right-held (uses a) (branches_use alternatives) actual there))
         (first.fitting less actual (omega arith) (left-held (uses a) (branches_use alternatives) actual there)))
-        (branches-fit scope m alternatives less second linear used front.1 (omega arith)))
+        (branches-fit scope m alternatives less second linear used prefix.1 (omega arith)))
         (λ less deep. case-same mode _ _ a alternatives (first.same less (omega arith)) (second.same less (omega arith)))
         (all_append (fits_case program) xs ys first.cases second.cases)
-        (branches-fit scope m alternatives (length program.expressions) second linear used front.1
+        (branches-fit scope m alternatives (length program.expressions) second linear used prefix.1
         (omega (arith, stands.inside, length-append (xs ++ ys) (e ∷ []), long)))
 
     pub laid-terms : (may : ℕ → Bool) (scope : List ℕ) (n : ℕ) (ts : Terms) → IsTrue (are_flat_terms ts) → IsTrue (fit_terms of may ts)
@@ -368,7 +368,7 @@ module _ (program : Code) (of : Program) (heads : HasHeads program of) where
               (list_all (fits_branch (fits depth program) program kept) (branches m alternatives))
               (and_from (fits_pattern program (shallow_of p)) (fits depth program (kept ++ bound_by (shallow_of p)) (place n t)) fitting_pattern
               (subst (λ (ys : List ℕ). IsTrue (fits depth program (kept ++ ys) (place n t))) (sym (bound_by-shallow p here.0))
-              (first.fitting depth (kept ++ bound) (omega arith) (Holds-behind (uses t) kept bound (left-held mine rest kept there)))))
+              (first.fitting depth (kept ++ bound) (omega arith) (Holds-after (uses t) kept bound (left-held mine rest kept there)))))
               (others.fitting depth kept (omega arith) (right-held mine rest kept there));
           same = λ depth deep.
               branch-same _ p _ t _ alternatives (pattern_of-shallow p here.0) (first.same depth (omega arith)) (others.same depth (omega arith));

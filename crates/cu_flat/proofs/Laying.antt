@@ -23,18 +23,18 @@ pub laid-over : (r : Result Laid AllocError) (scope : List ℕ) (whole t : Term)
     → IfOk r (λ laid. laid.used.items ≡ us) → IfOk r (λ laid. IsPushed e mid new laid.place)
     → e ≡ own → layout (length old) scope t ≡ inside ++ own ∷ [] → us ≡ filter (uses t) scope
     → IfOk r (λ laid. IsLaid scope whole old new laid.place laid.used.items)
-laid-over (Err x) scope whole t old mid new inside e own us is front long used pushed same laid use_ = tt
-laid-over (Ok l) scope whole t old mid new inside e own us is front long used pushed same laid use_ =
+laid-over (Err x) scope whole t old mid new inside e own us is prefix long used pushed same laid use_ = tt
+laid-over (Ok l) scope whole t old mid new inside e own us is prefix long used pushed same laid use_ =
     subst (λ (s : Term). IsLaid scope s old new l.place l.used.items) (sym is) (record {
-      place = pushed.place ∙ ap (λ n. record { 0 = n }) (omega (arith, ap length front, length-append old inside, long));
+      place = pushed.place ∙ ap (λ n. record { 0 = n }) (omega (arith, ap length prefix, length-append old inside, long));
       used_of = used ∙ use_;
-      written = pushed.written ∙ ap (λ (es : List Expr). es ++ e ∷ []) front ∙ append_assoc old inside (e ∷ [])
+      written = pushed.written ∙ ap (λ (es : List Expr). es ++ e ∷ []) prefix ∙ append_assoc old inside (e ∷ [])
           ∙ ap (λ (x : Expr). old ++ (inside ++ x ∷ [])) same ∙ ap (λ (es : List Expr). old ++ es) (sym laid);
     })
 
 -- where the second of two parts begins
 pub next-begins : (old mid inside : List Expr) (m : ℕ) → mid ≡ old ++ inside → length inside ≡ m → length mid ≡ length old + m
-next-begins old mid inside m front long = omega (arith, ap length front, length-append old inside, long)
+next-begins old mid inside m prefix long = omega (arith, ap length prefix, length-append old inside, long)
 
 -- a term of two parts
 pub laid-pair : (r : Result Laid AllocError) (scope inner : List ℕ) (whole t a b : Term) (old mid last new : List Expr) (pa pb : ExprId) (ua us : List ℕ)
@@ -45,12 +45,12 @@ pub laid-pair : (r : Result Laid AllocError) (scope inner : List ℕ) (whole t a
     ++ e (place (length old) a) (place (length old + size a) b) ∷ []
     → size t - 1 ≡ size a + size b → us ≡ filter (uses t) scope
     → IfOk r (λ laid. IsLaid scope whole old new laid.place laid.used.items)
-laid-pair r scope inner whole t a b old mid last new pa pb ua us e is first there front used pushed laid sized use_ =
+laid-pair r scope inner whole t a b old mid last new pa pb ua us e is first there prefix used pushed laid sized use_ =
     let n = length old in
     let xs = layout n scope a in
     let ys = layout (n + size a) inner b in
     let next : length mid ≡ n + size a = next-begins old mid xs (size a) first.written (length-layout n scope a) in
-    let second : last ≡ mid ++ ys = front ∙ ap (λ k. mid ++ layout k inner b) next in
+    let second : last ≡ mid ++ ys = prefix ∙ ap (λ k. mid ++ layout k inner b) next in
     laid-over r scope whole t old last new (xs ++ ys) (e pa pb) (e (place n a) (place (n + size a) b)) us is
     (second ∙ ap (λ (es : List Expr). es ++ ys) first.written ∙ append_assoc old xs ys)
     (omega (arith, length-append xs ys, length-layout n scope a, length-layout (n + size a) inner b, sized)) used pushed
@@ -145,10 +145,10 @@ laid-case r scope whole mode a rows old mid last new e ua made kept is first sec
     let xs = layout n scope a in
     let ys = branch_layouts (n + size a) scope rows in
     let next : length mid ≡ n + size a = next-begins old mid xs (size a) first.written (length-layout n scope a) in
-    let front : last ≡ mid ++ ys = second.written ∙ ap (λ k. mid ++ branch_layouts k scope rows) next in
+    let prefix : last ≡ mid ++ ys = second.written ∙ ap (λ k. mid ++ branch_layouts k scope rows) next in
     laid-over r scope whole (term.Case mode a rows) old last new (xs ++ ys) (code.Case mode kept e made)
     (code.Case mode (kept_of scope rows) (place n a) (branches (n + size a) rows)) (filter (λ x. uses a x || branches_use rows x) scope) is
-    (front ∙ ap (λ (es : List Expr). es ++ ys) first.written ∙ append_assoc old xs ys)
+    (prefix ∙ ap (λ (es : List Expr). es ++ ys) first.written ∙ append_assoc old xs ys)
     (omega (arith, length-append xs ys, length-layout n scope a, length-branch_layouts (n + size a) scope rows)) used pushed
     (three kept (kept_of scope rows) e (place n a) made (branches (n + size a) rows) second.used_of first.place
     (second.branches ∙ ap (λ k. branches k rows) next)) refl refl

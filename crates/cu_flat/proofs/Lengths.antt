@@ -7,7 +7,7 @@ use Rattle.cu_calculus.specs.Program.{Body, Function}
 use Rattle.cu_calculus.specs.Term as term
 use Rattle.cu_calculus.specs.Term.{Alternatives, Term, Terms}
 use Rattle.cu_calculus.specs.Valid.{all_variables, variables_of}
-use Rattle.cu_calculus.proofs.Lists.{get_behind, get_front}
+use Rattle.cu_calculus.proofs.Lists.{get_suffix, get_prefix}
 use Rattle.cu_flat.specs.Layout.{binding, body_layout, body_size, branch_layouts, branch_sizes, branches, kept_of, layout, layouts, place, places, size, sizes}
 
 -- two parts and an expression after them
@@ -87,13 +87,13 @@ Stands-all es = record { at = λ k e h. ap (slice_get es) (omega arith) ∙ h; i
 
 pub Stands-left : (es : List Expr) (n : ℕ) (xs ys : List Expr) → Stands es n (xs ++ ys) → Stands es n xs
 Stands-left es n xs ys s = record {
-  at = λ k e h. s.at k e (get_front xs ys k e h);
+  at = λ k e h. s.at k e (get_prefix xs ys k e h);
   inside = omega (arith, length-append xs ys, s.inside);
 }
 
 pub Stands-right : (es : List Expr) (n m : ℕ) (xs ys : List Expr) → Stands es n (xs ++ ys) → length xs ≡ m → Stands es (n + m) ys
 Stands-right es n m xs ys s long = record {
-  at = λ k e h. ap (slice_get es) (omega (arith, long)) ∙ s.at (length xs + k) e (get_behind xs ys k ∙ h);
+  at = λ k e h. ap (slice_get es) (omega (arith, long)) ∙ s.at (length xs + k) e (get_suffix xs ys k ∙ h);
   inside = omega (arith, length-append xs ys, s.inside, long);
 }
 
@@ -101,4 +101,4 @@ Stands-right es n m xs ys s long = record {
 pub Stands-last : (es : List Expr) (n m : ℕ) (xs : List Expr) (e : Expr) → Stands es n (xs ++ e ∷ []) → length xs ≡ m - 1 → 1 ≤ m
     → slice_get es (n + (m - 1)) ≡ Some e
 Stands-last es n m xs e s long some =
-    ap (slice_get es) (omega (arith, long)) ∙ s.at (length xs + 0) e (get_behind xs (e ∷ []) 0 ∙ refl)
+    ap (slice_get es) (omega (arith, long)) ∙ s.at (length xs + 0) e (get_suffix xs (e ∷ []) 0 ∙ refl)

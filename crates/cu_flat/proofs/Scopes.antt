@@ -37,8 +37,8 @@ beside-not : (xs : List ℕ) (y : ℕ) → IsTrue (beside xs y) → holds y xs �
 beside-not xs y h = not-true (holds y xs) h
 
 -- variables that pass a test beside others are in scope together with those
-pub Holds-behind : (test : ℕ → Bool) (scope xs : List ℕ) → Holds (λ y. beside xs y && test y) scope → Holds test (scope ++ xs)
-Holds-behind test scope xs held y h = by (either (holds y xs))
+pub Holds-after : (test : ℕ → Bool) (scope xs : List ℕ) → Holds (λ y. beside xs y && test y) scope → Holds test (scope ++ xs)
+Holds-after test scope xs held y h = by (either (holds y xs))
   where
     by : ((holds y xs ≡ true) ⊎ (holds y xs ≡ false)) → IsTrue (holds y (scope ++ xs))
     by (inl there) = holds-append y scope xs ∙ or_right (holds y scope) (holds y xs) there
@@ -48,7 +48,7 @@ Holds-behind test scope xs held y h = by (either (holds y xs))
 
 pub Holds-binding : (test : ℕ → Bool) (scope xs : List ℕ) → Holds (λ y. beside xs y && test y) scope → Holds test (binding xs scope)
 Holds-binding test scope xs held =
-    Holds-behind test (filter (beside xs) scope) xs
+    Holds-after test (filter (beside xs) scope) xs
     (λ y h. holds-filter y (beside xs) scope
     ∙ and_from (beside xs y) (holds y scope) (and_parts (beside xs y) (test y) h).0 (held y h))
 

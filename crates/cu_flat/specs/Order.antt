@@ -26,6 +26,6 @@ abbrev pub are_below : ℕ → List ExprId → Bool
 are_below n es = list_all (λ e. nat_lt e.0 n) es
 
 -- whether each of these expressions, of which the first has the number n, stands after its parts
-abbrev pub stand_behind_parts : ℕ → List Expr → Bool
-stand_behind_parts n [] = true
-stand_behind_parts n (e ∷ es) = are_below n (parts_of e) && stand_behind_parts (n + 1) es
+abbrev pub stand_after_parts : ℕ → List Expr → Bool
+stand_after_parts n [] = true
+stand_after_parts n (e ∷ es) = are_below n (parts_of e) && stand_after_parts (n + 1) es

@@ -6,7 +6,7 @@ ghost use Rattle.cu_calculus.specs.Program.{Program};
 ghost use Rattle.cu_calculus.specs.Valid.{IsValid};
 ghost use Rattle.cu_calculus.specs.WellFormed.{is_well_formed};
 ghost use Rattle.cu_flat.specs.Layout.{laid_out};
-ghost use Rattle.cu_flat.specs.Order.{stand_behind_parts};
+ghost use Rattle.cu_flat.specs.Order.{stand_after_parts};
 
 /// The code of a valid flat program is well-formed, and is the code of that
 /// program. In the code of any program each expression stands after its parts.
@@ -16,5 +16,5 @@ pub fn flat_programs_have_code()
     ensures same { (program : Program) → IsValid program → IsTrue (is_flat program)
         → program_of (laid_out program) ≡ program }
     ensures ordered { (program : Program)
-        → IsTrue (stand_behind_parts 0 (laid_out program).expressions) }
+        → IsTrue (stand_after_parts 0 (laid_out program).expressions) }
 {}

@@ -4,7 +4,7 @@ ghost use Rattle.cu_calculus.specs.Flat.{are_variables};
 ghost use Rattle.cu_calculus.specs.Term.{MorePatterns, NoPattern};
 ghost use Rattle.cu_calculus.specs.Valid.{all_variables, holds, variables_of};
 ghost use Rattle.cu_kernel.specs.TermsOf.{pattern_of, patterns_of};
-ghost use Rattle.cu_flat.specs.Inside.Scope.{behind};
+ghost use Rattle.cu_flat.specs.Inside.Scope.{after};
 ghost use Rattle.cu_flat.specs.Layout.{beside, binding};
 
 use cu_kernel::Pattern;
@@ -51,8 +51,8 @@ pub(crate) fn binding(alloc: Global, bound: &[u32], scope: &[u32]) -> Result<Vec
 
 /// What is left of variables after the first one, where that is x; else all
 /// of them.
-fn behind(x: u32, variables: &[u32]) -> &[u32]
-    ensures { result.now ≡ behind x variables.now }
+fn after(x: u32, variables: &[u32]) -> &[u32]
+    ensures { result.now ≡ after x variables.now }
 {
     match variables.first() {
         Some(first) if *first == x => &variables[1..],
@@ -92,13 +92,13 @@ pub(crate) fn merged(
 {
     let mut found = Vec::new(alloc);
     for x in scope {
-        let left_behind = behind(*x, left);
-        let right_behind = behind(*x, right);
-        let in_left = are_fewer(left_behind, left);
-        let in_right = are_fewer(right_behind, right);
+        let left_after = after(*x, left);
+        let right_after = after(*x, right);
+        let in_left = are_fewer(left_after, left);
+        let in_right = are_fewer(right_after, right);
         push_among(&mut found, *x, in_left, in_right)?;
-        left = left_behind;
-        right = right_behind;
+        left = left_after;
+        right = right_after;
     }
     Ok(found)
 }

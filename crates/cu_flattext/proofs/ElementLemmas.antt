@@ -9,27 +9,27 @@ use Rattle.cu_flattext.specs.Text.{on_a_line, synonym_texts}
 use Rattle.cu_flattext.specs.TypeTexts.{synonym_text}
 use Rattle.cu_flattext.specs.Naming.{Lowered, comma_text, elements, further}
 
-pub elements_more : (behind : Bool) (x : List ℕ) (xs : List (List ℕ)) → elements behind (x ∷ xs) ≡ comma_text behind ++ (x ++ further xs)
+pub elements_more : (follows : Bool) (x : List ℕ) (xs : List (List ℕ)) → elements follows (x ∷ xs) ≡ comma_text follows ++ (x ++ further xs)
 elements_more true x xs = refl
 elements_more false x xs = refl
 
-pub elements_none : (behind : Bool) → elements behind [] ≡ []
+pub elements_none : (follows : Bool) → elements follows [] ≡ []
 elements_none true = refl
 elements_none false = refl
 
 -- an element was written, and the others are left
-pub element_written : (old comma new : List ℕ) (behind : Bool) (x : List ℕ) (xs : List (List ℕ)) (rest : List ℕ)
-    → comma ≡ old ++ comma_text behind → new ≡ comma ++ x
-    → new ++ (further xs ++ rest) ≡ old ++ (elements behind (x ∷ xs) ++ rest)
-element_written old comma new behind x xs rest e f =
-    let c = comma_text behind in
+pub element_written : (old comma new : List ℕ) (follows : Bool) (x : List ℕ) (xs : List (List ℕ)) (rest : List ℕ)
+    → comma ≡ old ++ comma_text follows → new ≡ comma ++ x
+    → new ++ (further xs ++ rest) ≡ old ++ (elements follows (x ∷ xs) ++ rest)
+element_written old comma new follows x xs rest e f =
+    let c = comma_text follows in
     ap (λ (t : List ℕ). t ++ (further xs ++ rest)) (f ∙ ap (λ (t : List ℕ). t ++ x) e ∙ append_assoc old c x)
     ∙ append_assoc old (c ++ x) (further xs ++ rest)
     ∙ ap (λ (t : List ℕ). old ++ t)
     (append_assoc c x (further xs ++ rest)
     ∙ ap (λ (t : List ℕ). c ++ t) (sym (append_assoc x (further xs) rest))
     ∙ sym (append_assoc c (x ++ further xs) rest)
-    ∙ ap (λ (t : List ℕ). t ++ rest) (sym (elements_more behind x xs)))
+    ∙ ap (λ (t : List ℕ). t ++ rest) (sym (elements_more follows x xs)))
 
 -- a head of two parts after a comma was written, and what opens; then what is inside, what closes
 -- and the rest are left
@@ -42,14 +42,14 @@ head_written old first second third comma word name entity a b inside found open
     rw (h, g, f, e, i, j) (simp append_assoc refl)
 
 -- what was written of the first element and what is left of the others, read as all elements
-pub element_read : (got old : List ℕ) (behind : Bool) (x : List ℕ) (xs ys : List (List ℕ)) (rest now : List ℕ)
-    → ys ≡ x ∷ xs → now ≡ further xs ++ rest → got ≡ old ++ ((comma_text behind ++ x) ++ now) → got ≡ old ++ (elements behind ys ++ rest)
-element_read got old behind x xs ys rest now split left is =
-    let c = comma_text behind in
+pub element_read : (got old : List ℕ) (follows : Bool) (x : List ℕ) (xs ys : List (List ℕ)) (rest now : List ℕ)
+    → ys ≡ x ∷ xs → now ≡ further xs ++ rest → got ≡ old ++ ((comma_text follows ++ x) ++ now) → got ≡ old ++ (elements follows ys ++ rest)
+element_read got old follows x xs ys rest now split left is =
+    let c = comma_text follows in
     let same : (c ++ x) ++ (further xs ++ rest) ≡ (c ++ (x ++ further xs)) ++ rest = simp append_assoc refl in
     is ∙ ap (λ (t : List ℕ). old ++ t)
-    (ap (λ (n : List ℕ). (c ++ x) ++ n) left ∙ same ∙ ap (λ (t : List ℕ). t ++ rest) (sym (elements_more behind x xs))
-    ∙ ap (λ (zs : List (List ℕ)). elements behind zs ++ rest) (sym split))
+    (ap (λ (n : List ℕ). (c ++ x) ++ n) left ∙ same ∙ ap (λ (t : List ℕ). t ++ rest) (sym (elements_more follows x xs))
+    ∙ ap (λ (zs : List (List ℕ)). elements follows zs ++ rest) (sym split))
 
 pub first_and_others : {A : Type 0} → (xs : List A) (x : A) → 1 ≤ length xs → x ≡ get_or xs 0 x → xs ≡ x ∷ drop 1 xs
 first_and_others [] x some is = absurd (omega arith)

@@ -160,11 +160,11 @@ line_read program f public =
     (sym (append_assoc (inferred_type_text program (type_in program.interface f)) (codes ")") (codes " (" ++ (body_text program f ++ codes ")"))))
 
 -- what is left after the type of a function
-pub lines_behind_type : (program : Lowered) (m : ℕ) (old first second third : List Line) (closes opens : Line) (f : FunId)
+pub lines_after_type : (program : Lowered) (m : ℕ) (old first second third : List Line) (closes opens : Line) (f : FunId)
     → line_part program m closes ≡ codes ")" → line_part program m opens ≡ codes ") (" → first ≡ old ++ closes ∷ []
     → second ≡ first ++ line.Body f ∷ [] → third ≡ second ++ opens ∷ []
     → line_parts program m (reverse third) ≡ (codes ") (" ++ (body_text program f ++ codes ")")) ++ line_parts program m (reverse old)
-lines_behind_type program m old first second third closes opens f closing opening e g h =
+lines_after_type program m old first second third closes opens f closing opening e g h =
     let rest = line_parts program m (reverse old) in
     let body = body_text program f in
     line_pushed program m second third opens h

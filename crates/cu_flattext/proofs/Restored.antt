@@ -14,7 +14,7 @@ reverse_last ts t = reverse-append ts (t ∷ [])
 pub number_restored : (program : Lowered) (code : Code) (old ts : List Task) (x k n : ℕ) (inner numbers : Numbers)
     → ts ≡ old ++ task.Number x k ∷ [] → numbered x k inner ≡ numbers
     → all_parts program code (reverse ts) n inner ≡ all_parts program code (reverse old) n numbers
-number_restored program code old ts x k n inner numbers is back =
+number_restored program code old ts x k n inner numbers is restored =
     ap (λ (us : List Task). all_parts program code us n inner) (ap (λ (us : List Task). reverse us) is ∙ reverse_last old (task.Number x k))
     ∙ ap (λ (m : ℕ). all_parts program code (reverse old) m (numbered x k inner)) (omega arith)
-    ∙ ap (λ (v : Numbers). all_parts program code (reverse old) n v) back
+    ∙ ap (λ (v : Numbers). all_parts program code (reverse old) n v) restored

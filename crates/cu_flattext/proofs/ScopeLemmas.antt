@@ -32,15 +32,15 @@ middle : {A : Type 0} → (xs : List A) (x : A) (ys : List A) → slice_get (xs 
 middle [] x ys = refl
 middle (z ∷ xs) x ys = middle xs x ys
 
-front : {A : Type 0} → (xs ys : List A) → take (length xs) (xs ++ ys) ≡ xs
-front [] ys = refl
-front (x ∷ xs) ys = ap (λ zs. x ∷ zs) (front xs ys)
+prefix : {A : Type 0} → (xs ys : List A) → take (length xs) (xs ++ ys) ≡ xs
+prefix [] ys = refl
+prefix (x ∷ xs) ys = ap (λ zs. x ∷ zs) (prefix xs ys)
 
 all_but_last : {A : Type 0} → (xs : List A) (x : A) → take (length (xs ++ x ∷ []) - 1) (xs ++ x ∷ []) ≡ xs
 all_but_last xs x =
     let count = length-append xs (x ∷ []) in
     let e : length (xs ++ x ∷ []) - 1 ≡ length xs = omega arith in
-    ap (λ n. take n (xs ++ x ∷ [])) e ∙ front xs (x ∷ [])
+    ap (λ n. take n (xs ++ x ∷ [])) e ∙ prefix xs (x ∷ [])
 
 pub taken_none : {A : Type 0} → (xs : List A) (n i : ℕ) → n ≤ i → slice_get (take n xs) i ≡ None
 taken_none [] zero i le = refl
@@ -107,7 +107,7 @@ found_at : (program : Lowered) (settings before more : List Setting) (s : Scope)
 found_at program settings before more s i is count =
     let x = setting_of program before s in
     let same : before ≡ take i settings =
-    sym (front before (x ∷ more)) ∙ ap (λ n. take n (before ++ x ∷ more)) count ∙ ap (take i) (sym is) in
+    sym (prefix before (x ∷ more)) ∙ ap (λ n. take n (before ++ x ∷ more)) count ∙ ap (take i) (sym is) in
     ap (λ (xs : List Setting). slice_get xs i) is
     ∙ ap (λ n. slice_get (before ++ x ∷ more) n) (sym count)
     ∙ middle before x more

@@ -16,8 +16,8 @@ last_first : {A : Type 0} → (all others : List A) (last : A) → all ≡ other
 last_first all others last is = ap reverse is ∙ reverse-append others (last ∷ [])
 
 -- what was written of the first part of what is left was written of all of it
-writes_behind : (old left new now rest : List ℕ) → Writes old left new now → Writes old (left ++ rest) new (now ++ rest)
-writes_behind old left new now rest h =
+writes_after : (old left new now rest : List ℕ) → Writes old left new now → Writes old (left ++ rest) new (now ++ rest)
+writes_after old left new now rest h =
     sym (append_assoc new now rest) ∙ ap (λ text. text ++ rest) h ∙ append_assoc old left rest
 
 -- nothing is left of expressions where there is no task
@@ -37,7 +37,7 @@ types_popped expressions before tasks after t old new rest none popped h =
     let first : types_left before ≡ type_parts (lowered_of before.wording) before.scopes.items (t ∷ reverse tasks) =
     ap (type_parts (lowered_of before.wording) before.scopes.items) (last_first before.tasks.items tasks t popped) in
     rw (nothing_left expressions none, first)
-    (writes_behind old (type_parts (lowered_of before.wording) before.scopes.items (t ∷ reverse tasks)) new (types_left after) rest h)
+    (writes_after old (type_parts (lowered_of before.wording) before.scopes.items (t ∷ reverse tasks)) new (types_left after) rest h)
 
 -- a task of an inferred type was written
 pub inferred_popped : (expressions : Expressions) (types : Types) (before : InferredType) (tasks : List InferredTask) (after : InferredType)
@@ -49,7 +49,7 @@ inferred_popped expressions types before tasks after t old new rest none no_type
     let parts : List InferredTask → List ℕ = λ ts. inferred_parts (lowered_of before.wording) before.count before.table ts in
     let first : inferred_left before ≡ parts (t ∷ reverse tasks) = ap parts (last_first before.tasks.items tasks t popped) in
     rw (nothing_left expressions none, no_types_left types no_types, first)
-    (writes_behind old (parts (t ∷ reverse tasks)) new (inferred_left after) rest h)
+    (writes_after old (parts (t ∷ reverse tasks)) new (inferred_left after) rest h)
 
 -- a task of expressions was written
 pub expressions_popped : (before : Expressions) (tasks : List Task) (after : Expressions) (t : Task) (old new rest : List ℕ)
@@ -59,4 +59,4 @@ pub expressions_popped : (before : Expressions) (tasks : List Task) (after : Exp
 expressions_popped before tasks after t old new rest popped h =
     let parts : List Task → List ℕ = λ ts. all_parts (lowered_of before.wording) before.wording.flat.now ts before.next (numbers_of before.numbers) in
     let first : left_of before ≡ parts (t ∷ reverse tasks) = ap parts (last_first before.tasks.items tasks t popped) in
-    rw first (writes_behind old (parts (t ∷ reverse tasks)) new (left_of after) rest h)
+    rw first (writes_after old (parts (t ∷ reverse tasks)) new (left_of after) rest h)

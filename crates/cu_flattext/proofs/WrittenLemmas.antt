@@ -5,7 +5,7 @@ use Rattle.std.specs.Option.{option_map}
 use Rattle.std.specs.Prelude.{Err, Ok, OnErr, Result}
 use Rattle.cu_flattext.specs.Inside.Progress.{Continues}
 use Rattle.cu_flattext.specs.Inside.Tasks.{Writes}
-use Rattle.cu_flattext.specs.Written.{Adds, AddsFront}
+use Rattle.cu_flattext.specs.Written.{Adds, AddsPrefix}
 
 -- nothing was added
 pub Adds-nothing : (x : Option (List ℕ)) → Adds x x []
@@ -34,8 +34,8 @@ take-append-add n (x ∷ xs) ys =
     in ap (λ k. take k (x ∷ xs ++ ys)) e ∙ ap (λ zs. x ∷ zs) (take-append-add n xs ys)
 
 -- a prefix of the rest makes a prefix of the whole
-pub front : (a b c : Option (List ℕ)) (whole rest : List ℕ) → Continues a b whole rest → AddsFront b c rest → AddsFront a c whole
-front a b c whole rest h k =
+pub prefix : (a b c : Option (List ℕ)) (whole rest : List ℕ) → Continues a b whole rest → AddsPrefix b c rest → AddsPrefix a c whole
+prefix a b c whole rest h k =
     rw h.joined (
       length h.done + k.0,
       rw length-append (omega (arith, k.1)),
@@ -43,22 +43,22 @@ front a b c whole rest h k =
     )
 
 -- a prefix of the first part of the rest makes a prefix of the whole
-pub front_part : (a b c : Option (List ℕ)) (whole xs rest : List ℕ) → Continues a b whole (xs ++ rest) → AddsFront b c xs → AddsFront a c whole
-front_part a b c whole xs rest h k =
-    front a b c whole (xs ++ rest) h
+pub prefix_part : (a b c : Option (List ℕ)) (whole xs rest : List ℕ) → Continues a b whole (xs ++ rest) → AddsPrefix b c xs → AddsPrefix a c whole
+prefix_part a b c whole xs rest h k =
+    prefix a b c whole (xs ++ rest) h
     (k.0, rw length-append (omega (arith, k.1)), rw (take-append-le k.0 xs rest k.1) k.2)
 
 -- a prefix of the first part is a prefix of the whole
-pub part_front : (a b : Option (List ℕ)) (xs rest : List ℕ) → AddsFront a b xs → AddsFront a b (xs ++ rest)
-part_front a b xs rest h = front_part a a b (xs ++ rest) xs rest (begins a (xs ++ rest)) h
+pub part_prefix : (a b : Option (List ℕ)) (xs rest : List ℕ) → AddsPrefix a b xs → AddsPrefix a b (xs ++ rest)
+part_prefix a b xs rest h = prefix_part a a b (xs ++ rest) xs rest (begins a (xs ++ rest)) h
 
 -- nothing is a prefix of anything
-pub nothing_front : (a : Option (List ℕ)) (whole : List ℕ) → AddsFront a a whole
-nothing_front a whole = (0, omega arith, Adds-nothing a)
+pub nothing_prefix : (a : Option (List ℕ)) (whole : List ℕ) → AddsPrefix a a whole
+nothing_prefix a whole = (0, omega arith, Adds-nothing a)
 
 -- the whole is a prefix of itself
-pub whole_front : (a b : Option (List ℕ)) (whole : List ℕ) → Adds a b whole → AddsFront a b whole
-whole_front a b whole h = (length whole, omega arith, rw (take_all (length whole) whole (omega arith)) h)
+pub whole_prefix : (a b : Option (List ℕ)) (whole : List ℕ) → Adds a b whole → AddsPrefix a b whole
+whole_prefix a b whole h = (length whole, omega arith, rw (take_all (length whole) whole (omega arith)) h)
 
 pub OnErr-always : {T E P : Type 0} (r : Result T E) → P → OnErr r P
 OnErr-always (Ok x) p = tt
@@ -69,8 +69,8 @@ OnErr-map (Ok x) f p = tt
 OnErr-map (Err e) f p = f p
 
 -- what was added until it breaks off is a prefix of the whole
-pub breaks_off : (a b : Option (List ℕ)) (whole rest : List ℕ) → Continues a b whole rest → AddsFront a b whole
-breaks_off a b whole rest h = front a b b whole rest h (nothing_front b rest)
+pub breaks_off : (a b : Option (List ℕ)) (whole rest : List ℕ) → Continues a b whole rest → AddsPrefix a b whole
+breaks_off a b whole rest h = prefix a b b whole rest h (nothing_prefix b rest)
 
 -- some of what was left was written to the piece
 pub writes_on : (a b : Option (List ℕ)) (whole old left new now : List ℕ) → Continues a b whole (old ++ left) → Writes old left new now

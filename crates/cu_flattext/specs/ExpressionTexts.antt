@@ -120,11 +120,11 @@ function_alone program f =
     call_text (kind_text (head.Fun f) (missing program (head.Fun f) 0))
     (head_text program (head.Fun f)) []
 
--- The arguments of a head, where `alone` is the text of the arguments and `behind` their text after
+-- The arguments of a head, where `alone` is the text of the arguments and `after` their text after
 -- another element. A set function is `setN` with the function as its first argument.
 abbrev pub arguments_text : Lowered → Head → List ℕ → List ℕ → List ℕ
-arguments_text program (head.Set f) alone behind = function_alone program f ++ behind
-arguments_text program _ alone behind = alone
+arguments_text program (head.Set f) alone after = function_alone program f ++ after
+arguments_text program _ alone after = alone
 
 -- ---- expressions
 

@@ -10,8 +10,8 @@ abbrev pub Adds : Option (List ℕ) → Option (List ℕ) → List ℕ → Type 
 Adds before after text = after ≡ option_map (λ told. told ++ text) before
 
 -- The sink took a prefix of this text beside what it had taken before.
-abbrev pub AddsFront : Option (List ℕ) → Option (List ℕ) → List ℕ → Type 0
-AddsFront before after text = (n : ℕ) × (n ≤ length text) × Adds before after (take n text)
+abbrev pub AddsPrefix : Option (List ℕ) → Option (List ℕ) → List ℕ → Type 0
+AddsPrefix before after text = (n : ℕ) × (n ≤ length text) × Adds before after (take n text)
 
 -- The output's count of faults rose where the output failed. Otherwise it stands, also where memory
 -- ran out.

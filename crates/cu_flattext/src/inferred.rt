@@ -37,7 +37,7 @@ impl<'p> InferredType<'p> {
     ghost use Rattle.cu_types.specs.Inference.{type_in};
     ghost use Rattle.cu_types.specs.Table.{shape_of};
     ghost use Rattle.cu_types.specs.declared.node.TypeHead.TheVariants as head;
-    ghost use Rattle.cu_flattext.specs.Inside.InferredTasks.{inferred_left, inferred_left_behind, inferred_left_with, text_at, text_of_type, type_at, type_of_shape, type_with};
+    ghost use Rattle.cu_flattext.specs.Inside.InferredTasks.{inferred_left, inferred_left_after, inferred_left_with, text_at, text_of_type, type_at, type_of_shape, type_with};
     ghost use Rattle.cu_flattext.specs.Inside.Stands.{lowered_of};
     ghost use Rattle.cu_flattext.specs.Inside.Tasks.{Writes};
     ghost use Rattle.cu_flattext.specs.Naming.{type_entity};
@@ -116,7 +116,7 @@ impl<'p> InferredType<'p> {
     {
         match task {
             InferredTask::Type(place) => self.form(place, page),
-            InferredTask::Types(places, behind) => self.types(places, behind, page),
+            InferredTask::Types(places, follows) => self.types(places, follows, page),
             InferredTask::Text(text) => page.push_str(text),
         }
     }
@@ -124,7 +124,7 @@ impl<'p> InferredType<'p> {
     /// Writes the type with an index; a type variable where there is none.
     fn form(&mut self, place: usize, page: &mut Page) -> Result<(), AllocError>
         ensures { OnOk result (Writes page.old.text.items
-            (inferred_left_behind (text_at self.old place) self.old)
+            (inferred_left_after (text_at self.old place) self.old)
             page.new.text.items (inferred_left self.new)) }
     {
         match self.table.get(place) {
@@ -136,7 +136,7 @@ impl<'p> InferredType<'p> {
     /// Writes a type, by its form.
     fn node(&mut self, node: &'p Node, page: &mut Page) -> Result<(), AllocError>
         ensures { OnOk result (Writes page.old.text.items
-            (inferred_left_behind (text_of_type self.old
+            (inferred_left_after (text_of_type self.old
             (type_of_shape self.old (shape_of node.now))) self.old)
             page.new.text.items (inferred_left self.new)) }
     {
@@ -154,7 +154,7 @@ impl<'p> InferredType<'p> {
         page: &mut Page,
     ) -> Result<(), AllocError>
         ensures { OnOk result (Writes page.old.text.items
-            (inferred_left_behind (text_of_type self.old (type_with self.old head arguments.now))
+            (inferred_left_after (text_of_type self.old (type_with self.old head arguments.now))
             self.old)
             page.new.text.items (inferred_left self.new)) }
     {
@@ -168,7 +168,7 @@ impl<'p> InferredType<'p> {
     /// arguments.
     fn arrow(&mut self, arguments: &[usize], page: &mut Page) -> Result<(), AllocError>
         ensures { OnOk result (Writes page.old.text.items
-            (inferred_left_behind (text_of_type self.old
+            (inferred_left_after (text_of_type self.old
             (type_with self.old head.Arrow arguments.now)) self.old)
             page.new.text.items (inferred_left self.new)) }
     {
@@ -187,7 +187,7 @@ impl<'p> InferredType<'p> {
         page: &mut Page,
     ) -> Result<(), AllocError>
         ensures { OnOk result (Writes page.old.text.items
-            (inferred_left_behind (text_of_type self.old
+            (inferred_left_after (text_of_type self.old
             (type.Arrow (type_at self.old.table argument) (type_at self.old.table value))) self.old)
             page.new.text.items (inferred_left self.new)) }
     {
@@ -207,7 +207,7 @@ impl<'p> InferredType<'p> {
         page: &mut Page,
     ) -> Result<(), AllocError>
         ensures { OnOk result (Writes page.old.text.items
-            (inferred_left_behind (constructed_text
+            (inferred_left_after (constructed_text
             (type_entity (lowered_of self.old.wording) name)
             (map (text_at self.old) arguments.now)) self.old)
             page.new.text.items (inferred_left self.new)) }
@@ -225,17 +225,17 @@ impl<'p> InferredType<'p> {
     fn types(
         &mut self,
         places: &'p [usize],
-        behind: bool,
+        follows: bool,
         page: &mut Page,
     ) -> Result<(), AllocError>
         ensures { OnOk result (Writes page.old.text.items
-            (inferred_left_with (task.Types places.entry behind) self.old)
+            (inferred_left_with (task.Types places.entry follows) self.old)
             page.new.text.items (inferred_left self.new)) }
     {
         match places {
             [] => Ok(()),
             [first, others @ ..] => {
-                page.push_comma(behind)?;
+                page.push_comma(follows)?;
                 self.tasks.push(InferredTask::Types(others, true))?;
                 self.tasks.push(InferredTask::Type(*first))?;
                 Ok(())

@@ -32,7 +32,7 @@ impl<'p> ModuleText<'p> {
     ghost use Rattle.cu_flat.specs.Meaning.{body_meaning};
     ghost use Rattle.cu_kernel.specs.KernelOf.{constructor_meaning, synonym_meaning, type_meaning};
     ghost use Rattle.cu_kernel.specs.TypesOf.{type_of};
-    ghost use Rattle.cu_flattext.specs.Inside.LineTasks.{function_at, left_behind, lines_left, lines_left_behind, lines_left_with, rule_over, work_left};
+    ghost use Rattle.cu_flattext.specs.Inside.LineTasks.{function_at, left_after, lines_left, lines_left_after, lines_left_with, rule_over, work_left};
     ghost use Rattle.cu_flattext.specs.Inside.Stands.{lowered_of};
     ghost use Rattle.cu_flattext.specs.Inside.Tasks.{Writes};
     ghost use Rattle.cu_flattext.specs.Naming.{comma_text, function_entity, separated};
@@ -45,29 +45,29 @@ impl<'p> ModuleText<'p> {
     pub(crate) fn step(&mut self, part: Line<'p>, page: &mut Page) -> Result<Work<'p>, AllocError>
         ensures { IfOk result (λ work. Writes page.old.text.items
             (lines_left_with part.entry self.old)
-            page.new.text.items (left_behind work self.new)) }
+            page.new.text.items (left_after work self.new)) }
     {
         match part {
             Line::Text(text) => {
                 page.push_str(text)?;
                 Ok(Work::Nothing)
             }
-            Line::Imports(imports, behind) => {
-                self.imports(imports, behind, page)?;
+            Line::Imports(imports, follows) => {
+                self.imports(imports, follows, page)?;
                 Ok(Work::Nothing)
             }
-            Line::DataTypes(types, behind) => {
-                self.data_types(types, behind, page)?;
+            Line::DataTypes(types, follows) => {
+                self.data_types(types, follows, page)?;
                 Ok(Work::Nothing)
             }
-            Line::Synonyms(synonyms, behind) => self.synonyms(synonyms, behind, page),
-            Line::Constructors(constructors, arity, behind) => {
-                self.constructors(constructors, arity, behind, page)
+            Line::Synonyms(synonyms, follows) => self.synonyms(synonyms, follows, page),
+            Line::Constructors(constructors, arity, follows) => {
+                self.constructors(constructors, arity, follows, page)
             }
-            Line::Functions(k, behind) => self.functions(k, behind, page),
+            Line::Functions(k, follows) => self.functions(k, follows, page),
             Line::Body(f) => self.function_body(f, page),
-            Line::Operators(operators, behind) => {
-                self.operators(operators, behind, page)?;
+            Line::Operators(operators, follows) => {
+                self.operators(operators, follows, page)?;
                 Ok(Work::Nothing)
             }
         }
@@ -78,17 +78,17 @@ impl<'p> ModuleText<'p> {
     fn imports(
         &mut self,
         imports: &'p [NameId],
-        behind: bool,
+        follows: bool,
         page: &mut Page,
     ) -> Result<(), AllocError>
         ensures { OnOk result (Writes page.old.text.items
-            (lines_left_with (line.Imports imports.entry behind) self.old)
+            (lines_left_with (line.Imports imports.entry follows) self.old)
             page.new.text.items (lines_left self.new)) }
     {
         match imports {
             [] => Ok(()),
             [first, others @ ..] => {
-                page.push_comma(behind)?;
+                page.push_comma(follows)?;
                 page.push_quoted(self.wording.text(*first))?;
                 self.lines.push(Line::Imports(others, true))?;
                 Ok(())
@@ -101,17 +101,17 @@ impl<'p> ModuleText<'p> {
     fn operators(
         &mut self,
         operators: &'p [Operator],
-        behind: bool,
+        follows: bool,
         page: &mut Page,
     ) -> Result<(), AllocError>
         ensures { OnOk result (Writes page.old.text.items
-            (lines_left_with (line.Operators operators.entry behind) self.old)
+            (lines_left_with (line.Operators operators.entry follows) self.old)
             page.new.text.items (lines_left self.new)) }
     {
         match operators {
             [] => Ok(()),
             [first, others @ ..] => {
-                page.push_comma(behind)?;
+                page.push_comma(follows)?;
                 page.push_str("\n")?;
                 push_operator(page, &self.wording, self.module, *first)?;
                 self.lines.push(Line::Operators(others, true))?;
@@ -125,25 +125,25 @@ impl<'p> ModuleText<'p> {
     fn data_types(
         &mut self,
         types: &'p [DataType],
-        behind: bool,
+        follows: bool,
         page: &mut Page,
     ) -> Result<(), AllocError>
         ensures { OnOk result (Writes page.old.text.items
-            (lines_left_with (line.DataTypes types.entry behind) self.old)
+            (lines_left_with (line.DataTypes types.entry follows) self.old)
             page.new.text.items (lines_left self.new)) }
     {
         match types {
             [] => {
                 let synonyms = self.wording.kernel.synonyms();
-                self.lines.push(Line::Synonyms(synonyms, behind))?;
+                self.lines.push(Line::Synonyms(synonyms, follows))?;
                 Ok(())
             }
             [first, others @ ..] => {
                 if first.module == self.module {
                     self.lines.push(Line::DataTypes(others, true))?;
-                    self.data_type(first, behind, page)
+                    self.data_type(first, follows, page)
                 } else {
-                    self.lines.push(Line::DataTypes(others, behind))?;
+                    self.lines.push(Line::DataTypes(others, follows))?;
                     Ok(())
                 }
             }
@@ -154,17 +154,17 @@ impl<'p> ModuleText<'p> {
     fn data_type(
         &mut self,
         t: &'p DataType,
-        behind: bool,
+        follows: bool,
         page: &mut Page,
     ) -> Result<(), AllocError>
         requires { t.now.module ≡ self.old.module }
         ensures { OnOk result (Writes page.old.text.items
-            (lines_left_behind (comma_text behind
+            (lines_left_after (comma_text follows
             ++ on_a_line (data_type_text (lowered_of self.old.wording) (type_meaning t.now)))
             self.old)
             page.new.text.items (lines_left self.new)) }
     {
-        page.push_comma(behind)?;
+        page.push_comma(follows)?;
         let entity = self.wording.entity(t.module, t.name);
         push_type_head(page, "\nType ", entity, t.public, t.arity)?;
         page.push_str(" [")?;
@@ -179,18 +179,18 @@ impl<'p> ModuleText<'p> {
         &mut self,
         constructors: &'p [Constructor],
         arity: u32,
-        behind: bool,
+        follows: bool,
         page: &mut Page,
     ) -> Result<Work<'p>, AllocError>
         ensures { IfOk result (λ work. Writes page.old.text.items
-            (lines_left_with (line.Constructors constructors.entry arity behind) self.old)
-            page.new.text.items (left_behind work self.new)) }
+            (lines_left_with (line.Constructors constructors.entry arity follows) self.old)
+            page.new.text.items (left_after work self.new)) }
     {
         match constructors {
             [] => Ok(Work::Nothing),
             [first, others @ ..] => {
                 self.lines.push(Line::Constructors(others, arity, true))?;
-                let work = self.constructor(first, arity, behind, page)?;
+                let work = self.constructor(first, arity, follows, page)?;
                 Ok(work)
             }
         }
@@ -201,16 +201,16 @@ impl<'p> ModuleText<'p> {
         &mut self,
         c: &'p Constructor,
         arity: u32,
-        behind: bool,
+        follows: bool,
         page: &mut Page,
     ) -> Result<Work<'p>, AllocError>
         ensures { IfOk result (λ work. Writes page.old.text.items
-            (lines_left_behind (comma_text behind
+            (lines_left_after (comma_text follows
             ++ constructor_text (lowered_of self.old.wording) self.old.module arity
             (constructor_meaning c.now)) self.old)
-            page.new.text.items (left_behind work self.new)) }
+            page.new.text.items (left_after work self.new)) }
     {
-        page.push_comma(behind)?;
+        page.push_comma(follows)?;
         let entity = self.wording.entity(self.module, c.name);
         push_counted(page, "Cons ", entity, c.fields.len() as u64, c.public)?;
         page.push_str(" [")?;
@@ -238,22 +238,22 @@ impl<'p> ModuleText<'p> {
     fn synonyms(
         &mut self,
         synonyms: &'p [Synonym],
-        behind: bool,
+        follows: bool,
         page: &mut Page,
     ) -> Result<Work<'p>, AllocError>
         ensures { IfOk result (λ work. Writes page.old.text.items
-            (lines_left_with (line.Synonyms synonyms.entry behind) self.old)
-            page.new.text.items (left_behind work self.new)) }
+            (lines_left_with (line.Synonyms synonyms.entry follows) self.old)
+            page.new.text.items (left_after work self.new)) }
     {
         match synonyms {
             [] => Ok(Work::Nothing),
             [first, others @ ..] => {
                 if first.module == self.module {
                     self.lines.push(Line::Synonyms(others, true))?;
-                    let work = self.synonym(first, behind, page)?;
+                    let work = self.synonym(first, follows, page)?;
                     Ok(work)
                 } else {
-                    self.lines.push(Line::Synonyms(others, behind))?;
+                    self.lines.push(Line::Synonyms(others, follows))?;
                     Ok(Work::Nothing)
                 }
             }
@@ -264,16 +264,16 @@ impl<'p> ModuleText<'p> {
     fn synonym(
         &mut self,
         s: &'p Synonym,
-        behind: bool,
+        follows: bool,
         page: &mut Page,
     ) -> Result<Work<'p>, AllocError>
         ensures { IfOk result (λ work. Writes page.old.text.items
-            (lines_left_behind (comma_text behind
+            (lines_left_after (comma_text follows
             ++ on_a_line (synonym_text (lowered_of self.old.wording) (synonym_meaning s.now)))
             self.old)
-            page.new.text.items (left_behind work self.new)) }
+            page.new.text.items (left_after work self.new)) }
     {
-        page.push_comma(behind)?;
+        page.push_comma(follows)?;
         let entity = self.wording.entity(s.module, s.name);
         push_type_head(page, "\nTypeSyn ", entity, s.public, s.arity)?;
         page.push_str(" (")?;
@@ -298,10 +298,15 @@ impl<'p> ModuleText<'p> {
     }
 
     /// Writes those functions from an index on that are the module's.
-    fn functions(&mut self, k: usize, behind: bool, page: &mut Page) -> Result<Work<'p>, AllocError>
+    fn functions(
+        &mut self,
+        k: usize,
+        follows: bool,
+        page: &mut Page,
+    ) -> Result<Work<'p>, AllocError>
         ensures { IfOk result (λ work. Writes page.old.text.items
-            (lines_left_with (line.Functions k behind) self.old)
-            page.new.text.items (left_behind work self.new)) }
+            (lines_left_with (line.Functions k follows) self.old)
+            page.new.text.items (left_after work self.new)) }
     {
         if k >= self.wording.flat.function_count() {
             return Ok(Work::Nothing);
@@ -312,10 +317,10 @@ impl<'p> ModuleText<'p> {
         let next = k.checked_add(1).ok_or(AllocError)?;
         if mark.module == self.module {
             self.lines.push(Line::Functions(next, true))?;
-            let work = self.function(FunId(k), mark.public, behind, page)?;
+            let work = self.function(FunId(k), mark.public, follows, page)?;
             Ok(work)
         } else {
-            self.lines.push(Line::Functions(next, behind))?;
+            self.lines.push(Line::Functions(next, follows))?;
             Ok(Work::Nothing)
         }
     }
@@ -325,15 +330,15 @@ impl<'p> ModuleText<'p> {
         &mut self,
         f: FunId,
         public: bool,
-        behind: bool,
+        follows: bool,
         page: &mut Page,
     ) -> Result<Work<'p>, AllocError>
         ensures { IfOk result (λ work. Writes page.old.text.items
-            (lines_left_behind (comma_text behind
+            (lines_left_after (comma_text follows
             ++ on_a_line (function_at (lowered_of self.old.wording) f public)) self.old)
-            page.new.text.items (left_behind work self.new)) }
+            page.new.text.items (left_after work self.new)) }
     {
-        page.push_comma(behind)?;
+        page.push_comma(follows)?;
         let arity = self.wording.arity(Head::Fun(f)) as u64;
         push_counted(page, "\nFunc ", self.wording.function(f), arity, public)?;
         page.push_str(" (")?;
@@ -348,7 +353,7 @@ impl<'p> ModuleText<'p> {
     fn function_body(&mut self, f: FunId, page: &mut Page) -> Result<Work<'p>, AllocError>
         ensures { IfOk result (λ work. Writes page.old.text.items
             (lines_left_with (line.Body f) self.old)
-            page.new.text.items (left_behind work self.new)) }
+            page.new.text.items (left_after work self.new)) }
     {
         match self.wording.flat.body(f) {
             Some(body) => self.body(f, body, page),
@@ -366,10 +371,10 @@ impl<'p> ModuleText<'p> {
         page: &mut Page,
     ) -> Result<Work<'p>, AllocError>
         ensures { IfOk result (λ work. Writes page.old.text.items
-            (lines_left_behind (rule_text (lowered_of self.old.wording)
+            (lines_left_after (rule_text (lowered_of self.old.wording)
             (function_entity (lowered_of self.old.wording) f)
             (body_in self.old.wording.flat.now (body_meaning body.now))) self.old)
-            page.new.text.items (left_behind work self.new)) }
+            page.new.text.items (left_after work self.new)) }
     {
         match body {
             FlatBody::Rule(parameters, e) => self.rule(parameters.as_slice(), *e, page),
@@ -388,9 +393,9 @@ impl<'p> ModuleText<'p> {
         page: &mut Page,
     ) -> Result<Work<'p>, AllocError>
         ensures { IfOk result (λ work. Writes page.old.text.items
-            (lines_left_behind (rule_over (lowered_of self.old.wording) self.old.wording.flat.now
+            (lines_left_after (rule_over (lowered_of self.old.wording) self.old.wording.flat.now
             parameters.now e) self.old)
-            page.new.text.items (left_behind work self.new)) }
+            page.new.text.items (left_after work self.new)) }
     {
         page.push_str("Rule ")?;
         push_numbers(page, 1, parameters.len() as u64)?;

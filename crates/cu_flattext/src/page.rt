@@ -44,10 +44,10 @@ impl Page {
     }
 
     /// Writes a comma, where an element stands before the next one.
-    pub(crate) fn push_comma(&mut self, behind: bool) -> Result<(), AllocError>
-        ensures { OnOk result (self.new.text.items ≡ self.old.text.items ++ comma_text behind) }
+    pub(crate) fn push_comma(&mut self, follows: bool) -> Result<(), AllocError>
+        ensures { OnOk result (self.new.text.items ≡ self.old.text.items ++ comma_text follows) }
     {
-        if behind { self.push_str(",") } else { Ok(()) }
+        if follows { self.push_str(",") } else { Ok(()) }
     }
 
     /// Writes a number.

@@ -6,13 +6,13 @@ use cu_io::{Put, Sink};
 impl Page {
     ghost use Rattle.std.specs.Prelude.{◌≡◌, [], OnErr, OnOk};
     ghost use Rattle.cu_flattext.specs.Inside.Progress.{Continues};
-    ghost use Rattle.cu_flattext.specs.Written.{Adds, AddsFront, HasCause};
+    ghost use Rattle.cu_flattext.specs.Written.{Adds, AddsPrefix, HasCause};
 
     /// Gives the piece to the output, and begins a new one.
     pub(crate) fn flush<S: Sink>(&mut self, sink: &mut S) -> Result<(), PrintFault>
         ensures whole { OnOk result (Adds (S.written sink.old) (S.written sink.new)
             self.old.text.items) }
-        ensures front { OnErr result (AddsFront (S.written sink.old) (S.written sink.new)
+        ensures prefix { OnErr result (AddsPrefix (S.written sink.old) (S.written sink.new)
             self.old.text.items) }
         ensures cause { HasCause result (S.fault_count sink.old) (S.fault_count sink.new) }
         ensures empty { OnOk result (self.new.text.items ≡ []) }
@@ -31,7 +31,7 @@ impl Page {
     pub(crate) fn flush_long<S: Sink>(&mut self, sink: &mut S) -> Result<(), PrintFault>
         ensures whole { OnOk result (Continues (S.written sink.old) (S.written sink.new)
             self.old.text.items self.new.text.items) }
-        ensures front { OnErr result (AddsFront (S.written sink.old) (S.written sink.new)
+        ensures prefix { OnErr result (AddsPrefix (S.written sink.old) (S.written sink.new)
             self.old.text.items) }
         ensures cause { HasCause result (S.fault_count sink.old) (S.fault_count sink.new) }
     {

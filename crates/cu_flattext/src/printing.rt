@@ -4,7 +4,7 @@ ghost use Rattle.cu_kernel.specs.KernelOf.{module_meaning, type_meaning};
 ghost use Rattle.cu_flattext.specs.Inside.LineTasks.{all_left, lines_left, module_lines};
 ghost use Rattle.cu_flattext.specs.Inside.Stands.{lowered_of};
 ghost use Rattle.cu_flattext.specs.Text.{declared_types, imports_of, lowered, module_text, operators_of, place_of, text_of_module};
-ghost use Rattle.cu_flattext.specs.Written.{Adds, AddsFront, HasCause};
+ghost use Rattle.cu_flattext.specs.Written.{Adds, AddsPrefix, HasCause};
 
 use crate::expressions::Expressions;
 use crate::fault::PrintFault;
@@ -42,7 +42,7 @@ pub fn print<S: Sink>(
 ) -> Result<(), PrintFault>
     ensures whole { OnOk result (Adds (S.written sink.old) (S.written sink.new)
         (text_of_module (lowered names.now kernel.now interface.now program.now) name)) }
-    ensures front { OnErr result (AddsFront (S.written sink.old) (S.written sink.new)
+    ensures prefix { OnErr result (AddsPrefix (S.written sink.old) (S.written sink.new)
         (text_of_module (lowered names.now kernel.now interface.now program.now) name)) }
     ensures cause { HasCause result (S.fault_count sink.old) (S.fault_count sink.new) }
 {
@@ -69,7 +69,7 @@ struct Begun<'p> {
 fn finish<S: Sink>(begun: Begun<'_>, sink: &mut S) -> Result<(), PrintFault>
     ensures whole { OnOk result (Adds (S.written sink.old) (S.written sink.new)
         (begun.entry.page.text.items ++ all_left begun.entry.writer)) }
-    ensures front { OnErr result (AddsFront (S.written sink.old) (S.written sink.new)
+    ensures prefix { OnErr result (AddsPrefix (S.written sink.old) (S.written sink.new)
         (begun.entry.page.text.items ++ all_left begun.entry.writer)) }
     ensures cause { HasCause result (S.fault_count sink.old) (S.fault_count sink.new) }
 {

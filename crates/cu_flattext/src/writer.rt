@@ -1,7 +1,7 @@
 //! The writing of a module, a piece of its text at a time.
 ghost use Rattle.std.specs.Prelude.{◌≡◌, ◌++◌, IfOk, OnErr, OnOk};
 ghost use Rattle.cu_flattext.specs.Inside.LineTasks.{all_left};
-ghost use Rattle.cu_flattext.specs.Written.{Adds, AddsFront, HasCause};
+ghost use Rattle.cu_flattext.specs.Written.{Adds, AddsPrefix, HasCause};
 
 use crate::expressions::Expressions;
 use crate::fault::PrintFault;
@@ -26,7 +26,7 @@ pub(crate) struct Writer<'p> {
 
 impl<'p> Writer<'p> {
     ghost use Rattle.std.specs.Prelude.{◌≡◌, [], false, IfOk, OnOk};
-    ghost use Rattle.cu_flattext.specs.Inside.LineTasks.{all_left, left_behind};
+    ghost use Rattle.cu_flattext.specs.Inside.LineTasks.{all_left, left_after};
     ghost use Rattle.cu_flattext.specs.Inside.Tasks.{Writes};
 
     /// Writes a task. Answers whether there was one.
@@ -96,7 +96,7 @@ impl<'p> Writer<'p> {
         requires expressions { self.old.expressions.tasks.items ≡ [] }
         requires types { self.old.types.tasks.items ≡ [] }
         requires inferred { self.old.inferred.tasks.items ≡ [] }
-        ensures { all_left self.new ≡ left_behind work.entry self.old.lines }
+        ensures { all_left self.new ≡ left_after work.entry self.old.lines }
     {
         match work {
             Work::Nothing => {}
@@ -116,7 +116,7 @@ pub(crate) fn write_all<S: Sink>(
 ) -> Result<(), PrintFault>
     ensures whole { OnOk result (Adds (S.written sink.old) (S.written sink.new)
         (page.old.text.items ++ all_left writer.old)) }
-    ensures front { OnErr result (AddsFront (S.written sink.old) (S.written sink.new)
+    ensures prefix { OnErr result (AddsPrefix (S.written sink.old) (S.written sink.new)
         (page.old.text.items ++ all_left writer.old)) }
     ensures cause { HasCause result (S.fault_count sink.old) (S.fault_count sink.new) }
 {

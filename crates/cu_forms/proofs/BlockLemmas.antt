@@ -197,15 +197,15 @@ all_ordered depends bounds found n none count =
 pub all_left : (depends : Binder → Binder → Bool) (found left : List Bound) (n : ℕ) (whole : List definitions.Bound) → n ≡ 0 → bounds_meaning found ++ from_left n depends left ≡ whole → bounds_meaning found ≡ whole
 all_left depends found left n whole none all = sym (append-nil (bounds_meaning found)) ∙ ap (λ k. bounds_meaning found ++ from_left k depends left) (sym none) ∙ all
 
-pub one_ordered : (before after : List Bound) (b : Bound) (behind rest whole : List definitions.Bound) → after ≡ before ++ b ∷ [] → behind ≡ bound_meaning b ∷ rest
-    → bounds_meaning before ++ behind ≡ whole → bounds_meaning after ++ rest ≡ whole
-one_ordered before after b behind rest whole pushed is all =
+pub one_ordered : (before after : List Bound) (b : Bound) (later rest whole : List definitions.Bound) → after ≡ before ++ b ∷ [] → later ≡ bound_meaning b ∷ rest
+    → bounds_meaning before ++ later ≡ whole → bounds_meaning after ++ rest ≡ whole
+one_ordered before after b later rest whole pushed is all =
     ap (λ ys. ys ++ rest) (ap bounds_meaning pushed ∙ map-append bound_meaning before (b ∷ [])) ∙ append_assoc (bounds_meaning before) (bound_meaning b ∷ []) rest
     ∙ ap (λ ys. bounds_meaning before ++ ys) (sym is) ∙ all
 
-pub rest_ordered : (before left after : List Bound) (behind whole : List definitions.Bound) → after ≡ before ++ left → behind ≡ bounds_meaning left → bounds_meaning before ++ behind ≡ whole
+pub rest_ordered : (before left after : List Bound) (later whole : List definitions.Bound) → after ≡ before ++ left → later ≡ bounds_meaning left → bounds_meaning before ++ later ≡ whole
     → bounds_meaning after ≡ whole
-rest_ordered before left after behind whole pushed is all =
+rest_ordered before left after later whole pushed is all =
     ap bounds_meaning pushed ∙ map-append bound_meaning before left ∙ ap (λ ys. bounds_meaning before ++ ys) (sym is) ∙ all
 
 -- the first that depends on none
@@ -249,15 +249,15 @@ any_nowhere p left i whole past before = ap (λ ys. list_any p (bounds_meaning y
 pub kept : (q : definitions.Bound → Bool) (found after before rest : List Bound) (b : Bound) (whole : List definitions.Bound) → before ≡ b ∷ rest → after ≡ found ++ b ∷ [] → q (bound_meaning b) ≡ true
     → bounds_meaning found ++ filter q (bounds_meaning before) ≡ whole → bounds_meaning after ++ filter q (bounds_meaning rest) ≡ whole
 kept q found after before rest b whole next pushed passes all =
-    let behind = filter q (bounds_meaning rest) in
-    ap (λ ys. ys ++ behind) (ap bounds_meaning pushed ∙ map-append bound_meaning found (b ∷ [])) ∙ append_assoc (bounds_meaning found) (bound_meaning b ∷ []) behind
-    ∙ ap (λ ys. bounds_meaning found ++ ys) (ap (λ c. cond c (bound_meaning b ∷ behind) behind) (sym passes) ∙ ap (λ ys. filter q (bounds_meaning ys)) (sym next)) ∙ all
+    let later = filter q (bounds_meaning rest) in
+    ap (λ ys. ys ++ later) (ap bounds_meaning pushed ∙ map-append bound_meaning found (b ∷ [])) ∙ append_assoc (bounds_meaning found) (bound_meaning b ∷ []) later
+    ∙ ap (λ ys. bounds_meaning found ++ ys) (ap (λ c. cond c (bound_meaning b ∷ later) later) (sym passes) ∙ ap (λ ys. filter q (bounds_meaning ys)) (sym next)) ∙ all
 
 pub dropped : (q : definitions.Bound → Bool) (found before rest : List Bound) (b : Bound) (whole : List definitions.Bound) → before ≡ b ∷ rest → q (bound_meaning b) ≡ false
     → bounds_meaning found ++ filter q (bounds_meaning before) ≡ whole → bounds_meaning found ++ filter q (bounds_meaning rest) ≡ whole
 dropped q found before rest b whole next fails all =
-    let behind = filter q (bounds_meaning rest) in
-    ap (λ ys. bounds_meaning found ++ ys) (ap (λ c. cond c (bound_meaning b ∷ behind) behind) (sym fails) ∙ ap (λ ys. filter q (bounds_meaning ys)) (sym next)) ∙ all
+    let after = filter q (bounds_meaning rest) in
+    ap (λ ys. bounds_meaning found ++ ys) (ap (λ c. cond c (bound_meaning b ∷ after) after) (sym fails) ∙ ap (λ ys. filter q (bounds_meaning ys)) (sym next)) ∙ all
 
 -- ---- the free variables of a block
 

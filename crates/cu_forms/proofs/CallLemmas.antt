@@ -36,15 +36,15 @@ map-drop f (suc n) (x ∷ xs) = map-drop f n xs
 -- ---- the first terms and the others
 
 pub record Splits {X : Type 0} (count : ℕ) (all first others rest : List X) : Type 0 where
-  pub front : first ++ take (count - length first) rest ≡ take count all
-  pub back : others ++ drop (count - length first) rest ≡ drop count all
+  pub prefix : first ++ take (count - length first) rest ≡ take count all
+  pub suffix : others ++ drop (count - length first) rest ≡ drop count all
   pub few : length first ≤ count
 
-front_more : {X : Type 0} (n k : ℕ) (xs rest : List X) (x : X) → n ≡ suc k → take n (x ∷ rest) ≡ x ∷ take k rest
-front_more n k xs rest x e = ap (λ m. take m (x ∷ rest)) e
+prefix_more : {X : Type 0} (n k : ℕ) (xs rest : List X) (x : X) → n ≡ suc k → take n (x ∷ rest) ≡ x ∷ take k rest
+prefix_more n k xs rest x e = ap (λ m. take m (x ∷ rest)) e
 
-back_more : {X : Type 0} (n k : ℕ) (rest : List X) (x : X) → n ≡ suc k → drop n (x ∷ rest) ≡ drop k rest
-back_more n k rest x e = ap (λ m. drop m (x ∷ rest)) e
+suffix_more : {X : Type 0} (n k : ℕ) (rest : List X) (x : X) → n ≡ suc k → drop n (x ∷ rest) ≡ drop k rest
+suffix_more n k rest x e = ap (λ m. drop m (x ∷ rest)) e
 
 pub splits_first : {X : Type 0} (count : ℕ) (all first others rest before after : List X) (x : X) → before ≡ x ∷ rest → length first < count → after ≡ first ++ x ∷ []
     → Splits count all first others before → Splits count all after others rest
@@ -52,9 +52,9 @@ splits_first count all first others rest before after x e few pushed s =
     let size : length after ≡ length first + 1 = ap length pushed ∙ length-append first (x ∷ []) in
     let next : count - length first ≡ suc (count - length after) = omega (arith, size) in
     record {
-      front = ap (λ xs. xs ++ take (count - length after) rest) pushed ∙ append_assoc first (x ∷ []) (take (count - length after) rest)
-          ∙ ap (λ xs. first ++ xs) (sym (front_more (count - length first) (count - length after) first rest x next) ∙ ap (take (count - length first)) (sym e)) ∙ s.front;
-      back = ap (λ xs. others ++ xs) (sym (back_more (count - length first) (count - length after) rest x next) ∙ ap (drop (count - length first)) (sym e)) ∙ s.back;
+      prefix = ap (λ xs. xs ++ take (count - length after) rest) pushed ∙ append_assoc first (x ∷ []) (take (count - length after) rest)
+          ∙ ap (λ xs. first ++ xs) (sym (prefix_more (count - length first) (count - length after) first rest x next) ∙ ap (take (count - length first)) (sym e)) ∙ s.prefix;
+      suffix = ap (λ xs. others ++ xs) (sym (suffix_more (count - length first) (count - length after) rest x next) ∙ ap (drop (count - length first)) (sym e)) ∙ s.suffix;
       few = omega (arith, size);
     }
 
@@ -63,9 +63,9 @@ pub splits_other : {X : Type 0} (count : ℕ) (all first others rest before afte
 splits_other count all first others rest before after x e full pushed s =
     let none : count - length first ≡ 0 = omega arith in
     record {
-      front = ap (λ n. first ++ take n rest) none ∙ ap (λ n. first ++ take n before) (sym none) ∙ s.front;
-      back = ap₂ (λ xs n. xs ++ drop n rest) pushed none ∙ append_assoc others (x ∷ []) rest ∙ ap (λ xs. others ++ xs) (sym e)
-          ∙ ap (λ n. others ++ drop n before) (sym none) ∙ s.back;
+      prefix = ap (λ n. first ++ take n rest) none ∙ ap (λ n. first ++ take n before) (sym none) ∙ s.prefix;
+      suffix = ap₂ (λ xs n. xs ++ drop n rest) pushed none ∙ append_assoc others (x ∷ []) rest ∙ ap (λ xs. others ++ xs) (sym e)
+          ∙ ap (λ n. others ++ drop n before) (sym none) ∙ s.suffix;
       few = s.few;
     }
 
@@ -80,8 +80,8 @@ drop_nothing (suc n) xs e = ap (drop (suc n)) e
 pub splits_all : {X : Type 0} (count : ℕ) (all first others rest : List X) → rest ≡ [] → Splits count all first others rest
     → (first ≡ take count all) × (others ≡ drop count all)
 splits_all count all first others rest e s = (
-  sym (append-nil first) ∙ ap (λ xs. first ++ xs) (sym (take_nothing (count - length first) rest e)) ∙ s.front,
-  sym (append-nil others) ∙ ap (λ xs. others ++ xs) (sym (drop_nothing (count - length first) rest e)) ∙ s.back,
+  sym (append-nil first) ∙ ap (λ xs. first ++ xs) (sym (take_nothing (count - length first) rest e)) ∙ s.prefix,
+  sym (append-nil others) ∙ ap (λ xs. others ++ xs) (sym (drop_nothing (count - length first) rest e)) ∙ s.suffix,
 )
 
 -- ---- calls
@@ -104,10 +104,10 @@ part_called h count ts few =
 
 pub whole_called : (h : LocalHead) (count : ℕ) (ts first others : List LocalTerm) → count ≤ length ts → first ≡ take count ts → others ≡ drop count ts
     → applied (local.Whole h (local_terms_of first)) (map local_term_of others) ≡ call h count (map local_term_of ts)
-whole_called h count ts first others enough front back =
+whole_called h count ts first others enough prefix suffix =
     ap₂ (λ xs ys. applied (local.Whole h xs) ys)
-    (terms_meant first ∙ ap terms (ap (map local_term_of) front ∙ map-take local_term_of count ts))
-    (ap (map local_term_of) back ∙ map-drop local_term_of count ts)
+    (terms_meant first ∙ ap terms (ap (map local_term_of) prefix ∙ map-take local_term_of count ts))
+    (ap (map local_term_of) suffix ∙ map-drop local_term_of count ts)
     ∙ sym (call_if h count (map local_term_of ts) false (ltb_not (length (map local_term_of ts)) count (subst (λ n. count ≤ n) (sym (length-map ts local_term_of)) enough)))
 
 -- ---- set functions

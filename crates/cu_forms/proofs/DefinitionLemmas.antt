@@ -35,7 +35,7 @@ use Rattle.cu_translation.specs.declared.position.Position.{Position}
 use Rattle.cu_forms.specs.declared.blocks.Bound.{Bound}
 use Rattle.cu_forms.specs.Forms.{lets_form, right_form, selections_form}
 use Rattle.cu_forms.specs.Inside.Blocks.{bound_meaning, bounds_meaning}
-use Rattle.cu_forms.specs.Inside.Expressions.{BegunIsKnown, Defines, begun_of, is_function_rule, let_form_of, lets_behind}
+use Rattle.cu_forms.specs.Inside.Expressions.{BegunIsKnown, Defines, begun_of, is_function_rule, let_form_of, lets_after}
 
 -- ---- one declaration
 
@@ -140,34 +140,34 @@ binding_defines w local b d v at p right q t before pushed after meaning is adde
 
 -- Definitions of the first of some declarations: with those of the others they are all.
 pub record Defined (w : Setting) (local : Scope) (b : Option begun.Begun) (found : List Bound) (left all : List Declaration) : Type 0 where
-  pub joins : bounds_meaning found ++ lets_behind w local (begun_of w b) left ≡ lets_form w local all
+  pub joins : bounds_meaning found ++ lets_after w local (begun_of w b) left ≡ lets_form w local all
   pub known : BegunIsKnown w b
 
 lets_cons : (w : Setting) (local : Scope) (b : Option Begun) (d : Declaration) (ds : List Declaration)
-    → lets_behind w local b (d ∷ ds) ≡ let_form_of w local b d ++ lets_behind w local (begun_in b (declaration_meaning w.names d)) ds
-unfolding lets_behind let_form_of
+    → lets_after w local b (d ∷ ds) ≡ let_form_of w local b d ++ lets_after w local (begun_in b (declaration_meaning w.names d)) ds
+unfolding lets_after let_form_of
 lets_cons w local b d ds = refl
 
-lets_nil : (w : Setting) (local : Scope) (b : Option Begun) → lets_behind w local b [] ≡ []
-unfolding lets_behind
+lets_nil : (w : Setting) (local : Scope) (b : Option Begun) → lets_after w local b [] ≡ []
+unfolding lets_after
 lets_nil w local b = refl
 
-lets_all : (w : Setting) (local : Scope) (ds : List Declaration) → lets_behind w local None ds ≡ lets_form w local ds
-unfolding lets_behind lets_form
+lets_all : (w : Setting) (local : Scope) (ds : List Declaration) → lets_after w local None ds ≡ lets_form w local ds
+unfolding lets_after lets_form
 lets_all w local ds = refl
 
 pub defined_none : (w : Setting) (local : Scope) (b : Option begun.Begun) (found : List Bound) (ds : List Declaration) → b ≡ None → found ≡ [] → Defined w local b found ds ds
 defined_none w local b found ds none empty = record {
-  joins = ap₂ (λ bs c. bounds_meaning bs ++ lets_behind w local (begun_of w c) ds) empty none ∙ lets_all w local ds;
+  joins = ap₂ (λ bs c. bounds_meaning bs ++ lets_after w local (begun_of w c) ds) empty none ∙ lets_all w local ds;
   known = subst (BegunIsKnown w) (sym none) tt;
 }
 
 pub defined_one : (w : Setting) (local : Scope) (b next : Option begun.Begun) (before after : List Bound) (ds : List Declaration) (i : ℕ) (d : Declaration) → d ≡ get_or ds i d → i < length ds
     → Defined w local b before (drop i ds) ds → Defines w local b d before after next → Defined w local next after (drop (i + 1) ds) ds
 defined_one w local b next before after ds i d is within whole one = record {
-  joins = ap₂ (λ bs c. bs ++ lets_behind w local c (drop (i + 1) ds)) one.added one.next_is
-      ∙ append_assoc (bounds_meaning before) (let_form_of w local (begun_of w b) d) (lets_behind w local (begun_in (begun_of w b) (declaration_meaning w.names d)) (drop (i + 1) ds))
-      ∙ ap (λ bs. bounds_meaning before ++ bs) (sym (ap (lets_behind w local (begun_of w b)) (dropped ds i d is within) ∙ lets_cons w local (begun_of w b) d (drop (i + 1) ds)))
+  joins = ap₂ (λ bs c. bs ++ lets_after w local c (drop (i + 1) ds)) one.added one.next_is
+      ∙ append_assoc (bounds_meaning before) (let_form_of w local (begun_of w b) d) (lets_after w local (begun_in (begun_of w b) (declaration_meaning w.names d)) (drop (i + 1) ds))
+      ∙ ap (λ bs. bounds_meaning before ++ bs) (sym (ap (lets_after w local (begun_of w b)) (dropped ds i d is within) ∙ lets_cons w local (begun_of w b) d (drop (i + 1) ds)))
       ∙ whole.joins;
   known = one.known;
 }
@@ -175,5 +175,5 @@ defined_one w local b next before after ds i d is within whole one = record {
 pub defined_all : (w : Setting) (local : Scope) (b : Option begun.Begun) (found : List Bound) (ds : List Declaration) (i : ℕ) → length ds ≤ i → Defined w local b found (drop i ds) ds
     → bounds_meaning found ≡ lets_form w local ds
 defined_all w local b found ds i past whole =
-    sym (append-nil (bounds_meaning found)) ∙ ap (λ bs. bounds_meaning found ++ bs) (sym (ap (lets_behind w local (begun_of w b)) (drop_all i ds past) ∙ lets_nil w local (begun_of w b)))
+    sym (append-nil (bounds_meaning found)) ∙ ap (λ bs. bounds_meaning found ++ bs) (sym (ap (lets_after w local (begun_of w b)) (drop_all i ds past) ∙ lets_nil w local (begun_of w b)))
     ∙ whole.joins

@@ -38,7 +38,7 @@ use Rattle.cu_translation.specs.Table as table
 use Rattle.cu_translation.specs.declared.referents.Referent as referents
 use Rattle.cu_translation.specs.Terms.{Operand, applied, by_name, called, referred, terms_of}
 use Rattle.cu_uses.specs.Inside.Gathered.{pattern_binds}
-use Rattle.cu_forms.specs.Forms.{alternative_form, application_form, behind, block_form, block_term, body_form, comprehension_form, enumeration_form, expression_form, free_form, guard_form, guards_form, inside, let_form, lets_form, name_alone_form, number_alone_form, operand_form, operators_term, pattern_form, right_form}
+use Rattle.cu_forms.specs.Forms.{alternative_form, application_form, scope_after, block_form, block_term, body_form, comprehension_form, enumeration_form, expression_form, free_form, guard_form, guards_form, inside, let_form, lets_form, name_alone_form, number_alone_form, operand_form, operators_term, pattern_form, right_form}
 use Rattle.cu_forms.specs.Inside.Blocks.{guards_term, row_meaning}
 use Rattle.cu_forms.specs.Inside.Calls.{built_in_term, referred_on}
 use Rattle.cu_forms.specs.Inside.Expressions.{alternatives_term, first_alone}
@@ -63,7 +63,7 @@ alternatives_are : (w : Setting) (local : Scope) (cases : List Alternative)
 unfolding pattern_form right_form pattern_binds
 alternatives_are w local [] = refl
 alternatives_are w local (a ∷ cases) =
-    ap (kernel.MoreAlternatives (pattern_form w At a.pattern) (right_form w (behind w local a.pattern) a.right)) (alternatives_are w local cases)
+    ap (kernel.MoreAlternatives (pattern_form w At a.pattern) (right_form w (scope_after w local a.pattern) a.right)) (alternatives_are w local cases)
 
 pub guards_are : (w : Setting) (local : Scope) (cases : List Guard) → guards_term w.around.names (map (guard_form w local) cases) ≡ guards_form w local cases
 unfolding guards_form expression_form distinction built_in_term

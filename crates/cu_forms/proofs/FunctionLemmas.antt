@@ -50,8 +50,8 @@ use Rattle.cu_translation.specs.PatternTable.{patterns_of}
 use Rattle.cu_translation.specs.Rules.{pattern_count}
 use Rattle.cu_uses.specs.Inside.Gathered.{names_meaning, pattern_binds, patterns_bind}
 use Rattle.cu_forms.specs.declared.local_functions.RuleText.{RuleText}
-use Rattle.cu_forms.specs.Forms.{behind, comprehension_form, expression_form, pattern_form, right_form}
-use Rattle.cu_forms.specs.Functions.{behind_first, element_in, function_form, generator_form, goal_form, lambda_form, qualifiers_in, rule_form, selectors_of, text_form}
+use Rattle.cu_forms.specs.Forms.{scope_after, comprehension_form, expression_form, pattern_form, right_form}
+use Rattle.cu_forms.specs.Functions.{after_first, element_in, function_form, generator_form, goal_form, lambda_form, qualifiers_in, rule_form, selectors_of, text_form}
 use Rattle.cu_forms.specs.Inside.Functions.{generator_of, is_variable, matched_term, parameter_of, rest_form, selector_of}
 use Rattle.cu_forms.specs.Inside.Lists.{list_term}
 use Rattle.cu_forms.proofs.PatternLemmas.{count_is, forms_are, patterns_are}
@@ -62,8 +62,8 @@ rule_with params body = record { params = params; body = body }
 pub take_rest : {X : Type 0} (n : ℕ) (xs : List X) → take (length xs - n) (drop n xs) ≡ drop n xs
 take_rest n xs = ap (λ m. take m (drop n xs)) (sym (length-drop n xs)) ∙ take-length (drop n xs)
 
-pub behind_all : {X : Type 0} (n : ℕ) (xs : List X) → length xs ≤ n → [] ≡ drop n xs
-behind_all n xs past = sym (drop_all n xs past)
+pub after_all : {X : Type 0} (n : ℕ) (xs : List X) → length xs ≤ n → [] ≡ drop n xs
+after_all n xs past = sym (drop_all n xs past)
 
 abbrev place_in : NameId → Place → Place
 place_in owner place = record { «module» = owner; line = place.line; column = place.column }
@@ -118,24 +118,24 @@ function_is w local at declared first others place n rules placed size same =
 
 -- ---- qualifiers
 
-behind_views : (names : List (List ℕ)) (n : ℕ) (qs : List Qualifier) → qualifiers_meaning names (drop n qs) ≡ behind_first n (qualifiers_meaning names qs)
-behind_views names zero qs = refl
-behind_views names (suc n) [] = refl
-behind_views names (suc n) (q ∷ qs) = behind_views names n qs
+after_views : (names : List (List ℕ)) (n : ℕ) (qs : List Qualifier) → qualifiers_meaning names (drop n qs) ≡ after_first n (qualifiers_meaning names qs)
+after_views names zero qs = refl
+after_views names (suc n) [] = refl
+after_views names (suc n) (q ∷ qs) = after_views names n qs
 
-behind_none : (n : ℕ) → syntax.NoQualifier ≡ behind_first n syntax.NoQualifier
-behind_none zero = refl
-behind_none (suc n) = refl
+after_none : (n : ℕ) → syntax.NoQualifier ≡ after_first n syntax.NoQualifier
+after_none zero = refl
+after_none (suc n) = refl
 
 -- the rest behind so many qualifiers of an expression
 abbrev rest_in : Setting → Scope → ℕ → syntax.Expression → terms.LocalTerm
-rest_in w local n e = functions.rest_of w.around local (element_in e) (behind_first n (qualifiers_in e))
+rest_in w local n e = functions.rest_of w.around local (element_in e) (after_first n (qualifiers_in e))
 
 pub rest_is : (w : Setting) (local : Scope) (whole : Expression) (v : ExpressionNode) (at : Place) (element : Expression) (qs : Vec Qualifier Global) (n : ℕ)
     → expression_node w.names v ≡ expression_meaning w.names whole → v ≡ node.Comprehension at element qs → comprehension_form w local element (drop n qs.items) ≡ rest_form w local whole n
 unfolding rest_form comprehension_form expression_form
 rest_is w local whole v at element qs n meaning is =
-    ap (functions.rest_of w.around local (expression_meaning w.names element)) (behind_views w.names n qs.items)
+    ap (functions.rest_of w.around local (expression_meaning w.names element)) (after_views w.names n qs.items)
     ∙ ap (rest_in w local n) (ap (expression_node w.names) (sym is) ∙ meaning)
 
 abbrev whole_alone : Setting → Scope → syntax.Expression → terms.LocalTerm
@@ -143,21 +143,21 @@ whole_alone w local e = functions.rest_of w.around local e syntax.NoQualifier
 
 rest_of_other : (w : Setting) (local : Scope) (n : ℕ) (v : ExpressionNode) → ((at : Place) (element : Expression) (qs : Vec Qualifier Global) → v ≡ node.Comprehension at element qs → ⊥)
     → whole_alone w local (expression_node w.names v) ≡ rest_in w local n (expression_node w.names v)
-rest_of_other w local n (node.Variable at x) none = ap (functions.rest_of w.around local (expression_node w.names (node.Variable at x))) (behind_none n)
-rest_of_other w local n (node.Constructor at x) none = ap (functions.rest_of w.around local (expression_node w.names (node.Constructor at x))) (behind_none n)
-rest_of_other w local n (node.Literal at found) none = ap (functions.rest_of w.around local (expression_node w.names (node.Literal at found))) (behind_none n)
-rest_of_other w local n (node.Application at f es) none = ap (functions.rest_of w.around local (expression_node w.names (node.Application at f es))) (behind_none n)
-rest_of_other w local n (node.Operators items) none = ap (functions.rest_of w.around local (expression_node w.names (node.Operators items))) (behind_none n)
-rest_of_other w local n (node.Lambda at ps e) none = ap (functions.rest_of w.around local (expression_node w.names (node.Lambda at ps e))) (behind_none n)
-rest_of_other w local n (node.Let at ds e) none = ap (functions.rest_of w.around local (expression_node w.names (node.Let at ds e))) (behind_none n)
-rest_of_other w local n (node.If at c t e) none = ap (functions.rest_of w.around local (expression_node w.names (node.If at c t e))) (behind_none n)
-rest_of_other w local n (node.Case at word e cases) none = ap (functions.rest_of w.around local (expression_node w.names (node.Case at word e cases))) (behind_none n)
-rest_of_other w local n (node.Tuple at es) none = ap (functions.rest_of w.around local (expression_node w.names (node.Tuple at es))) (behind_none n)
-rest_of_other w local n (node.TupleConstructor at k) none = ap (functions.rest_of w.around local (expression_node w.names (node.TupleConstructor at k))) (behind_none n)
-rest_of_other w local n (node.LeftSection at e x) none = ap (functions.rest_of w.around local (expression_node w.names (node.LeftSection at e x))) (behind_none n)
-rest_of_other w local n (node.RightSection at x e) none = ap (functions.rest_of w.around local (expression_node w.names (node.RightSection at x e))) (behind_none n)
-rest_of_other w local n (node.List at es) none = ap (functions.rest_of w.around local (expression_node w.names (node.List at es))) (behind_none n)
-rest_of_other w local n (node.Enumeration at e) none = ap (functions.rest_of w.around local (expression_node w.names (node.Enumeration at e))) (behind_none n)
+rest_of_other w local n (node.Variable at x) none = ap (functions.rest_of w.around local (expression_node w.names (node.Variable at x))) (after_none n)
+rest_of_other w local n (node.Constructor at x) none = ap (functions.rest_of w.around local (expression_node w.names (node.Constructor at x))) (after_none n)
+rest_of_other w local n (node.Literal at found) none = ap (functions.rest_of w.around local (expression_node w.names (node.Literal at found))) (after_none n)
+rest_of_other w local n (node.Application at f es) none = ap (functions.rest_of w.around local (expression_node w.names (node.Application at f es))) (after_none n)
+rest_of_other w local n (node.Operators items) none = ap (functions.rest_of w.around local (expression_node w.names (node.Operators items))) (after_none n)
+rest_of_other w local n (node.Lambda at ps e) none = ap (functions.rest_of w.around local (expression_node w.names (node.Lambda at ps e))) (after_none n)
+rest_of_other w local n (node.Let at ds e) none = ap (functions.rest_of w.around local (expression_node w.names (node.Let at ds e))) (after_none n)
+rest_of_other w local n (node.If at c t e) none = ap (functions.rest_of w.around local (expression_node w.names (node.If at c t e))) (after_none n)
+rest_of_other w local n (node.Case at word e cases) none = ap (functions.rest_of w.around local (expression_node w.names (node.Case at word e cases))) (after_none n)
+rest_of_other w local n (node.Tuple at es) none = ap (functions.rest_of w.around local (expression_node w.names (node.Tuple at es))) (after_none n)
+rest_of_other w local n (node.TupleConstructor at k) none = ap (functions.rest_of w.around local (expression_node w.names (node.TupleConstructor at k))) (after_none n)
+rest_of_other w local n (node.LeftSection at e x) none = ap (functions.rest_of w.around local (expression_node w.names (node.LeftSection at e x))) (after_none n)
+rest_of_other w local n (node.RightSection at x e) none = ap (functions.rest_of w.around local (expression_node w.names (node.RightSection at x e))) (after_none n)
+rest_of_other w local n (node.List at es) none = ap (functions.rest_of w.around local (expression_node w.names (node.List at es))) (after_none n)
+rest_of_other w local n (node.Enumeration at e) none = ap (functions.rest_of w.around local (expression_node w.names (node.Enumeration at e))) (after_none n)
 rest_of_other w local n (node.Comprehension at element qs) none = absurd (none at element qs refl)
 
 pub rest_other : (w : Setting) (local : Scope) (whole : Expression) (v : ExpressionNode) (n : ℕ) → expression_node w.names v ≡ expression_meaning w.names whole
@@ -239,7 +239,7 @@ matched_is around at q other rest none whole b rows held is both any empty =
     ∙ ap₂ (λ p t. terms.MoreAlternatives (pattern_of q) (local_term_of rest) (terms.MoreAlternatives p t terms.NoAlternative)) any empty)
 
 pub generator_whole : (w : Setting) (local : Scope) (at : Position) (p : view.Pattern) (whole : Expression) (n : ℕ)
-    → generator_of w at p (rest_form w (behind w local p) whole n) ≡ generator_form w local at p whole n
+    → generator_of w at p (rest_form w (scope_after w local p) whole n) ≡ generator_form w local at p whole n
 unfolding generator_of rest_form generator_form
 generator_whole w local at p whole n = refl
 

@@ -28,13 +28,13 @@ place_of (Operand n) = n
 place_of (Prefix n) = n
 place_of (Infix n) = n
 
-all_front : {X : Type 0} (P : X → Type 0) (xs ys : List X) → All P (xs ++ ys) → All P xs
-all_front P [] ys h = All-nil P
-all_front P (x ∷ xs) ys h = All-cons P x xs (All-head P x (xs ++ ys) h) (all_front P xs ys (All-tail P x (xs ++ ys) h))
+all_prefix : {X : Type 0} (P : X → Type 0) (xs ys : List X) → All P (xs ++ ys) → All P xs
+all_prefix P [] ys h = All-nil P
+all_prefix P (x ∷ xs) ys h = All-cons P x xs (All-head P x (xs ++ ys) h) (all_prefix P xs ys (All-tail P x (xs ++ ys) h))
 
-all_back : {X : Type 0} (P : X → Type 0) (xs ys : List X) → All P (xs ++ ys) → All P ys
-all_back P [] ys h = h
-all_back P (x ∷ xs) ys h = all_back P xs ys (All-tail P x (xs ++ ys) h)
+all_suffix : {X : Type 0} (P : X → Type 0) (xs ys : List X) → All P (xs ++ ys) → All P ys
+all_suffix P [] ys h = h
+all_suffix P (x ∷ xs) ys h = all_suffix P xs ys (All-tail P x (xs ++ ys) h)
 
 place_is : (n : ℕ) (p : Piece) → place_of (pieces.item_of n p) ≡ n
 place_is n piece.Operand = refl
@@ -55,12 +55,12 @@ cells_below end (Applied n t) h =
     All-cons (λ (c : Cell). number c < end) (cell.Minus n) (spelled t) (All-head (λ (i : Item ℕ ℕ). place_of i < end) (Prefix n) (flatten t) h)
     (cells_below end t (All-tail (λ (i : Item ℕ ℕ). place_of i < end) (Prefix n) (flatten t) h))
 cells_below end (Between l n r) h =
-    let behind = all_back (λ (i : Item ℕ ℕ). place_of i < end) (flatten l) (Infix n ∷ flatten r) h in
+    let after = all_suffix (λ (i : Item ℕ ℕ). place_of i < end) (flatten l) (Infix n ∷ flatten r) h in
     All-cons (λ (c : Cell). number c < end) (cell.Operator n) (spelled l ++ spelled r)
-    (All-head (λ (i : Item ℕ ℕ). place_of i < end) (Infix n) (flatten r) behind)
+    (All-head (λ (i : Item ℕ ℕ). place_of i < end) (Infix n) (flatten r) after)
     (All-append (λ (c : Cell). number c < end) (spelled l) (spelled r)
-    (cells_below end l (all_front (λ (i : Item ℕ ℕ). place_of i < end) (flatten l) (Infix n ∷ flatten r) h))
-    (cells_below end r (All-tail (λ (i : Item ℕ ℕ). place_of i < end) (Infix n) (flatten r) behind)))
+    (cells_below end l (all_prefix (λ (i : Item ℕ ℕ). place_of i < end) (flatten l) (Infix n ∷ flatten r) h))
+    (cells_below end r (All-tail (λ (i : Item ℕ ℕ). place_of i < end) (Infix n) (flatten r) after)))
 
 pub all_within : (end : ℕ) (ps : List Piece) (t : Tree ℕ ℕ) (cells : List Cell) → length ps ≡ end → Grouped (fixity_at ps) (items_of ps) t → cells ≡ spelled t
     → All (λ c. number c < end) cells

@@ -60,18 +60,18 @@ found_first : (text : NameId) (e : Entry) (xs ys : List Entry) (l : Local) (b : 
 found_first text e xs ys l true by is rest = is
 found_first text e xs ys l false by is rest = rest is
 
-found_in_front : (text : NameId) (xs ys : List Entry) (l : Local) → Some l ≡ meaning_in text xs → Some l ≡ meaning_in text (xs ++ ys)
-found_in_front text [] ys l e = let no : ⊥ = cc in absurd no
-found_in_front text (x ∷ xs) ys l e = found_first text x xs ys l (nat_eq x.text.0 text.0) refl e (found_in_front text xs ys l)
+found_in_prefix : (text : NameId) (xs ys : List Entry) (l : Local) → Some l ≡ meaning_in text xs → Some l ≡ meaning_in text (xs ++ ys)
+found_in_prefix text [] ys l e = let no : ⊥ = cc in absurd no
+found_in_prefix text (x ∷ xs) ys l e = found_first text x xs ys l (nat_eq x.text.0 text.0) refl e (found_in_prefix text xs ys l)
 
 missing_first : (text : NameId) (e : Entry) (xs ys : List Entry) (b : Bool) → None ≡ (if b then Some e.means else meaning_in text xs)
     → (None ≡ meaning_in text xs → meaning_in text (xs ++ ys) ≡ meaning_in text ys) → (if b then Some e.means else meaning_in text (xs ++ ys)) ≡ meaning_in text ys
 missing_first text e xs ys true is rest = let no : ⊥ = cc in absurd no
 missing_first text e xs ys false is rest = rest is
 
-missing_in_front : (text : NameId) (xs ys : List Entry) → None ≡ meaning_in text xs → meaning_in text (xs ++ ys) ≡ meaning_in text ys
-missing_in_front text [] ys e = refl
-missing_in_front text (x ∷ xs) ys e = missing_first text x xs ys (nat_eq x.text.0 text.0) e (missing_in_front text xs ys)
+missing_in_prefix : (text : NameId) (xs ys : List Entry) → None ≡ meaning_in text xs → meaning_in text (xs ++ ys) ≡ meaning_in text ys
+missing_in_prefix text [] ys e = refl
+missing_in_prefix text (x ∷ xs) ys e = missing_first text x xs ys (nat_eq x.text.0 text.0) e (missing_in_prefix text xs ys)
 
 pub found_outermost : (text : NameId) (s : Scope) (entries : Bor (List Entry)) → s ≡ scope.Outermost entries → meaning_in text entries.now ≡ meaning_in text (entries_in s)
 found_outermost text s entries is = ap (meaning_in text) (sym (ap entries_in is ∙ entries_in-Outermost entries))
@@ -79,12 +79,12 @@ found_outermost text s entries is = ap (meaning_in text) (sym (ap entries_in is 
 pub found_inside : (text : NameId) (s : Scope) (entries : Bor (List Entry)) (around : Bor Scope) (l : Local) → s ≡ scope.Inside entries around
     → Some l ≡ meaning_in text entries.now → Some l ≡ meaning_in text (entries_in s)
 found_inside text s entries around l is e =
-    found_in_front text entries.now (entries_in around.now) l e ∙ ap (meaning_in text) (sym (ap entries_in is ∙ entries_in-Inside entries around))
+    found_in_prefix text entries.now (entries_in around.now) l e ∙ ap (meaning_in text) (sym (ap entries_in is ∙ entries_in-Inside entries around))
 
 pub missing_inside : (text : NameId) (s : Scope) (entries : Bor (List Entry)) (around : Bor Scope) (r : Option Local) → s ≡ scope.Inside entries around
     → None ≡ meaning_in text entries.now → r ≡ meaning_in text (entries_in around.now) → r ≡ meaning_in text (entries_in s)
 missing_inside text s entries around r is e found =
-    found ∙ sym (missing_in_front text entries.now (entries_in around.now) e) ∙ ap (meaning_in text) (sym (ap entries_in is ∙ entries_in-Inside entries around))
+    found ∙ sym (missing_in_prefix text entries.now (entries_in around.now) e) ∙ ap (meaning_in text) (sym (ap entries_in is ∙ entries_in-Inside entries around))
 
 -- one more level of names
 pub sees_inside : (w : Setting) (local more : definitions.Scope) (around inner : Scope) (entries : List Entry) → Sees w local around

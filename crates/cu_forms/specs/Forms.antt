@@ -128,9 +128,9 @@ abbrev pub guard_form : Setting → Scope → Guard → LocalTerm × LocalTerm
 guard_form w local g = (expression_form w local g.condition, expression_form w local g.expression)
 
 -- what is in scope after a pattern
-abbrev pub behind : Setting → Scope → Pattern → Scope
-behind w local p = variable_entries (pattern_binds w.names p) ++ local
+abbrev pub scope_after : Setting → Scope → Pattern → Scope
+scope_after w local p = variable_entries (pattern_binds w.names p) ++ local
 
 abbrev pub alternative_form : Setting → Scope → Alternative → calculus.Pattern × LocalTerm
 alternative_form w local a =
-    (pattern_form w At a.pattern, right_form w (behind w local a.pattern) a.right)
+    (pattern_form w At a.pattern, right_form w (scope_after w local a.pattern) a.right)

@@ -22,7 +22,7 @@ use Rattle.cu_translation.specs.PatternTable.{patterns, patterns_of}
 use Rattle.cu_translation.specs.Rules.{pattern_count}
 use Rattle.cu_uses.specs.Inside.Gathered.{names_meaning, pattern_binds, patterns_bind}
 use Rattle.cu_forms.specs.declared.local_functions.RuleText.{RuleText}
-use Rattle.cu_forms.specs.Forms.{behind, expression_form, right_form}
+use Rattle.cu_forms.specs.Forms.{scope_after, expression_form, right_form}
 
 -- ---- rules
 
@@ -80,15 +80,16 @@ element_in (syntax.Comprehension at element qualifiers) = element
 element_in e = e
 
 -- the qualifiers after the first n
-abbrev pub behind_first : ℕ → syntax.Qualifiers → syntax.Qualifiers
-behind_first zero qs = qs
-behind_first (suc n) syntax.NoQualifier = syntax.NoQualifier
-behind_first (suc n) (syntax.MoreQualifiers q qs) = behind_first n qs
+abbrev pub after_first : ℕ → syntax.Qualifiers → syntax.Qualifiers
+after_first zero qs = qs
+after_first (suc n) syntax.NoQualifier = syntax.NoQualifier
+after_first (suc n) (syntax.MoreQualifiers q qs) = after_first n qs
 
 -- the function of a qualifier of a comprehension, which is the last of the first `count`
 unfoldable pub generator_form : Setting → Scope → Position → Pattern → Expression → ℕ
     → LocalFunction
 generator_form w local at p whole count =
     functions.generator_function w.around at (pattern_meaning w.names p)
-    (functions.rest_of w.around (behind w local p) (element_in (expression_meaning w.names whole))
-    (behind_first count (qualifiers_in (expression_meaning w.names whole))))
+    (functions.rest_of w.around (scope_after w local p)
+    (element_in (expression_meaning w.names whole))
+    (after_first count (qualifiers_in (expression_meaning w.names whole))))

@@ -182,13 +182,13 @@ fn with_lets<A: Surroundings>(
     let mut left = bounds;
     let mut inner = term;
     while let Some(bound) = left.pop() {
-        inner = behind(alloc, around, bound, inner)?;
+        inner = scope_after(alloc, around, bound, inner)?;
     }
     Ok(inner)
 }
 
 /// A term inside a definition.
-fn behind<A: Surroundings>(
+fn scope_after<A: Surroundings>(
     alloc: Global,
     around: &A,
     bound: Bound,

@@ -229,14 +229,14 @@ fn rest_of<A: Surroundings>(
         → IfOk result (λ t. local_term_of t ≡ rest_form w local whole.entry count) }
 {
     if let ExpressionNode::Comprehension(_, element, qualifiers) = whole.node(alloc)? {
-        let rest = behind(qualifiers.as_slice(), count);
+        let rest = after(qualifiers.as_slice(), count);
         return comprehension(alloc, around, scope, element, rest);
     }
     comprehension(alloc, around, scope, whole, &[])
 }
 
 /// The qualifiers after the first `count`.
-fn behind<'q, 't>(qualifiers: &'q [Qualifier<'t>], count: usize) -> &'q [Qualifier<'t>]
+fn after<'q, 't>(qualifiers: &'q [Qualifier<'t>], count: usize) -> &'q [Qualifier<'t>]
     ensures { result.now ≡ drop count qualifiers.now }
 {
     if count >= qualifiers.len() {

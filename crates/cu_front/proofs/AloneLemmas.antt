@@ -8,7 +8,7 @@ use Rattle.cu_modules.specs.Scopes.{Named}
 use Rattle.cu_modules.specs.Walk as walk
 use Rattle.cu_modules.specs.Walk.{Walk}
 use Rattle.cu_front.specs.Compiling as meant
-use Rattle.cu_front.specs.Compiling.{Held, ModuleCompiles, ModulesRefused}
+use Rattle.cu_front.specs.Compiling.{Folder, RootCompiles, ModulesRefused}
 use Rattle.cu_front.specs.declared.fault.StageFault.{StageFault}
 use Rattle.cu_front.specs.declared.runnable.Compiled.{Compiled}
 use Rattle.cu_front.specs.Inside.Stages.{AreTranslated, CompileAlone, RefusesModules}
@@ -21,7 +21,7 @@ use Rattle.cu_front.specs.Translated.{modules_program, translation_refusal}
 use Rattle.cu_front.proofs.RunLemmas.{tells_weaker}
 use Rattle.cu_front.proofs.StageLemmas.{modules_refused}
 
-pub walk_refuses_modules : (root : List ℕ) (held : Held) (refusal : walk.Refusal) → Walk held root (Err refusal)
+pub walk_refuses_modules : (root : List ℕ) (held : Folder) (refusal : walk.Refusal) → Walk held root (Err refusal)
     → ModulesRefused held root (Walked refusal)
 walk_refuses_modules root held refusal is = meant.ModulesRefused.walk refusal is
 
@@ -52,9 +52,9 @@ alone_not_run table names modules root local (Err fault) are is =
     meant.ModulesRefused.program modules table names r.program refusal walked are.scoped are.types are.is_table are.translated
     (subst (λ (p : LocalKernel). IsLifted table p names r.program) are.is r.lifted) r.cannot_run) is
 
-pub alone_comes : (held : Held) (root : List ℕ) (modules : List Named) (names : List (List ℕ)) (found : Compiled)
+pub alone_comes : (held : Folder) (root : List ℕ) (modules : List Named) (names : List (List ℕ)) (found : Compiled)
     → CompileAlone modules root names found.program found.interface (program_of found.flat) → Walk held root (Ok modules)
-    → ModuleCompiles held root names found.program found.interface (program_of found.flat)
+    → RootCompiles held root names found.program found.interface (program_of found.flat)
 alone_comes held root modules names found alone walked = record { modules = modules; compile = alone held walked }
 
 pub are_translated : (names : List (List ℕ)) (modules : List Named) (result : Result LocalKernel StageFault) → AreScoped [] modules

@@ -9,7 +9,7 @@ use Rattle.cu_uses.specs.Binders.{repeated, variables}
 use Rattle.cu_translation.specs.Around.{Around, Callable, Names, Nothing, Referent, SetFunction, Variable, name_alone, referent}
 use Rattle.cu_translation.specs.Dependencies.{Definition, definitions, is_recursive}
 use Rattle.cu_translation.specs.FaultOrder.{Fault, fault, FixityClash, NonLinear, RecursiveLocal, Wrong, at_name, earlier, first_fault, is_before}
-use Rattle.cu_translation.specs.Faults.{all_clashes, all_constructor_faults, arity_unless, clash_unless, clashes_at, clashes_behind, clashes_of, constructor_fault, constructor_faults, differs_from, faults_at, faults_in_tree, faults_of, first_rule, group_clashes, group_faults, is_set_call, leaf_name, length_faults, most_rules, node_faults, operation_faults, operator_faults, pattern_clashes, pattern_faults, recursive_at, recursive_fault, rule_faults, set_name_unless, takes, too_long, tree_faults, tree_of, use_faults}
+use Rattle.cu_translation.specs.Faults.{all_clashes, all_constructor_faults, arity_unless, clash_unless, clashes_at, clashes_after, clashes_of, constructor_fault, constructor_faults, differs_from, faults_at, faults_in_tree, faults_of, first_rule, group_clashes, group_faults, is_set_call, leaf_name, length_faults, most_rules, node_faults, operation_faults, operator_faults, pattern_clashes, pattern_faults, recursive_at, recursive_fault, rule_faults, set_name_unless, takes, too_long, tree_faults, tree_of, use_faults}
 use Rattle.cu_translation.specs.Functions.{around_group, group_nodes}
 use Rattle.cu_translation.specs.GroupedTree.{grouped_tree}
 use Rattle.cu_translation.specs.LocalNames.{At, Binder, Otherwise, Scope, Selected, Whole}
@@ -58,18 +58,18 @@ mutual
   pattern names (syntax.PatternList at ps) = patterns names ps
   pattern names (syntax.PatternOperators at first rest) =
       let tree = grouped_tree (fixity_with names.fixity) (pattern_items (syntax.PatternOperators at first rest)) in
-      both true (clash_unless at tree) (pattern_clashes names first ++ clashes_behind names rest) (unless at tree)
-      (both true (pattern_clashes names first) (clashes_behind names rest) (pattern names first) (patterns_behind names rest))
+      both true (clash_unless at tree) (pattern_clashes names first ++ clashes_after names rest) (unless at tree)
+      (both true (pattern_clashes names first) (clashes_after names rest) (pattern names first) (patterns_after names rest))
 
   patterns : (names : Names) (ps : Patterns) → Are true (all_clashes names ps)
   patterns names syntax.NoPattern = tt
   patterns names (syntax.MorePatterns p ps) =
       both true (pattern_clashes names p) (all_clashes names ps) (pattern names p) (patterns names ps)
 
-  patterns_behind : (names : Names) (rest : PatternRest) → Are true (clashes_behind names rest)
-  patterns_behind names syntax.NoConstructor = tt
-  patterns_behind names (syntax.ThenConstructor c p rest) =
-      both true (pattern_clashes names p) (clashes_behind names rest) (pattern names p) (patterns_behind names rest)
+  patterns_after : (names : Names) (rest : PatternRest) → Are true (clashes_after names rest)
+  patterns_after names syntax.NoConstructor = tt
+  patterns_after names (syntax.ThenConstructor c p rest) =
+      both true (pattern_clashes names p) (clashes_after names rest) (pattern names p) (patterns_after names rest)
 
 clashes_there : (names : Names) (scope : Scope) (site : Site) → Are true (clashes_at names scope site)
 clashes_there names scope (Use name arguments) = tt

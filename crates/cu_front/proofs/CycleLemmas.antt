@@ -5,11 +5,11 @@ use Rattle.std.specs.List.{flat_map}
 use Rattle.cu_modules.specs.Ordering.{texts_of}
 use Rattle.cu_names.specs.declared.names.NameId.{NameId}
 use Rattle.cu_names.specs.Texts.{text_of}
-use Rattle.cu_front.specs.RefusalLine.{behind_space}
+use Rattle.cu_front.specs.RefusalLine.{after_space}
 
 -- the rest of the line, from some names on
 abbrev pub rest_of : List (List ℕ) → List NameId → List ℕ
-rest_of names ids = flat_map behind_space (texts_of names ids) ++ codes "\n"
+rest_of names ids = flat_map after_space (texts_of names ids) ++ codes "\n"
 
 -- one more name
 pub one_more : (names : List (List ℕ)) (ids : List NameId) (i : ℕ) (d : NameId)
@@ -18,13 +18,13 @@ pub one_more : (names : List (List ℕ)) (ids : List NameId) (i : ℕ) (d : Name
     → after ++ rest_of names (drop (i + 1) ids) ≡ before ++ rest_of names (drop i ids)
 one_more names ids i d before space text after below is_space is_text is_after =
     let name = text_of names (get_or ids i d) in
-    let behind = flat_map behind_space (texts_of names (drop (i + 1) ids)) in
-    ap (λ (text : List ℕ). text ++ (behind ++ codes "\n"))
+    let later = flat_map after_space (texts_of names (drop (i + 1) ids)) in
+    ap (λ (text : List ℕ). text ++ (later ++ codes "\n"))
     (is_after ∙ ap (λ (found : List ℕ). space ++ found) is_text
     ∙ ap (λ (found : List ℕ). found ++ name) is_space)
-    ∙ append_assoc (before ++ codes " ") name (behind ++ codes "\n")
-    ∙ append_assoc before (codes " ") (name ++ (behind ++ codes "\n"))
-    ∙ ap (λ (text : List ℕ). before ++ (codes " " ++ text)) (sym (append_assoc name behind (codes "\n")))
+    ∙ append_assoc (before ++ codes " ") name (later ++ codes "\n")
+    ∙ append_assoc before (codes " ") (name ++ (later ++ codes "\n"))
+    ∙ ap (λ (text : List ℕ). before ++ (codes " " ++ text)) (sym (append_assoc name later (codes "\n")))
     ∙ ap (λ (left : List NameId). before ++ rest_of names left) (sym (drop_more ids i d below))
 
 -- no more

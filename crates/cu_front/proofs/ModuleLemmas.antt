@@ -17,7 +17,7 @@ use Rattle.cu_front.specs.declared.fault.StageFault.TheVariants as stage
 use Rattle.cu_front.specs.declared.outcome.Outcome as code
 use Rattle.cu_front.specs.declared.outcome.Outcome.TheVariants as found
 use Rattle.cu_front.specs.declared.refusal.Refusal as refused
-use Rattle.cu_front.specs.Inside.Outcomes.{Follow, HasNoClash, IsModuleOutcome, IsOutcome, IsOutcomeOf, behind, clash_told, clashes_told, kept, other_told, others_told, part_at, parts_of}
+use Rattle.cu_front.specs.Inside.Outcomes.{Follow, HasNoClash, IsModuleOutcome, IsOutcome, IsOutcomeOf, followed_by, clash_told, clashes_told, kept, other_told, others_told, part_at, parts_of}
 use Rattle.cu_front.specs.Refusal.{Refusal}
 use Rattle.cu_front.specs.RefusalMeaning.{refusal_meaning}
 use Rattle.cu_front.specs.StageFaults.{Tells}
@@ -195,24 +195,24 @@ none_before table modules = refl
 
 -- ---- modules in a row
 
-pub is_behind : (names : List (List ℕ)) (first second : Option Refusal) (before part : LocalKernel) (so_far next : code.Outcome)
+pub is_after : (names : List (List ℕ)) (first second : Option Refusal) (before part : LocalKernel) (so_far next : code.Outcome)
     → IsOutcome names first before so_far → IsOutcome names second part next
-    → IsOutcome names (option_or first second) (joined before part) (behind so_far next)
-is_behind names first second before part (found.Program p) (found.Program q) is then = (
+    → IsOutcome names (option_or first second) (joined before part) (followed_by so_far next)
+is_after names first second before part (found.Program p) (found.Program q) is then = (
   ap₂ option_or is.0 then.0,
   ap₂ joined is.1 then.1,
 )
-is_behind names first second before part (found.Program p) (found.Refused r) is then =
+is_after names first second before part (found.Program p) (found.Refused r) is then =
     (ap (λ (o : Option Refusal). option_or o second) is.0 ∙ then.0, then.1)
-is_behind names first second before part (found.Refused r) next is then =
+is_after names first second before part (found.Refused r) next is then =
     (ap (λ (o : Option Refusal). option_or o second) is.0, is.1)
 
 has_none : (names : List (List ℕ)) (clash clash' other other' : Option Refusal) (before part : LocalKernel) (so_far next : code.Outcome)
     → HasNoClash names clash other before so_far → HasNoClash names clash' other' part next
-    → HasNoClash names (option_or clash clash') (option_or other other') (joined before part) (behind so_far next)
+    → HasNoClash names (option_or clash clash') (option_or other other') (joined before part) (followed_by so_far next)
 has_none names clash clash' other other' before part so_far next first second = record {
   no_clash = ap₂ option_or first.no_clash second.no_clash;
-  is = is_behind names other other' before part so_far next first.is second.is;
+  is = is_after names other other' before part so_far next first.is second.is;
 }
 
 -- the first module
@@ -227,11 +227,11 @@ of_first table modules outcome some is =
       is = subst (λ (o : Option Refusal). IsOutcome table o (module_part table modules 0) outcome) (sym other) is.is;
     }
 
-behind_first : (table : List (List ℕ)) (modules : List Named) (k : ℕ) (so_far next : code.Outcome) → suc k < length modules
+after_first : (table : List (List ℕ)) (modules : List Named) (k : ℕ) (so_far next : code.Outcome) → suc k < length modules
     → IsOutcomeOf table modules (suc k) so_far → IsModuleOutcome table modules (suc k) next
-    → IsOutcomeOf table modules (suc (suc k)) (behind so_far next)
+    → IsOutcomeOf table modules (suc (suc k)) (followed_by so_far next)
 unfolding clash_told other_told part_at clashes_told others_told parts_of
-behind_first table modules k so_far next below first second =
+after_first table modules k so_far next below first second =
     let n = suc k in
     let before = program_upto table modules k in
     let part = module_part table modules n in
@@ -243,18 +243,18 @@ behind_first table modules k so_far next below first second =
     so_far next first second in
     record {
       no_clash = clash ∙ both.no_clash;
-      is = subst (λ (o : Option Refusal). IsOutcome table o (joined before part) (behind so_far next)) (sym other) both.is;
+      is = subst (λ (o : Option Refusal). IsOutcome table o (joined before part) (followed_by so_far next)) (sym other) both.is;
     }
 
 -- one module more
 pub of_next : (table : List (List ℕ)) (modules : List Named) (n : ℕ) (so_far next after : code.Outcome) → 1 ≤ n → n < length modules
-    → after ≡ behind so_far next → IsOutcomeOf table modules n so_far → IsModuleOutcome table modules n next
+    → after ≡ followed_by so_far next → IsOutcomeOf table modules n so_far → IsModuleOutcome table modules n next
     → IsOutcomeOf table modules (n + 1) after
 of_next table modules zero so_far next after some below is first second = absurd (omega (arith, some))
 of_next table modules (suc k) so_far next after some below is first second =
     let more : suc (suc k) ≡ suc k + 1 = omega arith in
     subst (λ (m : ℕ). IsOutcomeOf table modules m after) more
-    (subst (IsOutcomeOf table modules (suc (suc k))) (sym is) (behind_first table modules k so_far next below first second))
+    (subst (IsOutcomeOf table modules (suc (suc k))) (sym is) (after_first table modules k so_far next below first second))
 
 -- ---- numbers that follow
 
@@ -278,9 +278,9 @@ joined_count : (n : ℕ) (xs ys : List DataType)
 joined_count n [] ys = let same = counted n 0 ys in omega (arith, same)
 joined_count n (x ∷ xs) ys =
     let whole = length-append (constructors_of n x.constructors) (constructors_from (n + 1) (xs ++ ys)) in
-    let front = length-append (constructors_of n x.constructors) (constructors_from (n + 1) xs) in
+    let prefix = length-append (constructors_of n x.constructors) (constructors_from (n + 1) xs) in
     let inner = joined_count (n + 1) xs ys in
-    omega (arith, whole, front, inner)
+    omega (arith, whole, prefix, inner)
 
 further : (start more last next : ℕ) → next ≡ start + more → (n : ℕ) → n ≡ next + last → n ≡ start + (more + last)
 further start more last next is n then = omega (arith, is, then)

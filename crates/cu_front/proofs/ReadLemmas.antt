@@ -87,7 +87,7 @@ both_refused old new ms root text fault grown have told =
     tells_weaker new (RefusesModules (modules_of new ms) root) (RefusesBoth (modules_of old ms) root text) fault
     (λ refusal is held walk.
     let there = subst (λ (modules : List Named). Walk held root (Ok modules)) (sym (modules_same grown ms have)) walk in
-    meant.Refuses.by_modules refusal (is held there)) told
+    meant.RequestRefused.by_modules refusal (is held there)) told
 
 pub same_refused : {A : Type 0} (old new last : List (List ℕ)) (ms : List Module) (root text : List ℕ) (result : Result A StageFault) → Extends old new
     → All (HasModule old) ms → IfErr result (Tells last (RefusesBoth (modules_of new ms) root text))

@@ -48,9 +48,9 @@ pub memory_told : {A : Type 0} (names : List (List ℕ)) (P : Refusal → Type 0
 memory_told names P (Ok a) is = tt
 memory_told names P (Err e) is = subst (Tells names P) (sym is) tt
 
-not_empty : (front : List FunId) (f : FunId) (back : List FunId) → ¬ ([] ≡ front ++ f ∷ back)
-not_empty [] f back e = let no : ⊥ = cc in no
-not_empty (g ∷ front) f back e = let no : ⊥ = cc in no
+not_empty : (prefix : List FunId) (f : FunId) (suffix : List FunId) → ¬ ([] ≡ prefix ++ f ∷ suffix)
+not_empty [] f suffix e = let no : ⊥ = cc in no
+not_empty (g ∷ prefix) f suffix e = let no : ⊥ = cc in no
 
 pub sets_told : (names : List (List ℕ)) (program : Kernel) (cycle found : List FunId)
     (result : StageFault) → found ≡ cycle → IsSetRecursion (program_of program) cycle
@@ -58,7 +58,7 @@ pub sets_told : (names : List (List ℕ)) (program : Kernel) (cycle found : List
     → Tells names (λ refusal. refusal ≡ SetRecursion (function_text names program first)) result)
     → Tells names (CannotRun names program) result
 sets_told names program [] found result same recursion told =
-    absurd (not_empty recursion.is_cycle.front recursion.is_cycle.caller recursion.is_cycle.back
+    absurd (not_empty recursion.is_cycle.prefix recursion.is_cycle.caller recursion.is_cycle.suffix
     recursion.is_cycle.whole)
 sets_told names program (first ∷ others) found result same recursion told =
     tells_weaker names (λ refusal. refusal ≡ SetRecursion (function_text names program first))

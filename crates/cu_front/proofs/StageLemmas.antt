@@ -31,7 +31,7 @@ use Rattle.cu_front.specs.declared.fault.StageFault.TheVariants as stage
 use Rattle.cu_front.specs.declared.outcome.Outcome as code
 use Rattle.cu_front.specs.declared.outcome.Outcome.TheVariants as found
 use Rattle.cu_front.specs.GoalTexts.{GoalIsRead}
-use Rattle.cu_front.specs.Inside.Outcomes.{Follow, IsOutcome, behind, kept}
+use Rattle.cu_front.specs.Inside.Outcomes.{Follow, IsOutcome, followed_by, kept}
 use Rattle.cu_front.specs.Inside.Stages.{IsInNames, IsInTypes, IsWhole, RefusesModules, fault_of_goal_types, fault_of_scope, fault_of_types, goal_told, part_of_goal, told_by}
 use Rattle.cu_front.specs.Names.{IsGoalTable, IsTable}
 use Rattle.cu_front.specs.Refusal.{InNames, Refusal, goal_name, in_functions, in_types}
@@ -39,7 +39,7 @@ use Rattle.cu_front.specs.RefusalMeaning.{refusal_meaning}
 use Rattle.cu_front.specs.StageFaults.{IsUnread, Tells}
 use Rattle.cu_front.specs.Translated.{modules_program, translation_refusal}
 use Rattle.cu_front.proofs.FunctionLemmas.{IsRefusedFor}
-use Rattle.cu_front.proofs.ModuleLemmas.{ModulesFollow, follow_by, is_behind, upto_follows}
+use Rattle.cu_front.proofs.ModuleLemmas.{ModulesFollow, follow_by, is_after, upto_follows}
 use Rattle.cu_front.proofs.RunLemmas.{tells_weaker}
 use Rattle.cu_front.proofs.TableLemmas.{known_goal_name}
 
@@ -249,13 +249,13 @@ goal_follows follow goals names modules k goal program part told below is then =
     follow_by names None told (modules_program names modules) (goal_part names modules k goal) (found.Program program) part
     (upto_follows follow names modules last within (goal_part names modules k goal) (goals names modules k last goal size)) (refl, is) then
 
-pub goal_behind : (names : List (List ℕ)) (modules : List Named) (k : ℕ) (goal : Goal) (program : LocalKernel) (part whole : code.Outcome)
+pub goal_after : (names : List (List ℕ)) (modules : List Named) (k : ℕ) (goal : Goal) (program : LocalKernel) (part whole : code.Outcome)
     (told : Option Refusal) → program ≡ modules_program names modules → IsOutcome names told (part_of_goal names modules k goal) part
-    → whole ≡ behind (found.Program program) part → IsOutcome names told (whole_program names modules k goal) whole
+    → whole ≡ followed_by (found.Program program) part → IsOutcome names told (whole_program names modules k goal) whole
 unfolding part_of_goal whole_program
-goal_behind names modules k goal program part whole told is then same =
+goal_after names modules k goal program part whole told is then same =
     subst (IsOutcome names told (whole_program names modules k goal)) (sym same)
-    (is_behind names None told (modules_program names modules) (goal_part names modules k goal) (found.Program program) part (refl, is) then)
+    (is_after names None told (modules_program names modules) (goal_part names modules k goal) (found.Program program) part (refl, is) then)
 
 -- ---- faults that are told later
 

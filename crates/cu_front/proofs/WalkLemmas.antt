@@ -9,7 +9,7 @@ use Rattle.cu_modules.specs.Walk as walk
 use Rattle.cu_modules.specs.Walk.{Walk}
 use Rattle.cu_front.specs.CompileAnswers.{AnswerIsKnown, FaultCount, TellsRefusal}
 use Rattle.cu_front.specs.Compiling as meant
-use Rattle.cu_front.specs.Compiling.{Held, Refuses}
+use Rattle.cu_front.specs.Compiling.{Folder, RequestRefused}
 use Rattle.cu_front.specs.declared.fault.CompileFault.{CompileFault}
 use Rattle.cu_front.specs.declared.fault.StageFault.{StageFault}
 use Rattle.cu_front.specs.declared.fault.StageFault.TheVariants as stage
@@ -27,7 +27,7 @@ told_if : (Known : Type 0) (names : List (List ℕ)) (refusal : code.Refusal) (r
 told_if Known names refusal result P (inl is) told = subst (TellsRefusal names P) (sym is.0) told
 told_if Known names refusal result P (inr is) told = subst (TellsRefusal names P) (sym is) tt
 
-walk_by : (names : List (List ℕ)) (held : Held) (root : List ℕ) (P : Refusal → Type 0)
+walk_by : (names : List (List ℕ)) (held : Folder) (root : List ℕ) (P : Refusal → Type 0)
     → ((refusal : walk.Refusal) → Walk held root (Err refusal) → P (Walked refusal)) → (fault : OrderFault) (result : CompileFault)
     → IsWalkAnswer names fault result → ordering.Tells names (λ refusal. Walk held root (Err refusal)) fault → TellsRefusal names P result
 walk_by names held root P by (order.MissingModule id) result is told = told_if _ names _ result P is (by _ told)
@@ -45,8 +45,8 @@ walk_by names held root P by order.Fetch result is told = subst (TellsRefusal na
 walk_by names held root P by order.NoMemory result is told = subst (TellsRefusal names P) (sym is) tt
 
 -- by a property that refusals of the walk have
-pub walk_told : (names : List (List ℕ)) (o : Option Holdings) (folder root : List ℕ) (P : Held → Refusal → Type 0)
-    → ((held : Held) (refusal : walk.Refusal) → Walk held root (Err refusal) → P held (Walked refusal)) → (fault : OrderFault)
+pub walk_told : (names : List (List ℕ)) (o : Option Holdings) (folder root : List ℕ) (P : Folder → Refusal → Type 0)
+    → ((held : Folder) (refusal : walk.Refusal) → Walk held root (Err refusal) → P held (Walked refusal)) → (fault : OrderFault)
     (result : CompileFault) → IsWalkAnswer names fault result
     → IfSome o (λ held. ordering.Tells names (λ refusal. Walk (held.module_at folder) root (Err refusal)) fault)
     → IfSome o (λ held. TellsRefusal names (P (held.module_at folder)) result)
@@ -54,9 +54,9 @@ walk_told names None folder root P by fault result is told = tt
 walk_told names (Some held) folder root P by fault result is told =
     let at = held.module_at folder in walk_by names at root (P at) (by at) fault result is told
 
-pub walk_refuses : (root text : List ℕ) (held : Held) (refusal : walk.Refusal) → Walk held root (Err refusal)
-    → Refuses held root text (Walked refusal)
-walk_refuses root text held refusal is = meant.Refuses.by_modules (Walked refusal) (meant.ModulesRefused.walk refusal is)
+pub walk_refuses : (root text : List ℕ) (held : Folder) (refusal : walk.Refusal) → Walk held root (Err refusal)
+    → RequestRefused held root text (Walked refusal)
+walk_refuses root text held refusal is = meant.RequestRefused.by_modules (Walked refusal) (meant.ModulesRefused.walk refusal is)
 
 -- ---- known names
 
@@ -109,19 +109,19 @@ stage_by : (names : List (List ℕ)) (P : Refusal → Type 0) (fault : StageFaul
 stage_by names P (stage.Refused refusal) told = told.0
 stage_by names P stage.NoMemory told = tt
 
-pub stage_told : (names : List (List ℕ)) (o : Option Holdings) (folder root : List ℕ) (P : Held → Refusal → Type 0) (modules : List Named)
+pub stage_told : (names : List (List ℕ)) (o : Option Holdings) (folder root : List ℕ) (P : Folder → Refusal → Type 0) (modules : List Named)
     (fault : StageFault) (result : CompileFault) → result ≡ answer_of fault → IfSome o (λ held. Walk (held.module_at folder) root (Ok modules))
-    → Tells names (λ refusal. (held : Held) → Walk held root (Ok modules) → P held refusal) fault
+    → Tells names (λ refusal. (held : Folder) → Walk held root (Ok modules) → P held refusal) fault
     → IfSome o (λ held. TellsRefusal names (P (held.module_at folder)) result)
 stage_told names None folder root P modules fault result is walked told = tt
 stage_told names (Some held) folder root P modules fault result is walked told =
     let at = held.module_at folder in
     subst (TellsRefusal names (P at)) (sym is)
     (stage_by names (P at) fault
-    (tells_weaker names (λ refusal. (h : Held) → Walk h root (Ok modules) → P h refusal) (P at) fault (λ refusal all. all at walked) told))
+    (tells_weaker names (λ refusal. (h : Folder) → Walk h root (Ok modules) → P h refusal) (P at) fault (λ refusal all. all at walked) told))
 
-pub stage_comes : (o : Option Holdings) (folder root : List ℕ) (P : Held → Type 0) (modules : List Named)
-    → IfSome o (λ held. Walk (held.module_at folder) root (Ok modules)) → ((held : Held) → Walk held root (Ok modules) → P held)
+pub stage_comes : (o : Option Holdings) (folder root : List ℕ) (P : Folder → Type 0) (modules : List Named)
+    → IfSome o (λ held. Walk (held.module_at folder) root (Ok modules)) → ((held : Folder) → Walk held root (Ok modules) → P held)
     → IfSome o (λ held. P (held.module_at folder))
 stage_comes None folder root P modules walked all = tt
 stage_comes (Some held) folder root P modules walked all = all (held.module_at folder) walked

@@ -9,7 +9,7 @@ use Rattle.cu_names.specs.Texts.{Extends}
 use Rattle.cu_modules.specs.Scopes.{Named}
 use Rattle.cu_modules.specs.Walk.{Walk}
 use Rattle.cu_front.specs.Compiling as meant
-use Rattle.cu_front.specs.Compiling.{AreModules, GoalRefused, Refuses, root_in, whole_program}
+use Rattle.cu_front.specs.Compiling.{AreCompiled, GoalRefused, RequestRefused, root_in, whole_program}
 use Rattle.cu_front.specs.declared.fault.StageFault.{StageFault}
 use Rattle.cu_front.specs.declared.fault.StageFault.TheVariants as stage
 use Rattle.cu_front.specs.declared.outcome.Outcome as code
@@ -33,7 +33,7 @@ modules_not_run table names modules root text programs local fault same are is =
     tells_weaker names (IsNotRunnable table local names) (RefusesBoth modules root text) fault
     (λ refusal r held walk.
     let lifted = subst (λ (p : LocalKernel). IsLifted table p names r.program) (same ∙ are.alone) r.lifted in
-    meant.Refuses.by_modules refusal
+    meant.RequestRefused.by_modules refusal
     (meant.ModulesRefused.program modules table names r.program refusal walk are.scoped are.types are.is_table are.translated lifted
     r.cannot_run)) is
 
@@ -46,8 +46,8 @@ pub record CanRunAlone (table names : List (List ℕ)) (local : LocalKernel) : T
   pub can_run : CanRun program interface flat
 
 are_modules : (table names : List (List ℕ)) (modules : List Named) (root text : List ℕ) (programs : Programs) (local : LocalKernel)
-    (held : meant.Held) → local ≡ programs.modules → ArePrograms table modules (root_in modules root) text programs → CanRunAlone table names local
-    → Walk held root (Ok modules) → AreModules held root modules
+    (held : meant.Folder) → local ≡ programs.modules → ArePrograms table modules (root_in modules root) text programs → CanRunAlone table names local
+    → Walk held root (Ok modules) → AreCompiled held root modules
 are_modules table names modules root text programs local held same are alone walk = record {
   names = names;
   program = alone.program;
@@ -75,7 +75,7 @@ goal_not_translated table names modules root text programs local whole refusal s
     let refused = subst (IsWhole table modules (root_in modules root) text) (sym same_whole ∙ is) are.whole in
     let stay = stays table names grown refusal refused.1 in (
       λ held walk.
-          meant.Refuses.by_goal modules (refusal_meaning names refusal) (are_modules table names modules root text programs local held same are alone walk)
+          meant.RequestRefused.by_goal modules (refusal_meaning names refusal) (are_modules table names modules root text programs local held same are alone walk)
           (subst (GoalRefused modules (root_in modules root) text) (sym stay.0) refused.0),
       stay.1,
     )
@@ -97,7 +97,7 @@ goal_not_run table old names modules root text programs local program whole faul
     let lifted =
     lifted_from table old names (whole_program table modules k goal.goal) r.program grown
     (subst (λ (p : LocalKernel). IsLifted old p names r.program) goal.is r.lifted) in
-    meant.Refuses.by_goal modules refusal (are_modules table old modules root text programs local held same are alone walk)
+    meant.RequestRefused.by_goal modules refusal (are_modules table old modules root text programs local held same are alone walk)
     (meant.GoalRefused.program goal.goal table names r.program refusal goal.read goal.scoped goal.types goal.is_table goal.translated lifted
     r.cannot_run)) told
 

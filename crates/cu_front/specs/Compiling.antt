@@ -25,13 +25,13 @@ use Rattle.cu_front.specs.Refusal.{InNames, Refusal, Walked, goal_name, in_funct
 use Rattle.cu_front.specs.Translated.{modules_program, translation_refusal}
 
 -- a folder of modules: the text of the module of a name, where the folder has one
-abbrev pub Held : Type 0
-Held = List ℕ → Option (List ℕ)
+abbrev pub Folder : Type 0
+Folder = List ℕ → Option (List ℕ)
 
 -- ---- modules
 
 -- The modules that a root reaches are refused, for this reason.
-pub data ModulesRefused (held : Held) (root : List ℕ) : Refusal → Type 0 where
+pub data ModulesRefused (held : Folder) (root : List ℕ) : Refusal → Type 0 where
   walk : (refusal : modules_walk.Refusal) → Walk held root (Err refusal)
       → ModulesRefused held root (Walked refusal)
   names : (modules : List Named) (owner : List ℕ) (fault : uses.Fault)
@@ -53,7 +53,7 @@ pub data ModulesRefused (held : Held) (root : List ℕ) : Refusal → Type 0 whe
 
 -- The root reaches these modules, none of which is refused. They come to this program, with its
 -- table of names, the types of its functions, and its flat program.
-pub record ModulesCompile (held : Held) (root : List ℕ) (modules : List Named)
+pub record ModulesCompile (held : Folder) (root : List ℕ) (modules : List Named)
     (names : List (List ℕ)) (program : Kernel) (interface : List TypeExpr)
     (flat : calculus.Program) : Type 0 where
   pub walked : Walk held root (Ok modules)
@@ -67,13 +67,13 @@ pub record ModulesCompile (held : Held) (root : List ℕ) (modules : List Named)
 
 -- The modules that the root reaches come to this program, with its table of names, the types of its
 -- functions, and its flat program.
-pub record ModuleCompiles (held : Held) (root : List ℕ) (names : List (List ℕ))
+pub record RootCompiles (held : Folder) (root : List ℕ) (names : List (List ℕ))
     (program : Kernel) (interface : List TypeExpr) (flat : calculus.Program) : Type 0 where
   pub modules : List Named
   pub compile : ModulesCompile held root modules names program interface flat
 
 -- The root reaches these modules, of which nothing is refused.
-pub record AreModules (held : Held) (root : List ℕ) (modules : List Named) : Type 0 where
+pub record AreCompiled (held : Folder) (root : List ℕ) (modules : List Named) : Type 0 where
   pub names : List (List ℕ)
   pub program : Kernel
   pub interface : List TypeExpr
@@ -115,7 +115,7 @@ pub data GoalRefused (modules : List Named) (k : ℕ) (text : List ℕ) : Refusa
 
 -- Nothing is refused of a goal in the module of number k, and the modules and the goal come to this
 -- program, with its table of names and its flat program.
-pub record IsGoal (modules : List Named) (k : ℕ) (text : List ℕ) (names : List (List ℕ))
+pub record GoalCompiles (modules : List Named) (k : ℕ) (text : List ℕ) (names : List (List ℕ))
     (program : Kernel) (flat : calculus.Program) : Type 0 where
   pub goal : Goal
   pub read : GoalIsRead text (Ok goal)
@@ -133,16 +133,16 @@ pub record IsGoal (modules : List Named) (k : ℕ) (text : List ℕ) (names : Li
 
 -- A goal in a module is refused, for this reason: one of the modules that the root reaches, or one
 -- of the goal itself.
-pub data Refuses (held : Held) (root text : List ℕ) : Refusal → Type 0 where
+pub data RequestRefused (held : Folder) (root text : List ℕ) : Refusal → Type 0 where
   by_modules : (refusal : Refusal) → ModulesRefused held root refusal
-      → Refuses held root text refusal
-  by_goal : (modules : List Named) (refusal : Refusal) → AreModules held root modules
+      → RequestRefused held root text refusal
+  by_goal : (modules : List Named) (refusal : Refusal) → AreCompiled held root modules
       → GoalRefused modules (root_in modules root) text refusal
-      → Refuses held root text refusal
+      → RequestRefused held root text refusal
 
 -- A goal in a module comes to this program, with its table of names and its flat program.
-pub record Compiles (held : Held) (root text : List ℕ) (names : List (List ℕ))
+pub record Compiles (held : Folder) (root text : List ℕ) (names : List (List ℕ))
     (program : Kernel) (flat : calculus.Program) : Type 0 where
   pub modules : List Named
-  pub are_modules : AreModules held root modules
-  pub is_goal : IsGoal modules (root_in modules root) text names program flat
+  pub are_modules : AreCompiled held root modules
+  pub is_goal : GoalCompiles modules (root_in modules root) text names program flat

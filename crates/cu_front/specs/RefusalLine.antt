@@ -53,13 +53,13 @@ text_line name texts.HeaderName = refused (codes "10 HeaderName") name
 -- ---- the walk over the modules
 
 -- a text after a space
-abbrev pub behind_space : List ℕ → List ℕ
-behind_space text = codes " " ++ text
+abbrev pub after_space : List ℕ → List ℕ
+after_space text = codes " " ++ text
 
 -- the line for a cycle of imports: the names of the modules, each after a space
 abbrev pub cycle_line : List (List ℕ) → List ℕ
 cycle_line names =
-    codes "refused 9 ImportCycle" ++ (flat_map behind_space names ++ codes "\n")
+    codes "refused 9 ImportCycle" ++ (flat_map after_space names ++ codes "\n")
 
 -- the line for a fault of the walk over imports
 abbrev pub walk_line : walk.Refusal → List ℕ

@@ -4,7 +4,7 @@ ghost use Rattle.std.specs.List.{All};
 ghost use Rattle.cu_calculus.specs.FlatProgram as flats;
 ghost use Rattle.cu_flat.specs.Layout.{laid_out};
 ghost use Rattle.cu_front.specs.CompileAnswers.{AnswerIsKnown, FaultCount, TellsRefusal};
-ghost use Rattle.cu_front.specs.Compiling.{ModuleCompiles, ModulesRefused};
+ghost use Rattle.cu_front.specs.Compiling.{RootCompiles, ModulesRefused};
 ghost use Rattle.cu_front.specs.Inside.Stages.{AreTranslated, CompileAlone, RefusesModules};
 ghost use Rattle.cu_front.specs.StageFaults.{Tells};
 ghost use Rattle.cu_modules.specs.BuiltInEntities.{HasBuiltIn};
@@ -39,7 +39,7 @@ pub fn compile_module<L: Library>(
     library: &mut L,
 ) -> Result<Compiled, CompileFault>
     ensures program { IfSome (L.holdings library.old) (λ held. IfOk result (λ found.
-        ModuleCompiles (held.module_at asked.entry.folder.now) asked.entry.root.now
+        RootCompiles (held.module_at asked.entry.folder.now) asked.entry.root.now
         names.new found.program found.interface (flats.program_of found.flat))) }
     ensures refused { IfSome (L.holdings library.old) (λ held. IfErr result
         (TellsRefusal names.new (ModulesRefused (held.module_at asked.entry.folder.now)

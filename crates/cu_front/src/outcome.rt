@@ -29,7 +29,7 @@ pub(crate) fn kept(fault: StageFault) -> Result<Outcome, StageFault>
 /// The program with the next part after it, or why the part is refused.
 fn with_part(mut program: LocalProgram, next: Outcome) -> Result<Outcome, StageFault>
     requires { Follow (Program program) next }
-    ensures whole { IfOk result (λ found. found ≡ meant.behind (Program program) next) }
+    ensures whole { IfOk result (λ found. found ≡ meant.followed_by (Program program) next) }
     ensures fault { IfErr result (λ fault. fault ≡ NoMemory) }
 {
     match next {
@@ -43,9 +43,9 @@ fn with_part(mut program: LocalProgram, next: Outcome) -> Result<Outcome, StageF
 
 /// The outcome for a program and the next part after it: both joined, or the
 /// refusal that is found first.
-pub(crate) fn behind(before: Outcome, next: Outcome) -> Result<Outcome, StageFault>
+pub(crate) fn followed_by(before: Outcome, next: Outcome) -> Result<Outcome, StageFault>
     requires { Follow before next }
-    ensures whole { IfOk result (λ found. found ≡ meant.behind before next) }
+    ensures whole { IfOk result (λ found. found ≡ meant.followed_by before next) }
     ensures fault { IfErr result (λ fault. fault ≡ NoMemory) }
 {
     match before {

@@ -37,7 +37,7 @@ ghost use Rattle.cu_translation.specs.ModuleNames.{id_of};
 ghost use Rattle.cu_uses.specs.Binders.{texts};
 
 use crate::fault::StageFault;
-use crate::outcome::{Outcome, behind, kept};
+use crate::outcome::{Outcome, followed_by, kept};
 use crate::refusal::Refusal;
 use crate::translated::{modules_program, of_functions};
 use cu_declared::{TypeArity, TypeNameFault, declared_types, declared_types_goal};
@@ -311,7 +311,7 @@ fn with_goal(
     parts_follow();
     let program = modules_program(alloc, modules)?;
     let part = goal_part(alloc, modules, root, goal)?;
-    behind(Outcome::Program(program), part)
+    followed_by(Outcome::Program(program), part)
 }
 
 /// The part that a goal is translated to, or its first fault.

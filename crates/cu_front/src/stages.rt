@@ -9,7 +9,7 @@ ghost use Rattle.cu_front.specs.CompileAnswers.{
   HasGoal,
   TellsRefusal,
 };
-ghost use Rattle.cu_front.specs.Compiling.{Compiles, Refuses};
+ghost use Rattle.cu_front.specs.Compiling.{Compiles, RequestRefused};
 ghost use Rattle.cu_front.specs.Compiling as meant;
 ghost use Rattle.cu_front.specs.Inside.Stages.{
   CompileBoth,
@@ -58,7 +58,7 @@ pub fn compile<L: Library>(
         Compiles (held.module_at asked.entry.folder.now) asked.entry.root.now
         asked.entry.goal.now names.new found.program (flats.program_of found.flat))) }
     ensures refused { IfSome (L.holdings library.old) (λ held. IfErr result
-        (TellsRefusal names.new (Refuses (held.module_at asked.entry.folder.now)
+        (TellsRefusal names.new (RequestRefused (held.module_at asked.entry.folder.now)
         asked.entry.root.now asked.entry.goal.now))) }
     ensures known { IfErr result (AnswerIsKnown names.new) }
     ensures types { IfOk result (λ found. IsInferred found.program found.interface) }

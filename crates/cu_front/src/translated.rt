@@ -7,7 +7,7 @@ ghost use Rattle.cu_front.specs.StageFaults.{Tells};
 ghost use Rattle.cu_front.specs.Translated.{modules_program, translation_refusal};
 
 use crate::fault::StageFault;
-use crate::outcome::{Outcome, behind, kept};
+use crate::outcome::{Outcome, followed_by, kept};
 use crate::refusal::Refusal;
 use cu_desugar::{DesugarFault, Modules, desugar};
 use cu_kernel::LocalProgram;
@@ -41,7 +41,7 @@ pub(crate) fn modules_program(
     let mut so_far = module_outcome(alloc, modules, 0)?;
     for number in 1..count {
         let next = module_outcome(alloc, modules, number)?;
-        so_far = behind(so_far, next)?;
+        so_far = followed_by(so_far, next)?;
     }
     match so_far {
         Outcome::Program(program) => Ok(program),

@@ -27,7 +27,7 @@ use Rattle.cu_front_laws.proofs.NarrowTexts.{NarrowItem, Unsigned}
 use Rattle.cu_front_laws.proofs.ReadModules.{ItemIsRight, ModuleIsRight, text_right}
 use Rattle.cu_front_laws.proofs.ScopedUses.{declares_once, scoped_at}
 use Rattle.cu_front_laws.proofs.TruthValues.{HasTruth, IsTruth, prelude_truth}
-use Rattle.cu_front_laws.proofs.TypeArities.{DeclaresOnce, front_number, number_append, or_else}
+use Rattle.cu_front_laws.proofs.TypeArities.{DeclaresOnce, prefix_number, number_append, or_else}
 use Rattle.cu_front_laws.proofs.WalkedModules.{AreWalked, IsText, first_prelude, walked}
 use Rattle.cu_front_laws.proofs.WholePrograms.{AreAccepted}
 
@@ -49,9 +49,9 @@ truth_number o (syntax.ImportItem found ∷ items) seen once i (inl e) is = absu
 truth_number o (syntax.Fixity at to level operators ∷ items) seen once i (inl e) is = absurd (subst IsTruth e is)
 truth_number o (syntax.DeclarationItem d ∷ items) seen once i (inl e) is = absurd (subst IsTruth e is)
 truth_number o (syntax.Data at name ps cs ∷ items) seen once i (inr h) is =
-    front_number o (codes "Bool") name (length ps) 0 items seen once (λ seen once. truth_number o items seen once i h is)
+    prefix_number o (codes "Bool") name (length ps) 0 items seen once (λ seen once. truth_number o items seen once i h is)
 truth_number o (syntax.Synonym at name ps t ∷ items) seen once i (inr h) is =
-    front_number o (codes "Bool") name (length ps) 0 items seen once (λ seen once. truth_number o items seen once i h is)
+    prefix_number o (codes "Bool") name (length ps) 0 items seen once (λ seen once. truth_number o items seen once i h is)
 truth_number o (syntax.ImportItem found ∷ items) seen once i (inr h) is = truth_number o items seen once i h is
 truth_number o (syntax.Fixity at to level operators ∷ items) seen once i (inr h) is = truth_number o items seen once i h is
 truth_number o (syntax.DeclarationItem d ∷ items) seen once i (inr h) is = truth_number o items seen once i h is

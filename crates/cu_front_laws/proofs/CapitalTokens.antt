@@ -19,11 +19,11 @@ use Rattle.cu_lex.specs.Located.{Located, Position, characters, located}
 use Rattle.cu_lex.specs.Munch.{Cut, Placed, cut_within, longest, pieces_from}
 use Rattle.cu_lex.specs.Pieces.{Piece, blank, character_at, codes_of, is_blank, name_kind, number, number_at, one_character, operator, piece, spelled, stands_before, start, string, string_of, word, word_before, word_kind}
 use Rattle.cu_lex.specs.Pieces.Piece.{Blank, Token, OutOfRange}
-use Rattle.cu_lex.specs.Tokens.{Fault, Lexeme, lexemes, lexemes_of, most_bytes, tokens, with_lexeme}
+use Rattle.cu_lex.specs.Tokens.{Fault, Lexeme, lexemes, lexemes_of, max_text_bytes, tokens, with_lexeme}
 use Rattle.cu_lex.specs.Tokens.Fault.{NotUtf8, SourceTooBig}
 use Rattle.cu_lex.specs.Words.{based_number, begins_with, decimal_number, is_colon, is_con_id, is_operator, is_var_id, keyword_of, mark_of, qualified_parts, reserved_of}
 use Rattle.cu_lex.proofs.MunchLemmas.{longest-is}
-use Rattle.cu_syntax.specs.Parsing.{Part, Split, after, behind, closes, depth_after, front, part_of, parts, separates, split, with_header, with_token}
+use Rattle.cu_syntax.specs.Parsing.{Part, Split, after, part_after_block, closes, depth_after, header_and_block, part_of, parts, separates, split, with_header, with_token}
 use Rattle.cu_syntax.specs.Parsing as parsing
 use Rattle.cu_front_laws.proofs.Members.{Every, every_append}
 use Rattle.cu_front_laws.proofs.NarrowTexts.{opens}
@@ -107,16 +107,16 @@ word_kind-capital w =
 
 -- ---- pieces
 
-word-capital : (front next : List ℕ) → IfSome (word front next) CapitalPiece
-word-capital front next =
-    then-if CapitalKind CapitalPiece (word_before next) (word_kind front) (word_kind-capital front)
+word-capital : (prefix next : List ℕ) → IfSome (word prefix next) CapitalPiece
+word-capital prefix next =
+    then-if CapitalKind CapitalPiece (word_before next) (word_kind prefix) (word_kind-capital prefix)
     (λ kind p. choice-if (λ o. IfSome o CapitalPiece) (stands_before kind next) (Some (Token kind)) None p tt)
 
-blank-capital : (front : List ℕ) → IfSome (blank front) CapitalPiece
-blank-capital front = choice-if (λ o. IfSome o CapitalPiece) (is_blank front) (Some Blank) None tt tt
+blank-capital : (prefix : List ℕ) → IfSome (blank prefix) CapitalPiece
+blank-capital prefix = choice-if (λ o. IfSome o CapitalPiece) (is_blank prefix) (Some Blank) None tt tt
 
-number-capital : (p : Position) (front next : List ℕ) → IfSome (number p front next) CapitalPiece
-number-capital p front next = map-if CapitalPiece (number_at p) (option_or (decimal_number front next) (based_number front)) (λ n. at n)
+number-capital : (p : Position) (prefix next : List ℕ) → IfSome (number p prefix next) CapitalPiece
+number-capital p prefix next = map-if CapitalPiece (number_at p) (option_or (decimal_number prefix next) (based_number prefix)) (λ n. at n)
   where
     at : (n : ℕ) → CapitalPiece (number_at p n)
     at n = choice-if CapitalPiece _ (Token (Int (pos n))) (OutOfRange p) tt tt
@@ -134,16 +134,16 @@ string-capital items = by (codes_of items)
     by (Ok value) = tt
     by (Err p) = tt
 
-piece-capital : (front rest : List Located) → IfSome (piece front rest) CapitalPiece
+piece-capital : (prefix rest : List Located) → IfSome (piece prefix rest) CapitalPiece
 unfolding piece
-piece-capital front rest =
-    or-if CapitalPiece _ _ (blank-capital (characters front))
-    (or-if CapitalPiece _ _ (word-capital (characters front) (characters rest))
-    (or-if CapitalPiece _ _ (number-capital (start front) (characters front) (characters rest))
+piece-capital prefix rest =
+    or-if CapitalPiece _ _ (blank-capital (characters prefix))
+    (or-if CapitalPiece _ _ (word-capital (characters prefix) (characters rest))
+    (or-if CapitalPiece _ _ (number-capital (start prefix) (characters prefix) (characters rest))
     (or-if CapitalPiece _ _
-    (then-if (λ items. Unit {0}) CapitalPiece one_character (items_between (byte "'") front) (any_option (items_between (byte "'") front))
+    (then-if (λ items. Unit {0}) CapitalPiece one_character (items_between (byte "'") prefix) (any_option (items_between (byte "'") prefix))
     (λ items p. character-capital items))
-    (map-if CapitalPiece string (items_between (byte "\"") front) string-capital))))
+    (map-if CapitalPiece string (items_between (byte "\"") prefix) string-capital))))
 
 -- ---- tokens
 
@@ -172,14 +172,14 @@ cut-capital (suc n) (c ∷ text) = by (λ rest. cut-capital n rest) (longest pie
     by more None found = tt
     by more (Some cut) found =
         let law = longest-is piece (c ∷ text) cut found in
-        let is : CapitalPiece cut.what = subst (λ (o : Option Piece). IfSome o CapitalPiece) law.allowed (piece-capital cut.front cut.rest) in
+        let is : CapitalPiece cut.what = subst (λ (o : Option Piece). IfSome o CapitalPiece) law.allowed (piece-capital cut.prefix cut.rest) in
         one-more cut.what c.at (lexemes_of (cut_within piece n cut.rest).pieces (cut_within piece n cut.rest).left) is (more cut.rest)
 
 pub tokens-capital : (bytes : List ℕ) → IfOk (tokens bytes) Capitals
 unfolding tokens
 tokens-capital bytes =
     let P : Result (List Lexeme) Fault → Type 0 = λ r. IfOk r Capitals in
-    choice-if P (nat_lt most_bytes (length bytes)) (Err SourceTooBig) _ tt
+    choice-if P (nat_lt max_text_bytes (length bytes)) (Err SourceTooBig) _ tt
     (choice-if P (is_utf8 bytes) (lexemes (located (chars bytes))) (Err (NotUtf8 (fault_offset bytes)))
     (cut-capital (length (located (chars bytes))) (located (chars bytes))) tt)
 
@@ -207,21 +207,21 @@ block-capital outer found all = by (layout_marks outer (map lexeme_view.sight fo
 
 -- ---- parts of a module
 
-pub front-capital : (last : ℕ) (ts : List Lexeme) → Capitals ts → IfSome (front last ts).block Capitals
-front-capital last [] all = tt
-front-capital last (t ∷ ts) all = by (parsing.opens t.what) all.1 (front-capital (after last t) ts all.1)
+pub header_and_block-capital : (last : ℕ) (ts : List Lexeme) → Capitals ts → IfSome (header_and_block last ts).block Capitals
+header_and_block-capital last [] all = tt
+header_and_block-capital last (t ∷ ts) all = by (parsing.opens t.what) all.1 (header_and_block-capital (after last t) ts all.1)
   where
-    by : (b : Bool) → Capitals ts → IfSome (front (after last t) ts).block Capitals
-        → IfSome (if b then record { header = []; last = after last t; block = Some ts } else with_header t (front (after last t) ts)).block Capitals
+    by : (b : Bool) → Capitals ts → IfSome (header_and_block (after last t) ts).block Capitals
+        → IfSome (if b then record { header = []; last = after last t; block = Some ts } else with_header t (header_and_block (after last t) ts)).block Capitals
     by true here later = here
     by false here later = later
 
 abbrev PartCapital : Part → Type 0
 PartCapital p = Capitals p.tokens
 
-behind-capital : (last : ℕ) (ts : List Lexeme) → Capitals ts → Every PartCapital (behind last ts)
-behind-capital last [] all = tt
-behind-capital last (t ∷ ts) all = (all, tt)
+part_after_block-capital : (last : ℕ) (ts : List Lexeme) → Capitals ts → Every PartCapital (part_after_block last ts)
+part_after_block-capital last [] all = tt
+part_after_block-capital last (t ∷ ts) all = (all, tt)
 
 abbrev SplitCapital : Split → Type 0
 SplitCapital s = Capitals s.first × Every PartCapital s.others
@@ -230,12 +230,12 @@ split-capital : (depth last : ℕ) (ts : List Lexeme) → Capitals ts → SplitC
 unfolding split
 split-capital depth last [] all = (tt, tt)
 split-capital depth last (t ∷ ts) all =
-    by (nat_eq depth 0 && closes t.what) (nat_eq depth 0 && separates t.what) (behind-capital (after last t) ts all.1)
+    by (nat_eq depth 0 && closes t.what) (nat_eq depth 0 && separates t.what) (part_after_block-capital (after last t) ts all.1)
     (split-capital 0 (after last t) ts all.1) (split-capital (depth_after depth t.what) (after last t) ts all.1)
   where
-    by : (ends parts : Bool) → Every PartCapital (behind (after last t) ts)
+    by : (ends parts : Bool) → Every PartCapital (part_after_block (after last t) ts)
         → SplitCapital (split 0 (after last t) ts) → SplitCapital (split (depth_after depth t.what) (after last t) ts)
-        → SplitCapital (if ends then record { first = []; whole = true; others = behind (after last t) ts }
+        → SplitCapital (if ends then record { first = []; whole = true; others = part_after_block (after last t) ts }
         else if parts then (let next =
         split 0 (after last t) ts in record { first = []; whole = true; others = part_of (after last t) next ∷ next.others })
         else with_token t (split (depth_after depth t.what) (after last t) ts))

@@ -3,7 +3,7 @@ use Rattle.std.specs.Prelude.{◌≡◌, ◌<◌, ◌-◌, ℕ, List, ◌∷◌,
 use Rattle.std.proofs.Common.{ap, arith, subst, ◌∙◌}
 use Rattle.std.proofs.lemmas.Option.{slice_get_within}
 use Rattle.cu_calculus.specs.Program.{Program}
-use Rattle.cu_front.specs.Compiling.{Compiles, Held, ModulesCompile, root_in, whole_program}
+use Rattle.cu_front.specs.Compiling.{Compiles, Folder, ModulesCompile, root_in, whole_program}
 use Rattle.cu_front.specs.GoalTexts as texts
 use Rattle.cu_front.specs.GoalTexts.{GoalIsRead, read_as}
 use Rattle.cu_front.specs.Translated.{modules_program, program_upto}
@@ -46,12 +46,12 @@ modules_meet table modules locals program a whole =
     (subst (λ (ms : List Named). program ≡ lifted locals (modules_program table ms)) a.all whole
     ∙ ap (lifted locals) (all_parts table a.first a.others))
 
-pub right_modules_declare : (held : Held) (root : List ℕ) (modules : List Named) (table names : List (List ℕ)) (program : Kernel)
+pub right_modules_declare : (held : Folder) (root : List ℕ) (modules : List Named) (table names : List (List ℕ)) (program : Kernel)
     → HaveRightTypes held root modules → IsLifted table (modules_program table modules) names program → DeclaresTypes program
 right_modules_declare held root modules table names program are is =
     modules_meet table modules is.lifts.locals program (accepted held root modules are.walked are.scoped are.right) is.lifts.whole
 
-pub modules_declare_types : (held : Held) (root : List ℕ) (modules : List Named) (names : List (List ℕ)) (program : Kernel)
+pub modules_declare_types : (held : Folder) (root : List ℕ) (modules : List Named) (names : List (List ℕ)) (program : Kernel)
     (interface : List TypeExpr) (flat : Program)
     → ModulesCompile held root modules names program interface flat → DeclaresTypes program
 modules_declare_types held root modules names program interface flat compile =
@@ -81,7 +81,7 @@ goal_meets table modules k goal locals program a within scoped right narrow whol
     (subst (λ (ms : List Named). program ≡ lifted locals (whole_program table ms k goal)) a.all whole
     ∙ ap (lifted locals) (whole_parts table a.first a.others k goal))
 
-pub right_goals_declare : (held : Held) (root : List ℕ) (modules : List Named) (k : ℕ) (text : List ℕ) (goal : Goal)
+pub right_goals_declare : (held : Folder) (root : List ℕ) (modules : List Named) (k : ℕ) (text : List ℕ) (goal : Goal)
     (table names : List (List ℕ)) (program : Kernel)
     → HaveRightTypes held root modules → HasRightTypes modules k text goal
     → IsLifted table (whole_program table modules k goal) names program → DeclaresTypes program
@@ -91,7 +91,7 @@ right_goals_declare held root modules k text goal table names program are has is
     (slice_get_within modules k has.scoped.m has.scoped.is_there)
     has.scoped has.right (goal_narrow text (Ok goal) has.read) is.lifts.whole
 
-pub goals_declare_types : (held : Held) (root text : List ℕ) (names : List (List ℕ)) (program : Kernel) (flat : Program)
+pub goals_declare_types : (held : Folder) (root text : List ℕ) (names : List (List ℕ)) (program : Kernel) (flat : Program)
     → Compiles held root text names program flat → DeclaresTypes program
 goals_declare_types held root text names program flat compiles =
     let compile = compiles.are_modules.compile in

@@ -23,7 +23,7 @@ use Rattle.cu_translation.specs.ModuleTypes.{Reading}
 use Rattle.cu_translation.specs.Numbered.{groups_in, only_in_prelude}
 use Rattle.cu_translation.specs.Parts as parts
 use Rattle.cu_translation.specs.Parts.{external_mark, function_mark}
-use Rattle.cu_translation.specs.Rules.{Begun, Group, Rule, begun_by, goes_on, groups_behind, leading, rule_in, rule_in_item, rules_of}
+use Rattle.cu_translation.specs.Rules.{Begun, Group, Rule, begun_by, goes_on, groups_after, leading, rule_in, rule_in_item, rules_of}
 use Rattle.cu_translation.specs.Sites.{Bound, Defined, Free, Function, Generated, Lambda, Matched, Node, Operation, Site, Spot, Use, node, rule_nodes, rules_nodes}
 use Rattle.cu_translation.specs.TypeTable.{signature_type}
 use Rattle.cu_types.specs.Synonyms.{is_applied, takes_arguments}
@@ -171,19 +171,19 @@ abbrev GroupAmong : List TypeUse → Group → Type 0
 GroupAmong whole g = Every (RuleAmong whole) (rules_of g)
 
 groups_among : (whole : List TypeUse) (begun : Option Begun) (ds : List (Option Rule)) → Every (IfRule whole) ds
-    → Every (GroupAmong whole) (groups_behind begun ds)
+    → Every (GroupAmong whole) (groups_after begun ds)
 groups_among whole begun [] every = tt
 groups_among whole begun (None ∷ ds) every = groups_among whole None ds every.1
 groups_among whole begun (Some r ∷ ds) every =
     by (goes_on begun r.name) (groups_among whole begun ds every.1) (groups_among whole (Some (begun_by begun r.name r.at)) ds every.1)
   where
-    by : (b : Bool) → Every (GroupAmong whole) (groups_behind begun ds)
-        → Every (GroupAmong whole) (groups_behind (Some (begun_by begun r.name r.at)) ds)
-        → Every (GroupAmong whole) (if b then groups_behind begun ds else record {
+    by : (b : Bool) → Every (GroupAmong whole) (groups_after begun ds)
+        → Every (GroupAmong whole) (groups_after (Some (begun_by begun r.name r.at)) ds)
+        → Every (GroupAmong whole) (if b then groups_after begun ds else record {
           first = r;
           others =
               leading r.name.text ds;
-        } ∷ groups_behind (Some (begun_by begun r.name r.at)) ds)
+        } ∷ groups_after (Some (begun_by begun r.name r.at)) ds)
     by true more begins = more
     by false more begins = ((every.0, leading_among whole r.name.text ds every.1), begins)
 

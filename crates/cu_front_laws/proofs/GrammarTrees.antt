@@ -70,15 +70,15 @@ begin_with : (p s n : ℕ) (text rest : List Lexeme) (trees : Trees) → RowMatc
 unfolding Begins
 begin_with p s zero text rest trees (RowMatches.last _ _ _ _ tree m f) h =
     (rest, MoreTrees tree NoTree, RowMatches.sequence p [] text rest rest tree NoTree m (RowMatches.empty rest))
-begin_with p s zero text rest trees (RowMatches.separated _ _ _ after behind _ tree separator others m k ms) h =
+begin_with p s zero text rest trees (RowMatches.separated _ _ _ after later _ tree separator others m k ms) h =
     (after, MoreTrees tree NoTree, RowMatches.sequence p [] text after after tree NoTree m (RowMatches.empty after))
 begin_with p s (suc n) text rest trees (RowMatches.last _ _ _ _ tree m f) h = absurd (omega arith)
-begin_with p s (suc n) text rest trees (RowMatches.separated _ _ _ after behind _ tree separator others m k ms) h =
-    let more = begin_with p s n behind rest others ms (omega arith) in (
+begin_with p s (suc n) text rest trees (RowMatches.separated _ _ _ after later _ tree separator others m k ms) h =
+    let more = begin_with p s n later rest others ms (omega arith) in (
       more.0,
       MoreTrees tree (MoreTrees separator more.1),
       RowMatches.sequence p (s ∷ alternating p s n) text after more.0 tree (MoreTrees separator more.1) m
-          (RowMatches.sequence s (alternating p s n) after behind more.0 separator more.1 k more.2),
+          (RowMatches.sequence s (alternating p s n) after later more.0 separator more.1 k more.2),
     )
 
 row_of_match : (r : ℕ) (e : Row) (text rest : List Lexeme) (tree : Tree) → slice_get rows r ≡ Some e → Matches rows has r text rest tree
@@ -242,12 +242,12 @@ module _ (Ok : Lexeme → Type 0) where
         let part : p ≡ number q = cc in
         let one = good_in q p text rest tree part ok m in
         ((one.0, tt), one.1)
-    good_row (SeparatedBy q t) _ _ _ _ eq ok (RowMatches.separated p s text after behind rest tree separator trees m k ms) =
+    good_row (SeparatedBy q t) _ _ _ _ eq ok (RowMatches.separated p s text after suffix rest tree separator trees m k ms) =
         let part : p ≡ number q = cc in
         let apart : s ≡ number t = cc in
         let one = good_in q p text after tree part ok m in
-        let two = good_in t s after behind separator apart one.1 k in
-        let more = good_row (SeparatedBy q t) (row.SeparatedBy p s) behind rest (Parts trees) eq two.1 ms in
+        let two = good_in t s after suffix separator apart one.1 k in
+        let more = good_row (SeparatedBy q t) (row.SeparatedBy p s) suffix rest (Parts trees) eq two.1 ms in
         ((one.0, separated_many q t trees more.0), more.1)
     good_row (Ahead q) _ _ _ _ eq ok (RowMatches.ahead p text rest tree m) = (tt, ok)
     good_row (NotAhead q) _ _ _ _ eq ok (RowMatches.not_ahead p text f) = (tt, ok)

@@ -9,25 +9,25 @@ use Rattle.cu_lift.specs.Walks.{Walk}
 
 -- two functions of which neither stands before the other are one
 pub one_function : (f g : FunId) → (f.0 < g.0 → ⊥) → (g.0 < f.0 → ⊥) → f ≡ g
-one_function f g none_before none_behind = by (cases_order f.0 g.0)
+one_function f g none_before none_after = by (cases_order f.0 g.0)
   where
     by : (f.0 ≡ g.0) ⊎ ((f.0 < g.0) ⊎ (g.0 < f.0)) → f ≡ g
     by (inl same) = ap (λ (n : ℕ). let e : FunId = record { 0 = n } in e) same
     by (inr (inl less)) = absurd (none_before less)
-    by (inr (inr more)) = absurd (none_behind more)
+    by (inr (inr more)) = absurd (none_after more)
 
 not_below : (m n : ℕ) → n ≤ m → m < n → ⊥
 not_below m n low less = omega arith
 
 -- a closed walk begins with the function that it leaves first
-leaves_first : (program : Program) (start caller first : FunId) (front back others : List FunId) → Walk program start front caller
-    → first ∷ others ≡ front ++ caller ∷ back → start ≡ first
-leaves_first program _ _ first _ back others (walks.stay f) e = cc
-leaves_first program _ _ first _ back others (walks.go f g h fs mention rest) e = cc
+leaves_first : (program : Program) (start caller first : FunId) (prefix suffix others : List FunId) → Walk program start prefix caller
+    → first ∷ others ≡ prefix ++ caller ∷ suffix → start ≡ first
+leaves_first program _ _ first _ suffix others (walks.stay f) e = cc
+leaves_first program _ _ first _ suffix others (walks.go f g h fs mention rest) e = cc
 
 begins : (program : Program) (first : FunId) (others : List FunId) (is : IsSetRecursion program (first ∷ others)) → is.first ≡ first
 begins program first others is =
-    leaves_first program is.first is.is_cycle.caller first is.is_cycle.front is.is_cycle.back others is.is_cycle.to_caller is.is_cycle.whole
+    leaves_first program is.first is.is_cycle.caller first is.is_cycle.prefix is.is_cycle.suffix others is.is_cycle.to_caller is.is_cycle.whole
 
 stands : (program : Program) (first : FunId) (others : List FunId) → IsSetRecursion program (first ∷ others) → StandsOn program first
 stands program first others is = (is.first, first ∷ others, is.is_cycle, (0, omega arith, refl))

@@ -14,7 +14,7 @@ use Rattle.cu_lex.specs.declared.token.LayoutMark.TheVariants as layout
 use Rattle.cu_lex.specs.declared.token.ReservedOperator.TheVariants as reserved
 use Rattle.cu_lex.specs.Kind.Kind.{ConId, Keyword, Layout, Reserved}
 use Rattle.cu_lex.specs.Tokens.{Lexeme}
-use Rattle.cu_syntax.specs.Parsing.{Part, Split, after, behind, closes, depth_after, part_of, parts, separates, split, with_token}
+use Rattle.cu_syntax.specs.Parsing.{Part, Split, after, part_after_block, closes, depth_after, part_of, parts, separates, split, with_token}
 use Rattle.cu_front_laws.proofs.Members.{In}
 use Rattle.cu_front_laws.proofs.PreludeTokens.{at, plain, prelude_tokens}
 
@@ -106,13 +106,13 @@ interleaved (t ∷ ts) more (m ∷ marks) later e =
 
 -- the parts that end at semicolons outside braces, where this stands before
 unfoldable pub ended : ℕ → List Lexeme → List Lexeme → List (List Lexeme)
-ended depth front [] = []
-ended depth front (t ∷ ts) =
+ended depth prefix [] = []
+ended depth prefix (t ∷ ts) =
     elim (nat_eq depth 0 && closes t.what) as (λ _. List (List Lexeme)) [
       | true ↦ []
       | false ↦ elim (nat_eq depth 0 && separates t.what) as (λ _. List (List Lexeme)) [
-        | true ↦ front ∷ ended 0 [] ts
-        | false ↦ ended (depth_after depth t.what) (front ++ t ∷ []) ts
+        | true ↦ prefix ∷ ended 0 [] ts
+        | false ↦ ended (depth_after depth t.what) (prefix ++ t ∷ []) ts
       ]
     ]
 
@@ -121,32 +121,32 @@ abbrev HasPart : List Lexeme → List Part → Type 0
 HasPart w ps = (p : Part) × In p ps × (p.tokens ≡ w)
 
 abbrev InSplit : List Lexeme → List Lexeme → Split → Type 0
-InSplit w front s = (w ≡ front ++ s.first) ⊎ HasPart w s.others
+InSplit w prefix s = (w ≡ prefix ++ s.first) ⊎ HasPart w s.others
 
-ended_split : (depth last : ℕ) (front ts more w : List Lexeme) → In w (ended depth front ts) → InSplit w front (split depth last (ts ++ more))
+ended_split : (depth last : ℕ) (prefix ts more w : List Lexeme) → In w (ended depth prefix ts) → InSplit w prefix (split depth last (ts ++ more))
 unfolding ended split
-ended_split depth last front [] more w h = absurd h
-ended_split depth last front (t ∷ ts) more w h =
+ended_split depth last prefix [] more w h = absurd h
+ended_split depth last prefix (t ∷ ts) more w h =
     by (nat_eq depth 0 && closes t.what) (nat_eq depth 0 && separates t.what) h (ended_split 0 (after last t) [] ts more w)
-    (ended_split (depth_after depth t.what) (after last t) (front ++ t ∷ []) ts more w)
+    (ended_split (depth_after depth t.what) (after last t) (prefix ++ t ∷ []) ts more w)
   where
     by : (c s : Bool)
         → In w (elim c as (λ _. List (List Lexeme)) [
           | true ↦ []
           | false ↦ elim s as (λ _. List (List Lexeme)) [
-            | true ↦ front ∷ ended 0 [] ts
-            | false ↦ ended (depth_after depth t.what) (front ++ t ∷ []) ts
+            | true ↦ prefix ∷ ended 0 [] ts
+            | false ↦ ended (depth_after depth t.what) (prefix ++ t ∷ []) ts
           ]
         ])
         → (In w (ended 0 [] ts) → InSplit w [] (split 0 (after last t) (ts ++ more)))
-        → (In w (ended (depth_after depth t.what) (front ++ t ∷ []) ts)
-        → InSplit w (front ++ t ∷ []) (split (depth_after depth t.what) (after last t) (ts ++ more)))
-        → InSplit w front (if c then record { first = []; whole = true; others = behind (after last t) (ts ++ more) }
+        → (In w (ended (depth_after depth t.what) (prefix ++ t ∷ []) ts)
+        → InSplit w (prefix ++ t ∷ []) (split (depth_after depth t.what) (after last t) (ts ++ more)))
+        → InSplit w prefix (if c then record { first = []; whole = true; others = part_after_block (after last t) (ts ++ more) }
         else if s then (let next =
         split 0 (after last t) (ts ++ more) in record { first = []; whole = true; others = part_of (after last t) next ∷ next.others })
         else with_token t (split (depth_after depth t.what) (after last t) (ts ++ more)))
     by true s h next inside = absurd h
-    by false true (inl e) next inside = inl (e ∙ sym (append-nil front))
+    by false true (inl e) next inside = inl (e ∙ sym (append-nil prefix))
     by false true (inr h) next inside = inr (found (next h))
       where
         found : InSplit w [] (split 0 (after last t) (ts ++ more))
@@ -155,9 +155,9 @@ ended_split depth last front (t ∷ ts) more w h =
         found (inr p) = (p.0, inr p.1, p.2)
     by false false h next inside = found (inside h)
       where
-        found : InSplit w (front ++ t ∷ []) (split (depth_after depth t.what) (after last t) (ts ++ more))
-            → InSplit w front (with_token t (split (depth_after depth t.what) (after last t) (ts ++ more)))
-        found (inl e) = inl (e ∙ append_assoc front (t ∷ []) (split (depth_after depth t.what) (after last t) (ts ++ more)).first)
+        found : InSplit w (prefix ++ t ∷ []) (split (depth_after depth t.what) (after last t) (ts ++ more))
+            → InSplit w prefix (with_token t (split (depth_after depth t.what) (after last t) (ts ++ more)))
+        found (inl e) = inl (e ∙ append_assoc prefix (t ∷ []) (split (depth_after depth t.what) (after last t) (ts ++ more)).first)
         found (inr p) = inr p
 
 pub part_there : (last : ℕ) (ts more w : List Lexeme) → In w (ended 0 [] ts) → HasPart w (parts last (ts ++ more))
@@ -185,13 +185,13 @@ truth_tokens =
 abbrev pub open_mark : Lexeme
 open_mark = at 2 1 (Layout layout.Open)
 
-abbrev pub behind_open : List Lexeme
-behind_open = drop 1 (laid_by prelude_run)
+abbrev pub after_open : List Lexeme
+after_open = drop 1 (laid_by prelude_run)
 
-pub laid_opens : laid_by prelude_run ≡ open_mark ∷ behind_open
+pub laid_opens : laid_by prelude_run ≡ open_mark ∷ after_open
 unfolding run
 laid_opens = refl
 
-pub truth_ended : slice_get (ended 0 [] behind_open) 9 ≡ Some truth_tokens
+pub truth_ended : slice_get (ended 0 [] after_open) 9 ≡ Some truth_tokens
 unfolding run ended
 truth_ended = refl

@@ -15,7 +15,7 @@ use Rattle.cu_lex.specs.Munch.{Cut, cut_at, cut_within, longest, longest_after, 
 use Rattle.cu_lex.specs.Pieces.{Piece, blank, name_kind, number, one_character, piece, special_of, spelled, start, string, word, word_kind}
 use Rattle.cu_lex.specs.Pieces.Piece.{Blank, Token, OutOfRange}
 use Rattle.cu_lex.specs.Decoding.{fault_offset}
-use Rattle.cu_lex.specs.Tokens.{Fault, Lexeme, lexemes, lexemes_of, most_bytes, tokens, with_lexeme}
+use Rattle.cu_lex.specs.Tokens.{Fault, Lexeme, lexemes, lexemes_of, max_text_bytes, tokens, with_lexeme}
 use Rattle.cu_lex.specs.Tokens.Fault.{NotUtf8, SourceTooBig}
 use Rattle.cu_lex.specs.Words.{based_number, closes, decimal_number, digits_value, is_con_id, is_line_comment, is_module_name, is_name_character, is_nested_comment, is_operator, is_separator, is_symbol, is_var_id, keyword_of, mark_of, qualified_parts, reserved_of}
 use Rattle.cu_prelude.specs.declared.prelude.TheConstants.{PRELUDE}
@@ -24,12 +24,12 @@ use Rattle.cu_front_laws.proofs.Scanning.{may_be_piece, scan_after, scan_is}
 -- ---- the same, where nothing is looked at that isn't needed
 
 unfoldable pub quick_piece : List Located → List Located → Option Piece
-quick_piece front rest =
-    elim (blank (characters front)) as (λ _. Option Piece) [
+quick_piece prefix rest =
+    elim (blank (characters prefix)) as (λ _. Option Piece) [
       | Some x ↦ Some x
-      | None ↦ elim (word (characters front) (characters rest)) as (λ _. Option Piece) [
+      | None ↦ elim (word (characters prefix) (characters rest)) as (λ _. Option Piece) [
         | Some x ↦ Some x
-        | None ↦ piece front rest
+        | None ↦ piece prefix rest
       ]
     ]
 
@@ -104,18 +104,18 @@ first_tokens = refl
 
 -- ---- these are the tokens of the text
 
-quick_piece_is : (front rest : List Located) → piece front rest ≡ quick_piece front rest
+quick_piece_is : (prefix rest : List Located) → piece prefix rest ≡ quick_piece prefix rest
 unfolding quick_piece piece
-quick_piece_is front rest = by (blank (characters front)) (word (characters front) (characters rest))
+quick_piece_is prefix rest = by (blank (characters prefix)) (word (characters prefix) (characters rest))
   where
-    by : (b w : Option Piece) → option_or b (option_or w (option_or (number (start front) (characters front) (characters rest))
-        (option_or (option_and_then one_character (items_between (byte "'") front)) (option_map string (items_between (byte "\"") front)))))
+    by : (b w : Option Piece) → option_or b (option_or w (option_or (number (start prefix) (characters prefix) (characters rest))
+        (option_or (option_and_then one_character (items_between (byte "'") prefix)) (option_map string (items_between (byte "\"") prefix)))))
         ≡ elim b as (λ _. Option Piece) [
           | Some x ↦ Some x
           | None ↦ elim w as (λ _. Option Piece) [
             | Some x ↦ Some x
-            | None ↦ option_or b (option_or w (option_or (number (start front) (characters front) (characters rest))
-                (option_or (option_and_then one_character (items_between (byte "'") front)) (option_map string (items_between (byte "\"") front)))))
+            | None ↦ option_or b (option_or w (option_or (number (start prefix) (characters prefix) (characters rest))
+                (option_or (option_and_then one_character (items_between (byte "'") prefix)) (option_map string (items_between (byte "\"") prefix)))))
           ]
         ]
     by (Some x) w = refl
@@ -149,7 +149,7 @@ abbrev LexedAs : ℕ → List Located → List Lexeme → Type 0
 LexedAs m text ts = lexemes_of (cut_within piece m text).pieces (cut_within piece m text).left ≡ Ok ts
 
 abbrev Begins : List Lexeme → List Lexeme → Type 0
-Begins front whole = (later : List Lexeme) × (whole ≡ front ++ later)
+Begins prefix whole = (later : List Lexeme) × (whole ≡ prefix ++ later)
 
 abbrev ok_tokens : Result (List Lexeme) Fault → List Lexeme
 ok_tokens (Ok ts) = ts
@@ -213,7 +213,7 @@ taken_begin (suc k) (suc m) (c ∷ text) f ts e lexed =
 -- the Prelude's tokens begin with those
 pub prelude_begins : (found : List Lexeme) → tokens PRELUDE.now ≡ Ok found → Begins prelude_tokens found
 unfolding tokens
-prelude_begins found is = by (nat_lt most_bytes (length PRELUDE.now)) (is_utf8 PRELUDE.now) is
+prelude_begins found is = by (nat_lt max_text_bytes (length PRELUDE.now)) (is_utf8 PRELUDE.now) is
   where
     taken : (o : Option Found) → take_tokens 123 (located (chars PRELUDE.now)) ≡ o → tokens_of o ≡ prelude_tokens
         → LexedAs (length (located (chars PRELUDE.now))) (located (chars PRELUDE.now)) found → Begins prelude_tokens found

@@ -16,14 +16,14 @@ use Rattle.cu_peg.specs.Parse.{Leaf, Parts, Chosen, NoTree, MoreTrees}
 use Rattle.cu_syntax.specs.declared.symbol.Symbol.{Symbol}
 use Rattle.cu_syntax.specs.declared.symbol.Symbol.TheVariants as symbol
 use Rattle.cu_syntax.specs.Fits.{fits, has_alternative}
-use Rattle.cu_syntax.specs.Parsing.{Fault, GoalRead, ItemRead, ModuleRead, Part, PartRead, PartsRead, front, imports_behind, parts}
+use Rattle.cu_syntax.specs.Parsing.{Fault, GoalRead, ItemRead, ModuleRead, Part, PartRead, PartsRead, header_and_block, imports_after, parts}
 use Rattle.cu_syntax.specs.Reading.{Tree, item_as, item_of, name_of, spelling}
 use Rattle.cu_syntax.specs.Syntax.{Goal, Item, Module}
 use Rattle.cu_syntax.specs.Table.{alternative, number, rule_of}
 use Rattle.cu_syntax.proofs.FitsLaw.{fits_match}
 use Rattle.cu_modules.specs.Texts as texts
 use Rattle.cu_modules.specs.Texts.{IsRead, TextFault}
-use Rattle.cu_front_laws.proofs.CapitalTokens.{Capital, CapitalKind, Capitals, block-capital, front-capital, parts-capital, tokens-capital}
+use Rattle.cu_front_laws.proofs.CapitalTokens.{Capital, CapitalKind, Capitals, block-capital, header_and_block-capital, parts-capital, tokens-capital}
 use Rattle.cu_front_laws.proofs.GrammarTrees.{Good, good_match}
 use Rattle.cu_front_laws.proofs.Members.{Every}
 use Rattle.cu_front_laws.proofs.NarrowTexts.{NarrowExpression, NarrowItem, Unsigned, opens}
@@ -83,7 +83,7 @@ parts_right imports ps outcome all (PartsRead.no_part _) = tt
 parts_right imports ps outcome all (PartsRead.empty _ part others _ whole empty read) = parts_right imports others outcome all.1 read
 parts_right imports ps outcome all (PartsRead.fault _ part others fault read) = tt
 parts_right imports ps outcome all (PartsRead.item _ part others item items read later) =
-    (part_right imports part (Ok item) all.0 read, parts_right (imports_behind imports item) others (Ok items) all.1 later)
+    (part_right imports part (Ok item) all.0 read, parts_right (imports_after imports item) others (Ok items) all.1 later)
 parts_right imports ps outcome all (PartsRead.later_fault _ part others item fault read later) = tt
 
 module_right : (laid : List Lexeme) (outcome : Result Module Fault) → Capitals laid → ModuleRead laid outcome → IfOk outcome ModuleIsRight
@@ -91,8 +91,8 @@ module_right laid outcome all (ModuleRead.no_block is) = tt
 module_right laid outcome all (ModuleRead.wrong_header some never) = tt
 module_right laid outcome all (ModuleRead.wrong_item block found fault is above read) = tt
 module_right laid outcome all (ModuleRead.right b found items is above read) =
-    parts_right true (parts (front 1 laid).last b) (Ok items)
-    (parts-capital (front 1 laid).last b (subst (λ (o : Option (List Lexeme)). IfSome o Capitals) is (front-capital 1 laid all))) read
+    parts_right true (parts (header_and_block 1 laid).last b) (Ok items)
+    (parts-capital (header_and_block 1 laid).last b (subst (λ (o : Option (List Lexeme)). IfSome o Capitals) is (header_and_block-capital 1 laid all))) read
 
 laid_capital : (outer : Bool) (text : List ℕ) (found laid : List Lexeme) → tokens.tokens text ≡ Ok found → block lexeme_view outer found ≡ Ok laid
     → Capitals laid

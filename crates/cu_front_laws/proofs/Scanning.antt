@@ -217,8 +217,8 @@ then-there : {X Y : Type 0} (A : Type 0) (f : X → Option Y) (o : Option X) →
 then-there A f None h = tt
 then-there A f (Some x) h = there A (f x) h
 
-word_sound : (front next : List ℕ) → IfSome (word front next) (λ p. no_separator front ≡ true)
-word_sound front next = then-there (no_separator front ≡ true) (word_before next) (word_kind front) (kind_sound front)
+word_sound : (prefix next : List ℕ) → IfSome (word prefix next) (λ p. no_separator prefix ≡ true)
+word_sound prefix next = then-there (no_separator prefix ≡ true) (word_before next) (word_kind prefix) (kind_sound prefix)
 
 -- ---- numbers
 
@@ -272,10 +272,10 @@ based_sound w = by (entry bases (take 2 w)) (base_of bases (take 2 w) ((refl, re
     by None h = tt
     by (Some base) h = at base h (digits_value base (drop 2 w)) (digits_sound base (drop 2 w) h.1)
 
-number_sound : (p : Position) (front next : List ℕ) → IfSome (number p front next) (λ x. no_separator front ≡ true)
-number_sound p front next =
-    map-there (no_separator front ≡ true) (number_at p) (option_or (decimal_number front next) (based_number front))
-    (or-if (λ n. no_separator front ≡ true) (decimal_number front next) (based_number front) (decimal_sound front next) (based_sound front))
+number_sound : (p : Position) (prefix next : List ℕ) → IfSome (number p prefix next) (λ x. no_separator prefix ≡ true)
+number_sound p prefix next =
+    map-there (no_separator prefix ≡ true) (number_at p) (option_or (decimal_number prefix next) (based_number prefix))
+    (or-if (λ n. no_separator prefix ≡ true) (decimal_number prefix next) (based_number prefix) (decimal_sound prefix next) (based_sound prefix))
 
 -- ---- the shape of pieces
 
@@ -345,15 +345,15 @@ blank_shape w = by (is_single is_separator w) (is_line_comment w) (is_nested_com
     by false false true e f g = nested_shape w g
     by false false false e f g = tt
 
-literal_shape : (quote : ℕ) (front : List Located) → (nat_eq quote 123 || (nat_eq quote 39 || nat_eq quote 34)) ≡ true
-    → IfSome (items_between quote front) (λ x. may_be_piece (characters front) ≡ true)
+literal_shape : (quote : ℕ) (prefix : List Located) → (nat_eq quote 123 || (nat_eq quote 39 || nat_eq quote 34)) ≡ true
+    → IfSome (items_between quote prefix) (λ x. may_be_piece (characters prefix) ≡ true)
 unfolding items_between
 literal_shape quote [] is = tt
-literal_shape quote (c ∷ front) is = by (c.char == quote) (bytes_eq (characters (cut_all (item quote) front).left) (quote ∷ [])) refl
+literal_shape quote (c ∷ prefix) is = by (c.char == quote) (bytes_eq (characters (cut_all (item quote) prefix).left) (quote ∷ [])) refl
   where
     by : (b e : Bool) → (c.char == quote) ≡ b
-        → IfSome (if b && e then Some (cut_all (item quote) front).pieces else None) (λ x. may_be_piece (characters (c ∷ front)) ≡ true)
-    by true true h = begins_as quote (characters (c ∷ front)) h is
+        → IfSome (if b && e then Some (cut_all (item quote) prefix).pieces else None) (λ x. may_be_piece (characters (c ∷ prefix)) ≡ true)
+    by true true h = begins_as quote (characters (c ∷ prefix)) h is
     by true false h = tt
     by false e h = tt
 
@@ -361,19 +361,19 @@ weaker : {X : Type 0} (A B : Type 0) → (A → B) → (o : Option X) → IfSome
 weaker A B go None h = tt
 weaker A B go (Some x) h = go h
 
-pub piece_shape : (front rest : List Located) → IfSome (piece front rest) (λ x. may_be_piece (characters front) ≡ true)
+pub piece_shape : (prefix rest : List Located) → IfSome (piece prefix rest) (λ x. may_be_piece (characters prefix) ≡ true)
 unfolding piece
-piece_shape front rest =
-    let w = characters front in
+piece_shape prefix rest =
+    let w = characters prefix in
     or-if (λ x. may_be_piece w ≡ true) _ _ (blank_shape w)
     (or-if (λ x. may_be_piece w ≡ true) _ _
     (weaker (no_separator w ≡ true) (may_be_piece w ≡ true) (from_sound w) (word w (characters rest)) (word_sound w (characters rest)))
     (or-if (λ x. may_be_piece w ≡ true) _ _
-    (weaker (no_separator w ≡ true) (may_be_piece w ≡ true) (from_sound w) (number (start front) w (characters rest))
-    (number_sound (start front) w (characters rest)))
+    (weaker (no_separator w ≡ true) (may_be_piece w ≡ true) (from_sound w) (number (start prefix) w (characters rest))
+    (number_sound (start prefix) w (characters rest)))
     (or-if (λ x. may_be_piece w ≡ true) _ _
-    (then-there (may_be_piece w ≡ true) one_character (items_between (byte "'") front) (literal_shape (byte "'") front refl))
-    (map-there (may_be_piece w ≡ true) string (items_between (byte "\"") front) (literal_shape (byte "\"") front refl)))))
+    (then-there (may_be_piece w ≡ true) one_character (items_between (byte "'") prefix) (literal_shape (byte "'") prefix refl))
+    (map-there (may_be_piece w ≡ true) string (items_between (byte "\"") prefix) (literal_shape (byte "\"") prefix refl)))))
 
 -- ---- a look no further than what may be a piece
 

@@ -119,10 +119,10 @@ declares_once before m none =
     let others = repeated [] (flat_map signed_in items) ++ repeated [] (flat_map fixed_in items) in
     let types = repeated [] (flat_map binders.types_by items) in
     let values = second (map values_by items) in
-    let behind = map Lacks (missing (own_values m) (flat_map signed_in items) ++ missing (own_values m) (flat_map fixed_in items)) ++ flat_map
+    let after = map Lacks (missing (own_values m) (flat_map signed_in items) ++ missing (own_values m) (flat_map fixed_in items)) ++ flat_map
     item_demands items in
     repeats_none (scope before m) types (items_demands (own_values m) items)
-    (λ x h. in_left (Repeats x) (map Repeats (values ++ (types ++ others))) behind
+    (λ x h. in_left (Repeats x) (map Repeats (values ++ (types ++ others))) after
     (repeats_in x (values ++ (types ++ others)) (in_right x values (types ++ others) (in_left x types others h))))
     (no_demand_fault before m none)
   where

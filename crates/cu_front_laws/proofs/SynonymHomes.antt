@@ -40,7 +40,7 @@ use Rattle.cu_front_laws.proofs.AppliedTypes.{size_arity}
 use Rattle.cu_front_laws.proofs.Members.{Every, In, Sub, at_gather, every_at, gather, gathered, in_left, in_right, one_home, place_of, stands, start_of, starts_same, compare}
 use Rattle.cu_front_laws.proofs.NarrowTexts.{NarrowItem, NarrowType, NarrowTypes, is_size}
 use Rattle.cu_front_laws.proofs.Owners.{means_owned}
-use Rattle.cu_front_laws.proofs.TypeArities.{AreDeclared, FirstAt, among_front, among_last, first_at, first_has, first_is_data, synonym_numbered}
+use Rattle.cu_front_laws.proofs.TypeArities.{AreDeclared, FirstAt, among_prefix, among_last, first_at, first_has, first_is_data, synonym_numbered}
 
 -- ---- the synonyms of items
 
@@ -57,11 +57,11 @@ abbrev body_if : Option kernel.Synonym → type.TypeExpr
 body_if None = type.Variable 0
 body_if (Some s) = s.body
 
-behind_item : (r : Reading) (i : Item) (items : List Item) (a b : ℕ) (s : kernel.Synonym)
+after_item : (r : Reading) (i : Item) (items : List Item) (a b : ℕ) (s : kernel.Synonym)
     → ((x : cycles.Synonym) → slice_get (flat_map cycles.synonyms_by items) a ≡ Some x
     → slice_get (flat_map cycles.synonyms_by (i ∷ items)) b ≡ Some x)
     → Declares r items a s → Declares r (i ∷ items) b s
-behind_item r i items a b s there d = record {
+after_item r i items a b s there d = record {
   parameters = d.parameters;
   synonym = d.synonym;
   at = there d.synonym d.at;
@@ -83,15 +83,15 @@ declares r (syntax.Synonym at nm ps t ∷ items) every zero s e =
       narrow = every.0;
     }
 declares r (syntax.Synonym at nm ps t ∷ items) every (suc a) s e =
-    behind_item r (syntax.Synonym at nm ps t) items a (suc a) s (λ x h. h) (declares r items every.1 a s e)
+    after_item r (syntax.Synonym at nm ps t) items a (suc a) s (λ x h. h) (declares r items every.1 a s e)
 declares r (syntax.Data at nm ps cs ∷ items) every a s e =
-    behind_item r (syntax.Data at nm ps cs) items a a s (λ x h. h) (declares r items every.1 a s e)
+    after_item r (syntax.Data at nm ps cs) items a a s (λ x h. h) (declares r items every.1 a s e)
 declares r (syntax.ImportItem found ∷ items) every a s e =
-    behind_item r (syntax.ImportItem found) items a a s (λ x h. h) (declares r items every.1 a s e)
+    after_item r (syntax.ImportItem found) items a a s (λ x h. h) (declares r items every.1 a s e)
 declares r (syntax.Fixity at to level operators ∷ items) every a s e =
-    behind_item r (syntax.Fixity at to level operators) items a a s (λ x h. h) (declares r items every.1 a s e)
+    after_item r (syntax.Fixity at to level operators) items a a s (λ x h. h) (declares r items every.1 a s e)
 declares r (syntax.DeclarationItem d ∷ items) every a s e =
-    behind_item r (syntax.DeclarationItem d) items a a s (λ x h. h) (declares r items every.1 a s e)
+    after_item r (syntax.DeclarationItem d) items a a s (λ x h. h) (declares r items every.1 a s e)
 
 pub synonym_arities : (r : Reading) (o : List ℕ) (items : List Item)
     → map (λ (s : kernel.Synonym). s.arity) (flat_map (types.synonyms_by r) items) ≡ map (λ (d : Declared). d.arity)
@@ -246,7 +246,7 @@ not_before : (d : Named) (before : List (List ℕ)) (ms : List Named) (i : ℕ) 
 not_before d before [] i x new h in' e = absurd (omega arith)
 not_before d before (m ∷ ms) zero x new h in' e = both_ways (is_among before m.name) new.0 (ap (is_among before) e ∙ in')
 not_before d before (m ∷ ms) (suc i) x new h in' e =
-    not_before d (before ++ m.name ∷ []) ms i x new.1 (omega arith) (among_front before (m.name ∷ []) x in') e
+    not_before d (before ++ m.name ∷ []) ms i x new.1 (omega arith) (among_prefix before (m.name ∷ []) x in') e
 
 differ_at : (d : Named) (before : List (List ℕ)) (ms : List Named) (i j : ℕ) → AllNew before ms → i < j → j < length ms
     → (get_or ms j d).name ≡ (get_or ms i d).name → ⊥
@@ -473,15 +473,15 @@ module _ (table : List (List ℕ)) (p : Named) (ms : List Named) (k : Kernel) (o
   lead r s (further _ q _ h later) i a among within is =
       let next = step i a q among within (subst (λ (n : ℕ). names_synonym q (body_of k n) ≡ true) is h) in
       let least = next.not_after in
-      let behind = lead q s later next.home next.place (omega arith) next.within next.is in
-      let lower = behind.not_after in
+      let after = lead q s later next.home next.place (omega arith) next.within next.is in
+      let lower = after.not_after in
       record {
-        home = behind.home;
-        place = behind.place;
+        home = after.home;
+        place = after.place;
         not_after = omega arith;
-        within = behind.within;
-        is = behind.is;
-        leads = λ here. joined next.home next.place behind.home behind.place here least lower next.mentions behind.leads;
+        within = after.within;
+        is = after.is;
+        leads = λ here. joined next.home next.place after.home after.place here least lower next.mentions after.leads;
       }
     where
       joined : (j b l c : ℕ) → l ≡ i → j ≤ i → l ≤ j → (j ≡ i → Mentions (scope_at modules i (module_at modules i)) (module_at modules i) a b)
@@ -515,10 +515,10 @@ module _ (table : List (List ℕ)) (p : Named) (ms : List Named) (k : Kernel) (o
       let around = lead s s h stand.home stand.place stand.among (omega arith) (omega arith) in
       let again = around.is in
       let same = one_home (declared_of modules) around.home stand.home around.place stand.place around.within (omega arith) (omega arith) in
-      refuted stand.home stand.place stand.among (back stand.home around.home stand.place around.place same around.leads)
+      refuted stand.home stand.place stand.among (converse stand.home around.home stand.place around.place same around.leads)
     where
-      back : (i j a b : ℕ) → (j ≡ i) × (b ≡ a) → (j ≡ i → Cycle i a b) → Cycle i a a
-      back i j a b same leads = subst (λ (c : ℕ). Cycle i a c) same.1 (leads same.0)
+      converse : (i j a b : ℕ) → (j ≡ i) × (b ≡ a) → (j ≡ i → Cycle i a b) → Cycle i a a
+      converse i j a b same leads = subst (λ (c : ℕ). Cycle i a c) same.1 (leads same.0)
 
       refuted : (i a : ℕ) → i ≤ last → Cycle i a a → ⊥
       refuted i a among leads =

@@ -21,7 +21,7 @@ use Rattle.cu_peg.specs.Parse.{Chosen, Leaf, NoTree, Parts}
 use Rattle.cu_peg.proofs.OneTree.{refutes}
 use Rattle.cu_prelude.specs.declared.prelude.TheConstants.{PRELUDE}
 use Rattle.cu_syntax.specs.declared.symbol.Symbol.TheVariants as symbol
-use Rattle.cu_syntax.specs.Parsing.{Fault, ItemRead, ModuleRead, Part, PartRead, PartsRead, front, imports_behind, parts}
+use Rattle.cu_syntax.specs.Parsing.{Fault, ItemRead, ModuleRead, Part, PartRead, PartsRead, header_and_block, imports_after, parts}
 use Rattle.cu_syntax.specs.Reading.{Tree, item_as, item_of, name_of, names_in}
 use Rattle.cu_syntax.specs.Syntax as syntax
 use Rattle.cu_syntax.specs.Syntax.{Item, Module}
@@ -29,7 +29,7 @@ use Rattle.cu_syntax.specs.Table.{number, rows}
 use Rattle.cu_modules.specs.Texts as texts
 use Rattle.cu_modules.specs.Texts.{IsRead, TextFault}
 use Rattle.cu_front_laws.proofs.Members.{In, in_at}
-use Rattle.cu_front_laws.proofs.PreludeParts.{Ran, behind_open, interleaved, laid_by, laid_opens, marks_begin, open_mark, part_there, prelude_run, truth_ended, truth_tokens}
+use Rattle.cu_front_laws.proofs.PreludeParts.{Ran, after_open, interleaved, laid_by, laid_opens, marks_begin, open_mark, part_there, prelude_run, truth_ended, truth_tokens}
 use Rattle.cu_front_laws.proofs.PreludeTokens.{prelude_begins, prelude_tokens}
 
 -- ---- the tokens of the Prelude with its layout
@@ -39,14 +39,14 @@ laid_in (Ok ts) = ts
 laid_in (Err n) = []
 
 abbrev LaidOpen : List Lexeme → Type 0
-LaidOpen laid = (more : List Lexeme) × (laid ≡ open_mark ∷ (behind_open ++ more))
+LaidOpen laid = (more : List Lexeme) × (laid ≡ open_mark ∷ (after_open ++ more))
 
 laid_begins : (found laid : List Lexeme) → tokens.tokens PRELUDE.now ≡ Ok found → block lexeme_view true found ≡ Ok laid → LaidOpen laid
 laid_begins found laid is are =
     let begins = prelude_begins found is in
     with_later begins.0 (subst (λ (xs : List Lexeme). block lexeme_view true xs ≡ Ok laid) begins.1 are)
   where
-    with_run : (later : List Lexeme) (m : Marks) (o : Option Ran) → prelude_run ≡ o → laid_by o ≡ open_mark ∷ behind_open
+    with_run : (later : List Lexeme) (m : Marks) (o : Option Ran) → prelude_run ≡ o → laid_by o ≡ open_mark ∷ after_open
         → marks_from [] true None (map sight_of prelude_tokens ++ map sight_of later) ≡ Ok m
         → with_marks emitted_lexeme (prelude_tokens ++ later) m ≡ laid → LaidOpen laid
     with_run later m None e opens marks same = absurd cc
@@ -298,7 +298,7 @@ parts_truth imports ps outcome p h same (PartsRead.fault _ part others fault rea
 parts_truth imports ps outcome p (inl e) same (PartsRead.item _ part others item items read later) =
     (item, inl refl, part_truth imports part (Ok item) (ap (λ (q : Part). q.tokens) (sym e) ∙ same) read)
 parts_truth imports ps outcome p (inr h) same (PartsRead.item _ part others item items read later) =
-    let found = parts_truth (imports_behind imports item) others (Ok items) p h same later in
+    let found = parts_truth (imports_after imports item) others (Ok items) p h same later in
     (found.0, inr found.1, found.2)
 parts_truth imports ps outcome p h same (PartsRead.later_fault _ part others item fault read later) = tt
 
@@ -308,12 +308,12 @@ module_truth laid outcome open' (ModuleRead.no_block is) = tt
 module_truth laid outcome open' (ModuleRead.wrong_header some never) = tt
 module_truth laid outcome open' (ModuleRead.wrong_item block found fault is above read) = tt
 module_truth laid outcome open' (ModuleRead.right b found items is above read) =
-    let whole : b ≡ behind_open ++ open'.0 = same (sym is ∙ ap (λ (ts : List Lexeme). (front 1 ts).block) open'.1) in
-    let part = part_there (front 1 laid).last behind_open open'.0 truth_tokens (in_at _ 9 truth_tokens truth_ended) in
-    let there = subst (λ (ts : List Lexeme). In part.0 (parts (front 1 laid).last ts)) (sym whole) part.1 in
-    parts_truth true (parts (front 1 laid).last b) (Ok items) part.0 there part.2 read
+    let whole : b ≡ after_open ++ open'.0 = same (sym is ∙ ap (λ (ts : List Lexeme). (header_and_block 1 ts).block) open'.1) in
+    let part = part_there (header_and_block 1 laid).last after_open open'.0 truth_tokens (in_at _ 9 truth_tokens truth_ended) in
+    let there = subst (λ (ts : List Lexeme). In part.0 (parts (header_and_block 1 laid).last ts)) (sym whole) part.1 in
+    parts_truth true (parts (header_and_block 1 laid).last b) (Ok items) part.0 there part.2 read
   where
-    same : Some b ≡ Some (behind_open ++ open'.0) → b ≡ behind_open ++ open'.0
+    same : Some b ≡ Some (after_open ++ open'.0) → b ≡ after_open ++ open'.0
     same e = cc
 
 -- what the Prelude's text is read as

@@ -166,11 +166,11 @@ split_same {d = d} {d' = d'} {y = y} {y' = y'} ps ds ys s = (sym ps ∙ s.0 ∙ 
     apart (inr h) = inr (sym ys ∙ h)
 
 -- what is declared after another type has its number
-pub front_number : (o x : List ℕ) (name : Name) (n k : ℕ) (items : List Item) (seen : List (List ℕ))
+pub prefix_number : (o x : List ℕ) (name : Name) (n k : ℕ) (items : List Item) (seen : List (List ℕ))
     → repeated seen (name ∷ flat_map binders.types_by items) ≡ []
     → ((seen : List (List ℕ)) → repeated seen (flat_map binders.types_by items) ≡ [] → number_at (flat_map (parameters_by o) items) o x ≡ Some k)
     → number_at (parameters.numbered o name.text n ∷ flat_map (parameters_by o) items) o x ≡ Some k
-front_number o x name n k items seen once go =
+prefix_number o x name n k items seen once go =
     let more = once_more seen name (flat_map binders.types_by items) once in
     by (bytes_eq name.text x) refl (go (name.text ∷ seen) more.1) more.1
   where
@@ -258,9 +258,9 @@ number_elsewhere o q x (syntax.ImportItem found ∷ items) other = number_elsewh
 number_elsewhere o q x (syntax.Fixity at to level operators ∷ items) other = number_elsewhere o q x items other
 number_elsewhere o q x (syntax.DeclarationItem d ∷ items) other = number_elsewhere o q x items other
 
-pub among_front : (xs ys : List (List ℕ)) (x : List ℕ) → is_among xs x ≡ true → is_among (xs ++ ys) x ≡ true
-among_front [] ys x h = absurd (both_ways false refl h)
-among_front (y ∷ xs) ys x h = by (bytes_eq x y) h (among_front xs ys x)
+pub among_prefix : (xs ys : List (List ℕ)) (x : List ℕ) → is_among xs x ≡ true → is_among (xs ++ ys) x ≡ true
+among_prefix [] ys x h = absurd (both_ways false refl h)
+among_prefix (y ∷ xs) ys x h = by (bytes_eq x y) h (among_prefix xs ys x)
   where
     by : (b : Bool) → (b || is_among xs x) ≡ true → ((is_among xs x ≡ true) → is_among (xs ++ ys) x ≡ true) → (b || is_among (xs ++ ys) x) ≡ true
     by true h go = refl
@@ -278,7 +278,7 @@ known_elsewhere q x before (m ∷ ms) in' new =
     let other = other_name before m.name q (bytes_eq m.name q) refl new.0 in' in
     number_append (parameters_in m) (flat_map parameters_in ms) q x
     ∙ (λ j. or_else (number_elsewhere m.name q x m.syntax.items other j)
-    (known_elsewhere q x (before ++ m.name ∷ []) ms (among_front before (m.name ∷ []) q in') new.1 j))
+    (known_elsewhere q x (before ++ m.name ∷ []) ms (among_prefix before (m.name ∷ []) q in') new.1 j))
 
 apart_modules : (q x : List ℕ) (before : List (List ℕ)) (m : Named) (ms : List Named) → AllNew (before ++ m.name ∷ []) ms
     → (number_at (parameters_in m) q x ≡ None) ⊎ (number_at (flat_map parameters_in ms) q x ≡ None)
@@ -310,7 +310,7 @@ others_split q x before (m ∷ ms) in' new once =
     let none : only_in_prelude m.name first_types ≡ [] = ap (λ b. if b then first_types else []) other in
     split_same refl (ap (λ ds. first_arity ((ds ++ data_of m) ++ all_types ms) q x) (sym none)) refl
     (modules_splits q x before m ms new.1 once.0
-    (others_split q x (before ++ m.name ∷ []) ms (among_front before (m.name ∷ []) prelude_name in') new.1 once.1))
+    (others_split q x (before ++ m.name ∷ []) ms (among_prefix before (m.name ∷ []) prelude_name in') new.1 once.1))
 
 -- ---- what is built in
 
@@ -408,10 +408,10 @@ HasArity ts ys q x n = (first_arity ts q x ≡ Some n) ⊎ ((first_arity ts q x 
 decided : (b r f d y : Option ℕ) (n : ℕ) → Splits r d y → ((k : ℕ) → b ≡ Some k → f ≡ Some k) → ((k : ℕ) → f ≡ Some k → b ≡ None → r ≡ None)
     → or_else b r ≡ Some n
     → (or_else f d ≡ Some n) ⊎ ((or_else f d ≡ None) × (y ≡ Some n))
-decided (Some k) r f d y n splits go back e = inl (ap (λ o. or_else o d) (go k refl) ∙ e)
-decided None r (Some k) d y n splits go back e = none_not n (sym (back k refl refl) ∙ e)
-decided None r None (Some k) y n splits go back e = inl (sym splits.0 ∙ e)
-decided None r None None y n splits go back e = inr (refl, sym splits.0 ∙ e)
+decided (Some k) r f d y n splits go converse e = inl (ap (λ o. or_else o d) (go k refl) ∙ e)
+decided None r (Some k) d y n splits go converse e = none_not n (sym (converse k refl refl) ∙ e)
+decided None r None (Some k) y n splits go converse e = inl (sym splits.0 ∙ e)
+decided None r None None y n splits go converse e = inr (refl, sym splits.0 ∙ e)
 
 module _ (p : Named) (ms : List Named) (are : AreDeclared p ms) where
   first_here : only_in_prelude p.name first_types ≡ first_types
@@ -430,14 +430,14 @@ module _ (p : Named) (ms : List Named) (are : AreDeclared p ms) where
       by (decided (number_at built_in_parameters q x) (number_at (flat_map parameters_in (p ∷ ms)) q x) (first_arity first_types q x)
       (first_arity (data_of p ++ all_types ms) q x) (first_arity (all_synonyms (p ∷ ms)) q x) n
       (modules_splits q x [] p ms are.differ.1 are.once.0 (others_split q x (p.name ∷ []) ms known are.differ.1 are.once.1))
-      (literal_first q x) back (sym (number_append built_in_parameters (flat_map parameters_in (p ∷ ms)) q x) ∙ e))
+      (literal_first q x) converse (sym (number_append built_in_parameters (flat_map parameters_in (p ∷ ms)) q x) ∙ e))
     where
       known : is_among (p.name ∷ []) prelude_name ≡ true
       known = or_left (bytes_eq prelude_name p.name) false ((bytes_eq-Decides prelude_name p.name).1 (sym are.first))
 
-      back : (k : ℕ) → first_arity first_types q x ≡ Some k → number_at built_in_parameters q x ≡ None
+      converse : (k : ℕ) → first_arity first_types q x ≡ Some k → number_at built_in_parameters q x ≡ None
           → number_at (flat_map parameters_in (p ∷ ms)) q x ≡ None
-      back k f none =
+      converse k f none =
           let sign = first_sign q x k f none in
           number_append (parameters_in p) (flat_map parameters_in ms) q x
           ∙ (λ j. or_else (unsigned_none p.name q x p.syntax.items are.unsigned sign.1 j)

@@ -5,7 +5,7 @@ use Rattle.cu_entities.specs.Entities.{Types, Values}
 use Rattle.cu_syntax.specs.Syntax as syntax
 use Rattle.cu_syntax.specs.Syntax.{Alternatives, ConstructorDeclaration, Declaration, Declarations, Expression, Expressions, Goal, Guards, Item, MaybeExpression, Name, OperatorRest, Qualifier, Qualifiers, RightSide, TypeTerm, TypeTerms}
 use Rattle.cu_uses.specs.Binders.{all_type_constructors, all_type_variables, constructors, missing, pattern_constructors, pattern_variables, repeated, texts, type_constructors, variables}
-use Rattle.cu_uses.specs.Demands.{Demand, Lacks, Repeats, Uses, all_demands, alternatives_demands, behind, block_demands, block_names, declaration_demands, declarations_demands, expression_demands, guards_demands, item_demands, maybe_demands, qualifier_demands, qualifier_names, qualifiers_demands, rest_demands, right_demands, type_demands, use_of, used, with}
+use Rattle.cu_uses.specs.Demands.{Demand, Lacks, Repeats, Uses, all_demands, alternatives_demands, scope_after, block_demands, block_names, declaration_demands, declarations_demands, expression_demands, guards_demands, item_demands, maybe_demands, qualifier_demands, qualifier_names, qualifiers_demands, rest_demands, right_demands, type_demands, use_of, used, with}
 use Rattle.cu_declared.specs.TypeUses.{TypeUse, alternatives_uses, constructor_uses, declaration_uses, declarations_uses, expression_uses, expressions_uses, guards_uses, item_uses, items_uses, maybe_uses, qualifier_uses, qualifiers_uses, rest_uses, right_uses, type_uses, types_uses}
 use Rattle.cu_front_laws.proofs.Members.{Every, In, Sub, every_append, in_left, in_map, in_right, sub_left, sub_right}
 
@@ -111,10 +111,10 @@ module _ (asked : List Demand) where
         (sub_right (expression_demands local first) (maybe_demands local second ++ maybe_demands local last) asked s))))
     expression_demanded local (syntax.Comprehension at e qualifiers) s =
         every_append (Demanded asked) (expression_uses e) (qualifiers_uses qualifiers)
-        (expression_demanded (behind local qualifiers) e
-        (sub_right (qualifiers_demands local qualifiers) (expression_demands (behind local qualifiers) e) asked s))
+        (expression_demanded (scope_after local qualifiers) e
+        (sub_right (qualifiers_demands local qualifiers) (expression_demands (scope_after local qualifiers) e) asked s))
         (qualifiers_demanded local qualifiers
-        (sub_left (qualifiers_demands local qualifiers) (expression_demands (behind local qualifiers) e) asked s))
+        (sub_left (qualifiers_demands local qualifiers) (expression_demands (scope_after local qualifiers) e) asked s))
 
     pub all_demanded : (local : List (List ℕ)) (x : Expressions) → Sub (all_demands local x) asked → Every (Demanded asked) (expressions_uses x)
     all_demanded local syntax.NoExpression s = tt

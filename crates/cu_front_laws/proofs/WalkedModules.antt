@@ -18,8 +18,8 @@ use Rattle.cu_modules.proofs.OrderLemmas.{ordered_first}
 use Rattle.cu_modules.proofs.StandsLemmas.{ordered_push}
 use Rattle.cu_front_laws.proofs.Members.{Every, every_append, every_filter}
 
-abbrev Held : Type 0
-Held = List ℕ → Option (List ℕ)
+abbrev Folder : Type 0
+Folder = List ℕ → Option (List ℕ)
 
 -- a module is what some text is read as
 abbrev pub IsText : Named → Type 0
@@ -40,9 +40,9 @@ Done path before name after = Kept path before after × (is_there after name ≡
 abbrev AllDone : List (List ℕ) → List Named → List (List ℕ) → List Named → Type 0
 AllDone path before names after = Kept path before after × All (λ (x : List ℕ). is_there after x ≡ true) names
 
-there_front : (ms : List Named) (m : Named) (x : List ℕ) → is_there ms x ≡ true → is_there (ms ++ m ∷ []) x ≡ true
-there_front [] m x h = absurd (both_ways false refl h)
-there_front (n ∷ ms) m x h = by (bytes_eq n.name x) h (there_front ms m x)
+there_prefix : (ms : List Named) (m : Named) (x : List ℕ) → is_there ms x ≡ true → is_there (ms ++ m ∷ []) x ≡ true
+there_prefix [] m x h = absurd (both_ways false refl h)
+there_prefix (n ∷ ms) m x h = by (bytes_eq n.name x) h (there_prefix ms m x)
   where
     by : (b : Bool) → (b || is_there ms x) ≡ true → ((is_there ms x ≡ true) → is_there (ms ++ m ∷ []) x ≡ true)
         → (b || is_there (ms ++ m ∷ []) x) ≡ true
@@ -81,7 +81,7 @@ other_text path y x true same out inside =
 other_text path y x false same out inside = refl
 
 -- a module that is built in is its own text's
-own_text : (held : Held) (name text : List ℕ) (syntax : Module) → source held name ≡ Some text → IsRead name text (Ok syntax)
+own_text : (held : Folder) (name text : List ℕ) (syntax : Module) → source held name ≡ Some text → IsRead name text (Ok syntax)
     → IsOwn (record { name = name; syntax = syntax })
 own_text held name text syntax is read other built =
     let from : source held name ≡ Some other = ap (λ b. if b then built_in name else held name) (ap is_some built) ∙ built in
@@ -93,7 +93,7 @@ own_text held name text syntax is read other built =
         let both : Some text ≡ Some other = sym is ∙ from in
         cc
 
-module _ (held : Held) where
+module _ (held : Folder) where
   pushed : (path : List (List ℕ)) (before after : List Named) (name text : List ℕ) (syntax : Module) → IsOpen path before name
       → source held name ≡ Some text → IsRead name text (Ok syntax)
       → AllDone (path ++ name ∷ []) before (import_names (record { name = name; syntax = syntax })) after
@@ -104,7 +104,7 @@ module _ (held : Held) where
         record {
           ordered = ordered_push after m done.0.ordered out done.1 (own_text held name text syntax is read);
           texts = every_append IsText after (m ∷ []) done.0.texts ((text, read), tt);
-          stay = λ x h. there_front after m x (done.0.stay x h);
+          stay = λ x h. there_prefix after m x (done.0.stay x h);
           apart = λ x in' h. not_there after m x (done.0.apart x (among_more path name x in') h)
               (other_text path name x (bytes_eq name x) refl may.new.not_met in');
         },
@@ -164,7 +164,7 @@ module _ (held : Held) where
     pub some : modules ≡ [] → ⊥
 
   none_ordered : AreOrdered []
-  none_ordered = record { differ = tt; behind = tt; own = All-nil IsOwn }
+  none_ordered = record { differ = tt; after = tt; own = All-nil IsOwn }
 
   some_first : (ms : List Named) → (ms ≡ [] → ⊥) → built_in_first ms ≡ [] → ⊥
   some_first [] some none = some refl
@@ -194,7 +194,7 @@ module _ (held : Held) where
 -- ---- the Prelude is the first
 
 first_names : (m : Named) (ms : List Named) → AreOrdered (m ∷ ms) → import_names m ≡ []
-first_names m ms ordered = by (import_names m) ordered.behind.0
+first_names m ms ordered = by (import_names m) ordered.after.0
   where
     by : (xs : List (List ℕ)) → All (λ (x : List ℕ). is_among [] x ≡ true) xs → xs ≡ []
     by [] all = refl

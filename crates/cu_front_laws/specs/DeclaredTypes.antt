@@ -3,7 +3,7 @@
 use Rattle.std.specs.Prelude.{ℕ, List, [], Ok}
 use Rattle.cu_calculus.specs.Program.{Program}
 use Rattle.cu_declared.specs.TypeFaults.{AreRight, IsGoalRight}
-use Rattle.cu_front.specs.Compiling.{Compiles, Held, ModulesCompile, whole_program}
+use Rattle.cu_front.specs.Compiling.{Compiles, Folder, ModulesCompile, whole_program}
 use Rattle.cu_front.specs.GoalTexts.{GoalIsRead}
 use Rattle.cu_front.specs.Programs.{IsLifted}
 use Rattle.cu_front.specs.Translated.{modules_program}
@@ -16,7 +16,7 @@ use Rattle.cu_syntax.specs.Syntax.{Goal}
 use Rattle.cu_types.specs.Synonyms.{DeclaresTypes}
 
 -- The root reaches these modules, and they have no fault of names or types.
-pub record HaveRightTypes (held : Held) (root : List ℕ) (modules : List Named) : Type 0 where
+pub record HaveRightTypes (held : Folder) (root : List ℕ) (modules : List Named) : Type 0 where
   pub walked : Walk held root (Ok modules)
   pub scoped : AreScoped [] modules
   pub right : AreRight modules
@@ -32,7 +32,7 @@ pub record HasRightTypes (modules : List Named) (k : ℕ) (text : List ℕ) (goa
 -- type has its number of arguments, and no synonym leads to itself.
 abbrev pub RightModulesDeclare : Type 0
 RightModulesDeclare =
-    (held : Held) (root : List ℕ) (modules : List Named) (table names : List (List ℕ))
+    (held : Folder) (root : List ℕ) (modules : List Named) (table names : List (List ℕ))
     (program : Kernel)
     → HaveRightTypes held root modules
     → IsLifted table (modules_program table modules) names program → DeclaresTypes program
@@ -41,7 +41,7 @@ RightModulesDeclare =
 -- name of a type has its number of arguments, and no synonym leads to itself.
 abbrev pub RightGoalsDeclare : Type 0
 RightGoalsDeclare =
-    (held : Held) (root : List ℕ) (modules : List Named) (k : ℕ) (text : List ℕ) (goal : Goal)
+    (held : Folder) (root : List ℕ) (modules : List Named) (k : ℕ) (text : List ℕ) (goal : Goal)
     (table names : List (List ℕ)) (program : Kernel)
     → HaveRightTypes held root modules → HasRightTypes modules k text goal
     → IsLifted table (whole_program table modules k goal) names program → DeclaresTypes program
@@ -50,7 +50,8 @@ RightGoalsDeclare =
 -- synonym leads to itself.
 abbrev pub ModulesDeclareTypes : Type 0
 ModulesDeclareTypes =
-    (held : Held) (root : List ℕ) (modules : List Named) (names : List (List ℕ)) (program : Kernel)
+    (held : Folder) (root : List ℕ) (modules : List Named) (names : List (List ℕ))
+    (program : Kernel)
     (interface : List TypeExpr) (flat : Program)
     → ModulesCompile held root modules names program interface flat → DeclaresTypes program
 
@@ -58,5 +59,5 @@ ModulesDeclareTypes =
 -- arguments, and no synonym leads to itself.
 abbrev pub GoalsDeclareTypes : Type 0
 GoalsDeclareTypes =
-    (held : Held) (root text : List ℕ) (names : List (List ℕ)) (program : Kernel) (flat : Program)
+    (held : Folder) (root text : List ℕ) (names : List (List ℕ)) (program : Kernel) (flat : Program)
     → Compiles held root text names program flat → DeclaresTypes program

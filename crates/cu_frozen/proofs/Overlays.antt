@@ -41,8 +41,8 @@ first_of ids id i found =
     let so = position-Some (nat_eq id) ids i 0 found in
     record { within = so.0; at = sym (eqb-true id (get_or ids i 0) so.1); first = λ k below. eqb-false id (get_or ids k 0) (so.2 k below) }
 
-first_behind : (x : ℕ) (ids : List ℕ) (id i : ℕ) → IsFirst id (x ∷ ids) (suc i) → IsFirst id ids i
-first_behind x ids id i is = record { within = let h = is.within in omega arith; at = is.at; first = λ k below. is.first (suc k) (omega arith) }
+first_after : (x : ℕ) (ids : List ℕ) (id i : ℕ) → IsFirst id (x ∷ ids) (suc i) → IsFirst id ids i
+first_after x ids id i is = record { within = let h = is.within in omega arith; at = is.at; first = λ k below. is.first (suc k) (omega arith) }
 
 read_first : (graph : Graph) (ids : List ℕ) (nodes : List Node) (id i : ℕ) → IsFirst id ids i → length ids ≡ length nodes → id < length graph
     → node_at (written graph ids nodes) id ≡ node_at nodes i
@@ -54,7 +54,7 @@ read_first graph (x ∷ ids) (node ∷ nodes) id zero is paired there =
     ap (λ y. node_at (put rest y node) id) is.at ∙ get_or-set_same rest id node stuck inside
 read_first graph (x ∷ ids) (node ∷ nodes) id (suc i) is paired there =
     get_or-set_other (written graph ids nodes) x id node stuck (is.first 0 (omega arith))
-    ∙ read_first graph ids nodes id i (first_behind x ids id i is) (omega arith) there
+    ∙ read_first graph ids nodes id i (first_after x ids id i is) (omega arith) there
 
 change_first : (graph : Graph) (ids : List ℕ) (nodes : List Node) (id i : ℕ) (node : Node) → IsFirst id ids i → length ids ≡ length nodes
     → written graph ids (set nodes i node) ≡ put (written graph ids nodes) id node
@@ -64,7 +64,7 @@ change_first graph (x ∷ ids) (old ∷ nodes) id zero node is paired =
     let rest = written graph ids nodes in
     ap (λ y. put rest y node) is.at ∙ sym (set-set rest id old node) ∙ ap (λ y. put (put rest y old) id node) (sym is.at)
 change_first graph (x ∷ ids) (old ∷ nodes) id (suc i) node is paired =
-    ap (λ rest. put rest x old) (change_first graph ids nodes id i node (first_behind x ids id i is) (omega arith))
+    ap (λ rest. put rest x old) (change_first graph ids nodes id i node (first_after x ids id i is) (omega arith))
     ∙ set_comm (written graph ids nodes) id x node old (is.first 0 (omega arith))
 
 change_new : (graph : Graph) (ids : List ℕ) (nodes : List Node) (id : ℕ) (node : Node) → length ids ≡ length nodes → list_any (nat_eq id) ids ≡ false
@@ -81,38 +81,38 @@ change_new graph (x ∷ ids) (old ∷ nodes) id node paired absent =
 
 pub shows_added : (layer : Layer) (id : ℕ) → layer.base ≤ id → id < layer.base + length layer.added
     → Holds layer id layer.added (id - layer.base)
-shows_added layer id behind there = λ below fits.
-    let front = written below layer.changed layer.changes in
-    let size : length front ≡ layer.base = length-written below layer.changed layer.changes ∙ fits in
-    record { within = omega arith; same = sym (get_or-append_right front layer.added layer.base id stuck size behind) }
+shows_added layer id suffix there = λ below fits.
+    let prefix = written below layer.changed layer.changes in
+    let size : length prefix ≡ layer.base = length-written below layer.changed layer.changes ∙ fits in
+    record { within = omega arith; same = sym (get_or-append_right prefix layer.added layer.base id stuck size suffix) }
 
 pub shows_changed : (layer : Layer) (id i : ℕ) → id < layer.base → length layer.changed ≡ length layer.changes
     → position (nat_eq id) layer.changed ≡ Some i → Holds layer id layer.changes i
 shows_changed layer id i there paired found = λ below fits.
-    let front = written below layer.changed layer.changes in
+    let prefix = written below layer.changed layer.changes in
     let is = first_of layer.changed id i found in
-    let inside : id < length front = omega (arith, length-written below layer.changed layer.changes) in
+    let inside : id < length prefix = omega (arith, length-written below layer.changed layer.changes) in
     record {
       within = let h = is.within in omega arith;
-      same = sym (get_or_append_left front layer.added stuck id inside ∙ read_first below layer.changed layer.changes id i is paired (omega arith));
+      same = sym (get_or_append_left prefix layer.added stuck id inside ∙ read_first below layer.changed layer.changes id i is paired (omega arith));
     }
 
 pub shows_below : (layer : Layer) (id : ℕ) → id < layer.base → list_any (nat_eq id) layer.changed ≡ false → Leaves layer id
 shows_below layer id there absent = λ below fits.
-    let front = written below layer.changed layer.changes in
-    let inside : id < length front = omega (arith, length-written below layer.changed layer.changes) in
-    get_or_append_left front layer.added stuck id inside ∙ written_elsewhere below layer.changed layer.changes id absent
+    let prefix = written below layer.changed layer.changes in
+    let inside : id < length prefix = omega (arith, length-written below layer.changed layer.changes) in
+    get_or_append_left prefix layer.added stuck id inside ∙ written_elsewhere below layer.changed layer.changes id absent
 
 -- ---- one layer more
 
 pub puts_added : (layer : Layer) (added : List Node) (id : ℕ) (node : Node) → layer.base ≤ id → added ≡ set layer.added (id - layer.base) node
     → Amends layer (layer_of layer.base layer.changed layer.changes added) (λ graph. put graph id node)
-puts_added layer added id node behind is = record {
+puts_added layer added id node suffix is = record {
   base = refl;
   graph = λ below fits.
-      let front = written below layer.changed layer.changes in
-      let size : length front ≡ layer.base = length-written below layer.changed layer.changes ∙ fits in
-      ap (λ more. front ++ more) is ∙ sym (set-append_right front layer.added layer.base id node size behind);
+      let prefix = written below layer.changed layer.changes in
+      let size : length prefix ≡ layer.base = length-written below layer.changed layer.changes ∙ fits in
+      ap (λ more. prefix ++ more) is ∙ sym (set-append_right prefix layer.added layer.base id node size suffix);
 }
 
 pub puts_changed : (layer : Layer) (changes : List Node) (id i : ℕ) (node : Node) → id < layer.base → length layer.changed ≡ length layer.changes
@@ -121,11 +121,11 @@ pub puts_changed : (layer : Layer) (changes : List Node) (id i : ℕ) (node : No
 puts_changed layer changes id i node there paired found is = record {
   base = refl;
   graph = λ below fits.
-      let front = written below layer.changed layer.changes in
-      let inside : id < length front = omega (arith, length-written below layer.changed layer.changes) in
+      let prefix = written below layer.changed layer.changes in
+      let inside : id < length prefix = omega (arith, length-written below layer.changed layer.changes) in
       ap (λ nodes. written below layer.changed nodes ++ layer.added) is
       ∙ ap (λ graph. graph ++ layer.added) (change_first below layer.changed layer.changes id i node (first_of layer.changed id i found) paired)
-      ∙ sym (set-append_left front layer.added id node inside);
+      ∙ sym (set-append_left prefix layer.added id node inside);
 }
 
 new_place : (old new : Layer) (id : ℕ) (node : Node) → id < old.base → length old.changed ≡ length old.changes → list_any (nat_eq id) old.changed ≡ false
@@ -134,13 +134,13 @@ new_place : (old new : Layer) (id : ℕ) (node : Node) → id < old.base → len
 new_place old new id node there paired absent base added changed changes = record {
   base = base;
   graph = λ below fits.
-      let front = written below old.changed old.changes in
-      let inside : id < length front = omega (arith, length-written below old.changed old.changes) in
+      let prefix = written below old.changed old.changes in
+      let inside : id < length prefix = omega (arith, length-written below old.changed old.changes) in
       ap (λ ids. written below ids new.changes ++ new.added) changed
       ∙ ap (λ nodes. written below (old.changed ++ id ∷ []) nodes ++ new.added) changes
       ∙ ap (λ more. written below (old.changed ++ id ∷ []) (old.changes ++ node ∷ []) ++ more) added
       ∙ ap (λ graph. graph ++ old.added) (change_new below old.changed old.changes id node paired absent)
-      ∙ sym (set-append_left front old.added id node inside);
+      ∙ sym (set-append_left prefix old.added id node inside);
 }
 
 pub puts_new : {X E : Type 0} (result : Result X E) (old new : Layer) (id : ℕ) (node : Node) → id < old.base → length old.changed ≡ length old.changes

@@ -30,10 +30,10 @@ unfolding laid AreLaid
 are_laid_more graph [] layer are fits = (fits, tt)
 are_laid_more graph (first ∷ layers) layer are fits = (are.0, are_laid_more (over first graph) layers layer are.1 fits)
 
-are_laid_front : (graph : Graph) (front back : List Layer) → AreLaid graph (front ++ back) → AreLaid graph front
+are_laid_prefix : (graph : Graph) (prefix suffix : List Layer) → AreLaid graph (prefix ++ suffix) → AreLaid graph prefix
 unfolding AreLaid
-are_laid_front graph [] back are = tt
-are_laid_front graph (first ∷ front) back are = (are.0, are_laid_front (over first graph) front back are.1)
+are_laid_prefix graph [] suffix are = tt
+are_laid_prefix graph (first ∷ prefix) suffix are = (are.0, are_laid_prefix (over first graph) prefix suffix are.1)
 
 last_fits : (graph : Graph) (layers : List Layer) (layer : Layer) → AreLaid graph (layers ++ layer ∷ []) → length (laid graph layers) ≡ layer.base
 unfolding laid AreLaid
@@ -76,12 +76,12 @@ pub record Reaches (layers : List Layer) (left id : ℕ) : Type 0 where
 pub reaches_whole : (layers : List Layer) (id : ℕ) → id < length (laid [] layers) → Reaches layers (length layers) id
 reaches_whole layers id there = record {
   within = omega arith;
-  there = subst (λ front. id < length (laid [] front)) (sym (take_all (length layers) layers (omega arith))) there;
-  same = ap (λ front. node_at (laid [] front) id) (take_all (length layers) layers (omega arith));
+  there = subst (λ prefix. id < length (laid [] prefix)) (sym (take_all (length layers) layers (omega arith))) there;
+  same = ap (λ prefix. node_at (laid [] prefix) id) (take_all (length layers) layers (omega arith));
 }
 
-pub reaches_back : (layers : List Layer) (left id : ℕ) → 0 < left → Reaches layers left id → Reaches layers (suc (left - 1)) id
-reaches_back layers left id some reaches = let next : left ≡ suc (left - 1) = omega arith in subst (λ k. Reaches layers k id) next reaches
+pub reaches_again : (layers : List Layer) (left id : ℕ) → 0 < left → Reaches layers left id → Reaches layers (suc (left - 1)) id
+reaches_again layers left id some reaches = let next : left ≡ suc (left - 1) = omega arith in subst (λ k. Reaches layers k id) next reaches
 
 pub reached_inside : (layers : List Layer) (k id : ℕ) (layer : Layer) → Stands layers k layer → Reaches layers (suc k) id
     → id < layer.base + length layer.added
@@ -135,26 +135,26 @@ module _ {X : Type 0} (f : X → Layer) where
       ap (laid []) (ap (map f) pushed ∙ map_push f items x) ∙ laid_more [] (map f items) (f x)
       ∙ ap (λ (l : Layer). over l (laid [] (map f items))) means ∙ ap (λ ls. over layer (laid [] ls)) is
 
-  pub front_are_laid : (items front back : List X) → items ≡ front ++ back → AreLaid [] (map f items) → AreLaid [] (map f front)
-  front_are_laid items front back is are =
-      are_laid_front [] (map f front) (map f back) (subst (AreLaid []) (ap (map f) is ∙ map-append f front back) are)
+  pub prefix_are_laid : (items prefix suffix : List X) → items ≡ prefix ++ suffix → AreLaid [] (map f items) → AreLaid [] (map f prefix)
+  prefix_are_laid items prefix suffix is are =
+      are_laid_prefix [] (map f prefix) (map f suffix) (subst (AreLaid []) (ap (map f) is ∙ map-append f prefix suffix) are)
 
-  pub popped_graph : (items front : List X) (layers : List Layer) (last : Option X) → items ≡ front ++ option_to_list last → map f items ≡ layers
-      → IfSome last (λ x. laid [] layers ≡ over (f x) (laid [] (map f front)))
-  popped_graph items front layers None is means = tt
-  popped_graph items front layers (Some x) is means =
-      ap (laid []) (sym means ∙ ap (map f) is ∙ map_push f front x) ∙ laid_more [] (map f front) (f x)
+  pub popped_graph : (items prefix : List X) (layers : List Layer) (last : Option X) → items ≡ prefix ++ option_to_list last → map f items ≡ layers
+      → IfSome last (λ x. laid [] layers ≡ over (f x) (laid [] (map f prefix)))
+  popped_graph items prefix layers None is means = tt
+  popped_graph items prefix layers (Some x) is means =
+      ap (laid []) (sym means ∙ ap (map f) is ∙ map_push f prefix x) ∙ laid_more [] (map f prefix) (f x)
 
-  pub popped_fits : (items front : List X) (last : Option X) → items ≡ front ++ option_to_list last → AreLaid [] (map f items)
-      → IfSome last (λ x. length (laid [] (map f front)) ≡ (f x).base)
-  popped_fits items front None is are = tt
-  popped_fits items front (Some x) is are = last_fits [] (map f front) (f x) (subst (AreLaid []) (ap (map f) is ∙ map_push f front x) are)
+  pub popped_fits : (items prefix : List X) (last : Option X) → items ≡ prefix ++ option_to_list last → AreLaid [] (map f items)
+      → IfSome last (λ x. length (laid [] (map f prefix)) ≡ (f x).base)
+  popped_fits items prefix None is are = tt
+  popped_fits items prefix (Some x) is are = last_fits [] (map f prefix) (f x) (subst (AreLaid []) (ap (map f) is ∙ map_push f prefix x) are)
 
-  pub popped_fewer : (items front : List X) (layers : List Layer) (last : Option X) → items ≡ front ++ option_to_list last → map f items ≡ layers
-      → IfSome last (λ _. length (map f front) < length layers)
-  popped_fewer items front layers None is means = tt
-  popped_fewer items front layers (Some x) is means =
-      omega (arith, ap length (sym means ∙ ap (map f) is ∙ map_push f front x), length-append (map f front) (f x ∷ []))
+  pub popped_fewer : (items prefix : List X) (layers : List Layer) (last : Option X) → items ≡ prefix ++ option_to_list last → map f items ≡ layers
+      → IfSome last (λ _. length (map f prefix) < length layers)
+  popped_fewer items prefix layers None is means = tt
+  popped_fewer items prefix layers (Some x) is means =
+      omega (arith, ap length (sym means ∙ ap (map f) is ∙ map_push f prefix x), length-append (map f prefix) (f x ∷ []))
 
 -- ---- two layers joined
 

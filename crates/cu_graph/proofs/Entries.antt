@@ -22,13 +22,13 @@ node_kept : (args more : List ℕ) (entry : Entry) → IsWithin args entry → n
 node_kept args more entry within =
     ap (λ (xs : List ℕ). record { kind = entry.kind; args = xs }) (args_kept args more entry.start entry.arity within)
 
-behind : (args : List ℕ) (entry : Entry) (entries : List Entry) → AreWithin args (entry ∷ entries) → AreWithin args entries
-behind args entry entries within = λ k d below. within (suc k) d (omega arith)
+after : (args : List ℕ) (entry : Entry) (entries : List Entry) → AreWithin args (entry ∷ entries) → AreWithin args entries
+after args entry entries within = λ k d below. within (suc k) d (omega arith)
 
 pub nodes_kept : (args more : List ℕ) (entries : List Entry) → AreWithin args entries → nodes_of (args ++ more) entries ≡ nodes_of args entries
 nodes_kept args more [] within = refl
 nodes_kept args more (entry ∷ entries) within =
-    ap (λ nodes. nodes_of (args ++ more) (entry ∷ []) ++ nodes) (nodes_kept args more entries (behind args entry entries within))
+    ap (λ nodes. nodes_of (args ++ more) (entry ∷ []) ++ nodes) (nodes_kept args more entries (after args entry entries within))
     ∙ ap (λ node. node ∷ nodes_of args entries) (node_kept args more entry (within 0 entry (omega arith)))
 
 pub kept : (args now more : List ℕ) (entries : List Entry) (nodes : List Node) → AreWithin args entries → now ≡ args ++ more
@@ -48,11 +48,11 @@ pub pushed_node : (args now more : List ℕ) (entries new : List Entry) (entry :
     → nodes_of now new ≡ nodes ++ node ∷ []
 pushed_node args now more entries new entry nodes node within grown pushed meant is =
     ap (nodes_of now) pushed ∙ map_push (node_of now) entries entry
-    ∙ ap (λ front. front ++ node_of now entry ∷ []) (kept args now more entries nodes within grown is) ∙ ap (λ last. nodes ++ last ∷ []) meant
+    ∙ ap (λ prefix. prefix ++ node_of now entry ∷ []) (kept args now more entries nodes within grown is) ∙ ap (λ last. nodes ++ last ∷ []) meant
 
 pub set_node : (args now more : List ℕ) (entries : List Entry) (place : ℕ) (entry : Entry) (nodes : List Node) (node : Node) → AreWithin args entries
     → now ≡ args ++ more → node_of now entry ≡ node → nodes_of args entries ≡ nodes
     → nodes_of now (set entries place entry) ≡ set nodes place node
 set_node args now more entries place entry nodes node within grown meant is =
     map-set (node_of now) entries place entry
-    ∙ ap (λ front. set front place (node_of now entry)) (kept args now more entries nodes within grown is) ∙ ap (set nodes place) meant
+    ∙ ap (λ prefix. set prefix place (node_of now entry)) (kept args now more entries nodes within grown is) ∙ ap (set nodes place) meant

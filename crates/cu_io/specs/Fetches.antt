@@ -5,13 +5,14 @@ use Rattle.cu_io.specs.declared.library.Fetched.TheVariants.{Absent, Failed, Tex
 use Rattle.cu_io.specs.Rose.{Rose}
 
 -- the most bytes of one text that a library gives
-abbrev pub most_bytes : ℕ
-most_bytes = 16777217
+abbrev pub max_fetched_bytes : ℕ
+max_fetched_bytes = 16777217
 
 -- The answer of a library that holds this text, or none, in a place: Text has the first
--- `most_bytes` bytes of it, and Absent says that nothing is there. Failed says nothing of it.
+-- `max_fetched_bytes` bytes of it, and Absent says that nothing is there. Failed says nothing of
+-- it.
 abbrev pub Fetches : Option (List ℕ) → Fetched → Type 0
-Fetches (Some text) (Text bytes) = bytes.items ≡ take most_bytes text
+Fetches (Some text) (Text bytes) = bytes.items ≡ take max_fetched_bytes text
 Fetches None (Text bytes) = ⊥
 Fetches (Some text) Absent = ⊥
 Fetches None Absent = Unit {0}

@@ -6,7 +6,7 @@ use Rattle.cu_io.specs.declared.library.Fetched.{Fetched}
 use Rattle.cu_io.specs.declared.library.Fetched.TheVariants.{Absent, Text}
 use Rattle.cu_io.specs.declared.calls.Calls.{Calls}
 use Rattle.cu_io.specs.Calls.{counted, is_listed}
-use Rattle.cu_io.specs.Fetches.{most_bytes}
+use Rattle.cu_io.specs.Fetches.{max_fetched_bytes}
 use Rattle.cu_io.specs.Holdings.{Holdings}
 
 -- the text of a module of a name in a directory
@@ -63,9 +63,9 @@ fails_next s = is_listed s.failing s.calls.next
 abbrev pub after_call : Shelf → Shelf
 after_call s = record s { calls = counted s.calls (fails_next s) }
 
--- The answer for the text that is held, if there is one: its first `most_bytes` bytes, or Absent
--- where there is none.
+-- The answer for the text that is held, if there is one: its first `max_fetched_bytes` bytes, or
+-- Absent where there is none.
 abbrev pub Copies : Option (List ℕ) → Fetched → Type 0
-Copies (Some text) (Text bytes) = bytes.items ≡ take most_bytes text
+Copies (Some text) (Text bytes) = bytes.items ≡ take max_fetched_bytes text
 Copies None Absent = Unit {0}
 Copies held other = ⊥

@@ -3,10 +3,10 @@ ghost use Rattle.std.specs.Prelude.{◌≡◌, ◌<◌, ◌≤◌, ◌++◌, ℕ
 ghost use Rattle.std.specs.IoError.{error_kind};
 ghost use Rattle.std.specs.String.{string_bytes};
 ghost use Rattle.std.specs.Io.KnownBytes.{IsAtEnd};
-ghost use Rattle.cu_io.specs.Fetches.{FetchCount, most_bytes};
+ghost use Rattle.cu_io.specs.Fetches.{FetchCount, max_fetched_bytes};
 ghost use Rattle.cu_io.specs.Outside.{IsTextWithin, Moves, module_path, path_char, slashed};
 
-use crate::library::{Fetched, Library, MOST_BYTES};
+use crate::library::{Fetched, Library, MAX_FETCHED_BYTES};
 use std::alloc::{AllocError, Global};
 use std::io::{ErrorKind, Read};
 use std::marker::Model;
@@ -46,7 +46,7 @@ fn take_read(said: io::Result<usize>, room: &[u8], text: &mut Vec<u8>) -> io::Re
 }
 
 /// The first bytes of a file, `most` at most.
-fn read_front<F: Read>(alloc: Global, file: &mut F, most: usize) -> io::Result<Vec<u8>>
+fn read_prefix<F: Read>(alloc: Global, file: &mut F, most: usize) -> io::Result<Vec<u8>>
     ensures within { IfOk result (λ text. length text.items ≤ most) }
     ensures told { IfOk result (λ text. IfSome (F.remaining file.old) (λ bytes.
         text.items ≡ take most bytes)) }
@@ -98,13 +98,13 @@ fn unopened(error: io::Error) -> io::Result<Option<Vec<u8>>>
 /// was opened, nothing where it isn't there, and else the error.
 fn held<F: Read + Drop>(alloc: Global, opened: io::Result<F>) -> io::Result<Option<Vec<u8>>>
     ensures text { IfOk opened (λ file. IfOk result (λ held. MatchOption held ⊥ (λ text.
-        (length text.items ≤ most_bytes)
-        × IfSome (F.remaining file) (λ bytes. text.items ≡ take most_bytes bytes)))) }
+        (length text.items ≤ max_fetched_bytes)
+        × IfSome (F.remaining file) (λ bytes. text.items ≡ take max_fetched_bytes bytes)))) }
     ensures absent { IfErr opened (λ e. error_kind e ≡ ErrorKind.NotFound → result ≡ Ok None) }
     ensures failed { IfErr opened (λ e. error_kind e ≢ ErrorKind.NotFound → result ≡ Err e) }
 {
     match opened {
-        Ok(mut file) => Ok(Some(read_front(alloc, &mut file, MOST_BYTES)?)),
+        Ok(mut file) => Ok(Some(read_prefix(alloc, &mut file, MAX_FETCHED_BYTES)?)),
         Err(error) => unopened(error),
     }
 }
@@ -160,7 +160,7 @@ impl<R: Files> FolderLibrary<R> {
     }
 
     fn read(&mut self, alloc: Global, path: &str) -> Result<Fetched, AllocError>
-        ensures within { IfOk result (IsTextWithin most_bytes) }
+        ensures within { IfOk result (IsTextWithin max_fetched_bytes) }
         ensures count { MatchResult result
             (λ fetched. FetchCount fetched self.old self.new)
             (λ _. self.new ≡ self.old) }

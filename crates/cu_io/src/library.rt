@@ -6,7 +6,7 @@ ghost use Rattle.cu_io.specs.Fetches.{Fetches, FetchCount};
 use std::alloc::{AllocError, Global};
 
 /// The most bytes of one text that a library gives.
-pub(crate) const MOST_BYTES: usize = 16_777_217;
+pub(crate) const MAX_FETCHED_BYTES: usize = 16_777_217;
 
 /// What a library answers when it is asked for a text.
 #[derive(Debug, Drop)]

@@ -6,7 +6,7 @@ ghost use Rattle.cu_io.specs.Fetches.{FetchCount, Fetches};
 ghost use Rattle.cu_io.specs.Shelf.{Copies, after_call, fails_next, is_file, is_module, newest_file, newest_module, shelf_holdings, with_file, with_module};
 
 use crate::calls::Calls;
-use crate::library::{Fetched, Library, MOST_BYTES};
+use crate::library::{Fetched, Library, MAX_FETCHED_BYTES};
 use std::alloc::{AllocError, Global};
 use std::marker::Model;
 
@@ -96,7 +96,7 @@ impl HeldFile {
 }
 
 /// The first bytes of a text, `most` at most.
-fn front(text: &[u8], most: usize) -> &[u8]
+fn prefix(text: &[u8], most: usize) -> &[u8]
     ensures { result.now ≡ take most text.now }
 {
     &text[..most.min(text.len())]
@@ -108,7 +108,7 @@ fn copied(alloc: Global, held: Option<&[u8]>) -> Result<Fetched, AllocError>
     ensures { IfOk result (Copies (option_copied held.entry)) }
 {
     match held {
-        Some(text) => Ok(Fetched::Text(Vec::from_slice(alloc, front(text, MOST_BYTES))?)),
+        Some(text) => Ok(Fetched::Text(Vec::from_slice(alloc, prefix(text, MAX_FETCHED_BYTES))?)),
         None => Ok(Fetched::Absent),
     }
 }

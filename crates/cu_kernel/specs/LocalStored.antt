@@ -111,15 +111,15 @@ abbrev pub local_body_of_parts : List LocalRule ⊎ Primitive → LocalBody
 local_body_of_parts (inl rules) = kernel.Rules rules
 local_body_of_parts (inr operation) = kernel.External operation
 
-pub local_body_parts_back : (b : LocalBody) → local_body_of_parts (local_body_parts b) ≡ b
-local_body_parts_back (kernel.Rules rules) = refl
-local_body_parts_back (kernel.External operation) = refl
+pub local_body_parts_restored : (b : LocalBody) → local_body_of_parts (local_body_parts b) ≡ b
+local_body_parts_restored (kernel.Rules rules) = refl
+local_body_parts_restored (kernel.External operation) = refl
 
 abbrev pub local_body_code : Coded LocalBody
 local_body_code =
     code_by (List LocalRule ⊎ Primitive)
     (coded⊎ (coded_list local_rule_code) primitive.coded) local_body_parts local_body_of_parts
-    local_body_parts_back
+    local_body_parts_restored
 
 abbrev pub local_function_code : Coded LocalFunction
 local_function_code =

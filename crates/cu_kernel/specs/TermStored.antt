@@ -121,10 +121,10 @@ abbrev pub body_of_parts : List program.Rule ⊎ Primitive → program.Body
 body_of_parts (inl rules) = program.Rules rules
 body_of_parts (inr operation) = program.External operation
 
-pub body_parts_back : (b : program.Body) → body_of_parts (body_parts b) ≡ b
-body_parts_back (program.Rules rules) = refl
-body_parts_back (program.External operation) = refl
+pub body_parts_restored : (b : program.Body) → body_of_parts (body_parts b) ≡ b
+body_parts_restored (program.Rules rules) = refl
+body_parts_restored (program.External operation) = refl
 
 abbrev pub body_code : Coded program.Body
 body_code = code_by (List program.Rule ⊎ Primitive)
-    (coded⊎ (coded_list rule_code) primitive.coded) body_parts body_of_parts body_parts_back
+    (coded⊎ (coded_list rule_code) primitive.coded) body_parts body_of_parts body_parts_restored

@@ -86,12 +86,12 @@ impl Model for LocalProgram {
 
 /// Moves all elements of the second list after those of the first, where
 /// there is room for them.
-fn move_behind<T: Drop>(front: &mut Vec<T>, back: Vec<T>)
-    requires { vec_len front.old + vec_len back ≤ vec_capacity front.old }
-    ensures { front.new.items ≡ front.old.items ++ back.items }
+fn move_after<T: Drop>(first: &mut Vec<T>, second: Vec<T>)
+    requires { vec_len first.old + vec_len second ≤ vec_capacity first.old }
+    ensures { first.new.items ≡ first.old.items ++ second.items }
 {
-    let mut rest = back;
-    match front.append(&mut rest) {
+    let mut rest = second;
+    match first.append(&mut rest) {
         Ok(()) => {}
         Err(_) => unreachable!(),
     }
@@ -138,11 +138,11 @@ impl LocalParts {
         self.synonyms.reserve(synonyms.len())?;
         self.modules.reserve(modules.len())?;
         self.marks.reserve(marks.len())?;
-        move_behind(&mut self.types, types);
-        move_behind(&mut self.functions, functions);
-        move_behind(&mut self.synonyms, synonyms);
-        move_behind(&mut self.modules, modules);
-        move_behind(&mut self.marks, marks);
+        move_after(&mut self.types, types);
+        move_after(&mut self.functions, functions);
+        move_after(&mut self.synonyms, synonyms);
+        move_after(&mut self.modules, modules);
+        move_after(&mut self.marks, marks);
         if goal.is_some() {
             self.goal = goal;
         }

@@ -191,7 +191,7 @@ answer_follows program limits goal depth state reading well plain rule m read_is
     by _ (without graph root goals all) valid n comes arity =
         let number = number_of graph root goals in
         reading_concludes program [] goal n graph root goals Idle number rule well arity valid comes.roots comes.goals
-        (comes.back (read_off number graph) (valid_reading program [] graph root goals Idle number valid))
+        (comes.backward (read_off number graph) (valid_reading program [] graph root goals Idle number valid))
 
 -- a listed answer is read off a state of its level
 pub listed_at : (program : Code) (limits : SearchLimits) (goal : FunId) (depth : ℕ) (reading : Reading)

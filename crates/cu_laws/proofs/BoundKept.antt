@@ -77,7 +77,7 @@ module _ (program : Code) (claims : List Claim) (graph : Graph) (id : ℕ) (assi
       → FreeBeside graph a b v other k args → after ≡ telling program (put graph v (renaming other)) id true → Kept program claims graph after assigned
   renamed_kept after a b v other k args is sides after_is = (
     assigned,
-    continues_where program claims graph after assigned assigned loose past loose.of_program (λ x behind. past x (no_longer x behind)) (λ x below. refl) each,
+    continues_where program claims graph after assigned assigned loose past loose.of_program (λ x later. past x (no_longer x later)) (λ x below. refl) each,
   )
     where
       truth : Node
@@ -93,7 +93,7 @@ module _ (program : Code) (claims : List Claim) (graph : Graph) (id : ℕ) (assi
       as_long = ap (λ (g : Graph). length g) whole ∙ length-set middle id truth ∙ length-set graph v (renaming other)
 
       no_longer : (x : ℕ) → length after ≤ x → length graph ≤ x
-      no_longer x behind = let long = as_long in omega arith
+      no_longer x later = let long = as_long in omega arith
 
       within : (x : ℕ) → x < length after → x < length graph
       within x below = let long = as_long in omega arith
@@ -156,9 +156,9 @@ fill_low assigned from (u ∷ us) x low =
     ∙ fill_low assigned (from + 1) us x (omega arith)
 
 fill_past : (assigned : Assignment) (from : ℕ) (us : List Value) (x : ℕ) → from + length us ≤ x → filling assigned from us x ≡ assigned x
-fill_past assigned from [] x behind = refl
-fill_past assigned from (u ∷ us) x behind =
-    ap (λ (t : Bool). if t then u else filling assigned (from + 1) us x) (not_eq from x (λ same. let no : ⊥ = omega (arith, same, behind) in no))
+fill_past assigned from [] x after = refl
+fill_past assigned from (u ∷ us) x after =
+    ap (λ (t : Bool). if t then u else filling assigned (from + 1) us x) (not_eq from x (λ same. let no : ⊥ = omega (arith, same, after) in no))
     ∙ fill_past assigned (from + 1) us x (omega arith)
 
 further : (from x : ℕ) → from ≤ x → from ≢ x → from + 1 ≤ x
@@ -184,14 +184,14 @@ fill_each p assigned from (u ∷ us) x all low below =
 agree_from : (low high : Assignment) (from n : ℕ) → ((x : ℕ) → from ≤ x → low x ≡ high x) → values_at low (numbers from n) ≡ values_at high (numbers from n)
 agree_from low high from zero same = refl
 agree_from low high from (suc n) same =
-    ap₂ value.MoreValues (same from (omega arith)) (agree_from low high (from + 1) n (λ x behind. same x (omega arith)))
+    ap₂ value.MoreValues (same from (omega arith)) (agree_from low high (from + 1) n (λ x after. same x (omega arith)))
 
 fill_values : (assigned : Assignment) (from : ℕ) (us : List Value) → values_at (filling assigned from us) (numbers from (length us)) ≡ values_of us
 fill_values assigned from [] = refl
 fill_values assigned from (u ∷ us) =
     ap₂ value.MoreValues (ap (λ (t : Bool). if t then u else filling assigned (from + 1) us from) (eq-eqb from from refl))
     (agree_from (filling assigned from (u ∷ us)) (filling assigned (from + 1) us) (from + 1) (length us)
-    (λ x behind. ap (λ (t : Bool). if t then u else filling assigned (from + 1) us x) (not_eq from x (λ same. let no : ⊥ = omega (arith, same, behind) in no)))
+    (λ x after. ap (λ (t : Bool). if t then u else filling assigned (from + 1) us x) (not_eq from x (λ same. let no : ⊥ = omega (arith, same, after) in no)))
     ∙ fill_values assigned (from + 1) us)
 
 -- ---- what patterns match
@@ -264,7 +264,7 @@ module _ (program : Code) (claims : List Claim) (graph : Graph) (assigned : Assi
   pub to_constructor : (c : ConId) (us : List Value) → assigned v ≡ value.Constructed c (values_of us) → Kept program claims graph (imitating graph v c (length us)) assigned
   to_constructor c us is = (
     later,
-    continues_where program claims graph after assigned later loose past all behind (λ x below. fill_low assigned (length graph) us x below) each,
+    continues_where program claims graph after assigned later loose past all suffix (λ x below. fill_low assigned (length graph) us x below) each,
   )
     where
       n : ℕ
@@ -301,8 +301,8 @@ module _ (program : Code) (claims : List Claim) (graph : Graph) (assigned : Assi
         ]
       ]
 
-      behind : NothingPast after later
-      behind x gone =
+      suffix : NothingPast after later
+      suffix x gone =
           let long = as_long in
           let far : length graph + n ≤ x = omega arith in
           fill_past assigned (length graph) us x far ∙ past x (omega arith)

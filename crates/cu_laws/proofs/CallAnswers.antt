@@ -138,7 +138,7 @@ module _ (program : Code) (limits : Limits) (levels : List ℕ) (f : FunId) (arg
   state_concludes (Branch graph root goals search) on =
       let number = number_of graph root goals in
       let later = read_off number graph in
-      let carried = on.came.back [] later (valid_reading program [] graph root goals search number on.valid) in
+      let carried = on.came.backward [] later (valid_reading program [] graph root goals search number on.valid) in
       let small : Below (later root) (carried.sound.0 root) = carried.sound.2 root in (
         carried.further,
         carried.found,

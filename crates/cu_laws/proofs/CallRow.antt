@@ -49,13 +49,13 @@ rule_fits program f params body well is =
     subst (λ (b : code.Body). fits_body program found.0.arity b ≡ true) found.2 (and_parts (is_arity found.0.arity) (fits_body program found.0.arity found.0.body) fit).1 in
     let count = nat_eq (length params) found.0.arity in
     let parts = and_parts (count && is_linear params) (fits (length program.expressions) program params body) of_body in
-    let front = and_parts count (is_linear params) parts.0 in
+    let prefix = and_parts count (is_linear params) parts.0 in
     record {
       function = found.0;
       at = found.1;
       body_is = found.2;
-      as_many = eqb-true (length params) found.0.arity front.0;
-      linear = front.1;
+      as_many = eqb-true (length params) found.0.arity prefix.0;
+      linear = prefix.1;
       body_fits = parts.1;
     }
 

@@ -53,7 +53,7 @@ pub record Carried (program : Code) (limits : Limits) (P : FunId → Type 0) (cl
 pub record CameFrom (program : Code) (limits : Limits) (P : FunId → Type 0) (before state : State) : Type 0 where
   pub roots : root_of state ≡ root_of before
   pub goals : goals_of state ≡ goals_of before
-  pub back : (claims : List Claim) (later : Assignment) → Good program claims (graph_of state) later → Carried program limits P claims (graph_of before) later
+  pub backward : (claims : List Claim) (later : Assignment) → Good program claims (graph_of state) later → Carried program limits P claims (graph_of before) later
 
 pub none_found : (program : Code) (limits : Limits) → AreFound program limits []
 none_found program limits k claim at = let no : ⊥ = cc in absurd no
@@ -86,7 +86,7 @@ pub came_itself : (program : Code) (limits : Limits) (P : FunId → Type 0) (sta
 came_itself program limits P state = record {
   roots = refl;
   goals = refl;
-  back = λ claims later good. carried_alone program limits P claims (graph_of state) later (later, good, rises_itself later);
+  backward = λ claims later good. carried_alone program limits P claims (graph_of state) later (later, good, rises_itself later);
 }
 
 pub came_both : (program : Code) (limits : Limits) (P : FunId → Type 0) (one two three : State) → CameFrom program limits P one two → CameFrom program limits P two three
@@ -94,9 +94,9 @@ pub came_both : (program : Code) (limits : Limits) (P : FunId → Type 0) (one t
 came_both program limits P one two three first second = record {
   roots = second.roots ∙ first.roots;
   goals = second.goals ∙ first.goals;
-  back = λ claims later good.
-      let middle = second.back claims later good in
-      let found = first.back (claims ++ middle.further) middle.sound.0 middle.sound.1 in
+  backward = λ claims later good.
+      let middle = second.backward claims later good in
+      let found = first.backward (claims ++ middle.further) middle.sound.0 middle.sound.1 in
       record {
         further = middle.further ++ found.further;
         found = both_found program limits middle.further found.further middle.found found.found;
@@ -187,7 +187,7 @@ delivered_came : (program : Code) (limits : Limits) (P : FunId → Type 0) (grap
 delivered_came program limits P graph root goals id found fit traced passes = record {
   roots = refl;
   goals = refl;
-  back = λ claims later good.
+  backward = λ claims later good.
       let claim = claim_of traced.function (spelled_values graph traced.args) (sorted found) in
       record {
         further = claim ∷ [];
@@ -207,7 +207,7 @@ next_came program limits P (Branch graph root goals Idle) state states well vali
     record {
       roots = (comes []).roots;
       goals = (comes []).goals;
-      back = λ claims later good. carried_alone program limits P claims graph later ((comes claims).back later good);
+      backward = λ claims later good. carried_alone program limits P claims graph later ((comes claims).backward later good);
     }
 next_came program limits P (Branch graph root goals (Running id found NoState)) state states well valid traced sets same m =
     let only = Branch (delivered program graph id found) root goals Idle in
@@ -223,13 +223,13 @@ next_came program limits P (Branch graph root goals (Running id found (MoreState
       | was_blocked is ↦ subst (λ (s : State). CameFrom program limits P before s) (sym is) (record {
         roots = refl;
         goals = refl;
-        back = λ claims later good. carried_alone program limits P claims graph later
+        backward = λ claims later good. carried_alone program limits P claims graph later
             (sticking_sound program claims graph (put graph id stuck) id (kind.SetCall traced.function) traced.args later traced.node_is refl refl good);
       })
       | goes_on values next_states event is ↦ subst (λ (s : State). CameFrom program limits P before s) (sym is) (record {
         roots = refl;
         goals = refl;
-        back = λ claims later good. carried_alone program limits P claims graph later (later, good, rises_itself later);
+        backward = λ claims later good. carried_alone program limits P claims graph later (later, good, rises_itself later);
       })
     ]
 

@@ -62,9 +62,9 @@ branch_at test (first ∷ branches) branch is = go (test first.pattern) refl (br
   where
     go : (b : Bool) → test first.pattern ≡ b → (branch_for test branches ≡ Some branch → At test branches branch)
         → (if b then Some first else branch_for test branches) ≡ Some branch → At test (first ∷ branches) branch
-    go true passed behind e =
+    go true passed after e =
         let same : first ≡ branch = cc in record { place = 0; is = ap Some same; passes = ap (λ (x : Branch). test x.pattern) (sym same) ∙ passed }
-    go false failed behind e = let rest = behind e in record { place = suc rest.place; is = rest.is; passes = rest.passes }
+    go false failed after e = let rest = after e in record { place = suc rest.place; is = rest.is; passes = rest.passes }
 
 -- the rows of alternatives don't depend on their terms
 pub rows_alike : (t s : ExprId → Term) (n : ℕ) (branches : List Branch) → rows_from n (alternatives_of t branches) ≡ rows_from n (alternatives_of s branches)
@@ -120,10 +120,10 @@ branch_fits program number mode kept inner branches k branch well code_is at =
     all_get (fits_case program) program.expressions number (code.Case mode kept inner branches) (cases_fit program well) code_is in
     let each = list_all (fits_branch part program kept) branches in
     let parts = and_parts (is_linear kept && all_differ branches) each all in
-    let front = and_parts (is_linear kept) (all_differ branches) parts.0 in
+    let prefix = and_parts (is_linear kept) (all_differ branches) parts.0 in
     let here = all_get (fits_branch part program kept) branches k branch parts.1 at in
     let both = and_parts (fits_pattern program branch.pattern) (part (kept ++ bound_by branch.pattern) branch.body) here in
-    record { linear = front.0; differ = front.1; pattern = both.0; body = both.1 }
+    record { linear = prefix.0; differ = prefix.1; pattern = both.0; body = both.1 }
 
 pub pattern_linear : (program : Code) (p : Shallow) → fits_pattern program p ≡ true → is_linear (bound_by p) ≡ true
 pattern_linear program (code.Exactly l) fit = refl

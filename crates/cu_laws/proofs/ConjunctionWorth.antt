@@ -77,10 +77,10 @@ module _ (program : Program) (claims : List Claim) (special : HasSpecial program
         at = refl;
         matches = ap (λ (t : Bool). if t then Some [] else None) (same_itself program.special.truth);
       } in
-      let behind : env y ≡ b =
+      let after : env y ≡ b =
       ap (λ (t : Bool). if t then truth_of program true else bind_all empty ((y, b) ∷ []) y) (other (nat_eq x y) refl) ∙ bound_last y b empty in
       gives.chosen env Flex (term.Variable x) (term.Variable y) (arms y) [] (truth_of program true) b (last_given x (truth_of program true) ((y, b) ∷ [])) selects
-      (gives.variable env y b (subst (λ (w : Value). Below b w) (sym behind) (below_itself b)))
+      (gives.variable env y b (subst (λ (w : Value). Below b w) (sym after) (below_itself b)))
     where
       other : (t : Bool) → nat_eq x y ≡ t → t ≡ false
       other true same = absurd (apart (eqb-true x y same))

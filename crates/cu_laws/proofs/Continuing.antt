@@ -25,7 +25,7 @@ pub same_rises : (graph : Graph) (assigned later : Assignment) → NothingPast g
     → RisesTo assigned later
 same_rises graph assigned later past same x = elim (cases_lt x (length graph)) [
   | inl there ↦ subst (λ (v : Value). Below (assigned x) v) (sym (same x there)) (below_itself (assigned x))
-  | inr behind ↦ subst (λ (v : Value). Below v (later x)) (sym (past x behind)) (below.bottom (later x))
+  | inr after ↦ subst (λ (v : Value). Below v (later x)) (sym (past x after)) (below.bottom (later x))
 ]
 
 -- an assignment that keeps what the old nodes have: each node stayed, or has what it may have
@@ -35,10 +35,10 @@ pub continues_where : (program : Code) (claims : List Claim) (graph after : Grap
     → ((x : ℕ) → x < length after → ((x < length graph) × (node_at after x ≡ node_at graph x))
     ⊎ MayHave AnyValue program claims later (node_at after x).kind (node_at after x).args (later x))
     → Continues program claims graph after assigned later
-continues_where program claims graph after assigned later loose past all behind same each =
+continues_where program claims graph after assigned later loose past all suffix same each =
     record {
       loose = record { of_program = all; each = λ x below. elim (each x below) [ inl stays ↦ old x stays.0 stays.1 | inr may ↦ may ] };
-      past = behind;
+      past = suffix;
       same = same;
     }
   where
@@ -55,8 +55,8 @@ pub continues : (program : Code) (claims : List Claim) (graph after : Graph) (id
     → NothingPast after later → ((x : ℕ) → x < length graph → later x ≡ assigned x)
     → ((x : ℕ) → x < length after → (x ≡ id) ⊎ (length graph ≤ x) → MayHave AnyValue program claims later (node_at after x).kind (node_at after x).args (later x))
     → Continues program claims graph after assigned later
-continues program claims graph after id new assigned later changed loose past all behind same each =
-    continues_where program claims graph after assigned later loose past all behind same (λ x below. elim (same_or_other x id) [
+continues program claims graph after id new assigned later changed loose past all suffix same each =
+    continues_where program claims graph after assigned later loose past all suffix same (λ x below. elim (same_or_other x id) [
       | inl here ↦ inr (each x below (inl here))
       | inr other ↦ elim (cases_lt x (length graph)) [ inl there ↦ inl (there, changed.same x there other) | inr new_one ↦ inr (each x below (inr new_one)) ]
     ])
@@ -78,12 +78,12 @@ pub kept_by_put : (program : Code) (claims : List Claim) (graph after : Graph) (
     → Kept program claims graph after assigned
 kept_by_put program claims graph after id new assigned here after_is loose past may = (
   assigned,
-  continues program claims graph after id new assigned assigned changed loose past loose.of_program (λ x behind. past x (no_longer x behind)) (λ x below. refl)
+  continues program claims graph after id new assigned assigned changed loose past loose.of_program (λ x later. past x (no_longer x later)) (λ x below. refl)
       (λ x below at. elim at [
         | inl same ↦
             subst (λ (y : ℕ). MayHave AnyValue program claims assigned (node_at after y).kind (node_at after y).args (assigned y)) (sym same)
             (subst (λ (n : Node). MayHave AnyValue program claims assigned n.kind n.args (assigned id)) (sym changed.there) may)
-        | inr behind ↦ absurd (none_new x below behind)
+        | inr later ↦ absurd (none_new x below later)
       ]),
 )
   where
@@ -94,7 +94,7 @@ kept_by_put program claims graph after id new assigned here after_is loose past 
     as_long = subst (λ (g : Graph). length g ≡ length graph) (sym after_is) (length-set graph id new)
 
     no_longer : (x : ℕ) → length after ≤ x → length graph ≤ x
-    no_longer x behind = let long = as_long in omega arith
+    no_longer x later = let long = as_long in omega arith
 
     none_new : (x : ℕ) → x < length after → length graph ≤ x → ⊥
-    none_new x below behind = let long = as_long in omega arith
+    none_new x below later = let long = as_long in omega arith

@@ -166,9 +166,9 @@ bound_variables (code.Built c xs) = any_variables xs
 or_none : (b : Bool) → b ≡ true → (b || false) ≡ true
 or_none b is = ap (λ (x : Bool). x || false) is
 
-held_behind : (y : ℕ) (xs ys : List ℕ) → holds y (xs ++ ys) ≡ true → (holds y ys || holds y xs) ≡ true
-held_behind y [] ys held = or_none (holds y ys) held
-held_behind y (x ∷ xs) ys held = by (nat_eq y x) (holds y ys) held (held_behind y xs ys)
+held_after : (y : ℕ) (xs ys : List ℕ) → holds y (xs ++ ys) ≡ true → (holds y ys || holds y xs) ≡ true
+held_after y [] ys held = or_none (holds y ys) held
+held_after y (x ∷ xs) ys held = by (nat_eq y x) (holds y ys) held (held_after y xs ys)
   where
     by : (b c : Bool) → (b || holds y (xs ++ ys)) ≡ true → (holds y (xs ++ ys) ≡ true → (c || holds y xs) ≡ true) → (c || (b || holds y xs)) ≡ true
     by true true h rest = refl
@@ -497,10 +497,10 @@ module _ (program : Code) (claims : List Claim) where
         ])
 
     -- what is pushed before something that is built
-    behind_pushed : (assigned : Assignment) (next : ℕ) (nodes : List Node) (built : Built) (v : Value) (first : Pushed assigned next nodes)
+    after_pushed : (assigned : Assignment) (next : ℕ) (nodes : List Node) (built : Built) (v : Value) (first : Pushed assigned next nodes)
         → Extended first.higher (next + length nodes) built v → Extended assigned next (after nodes built) v
     unfolding pushed_both
-    behind_pushed assigned next nodes built v first e =
+    after_pushed assigned next nodes built v first e =
         let low = first.higher in
         let high = e.higher in
         record {
@@ -540,7 +540,7 @@ module _ (program : Code) (claims : List Claim) where
         λ y. below_trans (bind env x form.bound y) (bind (env_in low scope) x form.bound y) (env_in low wider y)
         (bind_below env (env_in low scope) x form.bound (env_rises assigned low scope first.pushes.rises) y) (env_above_last low scope x id form.bound first.there y) in
         let inside = weaken P claims (bind env x form.bound) (env_in low wider) (term_within n program body) v v form.of_body raised (below_itself v) in
-        behind_pushed assigned next (pushed one) (build_within n program wider later body) v first.pushes
+        after_pushed assigned next (pushed one) (build_within n program wider later body) v first.pushes
         (has variables wider later body v low fit_body first.pushes.of_program first.pushes.past inside)
 
     free_has : (n : ℕ) → Has n → (variables : List ℕ) (scope : Scope) (next x : ℕ) (body : ExprId) (v : Value) (assigned : Assignment)
@@ -571,12 +571,12 @@ module _ (program : Code) (claims : List Claim) where
         (env_above_last low scope x next form.found (subst (λ (z : Value). Below form.found z) (sym there) (below_itself form.found)) y) in
         let inside = weaken P claims (bind env x form.found) (env_in low wider) (term_within n program body) v v form.of_body raised (below_itself v) in
         let later : next + 1 ≡ next + length nodes = refl in
-        behind_free assigned next (build_within n program wider (next + 1) body) v pushes
+        after_free assigned next (build_within n program wider (next + 1) body) v pushes
         (has variables wider (next + 1) body v low fit all_low (λ y above. pushes.past y (omega arith)) inside)
       where
-        behind_free : (assigned : Assignment) (next : ℕ) (built : Built) (v : Value) (first : Pushed assigned next (alone kind.Free ∷ []))
+        after_free : (assigned : Assignment) (next : ℕ) (built : Built) (v : Value) (first : Pushed assigned next (alone kind.Free ∷ []))
             → Extended first.higher (next + 1) built v → Extended assigned next (after (alone kind.Free ∷ []) built) v
-        behind_free assigned next built v first e = behind_pushed assigned next (alone kind.Free ∷ []) built v first e
+        after_free assigned next built v first e = after_pushed assigned next (alone kind.Free ∷ []) built v first e
 
     -- ---- case distinctions
 
@@ -618,14 +618,14 @@ module _ (program : Code) (claims : List Claim) where
         let rest = bind_all empty (zip kept (map assigned (kept_parts scope later kept).ids)) in
         by_test (nat_eq y x) (λ b. nat_eq y x ≡ b → Below (env_in assigned scope x) (if b then v else rest x))
         (λ same e. subst (λ (z : ℕ). Below (env_in assigned scope z) v) (eqb-true y x e) (here (place_in scope y)))
-        (λ other e. kept_above assigned scope later kept x (behind_it (nat_eq x y) (nat_eq_comm x y ∙ e) held)) refl
+        (λ other e. kept_above assigned scope later kept x (after_it (nat_eq x y) (nat_eq_comm x y ∙ e) held)) refl
       where
         here : (place : Option ℕ) → Below (elim place [ Some id ↦ assigned id | None ↦ value.Bottom ]) (assigned (place_of next (build_variable place)))
         here (Some id) = below_itself (assigned id)
         here None = below.bottom (assigned (place_of next (build_variable None)))
 
-        behind_it : (b : Bool) → b ≡ false → (b || holds x kept) ≡ true → holds x kept ≡ true
-        behind_it b is h = subst (λ (z : Bool). (z || holds x kept) ≡ true) is h
+        after_it : (b : Bool) → b ≡ false → (b || holds x kept) ≡ true → holds x kept ≡ true
+        after_it b is h = subst (λ (z : Bool). (z || holds x kept) ≡ true) is h
 
     with_kept : (assigned : Assignment) (next : ℕ) (nodes : List Node) (scope : Scope) (kept : List ℕ) (first : Pushed assigned next nodes)
         → Pushed assigned next (nodes ++ (kept_parts scope (next + length nodes) kept).nodes)
@@ -657,7 +657,7 @@ module _ (program : Code) (claims : List Claim) where
         sym (ap variables_of place.2 ∙ bound_variables branch.pattern) ∙ matched_names found.selects.pattern found.scrutinee found.bindings found.selects.matches in
         let all_under = bind_all_where (λ y. holds y kept) low high found.bindings under in
         let inside = depends P claims (λ y. holds y (kept ++ xs)) (bind_all low found.bindings) (bind_all high found.bindings) found.term v found.gives fit_term
-        (λ y held. all_under y (subst (λ (zs : List ℕ). (holds y zs || holds y kept) ≡ true) named (held_behind y kept xs held))) in
+        (λ y held. all_under y (subst (λ (zs : List ℕ). (holds y zs || holds y kept) ≡ true) named (held_after y kept xs held))) in
         record {
           mode = mode;
           kept = kept;
@@ -778,13 +778,13 @@ written_by program claims graph id built assigned here found =
       record {
         of_program = found.of_program;
         same = found.same;
-        past = λ x behind. found.past x (omega arith);
+        past = λ x later. found.past x (omega arith);
         each = λ x below new. elim new [
           | inl same ↦
               subst (λ (y : ℕ). MayHave NoValue program claims high (node_at after y).kind (node_at after y).args (high y)) (sym same)
               (subst (λ (m : Node). MayHave NoValue program claims high m.kind m.args (high id)) (sym (at_same graph id built here))
               (subst (λ (v : Value). MayHave NoValue program claims high (instead built.top).kind (instead built.top).args v) (sym (found.same id here)) (top_of high found.of_program built.top (assigned id) found.top)))
-          | inr behind ↦
+          | inr later ↦
               let i = x - length graph in
               let is : length graph + i ≡ x = omega arith in
               subst (λ (y : ℕ). MayHave NoValue program claims high (node_at after y).kind (node_at after y).args (high y)) is

@@ -33,19 +33,19 @@ use Rattle.cu_laws.proofs.Raising.{rises_itself, rises_trans}
 pub record ComesFrom (program : Code) (claims : List Claim) (before state : State) : Type 0 where
   pub roots : root_of state ≡ root_of before
   pub goals : goals_of state ≡ goals_of before
-  pub back : (later : Assignment) → Good program claims (graph_of state) later → Sound program claims (graph_of before) later
+  pub backward : (later : Assignment) → Good program claims (graph_of state) later → Sound program claims (graph_of before) later
 
 pub comes_from_itself : (program : Code) (claims : List Claim) (state : State) → ComesFrom program claims state state
-comes_from_itself program claims state = record { roots = refl; goals = refl; back = λ later good. (later, good, rises_itself later) }
+comes_from_itself program claims state = record { roots = refl; goals = refl; backward = λ later good. (later, good, rises_itself later) }
 
 pub comes_from_both : (program : Code) (claims : List Claim) (one two three : State) → ComesFrom program claims one two → ComesFrom program claims two three
     → ComesFrom program claims one three
 comes_from_both program claims one two three first second = record {
   roots = second.roots ∙ first.roots;
   goals = second.goals ∙ first.goals;
-  back = λ later good.
-      let middle = second.back later good in
-      let found = first.back middle.0 middle.1 in
+  backward = λ later good.
+      let middle = second.backward later good in
+      let found = first.backward middle.0 middle.1 in
       (found.0, found.1, rises_trans later middle.0 found.0 middle.2 found.2);
 }
 
@@ -69,7 +69,7 @@ module _ (program : Code) (claims : List Claim) (limits : Limits) (well : is_wel
       subst (λ (s : State). ComesFrom program claims (Branch graph root goals Idle) s) (sym found.2) (record {
         roots = refl;
         goals = refl;
-        back = λ later good. sound_row program claims graph found.0 id later well valid.0.nodes row good;
+        backward = λ later good. sound_row program claims graph found.0 id later well valid.0.nodes row good;
       })
   moved_from graph root id goals (Overflows operation a b) states state valid needed is same m = let no : ⊥ = cc in absurd no
   moved_from graph root id goals (Collect f arguments) states state valid needed is same m =
@@ -79,7 +79,7 @@ module _ (program : Code) (claims : List Claim) (limits : Limits) (well : is_wel
       at_first only (subst (λ (xs : List State). Among state xs) (sym all) m) (record {
         roots = refl;
         goals = refl;
-        back = λ later good. (later, good, rises_itself later);
+        backward = λ later good. (later, good, rises_itself later);
       })
     where
       at_first : (only : State) → Among state (only ∷ []) → ComesFrom program claims (Branch graph root goals Idle) only

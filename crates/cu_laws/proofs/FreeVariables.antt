@@ -16,7 +16,7 @@ use Rattle.cu_calculus.specs.Value as value
 use Rattle.cu_calculus.specs.Value.{Value, Values}
 use Rattle.cu_calculus.proofs.BelowLaws.{below_itself, below_trans}
 use Rattle.cu_calculus.proofs.FlatFitting.{nat_eq_comm}
-use Rattle.cu_calculus.proofs.Matches.{behind, halves, tested}
+use Rattle.cu_calculus.proofs.Matches.{after, halves, tested}
 use Rattle.cu_laws.proofs.Raising.{by_test}
 
 -- ---- the variables that are bound
@@ -37,7 +37,7 @@ mutual
   pub matched_names : (p : Pattern) (v : Value) (bindings : Bindings) → matched p v ≡ Some bindings → variables_of p ≡ names bindings
   matched_names (term.Any x) v bindings is = ap names (some_bindings ((x, v) ∷ []) bindings is)
   matched_names (term.Named x p) v bindings is =
-      let found = behind x v (matched p v) bindings is in
+      let found = after x v (matched p v) bindings is in
       ap (λ (zs : List ℕ). x ∷ zs) (matched_names p v found.rest found.is) ∙ ap names (sym found.whole)
   matched_names (term.Exactly l) (value.Literal m) bindings is = let found = tested (same_literal l m) (Some []) bindings is in ap names (some_bindings [] bindings found.1)
   matched_names (term.Exactly l) _ bindings is = let no : ⊥ = cc in absurd no
@@ -68,25 +68,25 @@ pub bind_all_where : (may : ℕ → Bool) (low high : Environment) (bindings : B
 bind_all_where may low high [] under y passes = under y passes
 bind_all_where may low high ((x, v) ∷ bindings) under y passes =
     by_test (nat_eq x y) (λ b. nat_eq x y ≡ b → Below (if b then v else bind_all low bindings y) (if b then v else bind_all high bindings y)) (λ same e. below_itself v)
-    (λ other e. bind_all_where may low high bindings under y (behind_it (nat_eq y x) (nat_eq_comm y x ∙ e) passes)) refl
+    (λ other e. bind_all_where may low high bindings under y (after_it (nat_eq y x) (nat_eq_comm y x ∙ e) passes)) refl
   where
-    behind_it : (b : Bool) → b ≡ false → ((b || holds y (names bindings)) || may y) ≡ true → (holds y (names bindings) || may y) ≡ true
-    behind_it b is stands = subst (λ (z : Bool). ((z || holds y (names bindings)) || may y) ≡ true) is stands
+    after_it : (b : Bool) → b ≡ false → ((b || holds y (names bindings)) || may y) ≡ true → (holds y (names bindings) || may y) ≡ true
+    after_it b is stands = subst (λ (z : Bool). ((z || holds y (names bindings)) || may y) ≡ true) is stands
 
 pub alternative_fits : (program : Program) (may : ℕ → Bool) (alternatives : Alternatives) (k : ℕ) (p : Pattern) (t : Term) → fit_alternatives program may alternatives ≡ true
     → alternative_at alternatives k ≡ Some (p, t) → fits_term program (also_all (variables_of p) may) t ≡ true
 alternative_fits program may term.NoAlternative k p t fit is = let no : ⊥ = cc in absurd no
 alternative_fits program may (term.MoreAlternatives q s alternatives) zero p t fit is =
     let pairs : (q, s) ≡ (p, t) = some_pair (q, s) (p, t) is in
-    let front = fits_pattern program q && is_linear (variables_of q) in
-    let parts = and_parts (front && fits_term program (also_all (variables_of q) may) s) (fit_alternatives program may alternatives) fit in
-    subst (λ (x : Pattern × Term). fits_term program (also_all (variables_of x.0) may) x.1 ≡ true) pairs (and_parts front (fits_term program (also_all (variables_of q) may) s) parts.0).1
+    let prefix = fits_pattern program q && is_linear (variables_of q) in
+    let parts = and_parts (prefix && fits_term program (also_all (variables_of q) may) s) (fit_alternatives program may alternatives) fit in
+    subst (λ (x : Pattern × Term). fits_term program (also_all (variables_of x.0) may) x.1 ≡ true) pairs (and_parts prefix (fits_term program (also_all (variables_of q) may) s) parts.0).1
   where
     some_pair : (a b : Pattern × Term) → Some a ≡ Some b → a ≡ b
     some_pair a b same = cc
 alternative_fits program may (term.MoreAlternatives q s alternatives) (suc k) p t fit is =
-    let front = fits_pattern program q && is_linear (variables_of q) && fits_term program (also_all (variables_of q) may) s in
-    alternative_fits program may alternatives k p t (and_parts front (fit_alternatives program may alternatives) fit).1 is
+    let prefix = fits_pattern program q && is_linear (variables_of q) && fits_term program (also_all (variables_of q) may) s in
+    alternative_fits program may alternatives k p t (and_parts prefix (fit_alternatives program may alternatives) fit).1 is
 
 module _ (program : Program) (claims : List Claim) where
   mutual

@@ -130,9 +130,9 @@ raised_head apart program claims graph assigned inds fit good id k args most is 
     let here : place < length graph = there_unless_stuck graph place k args is (made_not_stuck k (values_at assigned args) most made_is) in
     let as_node : (v : Value) → MayHave NoValue program claims assigned (node_at graph place).kind (node_at graph place).args v → MayHave NoValue program claims assigned k args v =
     λ v may. subst (λ (n : Node). MayHave NoValue program claims assigned n.kind n.args v) is may in
-    let back : MayHave NoValue program claims assigned (node_at graph place).kind (node_at graph place).args most =
+    let allowed : MayHave NoValue program claims assigned (node_at graph place).kind (node_at graph place).args most =
     subst (λ (n : Node). MayHave NoValue program claims assigned n.kind n.args most) (sym is) (made_may program claims assigned k args most made_is) in
     let whole : has_arguments program k (length args) ≡ true = subst (λ (n : Node). has_arguments program n.kind (length n.args) ≡ true) is (fit place here) in
     raised_to apart program claims graph assigned inds id most good
     (made_is_most program claims assigned k args (assigned place) most (as_node (assigned place) (good.each place here among)) made_is)
-    (made_of program assigned k args most good.of_program whole made_is) (λ apart_from. back)
+    (made_of program assigned k args most good.of_program whole made_is) (λ apart_from. allowed)

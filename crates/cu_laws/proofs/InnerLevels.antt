@@ -30,16 +30,16 @@ goes_on_with (Stops stop) inner events values states rest is = let no : ⊥ = cc
 goes_on_with (Waits names) inner events values states rest is = let no : ⊥ = cc in absurd no
 goes_on_with Fails inner events values states rest is =
     let others = rest values states is in record { answered = others.answered; follow = others.follow; quiet = others.quiet }
-goes_on_with (Go front) (On vs ss) events values states rest is =
-    let same = on_is vs values (front ++ ss) states is in
+goes_on_with (Go prefix) (On vs ss) events values states rest is =
+    let same = on_is vs values (prefix ++ ss) states is in
     let others = rest vs ss refl in
     record {
       answered = sym same.0 ∙ others.answered;
-      follow = sym same.1 ∙ ap (λ (xs : List State). front ++ xs) others.follow;
+      follow = sym same.1 ∙ ap (λ (xs : List State). prefix ++ xs) others.follow;
       quiet = others.quiet;
     }
-goes_on_with (Go front) Blocked events values states rest is = let no : ⊥ = cc in absurd no
-goes_on_with (Go front) (Halts stop) events values states rest is = let no : ⊥ = cc in absurd no
+goes_on_with (Go prefix) Blocked events values states rest is = let no : ⊥ = cc in absurd no
+goes_on_with (Go prefix) (Halts stop) events values states rest is = let no : ⊥ = cc in absurd no
 goes_on_with (Answer reading) inner events values states rest is = by (is_ground reading.value) refl inner rest is
   where
     by : (b : Bool) → is_ground reading.value ≡ b → (what : LevelEvent) → ((vs : List Value) (ss : List State) → what ≡ On vs ss → GoesOn events vs ss)

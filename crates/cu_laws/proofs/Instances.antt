@@ -60,13 +60,13 @@ number_of_held f [] x held = absurd (true≢false (sym held))
 number_of_held f (y ∷ ys) x held = by (nat_eq x y) refl held (number_of_held f ys x)
   where
     by : (b : Bool) → nat_eq x y ≡ b → (b || holds ys x) ≡ true → (holds ys x ≡ true → Numbered f ys x) → Numbered f (y ∷ ys) x
-    by true same there behind = record {
+    by true same there after = record {
       k = 0;
       number_is = ap (λ (b : Bool). if b then 1 else elim (ordinal ys x) [ zero ↦ 0 | suc k ↦ suc k + 1 ]) same;
       value_is = ap f (sym (eqb-true x y same));
     }
-    by false other there behind =
-        let rest = behind there in
+    by false other there after =
+        let rest = after there in
         record {
           k = suc rest.k;
           number_is = ap (λ (b : Bool). if b then 1 else elim (ordinal ys x) [ zero ↦ 0 | suc k ↦ suc k + 1 ]) other

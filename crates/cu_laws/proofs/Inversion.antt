@@ -232,8 +232,8 @@ by_case_gives program claims x y a b v differ found =
         (subst (λ (p : Pattern). matched p found.scrutinee ≡ Some found.bindings) arm.0 found.selects.matches) in
         let under = variable_gives program claims (bind_all env found.bindings) found.term v found.gives y arm.1 in
         let plain : bind_all env found.bindings y ≡ env y = ap (λ (xs : Bindings). bind_all env xs y) constant.1 in
-        let behind : env y ≡ b = ap (λ (t : Bool). if t then a else bind_all empty ((y, b) ∷ []) y) (not_same (nat_eq x y) refl) ∙ bound_last y b empty in
-        inr (inr (above_constant program.special.truth found.scrutinee a constant.0 low, subst (λ (w : Value). Below v w) (plain ∙ behind) under))
+        let after : env y ≡ b = ap (λ (t : Bool). if t then a else bind_all empty ((y, b) ∷ []) y) (not_same (nat_eq x y) refl) ∙ bound_last y b empty in
+        inr (inr (above_constant program.special.truth found.scrutinee a constant.0 low, subst (λ (w : Value). Below v w) (plain ∙ after) under))
       where
         not_same : (t : Bool) → nat_eq x y ≡ t → t ≡ false
         not_same true same = absurd (differ (eqb-true x y same))

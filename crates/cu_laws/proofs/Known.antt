@@ -141,7 +141,7 @@ look_nowhere program t n (branch ∷ branches) u none = look_first program branc
 nowhere_chooses : (program : Program) (rows : List Row) (values : List Value) (choice : ℕ) → Chooses program rows values choice → look program rows values ≡ Nowhere → ⊥
 nowhere_chooses program _ _ _ (choose.taken rows values choice e) none = cc
 nowhere_chooses program _ _ _ (choose.again rows fewer values choice e rest) none = cc
-nowhere_chooses program _ _ _ (choose.narrower rows fewer values parts choice e rest) none = cc
+nowhere_chooses program _ _ _ (choose.specialized_rows rows fewer values parts choice e rest) none = cc
 
 pub unmet_chooses : (program : Program) (t : ExprId → Term) (branches : List Branch) (u : Value) (choice : ℕ)
     → Chooses program (rows_from 0 (alternatives_of t branches)) (u ∷ []) choice → met_by u ≡ None → ⊥

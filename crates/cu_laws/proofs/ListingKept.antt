@@ -18,7 +18,7 @@ use Rattle.cu_machine.specs.State.{State}
 use Rattle.cu_machine.specs.Validity.{IsValid}
 use Rattle.cu_machine.proofs.RowMoves.{among_image}
 use Rattle.cu_machine.proofs.Runs.{run_reaches}
-use Rattle.cu_machine.proofs.Strides.{among_flat_at, behind, in_front}
+use Rattle.cu_machine.proofs.Strides.{among_flat_at, among_after, in_prefix}
 use Rattle.cu_laws.specs.Good.{Assignment}
 use Rattle.cu_laws.specs.Promises.{AgreeWithSearches, AnswersPromise, Promises}
 use Rattle.cu_laws.specs.Traced.{IsTraced}
@@ -33,11 +33,11 @@ Listed d waits round (Waits names) = waits < round.tally.waits
 Listed d waits round (Stops stop) = ⊥
 Listed d waits round _ = Unit {0}
 
-listed_behind : (d waits : ℕ) (round : Round) (line : Line) (event : Next) → Listed d waits round event → Listed d waits (with_line line round) event
-listed_behind d waits round line (Answer reading) listed = inr listed
-listed_behind d waits round line (Waits names) listed = listed
-listed_behind d waits round line (Stops stop) listed = listed
-listed_behind d waits round line _ listed = tt
+listed_after : (d waits : ℕ) (round : Round) (line : Line) (event : Next) → Listed d waits round event → Listed d waits (with_line line round) event
+listed_after d waits round line (Answer reading) listed = inr listed
+listed_after d waits round line (Waits names) listed = listed
+listed_after d waits round line (Stops stop) listed = listed
+listed_after d waits round line _ listed = tt
 
 listed_later : (d fewer waits : ℕ) (round : Round) (event : Next) → fewer ≤ waits → Listed d waits round event → Listed d fewer round event
 listed_later d fewer waits round (Answer reading) up listed = listed
@@ -68,7 +68,7 @@ listed_unless_last : (last : Bool) (d : ℕ) (tally : Tally) (end : End) (readin
 listed_unless_last true d tally end reading rest outcomes event goes m others = let no : ⊥ = cc in absurd no
 listed_unless_last false d tally end reading rest outcomes event goes m others = elim m [
   | inl same ↦ subst (λ (e : Next). Listed d tally.waits (with_line (Answered d reading) rest) e) same (inl refl)
-  | inr there ↦ listed_behind d tally.waits rest (Answered d reading) event (others goes there)
+  | inr there ↦ listed_after d tally.waits rest (Answered d reading) event (others goes there)
 ]
 
 in_round : (d : ℕ) (limit : Option ℕ) (tally : Tally) (outcomes : List Next) (event : Next) → (round_of d limit tally outcomes).end ≡ None → Among event outcomes
@@ -92,7 +92,7 @@ in_round d limit tally (Waits names ∷ outcomes) event goes m =
     elim m [
       | inl same ↦ subst (λ (e : Next). Listed d tally.waits (with_line (Waiting d names) rest) e) same (omega arith)
       | inr there ↦
-          listed_behind d tally.waits rest (Waiting d names) event
+          listed_after d tally.waits rest (Waiting d names) event
           (listed_later d tally.waits (tally.waits + 1) rest event (omega arith) (in_round d limit (one_wait tally) outcomes event goes there))
     ]
 in_round d limit tally (Stops stop ∷ outcomes) event goes m = let no : ⊥ = cc in absurd no
@@ -186,8 +186,8 @@ module _ (program : Code) (limits : SearchLimits) where
     abbrev Lists : List Line → Type 0
     Lists lines = (round : ℕ) × (reading : Reading) × Among (Answered round reading) lines × AnswersPromise program limits.step claims start assigned reading
 
-    lists_behind : (front lines : List Line) → Lists lines → Lists (front ++ lines)
-    lists_behind front lines found = (found.0, found.1, behind front lines (Answered found.0 found.1) found.2, found.3)
+    lists_after : (prefix lines : List Line) → Lists lines → Lists (prefix ++ lines)
+    lists_after prefix lines found = (found.0, found.1, among_after prefix lines (Answered found.0 found.1) found.2, found.3)
 
     level_keeps : (others : Tally → List State → Listing) (d : ℕ) (tally : Tally) (states : List State) (state : State) → Among state states → Alive state
         → ((after : Tally) (following : List State) → (others after following).end ≡ NoMore 0 → after.waits ≡ 0)
@@ -227,13 +227,13 @@ module _ (program : Code) (limits : SearchLimits) where
             let rest_is = not_exhausted others round.tally following some.0 among in
             let found = each round.tally following some.0 among some.2 (sym (ap (λ (l : Listing). l.end) rest_is) ∙ goes.1) in
             subst (λ (lines : List Line). Lists lines) (sym lines_are)
-            (lists_behind round.lines (unless_exhausted others round.tally following).lines
+            (lists_after round.lines (unless_exhausted others round.tally following).lines
             (subst (λ (l : Listing). Lists l.lines) (sym rest_is) found))
         by (Answer reading) same =
             subst (λ (lines : List Line). Lists lines) (sym lines_are) (
               d,
               reading,
-              in_front round.lines (unless_exhausted others round.tally following).lines (Answered d reading)
+              in_prefix round.lines (unless_exhausted others round.tally following).lines (Answered d reading)
                   (in_round d limits.answers tally (outcomes_of states) (Answer reading) goes.0 (there (Answer reading) same)),
               record { state = onto; valid = last.valid; answers = at_last (Answer reading) same; keeps = last.keeps },
             )

@@ -75,12 +75,12 @@ module _ (program : Code) (claims : List Claim) (assigned : Assignment) (all : (
   pairs_say next a b [] v may top = says.last (assigned a) (assigned b) v v (says.one a b v top) (below_itself v)
   pairs_say next a b ((c, d) ∷ pairs) v may top =
       let nodes = pair_nodes each ((a, b) ∷ (c, d) ∷ pairs) in
-      let behind = next + length nodes in
+      let after = next + length nodes in
       let more : length pairs + 1 ≡ length ((c, d) ∷ pairs) = omega arith in
-      let both = all_may_split program claims assigned all next nodes (joined_from_right joint behind next (length pairs + 1)).parts may in
-      let parts = subst (λ (n : ℕ). AllMay program claims assigned all behind (joined_from_right joint behind next n).parts) more both.1 in
-      let outer = subst (λ (n : ℕ). TopMay program claims assigned all (joined_from_right joint behind next n).top v) more top in
-      joined_says behind next a b ((c, d) ∷ pairs) v (each_says next ((a, b) ∷ (c, d) ∷ pairs) both.0) parts outer
+      let both = all_may_split program claims assigned all next nodes (joined_from_right joint after next (length pairs + 1)).parts may in
+      let parts = subst (λ (n : ℕ). AllMay program claims assigned all after (joined_from_right joint after next n).parts) more both.1 in
+      let outer = subst (λ (n : ℕ). TopMay program claims assigned all (joined_from_right joint after next n).top v) more top in
+      joined_says after next a b ((c, d) ∷ pairs) v (each_says next ((a, b) ∷ (c, d) ∷ pairs) both.0) parts outer
 
 pub one_follows : (graph after : Graph) → alone_follows graph ≡ alone_follows after → after ≡ graph
 one_follows graph after same = let lists : graph ∷ [] ≡ after ∷ [] = cc in let graphs : graph ≡ after = cc in sym graphs

@@ -88,10 +88,10 @@ module _ (program : Code) (claims : List Claim) (each joint : Kind) where
       let low = first.pushes.higher in
       let others = pairs_pushed low (next + 1) c d pairs ws s (chain_rises assigned low c d pairs ws s first.pushes.rises rest) first.pushes.of_program first.pushes.past in
       let high = others.pushes.higher in
-      let behind : next + 1 ≡ suc next = omega arith in
+      let later : next + 1 ≡ suc next = omega arith in
       record {
         pushes = pushed_both program claims assigned next (node each (a ∷ b ∷ []) ∷ []) (pair_nodes each ((c, d) ∷ pairs)) first.pushes others.pushes;
-        there = (below_trans w (low next) (high next) first.there.0 (others.pushes.rises next), subst (λ (x : ℕ). Hold high x ws) behind others.there);
+        there = (below_trans w (low next) (high next) first.there.0 (others.pushes.rises next), subst (λ (x : ℕ). Hold high x ws) later others.there);
       }
 
   joined_has : (low : Assignment) (next place a b : ℕ) (pairs : List (ℕ × ℕ)) (ws : List Value) (v : Value) → Chain program claims each joint low a b pairs ws v
@@ -107,8 +107,8 @@ module _ (program : Code) (claims : List Claim) (each joint : Kind) where
   }
   joined_has low next place _ _ _ _ _ (more a b c d pairs w s v ws may of of_s chain joins) hold all past =
       let rest = joined_from_right joint next (place + 1) (length pairs) in
-      let behind : suc place ≡ place + 1 = omega arith in
-      let inner = joined_has low next (place + 1) c d pairs ws s chain (subst (λ (x : ℕ). Hold low x ws) behind hold.1) all past in
+      let later : suc place ≡ place + 1 = omega arith in
+      let inner = joined_has low next (place + 1) c d pairs ws s chain (subst (λ (x : ℕ). Hold low x ws) later hold.1) all past in
       let top = push_top program claims low next rest.parts rest.top s of_s inner in
       let high = top.pushes.higher in
       record {
@@ -137,14 +137,14 @@ module _ (program : Code) (claims : List Claim) (each joint : Kind) where
       let all_pairs = (a, b) ∷ (c, d) ∷ pairs in
       let chain = more a b c d pairs w s v ws may of of_s rest joins in
       let nodes = pair_nodes each all_pairs in
-      let behind = next + length nodes in
+      let later = next + length nodes in
       let first = pairs_pushed assigned next a b ((c, d) ∷ pairs) (w ∷ ws) v chain all past in
       let low = first.pushes.higher in
       let as_many : suc (length pairs) ≡ length pairs + 1 = omega arith in
-      let e = subst (λ (n : ℕ). Extended program claims low behind (joined_from_right joint behind next n) v) as_many
-      (joined_has low behind next a b ((c, d) ∷ pairs) (w ∷ ws) v (chain_rises assigned low a b ((c, d) ∷ pairs) (w ∷ ws) v first.pushes.rises chain) first.there
+      let e = subst (λ (n : ℕ). Extended program claims low later (joined_from_right joint later next n) v) as_many
+      (joined_has low later next a b ((c, d) ∷ pairs) (w ∷ ws) v (chain_rises assigned low a b ((c, d) ∷ pairs) (w ∷ ws) v first.pushes.rises chain) first.there
       first.pushes.of_program first.pushes.past) in
-      let built = joined_from_right joint behind next (length pairs + 1) in
+      let built = joined_from_right joint later next (length pairs + 1) in
       record {
         higher = e.higher;
         of_program = e.of_program;

@@ -48,7 +48,7 @@ pub state_concludes : (program : Code) (limits : Limits) (P : FunId → Type 0) 
     → ConcludesByFinds program limits P goal (reading_at state)
 state_concludes program limits P goal n (Branch graph root goals search) well rule arity valid came =
     let number = number_of graph root goals in
-    let carried = came.back [] (read_off number graph) (valid_reading program [] graph root goals search number valid) in (
+    let carried = came.backward [] (read_off number graph) (valid_reading program [] graph root goals search number valid) in (
       carried.further,
       carried.found,
       carried.passing,

@@ -24,7 +24,7 @@ use Rattle.cu_machine.proofs.Fuel.{all_follow, at_or_below}
 use Rattle.cu_machine.proofs.RowMoves.{among_image}
 use Rattle.cu_machine.proofs.Searches.{all_built_fit}
 use Rattle.cu_machine.proofs.Starts.{call_on_valid}
-use Rattle.cu_machine.proofs.Strides.{among_flat_at, behind, in_front}
+use Rattle.cu_machine.proofs.Strides.{among_flat_at, among_after, in_prefix}
 use Rattle.cu_laws.specs.Good.{Assignment}
 use Rattle.cu_laws.specs.Promises.{AgreeWithSearches, AnswersPromise, KeptByAnswer, Promises, is_decided}
 use Rattle.cu_laws.proofs.LevelsKept.{decided_at, steps_kept}
@@ -63,9 +63,9 @@ answered_before : (events : ℕ → List Next) (depth k : ℕ) (reading : Readin
 answered_before events zero k reading less m = let no : ⊥ = omega arith in absurd no
 answered_before events (suc depth) k reading less m = elim (at_or_below k depth less) [
   | inl last ↦
-      behind (answers_before events depth) (flat_map answered_by (events depth)) reading.value
+      among_after (answers_before events depth) (flat_map answered_by (events depth)) reading.value
       (among_flat_at answered_by reading.value (Answer reading) (events depth) (subst (λ (n : ℕ). Among (Answer reading) (events n)) last m) (inl refl))
-  | inr earlier ↦ in_front (answers_before events depth) (flat_map answered_by (events depth)) reading.value (answered_before events depth k reading earlier m)
+  | inr earlier ↦ in_prefix (answers_before events depth) (flat_map answered_by (events depth)) reading.value (answered_before events depth k reading earlier m)
 ]
 
 quiet_decided : (event : Next) → is_quiet event ≡ true → is_decided event ≡ true

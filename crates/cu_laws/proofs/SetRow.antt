@@ -14,7 +14,7 @@ use Rattle.cu_calculus.specs.Shape.{are_ground, is_ground, is_of}
 use Rattle.cu_calculus.specs.Value as value
 use Rattle.cu_calculus.specs.Value.{Value, Values, values_of}
 use Rattle.cu_calculus.proofs.BelowLaws.{below_itself, below_trans}
-use Rattle.cu_calculus.proofs.Lists.{get_front, get_last}
+use Rattle.cu_calculus.proofs.Lists.{get_prefix, get_last}
 use Rattle.cu_machine.specs.declared.Kind.{Kind}
 use Rattle.cu_machine.specs.declared.Kind.TheVariants as kind
 use Rattle.cu_machine.specs.Build.{instead, pushed, written}
@@ -198,6 +198,6 @@ pub delivered_sound : (program : Code) (claims : List Claim) (graph : Graph) (id
 delivered_sound program claims graph id f args found later fit is ground good =
     let claim = claim_of f (values_of (map (spelled graph) args)) (sorted found) in
     let all = claims ++ claim ∷ [] in
-    let good_all = good_more program claims all (delivered program graph id found) later (λ k row e. (k, get_front claims (claim ∷ []) k row e)) good in
+    let good_all = good_more program claims all (delivered program graph id found) later (λ k row e. (k, get_prefix claims (claim ∷ []) k row e)) good in
     delivered_sound_by program all graph id f args claim (length claims) program.special.values later fit is ground (get_last claims claim) refl refl refl
     (subst (λ (g : Graph). Good program all g later) (delivered_is program graph id found program.special.values refl) good_all)

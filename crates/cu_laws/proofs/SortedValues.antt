@@ -7,7 +7,7 @@ use Rattle.std.specs.declared.cmp.Ordering.TheVariants.{Equal, Greater, Less}
 use Rattle.std.proofs.lemmas.Bool.{and_from, and_parts}
 use Rattle.cu_calculus.specs.Order.{rises, value_order}
 use Rattle.cu_calculus.specs.Value.{Value}
-use Rattle.cu_calculus.proofs.ValueOrder.{order_back}
+use Rattle.cu_calculus.proofs.ValueOrder.{order_swapped}
 use Rattle.cu_machine.specs.Among.{Among}
 use Rattle.cu_machine.specs.Found.{answered_by, answers_before}
 use Rattle.cu_machine.specs.Next.{Answer, Next, Reading}
@@ -47,11 +47,11 @@ inserted_rises v (w ∷ rest) all =
   where
     by : (order : Ordering) → value_order v w ≡ order → before_first w rest ≡ true → rises (inserted v rest) ≡ true
         → rises (inserted_by order v w rest (inserted v rest)) ≡ true
-    by Less is first behind = and_from (is_lt (value_order v w)) (rises (w ∷ rest)) (ap is_lt is) all
-    by Equal is first behind = all
-    by Greater is first behind =
-        let less : value_order w v ≡ Less = order_back w v ∙ ap ordering_reverse is in
-        rises_with w (inserted v rest) (first_inserted w v rest less first) behind
+    by Less is first after = and_from (is_lt (value_order v w)) (rises (w ∷ rest)) (ap is_lt is) all
+    by Equal is first after = all
+    by Greater is first after =
+        let less : value_order w v ≡ Less = order_swapped w v ∙ ap ordering_reverse is in
+        rises_with w (inserted v rest) (first_inserted w v rest less first) after
 
 pub sorted_rises : (vs : List Value) → rises (sorted vs) ≡ true
 sorted_rises [] = refl
@@ -61,26 +61,26 @@ sorted_rises (v ∷ vs) = inserted_rises v (sorted vs) (sorted_rises vs)
 
 inserted_from : (x v : Value) (vs : List Value) → Among x (inserted v vs) → (v ≡ x) ⊎ Among x vs
 inserted_from x v [] m = elim m [ inl same ↦ inl same | inr nowhere ↦ absurd nowhere ]
-inserted_from x v (w ∷ rest) m = by (value_order v w) (λ behind. inserted_from x v rest behind) m
+inserted_from x v (w ∷ rest) m = by (value_order v w) (λ after. inserted_from x v rest after) m
   where
     by : (order : Ordering) → (Among x (inserted v rest) → (v ≡ x) ⊎ Among x rest) → Among x (inserted_by order v w rest (inserted v rest))
         → (v ≡ x) ⊎ Among x (w ∷ rest)
     by Less others (inl same) = inl same
-    by Less others (inr behind) = inr behind
+    by Less others (inr after) = inr after
     by Equal others there = inr there
     by Greater others (inl same) = inr (inl same)
-    by Greater others (inr behind) = elim (others behind) [ inl same ↦ inl same | inr further ↦ inr (inr further) ]
+    by Greater others (inr after) = elim (others after) [ inl same ↦ inl same | inr further ↦ inr (inr further) ]
 
 pub sorted_from : (x : Value) (vs : List Value) → Among x (sorted vs) → Among x vs
 sorted_from x [] m = m
-sorted_from x (v ∷ vs) m = elim (inserted_from x v (sorted vs) m) [ inl same ↦ inl same | inr behind ↦ inr (sorted_from x vs behind) ]
+sorted_from x (v ∷ vs) m = elim (inserted_from x v (sorted vs) m) [ inl same ↦ inl same | inr after ↦ inr (sorted_from x vs after) ]
 
 -- ---- places
 
 pub place_among : {A : Type 0} (x : A) (xs : List A) → Among x xs → (k : ℕ) × (slice_get xs k ≡ Some x)
 place_among x [] m = absurd m
 place_among x (y ∷ ys) (inl same) = (0, ap Some same)
-place_among x (y ∷ ys) (inr behind) = let found = place_among x ys behind in (suc found.0, found.1)
+place_among x (y ∷ ys) (inr after) = let found = place_among x ys after in (suc found.0, found.1)
 
 pub among_place : {A : Type 0} (x : A) (xs : List A) (k : ℕ) → slice_get xs k ≡ Some x → Among x xs
 among_place x [] k at = let no : ⊥ = cc in absurd no

@@ -40,7 +40,7 @@ use Rattle.cu_laws.proofs.TracedStates.{Collected, after_level_is, collected_at,
 
 -- a state that follows a level follows one of its states
 outcome_has : (T : State → Type 0) (event : Next) (others : LevelEvent) (values : List Value) (states : List State)
-    → ((front : List State) (state : State) → event ≡ Go front → Among state front → T state)
+    → ((prefix : List State) (state : State) → event ≡ Go prefix → Among state prefix → T state)
     → ((vs : List Value) (more : List State) → others ≡ On vs more → (state : State) → Among state more → T state)
     → with_outcome event others ≡ On values states → (state : State) → Among state states → T state
 outcome_has T (Stops stop) others values states one rest same state m = let no : ⊥ = cc in absurd no
@@ -55,12 +55,12 @@ outcome_has T (Answer reading) others values states one rest same state m = by (
     by true (Halts stop) more e = let no : ⊥ = cc in absurd no
     by true (On vs ss) more e =
         let all : ss ≡ states = cc in more vs ss refl state (subst (λ (xs : List State). Among state xs) (sym all) m)
-outcome_has T (Go front) Blocked values states one rest same state m = let no : ⊥ = cc in absurd no
-outcome_has T (Go front) (Halts stop) values states one rest same state m = let no : ⊥ = cc in absurd no
-outcome_has T (Go front) (On vs more) values states one rest same state m =
-    let all : front ++ more ≡ states = cc in
-    elim (among_append state front more (subst (λ (xs : List State). Among state xs) (sym all) m)) [
-      | inl first ↦ one front state refl first
+outcome_has T (Go prefix) Blocked values states one rest same state m = let no : ⊥ = cc in absurd no
+outcome_has T (Go prefix) (Halts stop) values states one rest same state m = let no : ⊥ = cc in absurd no
+outcome_has T (Go prefix) (On vs more) values states one rest same state m =
+    let all : prefix ++ more ≡ states = cc in
+    elim (among_append state prefix more (subst (λ (xs : List State). Among state xs) (sym all) m)) [
+      | inl first ↦ one prefix state refl first
       | inr second ↦ rest vs more refl state second
     ]
 
@@ -235,7 +235,7 @@ module _ (program : Code) (limits : Limits) (levels : List ℕ) where
             let none : [] ≡ states = cc in absurd (subst (λ (xs : List State). Among state xs) (sym none) m)
         stepped_stays k (MoreStates first rest) values states traced same state m =
             outcome_has (λ s. TracedAt program limits levels k s) (next program limits first) (stepped program limits rest) values states
-            (λ front other is there. next_stays k first other front traced.0 is there)
+            (λ prefix other is there. next_stays k first other prefix traced.0 is there)
             (λ vs more is other there. stepped_stays k rest vs more traced.1 is other there) same state m
 
       -- ---- runs and levels

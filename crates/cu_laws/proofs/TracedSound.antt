@@ -30,7 +30,7 @@ use Rattle.cu_machine.proofs.Runs.{answer_read, run_reaches}
 use Rattle.cu_machine.proofs.Successors.{go_if, unless_if}
 use Rattle.cu_laws.specs.AtLevel.{AreBelow, AreLevelsOf}
 use Rattle.cu_laws.specs.Good.{Assignment, Good, claim_of}
-use Rattle.cu_laws.specs.StepsBack.{StepsBack, claims_of_call, claims_of_end}
+use Rattle.cu_laws.specs.StepsBackward.{StepsBackward, claims_of_call, claims_of_end}
 use Rattle.cu_laws.specs.Traced.{AreFound, TracedSearch, spelled_values}
 use Rattle.cu_laws.specs.TracedAt.{TracedAt}
 use Rattle.cu_laws.proofs.AnswersFollow.{begins, number_of}
@@ -77,9 +77,9 @@ module _ (program : Code) (limits : Limits) (levels : List ℕ) (k : ℕ) where
   -- ---- one step
 
   -- nothing more is claimed
-  back_alone : (claims : List Claim) (state : State) (later : Assignment) → Sound program claims (graph_of state) later
-      → StepsBack program limits levels k claims [] state later
-  back_alone claims state later sound = record {
+  backward_alone : (claims : List Claim) (state : State) (later : Assignment) → Sound program claims (graph_of state) later
+      → StepsBackward program limits levels k claims [] state later
+  backward_alone claims state later sound = record {
     found = none_found program limits;
     below = none_below;
     earlier = sound.0;
@@ -106,10 +106,10 @@ module _ (program : Code) (limits : Limits) (levels : List ℕ) (k : ℕ) where
       )
 
   -- one row more is claimed of a state whose search has ended
-  ended_back : (claims : List Claim) (graph : Graph) (root : ℕ) (goals : List ℕ) (id : ℕ) (found : List Value) (later : Assignment)
+  ended_backward : (claims : List Claim) (graph : Graph) (root : ℕ) (goals : List ℕ) (id : ℕ) (found : List Value) (later : Assignment)
       → TracedAt program limits levels k (Branch graph root goals (Running id found NoState)) → Good program claims (delivered program graph id found) later
-      → StepsBack program limits levels k claims (claims_of_end (Branch graph root goals (Running id found NoState))) (Branch graph root goals (Running id found NoState)) later
-  ended_back claims graph root goals id found later traced good =
+      → StepsBackward program limits levels k claims (claims_of_end (Branch graph root goals (Running id found NoState))) (Branch graph root goals (Running id found NoState)) later
+  ended_backward claims graph root goals id found later traced good =
       let state = Branch graph root goals (Running id found NoState) in
       let search = search_of program limits levels k state traced in
       let f = search.function in
@@ -117,7 +117,7 @@ module _ (program : Code) (limits : Limits) (levels : List ℕ) (k : ℕ) where
       let claim = claim_of f (spelled_values graph args) (sorted found) in
       let ended = ended_sound claims graph root goals id f args found later traced search.node_is good in
       let row : claims_of_end state ≡ claim ∷ [] = ap (λ (n : Node). claims_of_call graph n.kind n.args found) search.node_is in
-      subst (λ (further : List Claim). StepsBack program limits levels k claims further state later) (sym row) (record {
+      subst (λ (further : List Claim). StepsBackward program limits levels k claims further state later) (sym row) (record {
         found = one_found program limits claim ended.0;
         below = one_passes (λ g. level_of levels g < k) claim ended.1;
         earlier = ended.2.0;
@@ -126,26 +126,26 @@ module _ (program : Code) (limits : Limits) (levels : List ℕ) (k : ℕ) where
       })
 
   module _ (well : is_well_formed program ≡ true) where
-    pub step_back : (claims : List Claim) (before state : State) (states : List State) (later : Assignment) → TracedAt program limits levels k before
+    pub step_backward : (claims : List Claim) (before state : State) (states : List State) (later : Assignment) → TracedAt program limits levels k before
         → next program limits before ≡ Go states → Among state states → Good program claims (graph_of state) later
-        → StepsBack program limits levels k claims (claims_of_end before) before later
+        → StepsBackward program limits levels k claims (claims_of_end before) before later
     unfolding next
-    step_back claims (Branch graph root goals Idle) state states later traced same m good =
+    step_backward claims (Branch graph root goals Idle) state states later traced same m good =
         let before = Branch graph root goals Idle in
-        back_alone claims before later
-        ((idle_from program claims limits well graph root goals states state (valid_of program limits levels k before traced) same m).back later good)
-    step_back claims (Branch graph root goals (Running id found NoState)) state states later traced same m good =
+        backward_alone claims before later
+        ((idle_from program claims limits well graph root goals states state (valid_of program limits levels k before traced) same m).backward later good)
+    step_backward claims (Branch graph root goals (Running id found NoState)) state states later traced same m good =
         let only = Branch (delivered program graph id found) root goals Idle in
         let one = unless_if (is_above limits (length graph)) limits (searched program limits graph root goals id found NoState (stepped program limits NoState)) states same in
         let all : only ∷ [] ≡ states = go_if (list_any (is_too_large limits) (only ∷ [])) limits (only ∷ []) states one in
         let is : only ≡ state = only_is only state (subst (λ (xs : List State). Among state xs) (sym all) m) in
-        ended_back claims graph root goals id found later traced (subst (λ (s : State). Good program claims (graph_of s) later) (sym is) good)
-    step_back claims (Branch graph root goals (Running id found (MoreStates first rest))) state states later traced same m good =
+        ended_backward claims graph root goals id found later traced (subst (λ (s : State). Good program claims (graph_of s) later) (sym is) good)
+    step_backward claims (Branch graph root goals (Running id found (MoreStates first rest))) state states later traced same m good =
         let inner = MoreStates first rest in
         let before = Branch graph root goals (Running id found inner) in
         let search = search_of program limits levels k before traced in
         let one = unless_if (is_above limits (length graph)) limits (searched program limits graph root goals id found inner (stepped program limits inner)) states same in
-        back_alone claims before later (elim (after_level_is limits graph root goals id found (stepped program limits inner) states state one m) [
+        backward_alone claims before later (elim (after_level_is limits graph root goals id found (stepped program limits inner) states state one m) [
           | was_blocked is ↦
               sticking_sound program claims graph (put graph id stuck) id (kind.SetCall search.function) search.args later search.node_is refl refl
               (subst (λ (s : State). Good program claims (graph_of s) later) is good)
@@ -173,10 +173,10 @@ module _ (program : Code) (limits : Limits) (levels : List ℕ) (k : ℕ) where
         came = came_itself program limits IsLow start;
       }
 
-      back_from : (claims : List Claim) (before state : State) (later : Assignment) → CameFrom program limits IsLow before state → Good program claims (graph_of state) later
-          → (further : List Claim) × StepsBack program limits levels k claims further before later
-      back_from claims before state later came good =
-          let carried = came.back claims later good in (
+      backward_from : (claims : List Claim) (before state : State) (later : Assignment) → CameFrom program limits IsLow before state → Good program claims (graph_of state) later
+          → (further : List Claim) × StepsBackward program limits levels k claims further before later
+      backward_from claims before state later came good =
+          let carried = came.backward claims later good in (
             carried.further,
             record { found = carried.found; below = carried.passing; earlier = carried.sound.0; good = carried.sound.1; rises = carried.sound.2 },
           )
@@ -186,30 +186,30 @@ module _ (program : Code) (limits : Limits) (levels : List ℕ) (k : ℕ) where
       reached_from more state traced =
           reached_under program limits IsLow (TracedAt program limits levels k) state well keeps_traced more state (under_itself state traced)
 
-      pub reached_back : (more : ℕ) (claims : List Claim) (state : State) (later : Assignment) → TracedAt program limits levels k state
-          → Good program claims (graph_of (reached_on more program limits state)) later → (further : List Claim) × StepsBack program limits levels k claims further state later
-      reached_back more claims state later traced good = back_from claims state (reached_on more program limits state) later (reached_from more state traced).came good
+      pub reached_backward : (more : ℕ) (claims : List Claim) (state : State) (later : Assignment) → TracedAt program limits levels k state
+          → Good program claims (graph_of (reached_on more program limits state)) later → (further : List Claim) × StepsBackward program limits levels k claims further state later
+      reached_backward more claims state later traced good = backward_from claims state (reached_on more program limits state) later (reached_from more state traced).came good
 
-      pub run_back : (more : ℕ) (claims : List Claim) (before state : State) (states : List State) (later : Assignment) → TracedAt program limits levels k before
+      pub run_backward : (more : ℕ) (claims : List Claim) (before state : State) (states : List State) (later : Assignment) → TracedAt program limits levels k before
           → run_on more program limits before ≡ Go states → Among state states → Good program claims (graph_of state) later
-          → (further : List Claim) × StepsBack program limits levels k claims further before later
-      run_back more claims before state states later traced same m good =
+          → (further : List Claim) × StepsBackward program limits levels k claims further before later
+      run_backward more claims before state states later traced same m good =
           let last = reached_on more program limits before in
           let at = step_under program limits IsLow (TracedAt program limits levels k) before well keeps_traced last state states (reached_from more before traced)
           (sym (run_reaches more program limits before) ∙ same) m in
-          back_from claims before state later at.came good
+          backward_from claims before state later at.came good
 
 -- ---- levels by the stride, and answers
 
 module _ (program : Code) (limits : SearchLimits) (levels : List ℕ) (well : is_well_formed program ≡ true) (are : AreLevelsOf program levels) where
-  pub level_back : (k depth : ℕ) (claims : List Claim) (start state : State) (later : Assignment) → TracedAt program limits.step levels k start
+  pub level_backward : (k depth : ℕ) (claims : List Claim) (start state : State) (later : Assignment) → TracedAt program limits.step levels k start
       → Among state (level program limits start depth) → Good program claims (graph_of state) later
-      → (further : List Claim) × StepsBack program limits.step levels k claims further start later
-  level_back k depth claims start state later traced m good =
+      → (further : List Claim) × StepsBackward program limits.step levels k claims further start later
+  level_backward k depth claims start state later traced m good =
       let keeps = keeps_traced program limits.step levels k well are in
       let on = under_itself program limits.step levels k well are start traced in
       let at = level_under program limits (λ f. level_of levels f < k) (TracedAt program limits.step levels k) start well keeps on depth state m in
-      back_from program limits.step levels k well are claims start state later at.came good
+      backward_from program limits.step levels k well are claims start state later at.came good
 
   pub answer_concludes : (goal : FunId) (depth : ℕ) (state : State) (reading : Reading) → is_rule (body_of program goal) ≡ true
       → Among state (level program limits (start_of program goal) depth) → run limits.stride program limits.step state ≡ Answer reading

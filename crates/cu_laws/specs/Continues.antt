@@ -12,8 +12,8 @@ NothingPast graph assigned = (x : ℕ) → length graph ≤ x → assigned x ≡
 
 -- The assignment `later`, for a graph that follows, is loose and gives each node of the graph
 -- before the value that it had.
-pub record Continues (program : Code) (claims : List Claim) (graph after : Graph)
+pub record Continues (code : Code) (claims : List Claim) (graph after : Graph)
     (assigned later : Assignment) : Type 0 where
-  pub loose : Loose program claims after later
+  pub loose : Loose code claims after later
   pub past : NothingPast after later
   pub same : (x : ℕ) → x < length graph → later x ≡ assigned x

@@ -10,12 +10,12 @@ use Rattle.cu_laws.specs.Good.{Assignment, MayHave, NoValue}
 
 -- The assignment `extended` keeps what `assigned` gives the nodes of a graph, and gives the new
 -- nodes, and the one over which an expression was built, values that these may have.
-pub record Extends (program : Code) (claims : List Claim) (graph : Graph) (id : ℕ) (after : Graph)
+pub record Extends (code : Code) (claims : List Claim) (graph : Graph) (id : ℕ) (after : Graph)
     (assigned extended : Assignment) : Type 0 where
-  pub of_program : (x : ℕ) → IsTrue (is_of (program_of program) (extended x))
+  pub of_program : (x : ℕ) → IsTrue (is_of (program_of code) (extended x))
   pub same : (x : ℕ) → x < length graph → extended x ≡ assigned x
   -- Nothing is known past the new nodes.
   pub past : (x : ℕ) → length after ≤ x → extended x ≡ value.Bottom
   pub each : (x : ℕ) → x < length after → (x ≡ id) ⊎ (length graph ≤ x)
-      → MayHave NoValue program claims extended (node_at after x).kind (node_at after x).args
+      → MayHave NoValue code claims extended (node_at after x).kind (node_at after x).args
       (extended x)

@@ -8,7 +8,7 @@ use Rattle.cu_calculus.specs.declared.ExprId.{ExprId}
 use Rattle.cu_calculus.specs.Below.{Below}
 use Rattle.cu_calculus.specs.Builtin.{Answers}
 use Rattle.cu_calculus.specs.Choose.{Selects}
-use Rattle.cu_calculus.specs.Code as code
+use Rattle.cu_calculus.specs.Code as flat
 use Rattle.cu_calculus.specs.Code.{Branch, Code, expr_of}
 use Rattle.cu_calculus.specs.FlatProgram.{alternatives_of, program_of, term_of}
 use Rattle.cu_calculus.specs.Gives.{Applied, AppliedTo, Claim, Gives}
@@ -29,38 +29,38 @@ Assignment = ℕ → Value
 -- A case distinction of the code gives v, where its scrutinee is worth u and the variables that it
 -- keeps are worth `values`: u takes an alternative, whose term gives v under the bindings of the
 -- match.
-pub record Distinguished (program : Code) (claims : List Claim) (e : ExprId) (u : Value)
+pub record Distinguished (code : Code) (claims : List Claim) (e : ExprId) (u : Value)
     (values : List Value) (v : Value) : Type 0 where
   pub mode : Mode
   pub kept : List ℕ
   pub scrutinee : ExprId
   pub branches : List Branch
-  pub code_is : expr_of program e ≡ Some (code.Case mode kept scrutinee branches)
+  pub code_is : expr_of code e ≡ Some (flat.Case mode kept scrutinee branches)
   pub term : Term
   pub bindings : Bindings
-  pub selects : Selects (program_of program) (alternatives_of (term_of program) branches) u term
+  pub selects : Selects (program_of code) (alternatives_of (term_of code) branches) u term
       bindings
-  pub gives : Gives (program_of program) claims
+  pub gives : Gives (program_of code) claims
       (bind_all (bind_all empty (zip kept values)) bindings) term v
 
 -- The rows of the calculus by kinds of nodes: a node of this kind, whose parts are worth these
 -- values, is worth v.
 abbrev pub Worth : Code → List Claim → Kind → List Value → Value → Type 0
-Worth program claims (kind.Cons c) us v =
-    Applied (program_of program) claims (head.Con c) (values_of us) v
-Worth program claims (kind.Lit l) us v = v ≡ value.Literal l
-Worth program claims (kind.Part h) us v = v ≡ value.Partial h (values_of us)
-Worth program claims (kind.Call f) us v =
-    Applied (program_of program) claims (head.Fun f) (values_of us) v
-Worth program claims (kind.Prim operation) us v =
-    Answers (program_of program) operation (values_of us) v
-Worth program claims kind.Apply (w ∷ u ∷ []) v = AppliedTo (program_of program) claims w u v
-Worth program claims (kind.Case mode e) (u ∷ us) v =
-    Distinguished program claims (record { 0 = e }) u us v
-Worth program claims kind.Or (a ∷ b ∷ []) v = (v ≡ a) ⊎ (v ≡ b)
-Worth program claims (kind.SetCall f) us v =
-    Applied (program_of program) claims (head.Set f) (values_of us) v
-Worth program claims _ us v = ⊥
+Worth code claims (kind.Cons c) us v =
+    Applied (program_of code) claims (head.Con c) (values_of us) v
+Worth code claims (kind.Lit l) us v = v ≡ value.Literal l
+Worth code claims (kind.Part h) us v = v ≡ value.Partial h (values_of us)
+Worth code claims (kind.Call f) us v =
+    Applied (program_of code) claims (head.Fun f) (values_of us) v
+Worth code claims (kind.Prim operation) us v =
+    Answers (program_of code) operation (values_of us) v
+Worth code claims kind.Apply (w ∷ u ∷ []) v = AppliedTo (program_of code) claims w u v
+Worth code claims (kind.Case mode e) (u ∷ us) v =
+    Distinguished code claims (record { 0 = e }) u us v
+Worth code claims kind.Or (a ∷ b ∷ []) v = (v ≡ a) ⊎ (v ≡ b)
+Worth code claims (kind.SetCall f) us v =
+    Applied (program_of code) claims (head.Set f) (values_of us) v
+Worth code claims _ us v = ⊥
 
 -- The value v is Bottom, which says nothing, or at most a value that the node is worth.
 abbrev pub AtMost : (Value → Type 0) → Value → Type 0
@@ -71,12 +71,12 @@ AtMost IsWorth v = (v ≡ value.Bottom) ⊎ ((w : Value) × IsWorth w × Below v
 -- what the value of a stuck node may be.
 abbrev pub MayHave : (Value → Type 0) → Code → List Claim → Assignment → Kind → List ℕ → Value
     → Type 0
-MayHave of_stuck program claims assigned kind.Free args v = IsTrue (is_total_data v)
-MayHave of_stuck program claims assigned kind.Ind (target ∷ args) v = Below v (assigned target)
-MayHave of_stuck program claims assigned kind.Fail args v = v ≡ value.Bottom
-MayHave of_stuck program claims assigned kind.Stuck args v = of_stuck v
-MayHave of_stuck program claims assigned k args v =
-    AtMost (Worth program claims k (map assigned args)) v
+MayHave of_stuck code claims assigned kind.Free args v = IsTrue (is_total_data v)
+MayHave of_stuck code claims assigned kind.Ind (target ∷ args) v = Below v (assigned target)
+MayHave of_stuck code claims assigned kind.Fail args v = v ≡ value.Bottom
+MayHave of_stuck code claims assigned kind.Stuck args v = of_stuck v
+MayHave of_stuck code claims assigned k args v =
+    AtMost (Worth code claims k (map assigned args)) v
 
 -- Only Bottom is such a value: nothing is known of the node.
 abbrev pub NoValue : Value → Type 0
@@ -87,20 +87,20 @@ abbrev pub AnyValue : Value → Type 0
 AnyValue v = Unit {0}
 
 -- The assignment gives each node a value of the program that the node may have.
-pub record Assigns (of_stuck : Value → Type 0) (program : Code) (claims : List Claim)
+pub record Assigns (of_stuck : Value → Type 0) (code : Code) (claims : List Claim)
     (graph : Graph) (assigned : Assignment) : Type 0 where
-  pub of_program : (id : ℕ) → IsTrue (is_of (program_of program) (assigned id))
+  pub of_program : (id : ℕ) → IsTrue (is_of (program_of code) (assigned id))
   pub each : (id : ℕ) → id < length graph
-      → MayHave of_stuck program claims assigned (node_at graph id).kind (node_at graph id).args
+      → MayHave of_stuck code claims assigned (node_at graph id).kind (node_at graph id).args
       (assigned id)
 
 -- A good assignment: what is stuck has no value.
 abbrev pub Good : Code → List Claim → Graph → Assignment → Type 0
-Good program claims graph assigned = Assigns NoValue program claims graph assigned
+Good code claims graph assigned = Assigns NoValue code claims graph assigned
 
 -- A loose assignment: what is stuck may have any value.
 abbrev pub Loose : Code → List Claim → Graph → Assignment → Type 0
-Loose program claims graph assigned = Assigns AnyValue program claims graph assigned
+Loose code claims graph assigned = Assigns AnyValue code claims graph assigned
 
 -- the environment in which the variables of a scope have the values of their nodes
 abbrev pub env_in : Assignment → Scope → Environment

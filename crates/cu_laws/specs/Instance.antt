@@ -31,10 +31,10 @@ abbrev mutual
 
 -- The reading has these bindings and the value v, where some ground data of the program stand for
 -- its variables.
-pub record IsInstance (program : Code) (reading : Reading) (arguments : Values) (v : Value)
+pub record IsInstance (code : Code) (reading : Reading) (arguments : Values) (v : Value)
     : Type 0 where
   pub substitution : Substitution
-  pub ground : (x : ℕ) → IsTrue (is_built program (substitution x))
+  pub ground : (x : ℕ) → IsTrue (is_built code (substitution x))
   pub bindings_are : all_filled substitution (values_of reading.bindings) ≡ arguments
   pub value_is : filled substitution reading.value ≡ v
 
@@ -45,9 +45,9 @@ abbrev pub IsExhausted : Listing → Type 0
 IsExhausted listing = listing.end ≡ NoMore 0
 
 -- The values of the goal variables and the value v are an instance of an answer that is listed.
-pub record Covered (program : Code) (listing : Listing) (arguments : Values) (v : Value)
+pub record Covered (code : Code) (listing : Listing) (arguments : Values) (v : Value)
     : Type 0 where
   pub depth : ℕ
   pub reading : Reading
   pub listed : Among (Answered depth reading) listing.lines
-  pub covers : IsInstance program reading arguments v
+  pub covers : IsInstance code reading arguments v

@@ -11,7 +11,7 @@ pub mod AtLevel
 -- Traced states at a set level.
 pub mod TracedAt
 -- From what is good for a state to what is good for one before it.
-pub mod StepsBack
+pub mod StepsBackward
 -- From a graph to one that follows it, without losing a value.
 pub mod Continues
 -- States from which a solution can still be reached.

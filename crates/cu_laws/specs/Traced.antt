@@ -22,27 +22,27 @@ spelled_values graph args = values_of (map (spelled graph) args)
 -- The search stands at the set function's call on ground data. Its level is one of the levels from
 -- the call of the function on these data. What it has found was answered in the levels before, in
 -- which every event was quiet.
-pub record TracedSearch (program : Code) (limits : Limits) (graph : Graph) (id : ℕ)
+pub record TracedSearch (code : Code) (limits : Limits) (graph : Graph) (id : ℕ)
     (found : List Value) (level : States) : Type 0 where
   pub function : FunId
   pub args : List ℕ
   pub node_is : node_at graph id ≡ record { kind = kind.SetCall function; args = args }
-  pub built : IsTrue (are_built program (spelled_values graph args))
+  pub built : IsTrue (are_built code (spelled_values graph args))
   pub depth : ℕ
   pub level_is : level ≡ states_of
-      (step_level program limits (call_on program function (spelled_values graph args)) depth)
+      (step_level code limits (call_on code function (spelled_values graph args)) depth)
   pub found_is : found
-      ≡ answers_before (inner_events program limits function (spelled_values graph args)) depth
+      ≡ answers_before (inner_events code limits function (spelled_values graph args)) depth
   pub quiet : (k : ℕ) → k < depth → IsTrue
-      (list_all is_quiet (inner_events program limits function (spelled_values graph args) k))
+      (list_all is_quiet (inner_events code limits function (spelled_values graph args) k))
 
 -- The search that runs in a state, where one does, is traced back to its call.
 abbrev pub IsTraced : Code → Limits → State → Type 0
-IsTraced program limits (Branch graph root goals Idle) = Unit {0}
-IsTraced program limits (Branch graph root goals (Running id found level)) =
-    TracedSearch program limits graph id found level
+IsTraced code limits (Branch graph root goals Idle) = Unit {0}
+IsTraced code limits (Branch graph root goals (Running id found level)) =
+    TracedSearch code limits graph id found level
 
 -- Each of the claims is what a search finds.
 abbrev pub AreFound : Code → Limits → List Claim → Type 0
-AreFound program limits claims = (k : ℕ) (claim : Claim) → slice_get claims k ≡ Some claim
-    → Found program limits claim.function claim.arguments claim.values
+AreFound code limits claims = (k : ℕ) (claim : Claim) → slice_get claims k ≡ Some claim
+    → Found code limits claim.function claim.arguments claim.values

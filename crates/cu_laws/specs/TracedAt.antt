@@ -17,21 +17,21 @@ use Rattle.cu_laws.specs.Traced.{TracedSearch}
 -- level is traced at the level of the function whose values it collects.
 unfoldable mutual
   pub TracedAt : Code → Limits → List ℕ → ℕ → State → Type 0
-  TracedAt program limits levels level (Branch graph root goals search) =
-      IsValid program (Branch graph root goals search)
-      × IsAtLevel program levels level graph
-      × SearchTracedAt program limits levels graph search
+  TracedAt code limits levels level (Branch graph root goals search) =
+      IsValid code (Branch graph root goals search)
+      × IsAtLevel code levels level graph
+      × SearchTracedAt code limits levels graph search
 
   -- The inner search of a state with this graph, if one runs, is traced, with the states of its
   -- level.
   pub SearchTracedAt : Code → Limits → List ℕ → Graph → Search → Type 0
-  SearchTracedAt program limits levels graph Idle = Unit {0}
-  SearchTracedAt program limits levels graph (Running id found states) =
-      (traced : TracedSearch program limits graph id found states)
-      × AllTracedAt program limits levels (level_of levels traced.function) states
+  SearchTracedAt code limits levels graph Idle = Unit {0}
+  SearchTracedAt code limits levels graph (Running id found states) =
+      (traced : TracedSearch code limits graph id found states)
+      × AllTracedAt code limits levels (level_of levels traced.function) states
 
   -- Several states are traced at a set level.
   pub AllTracedAt : Code → Limits → List ℕ → ℕ → States → Type 0
-  AllTracedAt program limits levels level NoState = Unit {0}
-  AllTracedAt program limits levels level (MoreStates state states) =
-      TracedAt program limits levels level state × AllTracedAt program limits levels level states
+  AllTracedAt code limits levels level NoState = Unit {0}
+  AllTracedAt code limits levels level (MoreStates state states) =
+      TracedAt code limits levels level state × AllTracedAt code limits levels level states

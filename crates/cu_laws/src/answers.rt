@@ -28,25 +28,25 @@ ghost use Rattle.cu_laws.specs.Traced.{AreFound, IsTraced};
 /// call-time choice; some proof that checks over these claims concludes it. By
 /// set levels the claims are of functions of lower levels than the goal's.
 pub fn answers_follow()
-    ensures concluded { (program : Code) (limits : SearchLimits) (goal : FunId) (depth : ℕ)
-        (reading : Reading) → IsTrue (is_well_formed program)
-        → IsTrue (is_rule (body_of program goal))
-        → Among (Answered depth reading) (listing program limits (start_of program goal)).lines
-        → (claims : List Claim) × AreFound program limits.step claims
-        × Concludes (program_of program) claims goal (values_of reading.bindings) reading.value }
-    ensures proved { (program : Code) (limits : SearchLimits) (goal : FunId) (depth : ℕ)
-        (reading : Reading) → IsTrue (is_well_formed program)
-        → IsTrue (is_rule (body_of program goal))
-        → Among (Answered depth reading) (listing program limits (start_of program goal)).lines
-        → (claims : List Claim) × AreFound program limits.step claims
-        × IsProved (program_of program) claims
+    ensures concluded { (code : Code) (limits : SearchLimits) (goal : FunId) (depth : ℕ)
+        (reading : Reading) → IsTrue (is_well_formed code)
+        → IsTrue (is_rule (body_of code goal))
+        → Among (Answered depth reading) (listing code limits (start_of code goal)).lines
+        → (claims : List Claim) × AreFound code limits.step claims
+        × Concludes (program_of code) claims goal (values_of reading.bindings) reading.value }
+    ensures proved { (code : Code) (limits : SearchLimits) (goal : FunId) (depth : ℕ)
+        (reading : Reading) → IsTrue (is_well_formed code)
+        → IsTrue (is_rule (body_of code goal))
+        → Among (Answered depth reading) (listing code limits (start_of code goal)).lines
+        → (claims : List Claim) × AreFound code limits.step claims
+        × IsProved (program_of code) claims
         (call_statement goal (values_of reading.bindings) reading.value) }
-    ensures at_levels { (program : Code) (limits : SearchLimits) (levels : List ℕ) (goal : FunId)
-        (depth : ℕ) (reading : Reading) → IsTrue (is_well_formed program)
-        → IsTrue (is_rule (body_of program goal)) → AreLevelsOf program levels
-        → Among (Answered depth reading) (listing program limits (start_of program goal)).lines
-        → (claims : List Claim) × AreFound program limits.step claims
-        × AreBelow levels (level_of levels goal) claims × IsProved (program_of program) claims
+    ensures at_levels { (code : Code) (limits : SearchLimits) (levels : List ℕ) (goal : FunId)
+        (depth : ℕ) (reading : Reading) → IsTrue (is_well_formed code)
+        → IsTrue (is_rule (body_of code goal)) → AreLevelsOf code levels
+        → Among (Answered depth reading) (listing code limits (start_of code goal)).lines
+        → (claims : List Claim) × AreFound code limits.step claims
+        × AreBelow levels (level_of levels goal) claims × IsProved (program_of code) claims
         (call_statement goal (values_of reading.bindings) reading.value) }
 {}
 
@@ -54,21 +54,21 @@ pub fn answers_follow()
 /// that name functions of at most this level, and collect values of functions
 /// of lower ones.
 pub fn graphs_stay_at_their_level()
-    ensures { (program : Code) (levels : List ℕ) (level : ℕ) (graph after : Graph) (id : ℕ)
-        → IsTrue (is_well_formed program) → AreLevelsOf program levels
-        → IsAtLevel program levels level graph → Steps program graph id after
-        → IsAtLevel program levels level after }
+    ensures { (code : Code) (levels : List ℕ) (level : ℕ) (graph after : Graph) (id : ℕ)
+        → IsTrue (is_well_formed code) → AreLevelsOf code levels
+        → IsAtLevel code levels level graph → Steps code graph id after
+        → IsAtLevel code levels level after }
 {}
 
 /// Searches stay traced: the search of a state that follows has just begun at a
 /// call on ground data, or goes on at its next level.
 pub fn searches_stay_traced()
-    ensures start { (program : Code) (limits : Limits) (goal : FunId)
-        → IsTraced program limits (start_of program goal) }
-    ensures next { (program : Code) (limits : Limits) (before state : State) (states : List State)
-        → IsValid program before → IsTraced program limits before
-        → next program limits before ≡ Go states → Among state states
-        → IsTraced program limits state }
+    ensures start { (code : Code) (limits : Limits) (goal : FunId)
+        → IsTraced code limits (start_of code goal) }
+    ensures next { (code : Code) (limits : Limits) (before state : State) (states : List State)
+        → IsValid code before → IsTraced code limits before
+        → next code limits before ≡ Go states → Among state states
+        → IsTraced code limits state }
 {}
 
 /// Every answer that is listed follows from the rules, where the code has no
@@ -76,15 +76,15 @@ pub fn searches_stay_traced()
 /// that is listed, with call-time choice and without any claim; some proof
 /// that checks concludes it.
 pub fn answers_follow_without_sets()
-    ensures concluded { (program : Code) (limits : SearchLimits) (goal : FunId) (depth : ℕ)
-        (reading : Reading) → IsTrue (is_well_formed program)
-        → IsTrue (code_is_without_sets program) → IsTrue (is_rule (body_of program goal))
-        → Among (Answered depth reading) (listing program limits (start_of program goal)).lines
-        → Concludes (program_of program) [] goal (values_of reading.bindings) reading.value }
-    ensures proved { (program : Code) (limits : SearchLimits) (goal : FunId) (depth : ℕ)
-        (reading : Reading) → IsTrue (is_well_formed program)
-        → IsTrue (code_is_without_sets program) → IsTrue (is_rule (body_of program goal))
-        → Among (Answered depth reading) (listing program limits (start_of program goal)).lines
-        → IsProved (program_of program) []
+    ensures concluded { (code : Code) (limits : SearchLimits) (goal : FunId) (depth : ℕ)
+        (reading : Reading) → IsTrue (is_well_formed code)
+        → IsTrue (code_is_without_sets code) → IsTrue (is_rule (body_of code goal))
+        → Among (Answered depth reading) (listing code limits (start_of code goal)).lines
+        → Concludes (program_of code) [] goal (values_of reading.bindings) reading.value }
+    ensures proved { (code : Code) (limits : SearchLimits) (goal : FunId) (depth : ℕ)
+        (reading : Reading) → IsTrue (is_well_formed code)
+        → IsTrue (code_is_without_sets code) → IsTrue (is_rule (body_of code goal))
+        → Among (Answered depth reading) (listing code limits (start_of code goal)).lines
+        → IsProved (program_of code) []
         (call_statement goal (values_of reading.bindings) reading.value) }
 {}

@@ -20,13 +20,13 @@ ghost use Rattle.cu_laws.specs.Good.{Assignment, Loose};
 /// root has a total value, even if stuck nodes may have any value; and what is
 /// dead has no total value.
 pub fn needed_nodes_have_values()
-    ensures rewritten { (program : Code) (claims : List Claim) (graph : Graph) (root id : ℕ)
-        (assigned : Assignment) → Loose program claims graph assigned
-        → IsTrue (is_total (assigned root)) → need_all program.special.truth graph root ≡ At id
+    ensures rewritten { (code : Code) (claims : List Claim) (graph : Graph) (root id : ℕ)
+        (assigned : Assignment) → Loose code claims graph assigned
+        → IsTrue (is_total (assigned root)) → need_all code.special.truth graph root ≡ At id
         → assigned id ≢ Bottom }
-    ensures dead { (program : Code) (claims : List Claim) (graph : Graph) (root : ℕ)
-        (assigned : Assignment) → Loose program claims graph assigned
-        → IsTrue (is_total (assigned root)) → need_all program.special.truth graph root ≡ Dead → ⊥ }
+    ensures dead { (code : Code) (claims : List Claim) (graph : Graph) (root : ℕ)
+        (assigned : Assignment) → Loose code claims graph assigned
+        → IsTrue (is_total (assigned root)) → need_all code.special.truth graph root ≡ Dead → ⊥ }
 {}
 
 /// Where a valid state needs a node, and a row of the step table rewrites it,
@@ -34,13 +34,13 @@ pub fn needed_nodes_have_values()
 /// assignment in which the root has a total value belongs one that is loose
 /// for the graph that follows, and gives each node the value that it had.
 pub fn rows_are_complete()
-    ensures { (program : Code) (claims : List Claim) (graph after : Graph) (root id : ℕ)
-        (goals : List ℕ) (assigned : Assignment) → IsTrue (is_well_formed program)
-        → IsTrue (list_all (is_claim_of (program_of program)) claims)
-        → IsValid program (Branch graph root goals Idle)
-        → need_all program.special.truth graph root ≡ At id
-        → Loose program claims graph assigned → NothingPast graph assigned
-        → IsTrue (is_total (assigned root)) → Steps program graph id after
-        → (other : Graph) × Steps program graph id other × (later : Assignment)
-        × Continues program claims graph other assigned later }
+    ensures { (code : Code) (claims : List Claim) (graph after : Graph) (root id : ℕ)
+        (goals : List ℕ) (assigned : Assignment) → IsTrue (is_well_formed code)
+        → IsTrue (list_all (is_claim_of (program_of code)) claims)
+        → IsValid code (Branch graph root goals Idle)
+        → need_all code.special.truth graph root ≡ At id
+        → Loose code claims graph assigned → NothingPast graph assigned
+        → IsTrue (is_total (assigned root)) → Steps code graph id after
+        → (other : Graph) × Steps code graph id other × (later : Assignment)
+        × Continues code claims graph other assigned later }
 {}

@@ -24,30 +24,30 @@ ghost use Rattle.cu_laws.specs.Solution.{HasSolution};
 /// of the function's call on these data, and also the state of the function as
 /// a goal, whose variables then have these data for values.
 pub fn derivations_begin()
-    ensures call { (program : Code) (claims : List Claim) (f : FunId) (arguments : Values)
+    ensures call { (code : Code) (claims : List Claim) (f : FunId) (arguments : Values)
         (v : Value)
-        → IsTrue (is_well_formed program)
-        → IsTrue (list_all (is_claim_of (program_of program)) claims)
+        → IsTrue (is_well_formed code)
+        → IsTrue (list_all (is_claim_of (program_of code)) claims)
         → IsTrue (are_ground arguments)
-        → IsTrue (is_total v) → Concludes (program_of program) claims f arguments v
-        → HasSolution program claims (call_on program f arguments) NoValue v }
-    ensures goal { (program : Code) (claims : List Claim) (goal : FunId) (arguments : Values)
-        (v : Value) → IsTrue (is_well_formed program)
-        → IsTrue (list_all (is_claim_of (program_of program)) claims)
+        → IsTrue (is_total v) → Concludes (program_of code) claims f arguments v
+        → HasSolution code claims (call_on code f arguments) NoValue v }
+    ensures goal { (code : Code) (claims : List Claim) (goal : FunId) (arguments : Values)
+        (v : Value) → IsTrue (is_well_formed code)
+        → IsTrue (list_all (is_claim_of (program_of code)) claims)
         → IsTrue (are_ground arguments)
-        → IsTrue (is_total v) → Concludes (program_of program) claims goal arguments v
-        → HasSolution program claims (start_of program goal) arguments v }
+        → IsTrue (is_total v) → Concludes (program_of code) claims goal arguments v
+        → HasSolution code claims (start_of code goal) arguments v }
 {}
 
 /// Where a state is answered, ground data that a loose assignment gives the
 /// goal variables and the root are an instance of what is read off.
 pub fn answers_cover()
-    ensures { (program : Code) (claims : List Claim) (limits : Limits) (state : State)
-        (reading : Reading) (assigned : Assignment) → IsValid program state
-        → next program limits state ≡ Answer reading
-        → Loose program claims (graph_of state) assigned
+    ensures { (code : Code) (claims : List Claim) (limits : Limits) (state : State)
+        (reading : Reading) (assigned : Assignment) → IsValid code state
+        → next code limits state ≡ Answer reading
+        → Loose code claims (graph_of state) assigned
         → IsTrue (are_ground (values_of (map assigned (goals_of state))))
         → IsTrue (is_ground (assigned (root_of state)))
-        → IsInstance program reading (values_of (map assigned (goals_of state)))
+        → IsInstance code reading (values_of (map assigned (goals_of state)))
         (assigned (root_of state)) }
 {}

@@ -25,14 +25,14 @@ ghost use Rattle.cu_laws.specs.Traced.{AreFound};
 /// the calculus gives the function. And claims of functions below a level, each
 /// of which a search finds, are true there.
 pub fn found_lists_are_true()
-    ensures one { (program : Code) (limits : Limits) (levels : List ℕ) (claim : Claim)
-        → IsTrue (is_well_formed program) → AreLevelsOf program levels
-        → Found program limits claim.function claim.arguments claim.values
-        → AreTrue (program_of program) levels (level_of levels claim.function + 1) (claim ∷ []) }
-    ensures all { (program : Code) (limits : Limits) (levels : List ℕ) (level : ℕ)
-        (claims : List Claim) → IsTrue (is_well_formed program) → AreLevelsOf program levels
-        → AreFound program limits claims → AreBelow levels level claims
-        → AreTrue (program_of program) levels level claims }
+    ensures one { (code : Code) (limits : Limits) (levels : List ℕ) (claim : Claim)
+        → IsTrue (is_well_formed code) → AreLevelsOf code levels
+        → Found code limits claim.function claim.arguments claim.values
+        → AreTrue (program_of code) levels (level_of levels claim.function + 1) (claim ∷ []) }
+    ensures all { (code : Code) (limits : Limits) (levels : List ℕ) (level : ℕ)
+        (claims : List Claim) → IsTrue (is_well_formed code) → AreLevelsOf code levels
+        → AreFound code limits claims → AreBelow levels level claims
+        → AreTrue (program_of code) levels level claims }
 {}
 
 /// Claims that are true at a level agree with what searches find, so the laws of
@@ -40,45 +40,45 @@ pub fn found_lists_are_true()
 /// search of a claim's function on its arguments ends, it has found the claim's
 /// values.
 pub fn true_claims_agree_with_searches()
-    ensures { (program : Code) (limits : Limits) (levels : List ℕ) (level : ℕ)
-        (claims : List Claim) → IsTrue (is_well_formed program)
-        → AreLevelsOf program levels → AreTrue (program_of program) levels level claims
-        → AgreeWithSearches program limits claims }
+    ensures { (code : Code) (limits : Limits) (levels : List ℕ) (level : ℕ)
+        (claims : List Claim) → IsTrue (is_well_formed code)
+        → AreLevelsOf code levels → AreTrue (program_of code) levels level claims
+        → AgreeWithSearches code limits claims }
 {}
 
 /// Every answer that is listed has a derivation from the rules, in which set
 /// calls stand for all their values: the goal, on what its variables are bound
 /// to, has the value that is listed, over claims that are true at its level.
 pub fn listed_answers_derive()
-    ensures at_level { (program : Code) (limits : SearchLimits) (levels : List ℕ) (goal : FunId)
-        (depth : ℕ) (reading : Reading) → IsTrue (is_well_formed program)
-        → IsTrue (is_rule (body_of program goal)) → AreLevelsOf program levels
-        → Among (Answered depth reading) (listing program limits (start_of program goal)).lines
-        → DerivesAt (program_of program) levels goal (values_of reading.bindings) reading.value }
-    ensures least { (program : Code) (limits : SearchLimits) (levels : List ℕ) (goal : FunId)
-        (depth : ℕ) (reading : Reading) → IsTrue (is_well_formed program)
-        → IsTrue (is_rule (body_of program goal)) → AreLevelsOf program levels
-        → AreLeastLevels (program_of program) levels
-        → Among (Answered depth reading) (listing program limits (start_of program goal)).lines
-        → Derives (program_of program) goal (values_of reading.bindings) reading.value }
+    ensures at_level { (code : Code) (limits : SearchLimits) (levels : List ℕ) (goal : FunId)
+        (depth : ℕ) (reading : Reading) → IsTrue (is_well_formed code)
+        → IsTrue (is_rule (body_of code goal)) → AreLevelsOf code levels
+        → Among (Answered depth reading) (listing code limits (start_of code goal)).lines
+        → DerivesAt (program_of code) levels goal (values_of reading.bindings) reading.value }
+    ensures least { (code : Code) (limits : SearchLimits) (levels : List ℕ) (goal : FunId)
+        (depth : ℕ) (reading : Reading) → IsTrue (is_well_formed code)
+        → IsTrue (is_rule (body_of code goal)) → AreLevelsOf code levels
+        → AreLeastLevels (program_of code) levels
+        → Among (Answered depth reading) (listing code limits (start_of code goal)).lines
+        → Derives (program_of code) goal (values_of reading.bindings) reading.value }
 {}
 
 /// Nothing is missed: where a listing ends with no more, and no branch waits,
 /// each ground solution of the goal is an instance of an answer that is listed.
 pub fn exhausted_listings_cover()
-    ensures at_level { (program : Code) (limits : SearchLimits) (levels : List ℕ) (goal : FunId)
-        (arguments : Values) (v : Value) → IsTrue (is_well_formed program)
-        → IsTrue (is_rule (body_of program goal)) → AreLevelsOf program levels
-        → IsExhausted (listing program limits (start_of program goal))
+    ensures at_level { (code : Code) (limits : SearchLimits) (levels : List ℕ) (goal : FunId)
+        (arguments : Values) (v : Value) → IsTrue (is_well_formed code)
+        → IsTrue (is_rule (body_of code goal)) → AreLevelsOf code levels
+        → IsExhausted (listing code limits (start_of code goal))
         → IsTrue (are_ground arguments) → IsTrue (is_ground v)
-        → DerivesAt (program_of program) levels goal arguments v
-        → Covered program (listing program limits (start_of program goal)) arguments v }
-    ensures least { (program : Code) (limits : SearchLimits) (levels : List ℕ) (goal : FunId)
-        (arguments : Values) (v : Value) → IsTrue (is_well_formed program)
-        → IsTrue (is_rule (body_of program goal)) → AreLevelsOf program levels
-        → AreLeastLevels (program_of program) levels
-        → IsExhausted (listing program limits (start_of program goal))
+        → DerivesAt (program_of code) levels goal arguments v
+        → Covered code (listing code limits (start_of code goal)) arguments v }
+    ensures least { (code : Code) (limits : SearchLimits) (levels : List ℕ) (goal : FunId)
+        (arguments : Values) (v : Value) → IsTrue (is_well_formed code)
+        → IsTrue (is_rule (body_of code goal)) → AreLevelsOf code levels
+        → AreLeastLevels (program_of code) levels
+        → IsExhausted (listing code limits (start_of code goal))
         → IsTrue (are_ground arguments) → IsTrue (is_ground v)
-        → Derives (program_of program) goal arguments v
-        → Covered program (listing program limits (start_of program goal)) arguments v }
+        → Derives (program_of code) goal arguments v
+        → Covered code (listing code limits (start_of code goal)) arguments v }
 {}

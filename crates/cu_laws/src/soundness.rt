@@ -36,20 +36,20 @@ ghost use Rattle.cu_laws.specs.Good.{claim_of, env_in};
 /// have less, unless it is a free variable. Both hold where stuck nodes have no
 /// value, and where they may have any.
 pub fn what_nodes_may_have_is_closed()
-    ensures upward { (program : Code) (claims : List Claim) (low high : Assignment) (k : Kind)
-        (args : List ℕ) (v : Value) → RisesTo low high → MayHave NoValue program claims low k args v
-        → MayHave NoValue program claims high k args v }
-    ensures downward { (program : Code) (claims : List Claim) (assigned : Assignment) (k : Kind)
-        (args : List ℕ) (v w : Value) → k ≢ Free → MayHave NoValue program claims assigned k args v
-        → Below w v → MayHave NoValue program claims assigned k args w }
-    ensures loosely_upward { (program : Code) (claims : List Claim) (low high : Assignment)
+    ensures upward { (code : Code) (claims : List Claim) (low high : Assignment) (k : Kind)
+        (args : List ℕ) (v : Value) → RisesTo low high → MayHave NoValue code claims low k args v
+        → MayHave NoValue code claims high k args v }
+    ensures downward { (code : Code) (claims : List Claim) (assigned : Assignment) (k : Kind)
+        (args : List ℕ) (v w : Value) → k ≢ Free → MayHave NoValue code claims assigned k args v
+        → Below w v → MayHave NoValue code claims assigned k args w }
+    ensures loosely_upward { (code : Code) (claims : List Claim) (low high : Assignment)
         (k : Kind) (args : List ℕ) (v : Value) → RisesTo low high
-        → MayHave AnyValue program claims low k args v
-        → MayHave AnyValue program claims high k args v }
-    ensures loosely_downward { (program : Code) (claims : List Claim) (assigned : Assignment)
+        → MayHave AnyValue code claims low k args v
+        → MayHave AnyValue code claims high k args v }
+    ensures loosely_downward { (code : Code) (claims : List Claim) (assigned : Assignment)
         (k : Kind) (args : List ℕ) (v w : Value) → k ≢ Free
-        → MayHave AnyValue program claims assigned k args v → Below w v
-        → MayHave AnyValue program claims assigned k args w }
+        → MayHave AnyValue code claims assigned k args v → Below w v
+        → MayHave AnyValue code claims assigned k args w }
 {}
 
 /// An assignment that is good for a graph in which an expression is written
@@ -58,55 +58,55 @@ pub fn what_nodes_may_have_is_closed()
 /// such a value of the node, where nothing is known yet past the graph, come
 /// values that all new nodes may have.
 pub fn written_expressions_are_worth_their_terms()
-    ensures given { (program : Code) (claims : List Claim) (graph : Graph) (id : ℕ) (scope : Scope)
+    ensures given { (code : Code) (claims : List Claim) (graph : Graph) (id : ℕ) (scope : Scope)
         (variables : List ℕ) (e : ExprId) (assigned : Assignment) → id < length graph
-        → IsTrue (fits (length program.expressions) program variables e)
-        → Good program claims (write program scope graph id e) assigned
-        → Gives (program_of program) claims (env_in assigned scope) (term_of program e)
+        → IsTrue (fits (length code.expressions) code variables e)
+        → Good code claims (write code scope graph id e) assigned
+        → Gives (program_of code) claims (env_in assigned scope) (term_of code e)
         (assigned id) }
-    ensures back { (program : Code) (claims : List Claim) (graph : Graph) (id : ℕ) (scope : Scope)
-        (variables : List ℕ) (e : ExprId) (assigned : Assignment) → IsTrue (is_well_formed program)
-        → IsTrue (list_all (is_claim_of (program_of program)) claims) → id < length graph
-        → IsTrue (fits (length program.expressions) program variables e)
-        → ((x : ℕ) → IsTrue (is_of (program_of program) (assigned x)))
+    ensures converse { (code : Code) (claims : List Claim) (graph : Graph) (id : ℕ) (scope : Scope)
+        (variables : List ℕ) (e : ExprId) (assigned : Assignment) → IsTrue (is_well_formed code)
+        → IsTrue (list_all (is_claim_of (program_of code)) claims) → id < length graph
+        → IsTrue (fits (length code.expressions) code variables e)
+        → ((x : ℕ) → IsTrue (is_of (program_of code) (assigned x)))
         → ((x : ℕ) → length graph ≤ x → assigned x ≡ Bottom)
-        → Gives (program_of program) claims (env_in assigned scope) (term_of program e)
+        → Gives (program_of code) claims (env_in assigned scope) (term_of code e)
         (assigned id) → (extended : Assignment)
-        × Extends program claims graph id (write program scope graph id e) assigned extended }
+        × Extends code claims graph id (write code scope graph id e) assigned extended }
 {}
 
 /// Every row of the step table is sound: to an assignment that is good for a
 /// graph that follows belongs one that is good for the graph before, and is at
 /// least as great at every node.
 pub fn rows_are_sound()
-    ensures { (program : Code) (claims : List Claim) (graph after : Graph) (id : ℕ)
-        (later : Assignment) → IsTrue (is_well_formed program) → NodesFit program graph
-        → Steps program graph id after → Good program claims after later
-        → (earlier : Assignment) × Good program claims graph earlier × RisesTo later earlier }
+    ensures { (code : Code) (claims : List Claim) (graph after : Graph) (id : ℕ)
+        (later : Assignment) → IsTrue (is_well_formed code) → NodesFit code graph
+        → Steps code graph id after → Good code claims after later
+        → (earlier : Assignment) × Good code claims graph earlier × RisesTo later earlier }
 {}
 
 /// A step of a state in which no search for all values of a function runs is
 /// sound: an assignment that is good for a state that follows comes from one
 /// that is good for the state before.
 pub fn steps_are_sound()
-    ensures { (program : Code) (claims : List Claim) (limits : Limits) (graph : Graph) (root : ℕ)
+    ensures { (code : Code) (claims : List Claim) (limits : Limits) (graph : Graph) (root : ℕ)
         (goals : List ℕ) (states : List State) (state : State) (later : Assignment)
-        → IsTrue (is_well_formed program) → IsValid program (Branch graph root goals Idle)
-        → next program limits (Branch graph root goals Idle) ≡ Go states → Among state states
-        → Good program claims (graph_of state) later
-        → (earlier : Assignment) × Good program claims graph earlier × RisesTo later earlier }
+        → IsTrue (is_well_formed code) → IsValid code (Branch graph root goals Idle)
+        → next code limits (Branch graph root goals Idle) ≡ Go states → Among state states
+        → Good code claims (graph_of state) later
+        → (earlier : Assignment) × Good code claims graph earlier × RisesTo later earlier }
 {}
 
 /// Where a search for all values of a function has ended, and its arguments
 /// spell ground data, the delivery of what was found is sound over the claim
 /// that these are all its values.
 pub fn deliveries_are_sound()
-    ensures { (program : Code) (claims : List Claim) (graph : Graph) (id : ℕ) (f : FunId)
-        (args : List ℕ) (found : List Value) (later : Assignment) → NodesFit program graph
+    ensures { (code : Code) (claims : List Claim) (graph : Graph) (id : ℕ) (f : FunId)
+        (args : List ℕ) (found : List Value) (later : Assignment) → NodesFit code graph
         → node_at graph id ≡ record { kind = SetCall f; args = args }
         → IsTrue (are_ground (values_of (map (spelled graph) args)))
-        → Good program claims (delivered program graph id found) later → (earlier : Assignment)
-        × Good program
+        → Good code claims (delivered code graph id found) later → (earlier : Assignment)
+        × Good code
         (claims ++ claim_of f (values_of (map (spelled graph) args)) (sorted found) ∷ [])
         graph earlier × RisesTo later earlier }
 {}
@@ -114,12 +114,12 @@ pub fn deliveries_are_sound()
 /// What is read off a valid state is a good assignment of its graph, however
 /// its variables are numbered, and it gives each goal variable a total value.
 pub fn readings_are_good()
-    ensures good { (program : Code) (claims : List Claim) (graph : Graph) (root : ℕ)
+    ensures good { (code : Code) (claims : List Claim) (graph : Graph) (root : ℕ)
         (goals : List ℕ) (search : Search) (number : ℕ → ℕ)
-        → IsValid program (Branch graph root goals search)
-        → Good program claims graph (λ id. renumbered number (spelled graph id)) }
-    ensures total { (program : Code) (graph : Graph) (root : ℕ) (goals : List ℕ) (search : Search)
-        (number : ℕ → ℕ) → IsValid program (Branch graph root goals search)
+        → IsValid code (Branch graph root goals search)
+        → Good code claims graph (λ id. renumbered number (spelled graph id)) }
+    ensures total { (code : Code) (graph : Graph) (root : ℕ) (goals : List ℕ) (search : Search)
+        (number : ℕ → ℕ) → IsValid code (Branch graph root goals search)
         → IsTrue (are_total (values_of (map (λ id. renumbered number (spelled graph id)) goals))) }
 {}
 

@@ -31,27 +31,27 @@ ghost use Rattle.cu_laws.specs.Traced.{IsTraced};
 /// searches find, as those that are true at a level do
 /// (`true_claims_agree_with_searches`).
 pub fn steps_are_complete()
-    ensures idle { (program : Code) (claims : List Claim) (limits : Limits) (graph : Graph)
+    ensures idle { (code : Code) (claims : List Claim) (limits : Limits) (graph : Graph)
         (root : ℕ) (goals : List ℕ) (states : List State) (assigned : Assignment)
-        → IsTrue (is_well_formed program)
-        → IsTrue (list_all (is_claim_of (program_of program)) claims)
-        → IsValid program (Branch graph root goals Idle)
-        → Promises program claims (Branch graph root goals Idle) assigned
-        → next program limits (Branch graph root goals Idle) ≡ Go states
-        → SomeContinues program claims (Branch graph root goals Idle) states assigned }
-    ensures traced { (program : Code) (claims : List Claim) (limits : Limits) (before : State)
-        (states : List State) (assigned : Assignment) → IsTrue (is_well_formed program)
-        → AgreeWithSearches program limits claims → IsValid program before
-        → IsTraced program limits before → Promises program claims before assigned
-        → next program limits before ≡ Go states
-        → SomeContinues program claims before states assigned }
+        → IsTrue (is_well_formed code)
+        → IsTrue (list_all (is_claim_of (program_of code)) claims)
+        → IsValid code (Branch graph root goals Idle)
+        → Promises code claims (Branch graph root goals Idle) assigned
+        → next code limits (Branch graph root goals Idle) ≡ Go states
+        → SomeContinues code claims (Branch graph root goals Idle) states assigned }
+    ensures traced { (code : Code) (claims : List Claim) (limits : Limits) (before : State)
+        (states : List State) (assigned : Assignment) → IsTrue (is_well_formed code)
+        → AgreeWithSearches code limits claims → IsValid code before
+        → IsTraced code limits before → Promises code claims before assigned
+        → next code limits before ≡ Go states
+        → SomeContinues code claims before states assigned }
 {}
 
 /// A state that fails promises no answer.
 pub fn failures_have_no_values()
-    ensures { (program : Code) (claims : List Claim) (limits : Limits) (state : State)
-        (assigned : Assignment) → next program limits state ≡ Fails
-        → Promises program claims state assigned → ⊥ }
+    ensures { (code : Code) (claims : List Claim) (limits : Limits) (state : State)
+        (assigned : Assignment) → next code limits state ≡ Fails
+        → Promises code claims state assigned → ⊥ }
 {}
 
 /// No level loses a solution: where nothing before a depth waits or stops, a
@@ -60,43 +60,43 @@ pub fn failures_have_no_values()
 /// levels of single steps, which are those of searches for all values, and of
 /// the levels of a listing, whose rounds take each state on by several.
 pub fn levels_are_complete()
-    ensures steps { (program : Code) (claims : List Claim) (limits : Limits) (start : State)
-        (assigned : Assignment) (depth : ℕ) → IsTrue (is_well_formed program)
-        → AgreeWithSearches program limits claims → IsValid program start
-        → IsTraced program limits start → Promises program claims start assigned
-        → AreDecided (next program limits) start depth
-        → KeptByAnswer program limits claims (next program limits) start assigned depth
-        ⊎ KeptByState program claims (next program limits) start assigned depth }
-    ensures rounds { (program : Code) (claims : List Claim) (limits : Limits) (stride : ℕ)
-        (start : State) (assigned : Assignment) (depth : ℕ) → IsTrue (is_well_formed program)
-        → AgreeWithSearches program limits claims → IsValid program start
-        → IsTraced program limits start → Promises program claims start assigned
-        → AreDecided (run stride program limits) start depth
-        → KeptByAnswer program limits claims (run stride program limits) start assigned depth
-        ⊎ KeptByState program claims (run stride program limits) start assigned depth }
+    ensures steps { (code : Code) (claims : List Claim) (limits : Limits) (start : State)
+        (assigned : Assignment) (depth : ℕ) → IsTrue (is_well_formed code)
+        → AgreeWithSearches code limits claims → IsValid code start
+        → IsTraced code limits start → Promises code claims start assigned
+        → AreDecided (next code limits) start depth
+        → KeptByAnswer code limits claims (next code limits) start assigned depth
+        ⊎ KeptByState code claims (next code limits) start assigned depth }
+    ensures rounds { (code : Code) (claims : List Claim) (limits : Limits) (stride : ℕ)
+        (start : State) (assigned : Assignment) (depth : ℕ) → IsTrue (is_well_formed code)
+        → AgreeWithSearches code limits claims → IsValid code start
+        → IsTraced code limits start → Promises code claims start assigned
+        → AreDecided (run stride code limits) start depth
+        → KeptByAnswer code limits claims (run stride code limits) start assigned depth
+        ⊎ KeptByState code claims (run stride code limits) start assigned depth }
 {}
 
 /// What a search for all values of a function finds leaves out nothing that
 /// its start promises: one of the values is that of an answer which keeps it.
 pub fn searches_are_complete()
-    ensures { (program : Code) (claims : List Claim) (limits : Limits) (f : FunId)
+    ensures { (code : Code) (claims : List Claim) (limits : Limits) (f : FunId)
         (arguments : Values) (values : List Value) (assigned : Assignment)
-        → IsTrue (is_well_formed program) → AgreeWithSearches program limits claims
-        → Found program limits f arguments values
-        → Promises program claims (call_on program f arguments) assigned
+        → IsTrue (is_well_formed code) → AgreeWithSearches code limits claims
+        → Found code limits f arguments values
+        → Promises code claims (call_on code f arguments) assigned
         → (reading : Reading) × Among reading.value values × IsTrue (is_ground reading.value)
-        × AnswersPromise program limits claims (call_on program f arguments) assigned reading }
+        × AnswersPromise code limits claims (call_on code f arguments) assigned reading }
 {}
 
 /// A listing that ends with no more, and in which no branch waits, leaves out
 /// nothing that its start promises: it lists an answer which keeps it.
 pub fn listings_are_complete()
-    ensures { (program : Code) (claims : List Claim) (limits : SearchLimits) (start : State)
-        (assigned : Assignment) → IsTrue (is_well_formed program)
-        → AgreeWithSearches program limits.step claims → IsValid program start
-        → IsTraced program limits.step start → Promises program claims start assigned
-        → (listing program limits start).end ≡ NoMore 0
+    ensures { (code : Code) (claims : List Claim) (limits : SearchLimits) (start : State)
+        (assigned : Assignment) → IsTrue (is_well_formed code)
+        → AgreeWithSearches code limits.step claims → IsValid code start
+        → IsTraced code limits.step start → Promises code claims start assigned
+        → (listing code limits start).end ≡ NoMore 0
         → (round : ℕ) × (reading : Reading)
-        × Among (Answered round reading) (listing program limits start).lines
-        × AnswersPromise program limits.step claims start assigned reading }
+        × Among (Answered round reading) (listing code limits start).lines
+        × AnswersPromise code limits.step claims start assigned reading }
 {}

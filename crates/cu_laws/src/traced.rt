@@ -25,7 +25,7 @@ ghost use Rattle.cu_machine.specs.State.{call_on, graph_of, start_of};
 ghost use Rattle.cu_machine.specs.Validity.{are_built};
 ghost use Rattle.cu_laws.specs.AtLevel.{AreBelow, AreLevelsOf};
 ghost use Rattle.cu_laws.specs.Good.{Assignment, Good, RisesTo, claim_of};
-ghost use Rattle.cu_laws.specs.StepsBack.{StepsBack, claims_of_end};
+ghost use Rattle.cu_laws.specs.StepsBackward.{StepsBackward, claims_of_end};
 ghost use Rattle.cu_laws.specs.Traced.{AreFound, spelled_values};
 ghost use Rattle.cu_laws.specs.TracedAt.{TracedAt};
 
@@ -34,37 +34,37 @@ ghost use Rattle.cu_laws.specs.TracedAt.{TracedAt};
 /// step keeps this, and so do runs and levels, those that are taken by a stride
 /// and those by single steps.
 pub fn states_stay_traced()
-    ensures start { (program : Code) (limits : Limits) (levels : List ℕ) (goal : FunId)
-        → IsTrue (is_well_formed program) → IsTrue (is_rule (body_of program goal))
-        → TracedAt program limits levels (level_of levels goal) (start_of program goal) }
-    ensures call { (program : Code) (limits : Limits) (levels : List ℕ) (f : FunId) (args : Values)
-        → IsTrue (is_well_formed program) → function_arity program f ≡ Some (count args)
-        → IsTrue (are_built program args)
-        → TracedAt program limits levels (level_of levels f) (call_on program f args) }
-    ensures next { (program : Code) (limits : Limits) (levels : List ℕ) (k : ℕ)
-        (before state : State) (states : List State) → IsTrue (is_well_formed program)
-        → AreLevelsOf program levels → TracedAt program limits levels k before
-        → next program limits before ≡ Go states → Among state states
-        → TracedAt program limits levels k state }
-    ensures run { (program : Code) (limits : Limits) (levels : List ℕ) (k steps : ℕ)
-        (before state : State) (states : List State) → IsTrue (is_well_formed program)
-        → AreLevelsOf program levels → TracedAt program limits levels k before
-        → run steps program limits before ≡ Go states → Among state states
-        → TracedAt program limits levels k state }
-    ensures reached { (program : Code) (limits : Limits) (levels : List ℕ) (k steps : ℕ)
-        (state : State) → IsTrue (is_well_formed program) → AreLevelsOf program levels
-        → TracedAt program limits levels k state
-        → TracedAt program limits levels k (reached steps program limits state) }
-    ensures level { (program : Code) (limits : SearchLimits) (levels : List ℕ) (k depth : ℕ)
-        (start state : State) → IsTrue (is_well_formed program) → AreLevelsOf program levels
-        → TracedAt program limits.step levels k start
-        → Among state (level program limits start depth)
-        → TracedAt program limits.step levels k state }
-    ensures step_level { (program : Code) (limits : Limits) (levels : List ℕ) (k depth : ℕ)
-        (start state : State) → IsTrue (is_well_formed program) → AreLevelsOf program levels
-        → TracedAt program limits levels k start
-        → Among state (step_level program limits start depth)
-        → TracedAt program limits levels k state }
+    ensures start { (code : Code) (limits : Limits) (levels : List ℕ) (goal : FunId)
+        → IsTrue (is_well_formed code) → IsTrue (is_rule (body_of code goal))
+        → TracedAt code limits levels (level_of levels goal) (start_of code goal) }
+    ensures call { (code : Code) (limits : Limits) (levels : List ℕ) (f : FunId) (args : Values)
+        → IsTrue (is_well_formed code) → function_arity code f ≡ Some (count args)
+        → IsTrue (are_built code args)
+        → TracedAt code limits levels (level_of levels f) (call_on code f args) }
+    ensures next { (code : Code) (limits : Limits) (levels : List ℕ) (k : ℕ)
+        (before state : State) (states : List State) → IsTrue (is_well_formed code)
+        → AreLevelsOf code levels → TracedAt code limits levels k before
+        → next code limits before ≡ Go states → Among state states
+        → TracedAt code limits levels k state }
+    ensures run { (code : Code) (limits : Limits) (levels : List ℕ) (k steps : ℕ)
+        (before state : State) (states : List State) → IsTrue (is_well_formed code)
+        → AreLevelsOf code levels → TracedAt code limits levels k before
+        → run steps code limits before ≡ Go states → Among state states
+        → TracedAt code limits levels k state }
+    ensures reached { (code : Code) (limits : Limits) (levels : List ℕ) (k steps : ℕ)
+        (state : State) → IsTrue (is_well_formed code) → AreLevelsOf code levels
+        → TracedAt code limits levels k state
+        → TracedAt code limits levels k (reached steps code limits state) }
+    ensures level { (code : Code) (limits : SearchLimits) (levels : List ℕ) (k depth : ℕ)
+        (start state : State) → IsTrue (is_well_formed code) → AreLevelsOf code levels
+        → TracedAt code limits.step levels k start
+        → Among state (level code limits start depth)
+        → TracedAt code limits.step levels k state }
+    ensures step_level { (code : Code) (limits : Limits) (levels : List ℕ) (k depth : ℕ)
+        (start state : State) → IsTrue (is_well_formed code) → AreLevelsOf code levels
+        → TracedAt code limits levels k start
+        → Among state (step_level code limits start depth)
+        → TracedAt code limits levels k state }
 {}
 
 /// Each step of a traced state is sound, whether it rewrites a node, binds
@@ -74,33 +74,33 @@ pub fn states_stay_traced()
 /// ended. A run of steps is sound in this way, with a row for each search that
 /// ends during it, and so are the levels of a search, back to its start.
 pub fn traced_steps_are_sound()
-    ensures next { (program : Code) (limits : Limits) (levels : List ℕ) (k : ℕ)
+    ensures next { (code : Code) (limits : Limits) (levels : List ℕ) (k : ℕ)
         (claims : List Claim) (before state : State) (states : List State) (later : Assignment)
-        → IsTrue (is_well_formed program) → TracedAt program limits levels k before
-        → next program limits before ≡ Go states → Among state states
-        → Good program claims (graph_of state) later
-        → StepsBack program limits levels k claims (claims_of_end before) before later }
-    ensures run { (program : Code) (limits : Limits) (levels : List ℕ) (k steps : ℕ)
+        → IsTrue (is_well_formed code) → TracedAt code limits levels k before
+        → next code limits before ≡ Go states → Among state states
+        → Good code claims (graph_of state) later
+        → StepsBackward code limits levels k claims (claims_of_end before) before later }
+    ensures run { (code : Code) (limits : Limits) (levels : List ℕ) (k steps : ℕ)
         (claims : List Claim) (before state : State) (states : List State) (later : Assignment)
-        → IsTrue (is_well_formed program) → AreLevelsOf program levels
-        → TracedAt program limits levels k before
-        → run steps program limits before ≡ Go states → Among state states
-        → Good program claims (graph_of state) later
-        → (further : List Claim) × StepsBack program limits levels k claims further before later }
-    ensures reached { (program : Code) (limits : Limits) (levels : List ℕ) (k steps : ℕ)
+        → IsTrue (is_well_formed code) → AreLevelsOf code levels
+        → TracedAt code limits levels k before
+        → run steps code limits before ≡ Go states → Among state states
+        → Good code claims (graph_of state) later
+        → (further : List Claim) × StepsBackward code limits levels k claims further before later }
+    ensures reached { (code : Code) (limits : Limits) (levels : List ℕ) (k steps : ℕ)
         (claims : List Claim) (state : State) (later : Assignment)
-        → IsTrue (is_well_formed program) → AreLevelsOf program levels
-        → TracedAt program limits levels k state
-        → Good program claims (graph_of (reached steps program limits state)) later
-        → (further : List Claim) × StepsBack program limits levels k claims further state later }
-    ensures level { (program : Code) (limits : SearchLimits) (levels : List ℕ) (k depth : ℕ)
+        → IsTrue (is_well_formed code) → AreLevelsOf code levels
+        → TracedAt code limits levels k state
+        → Good code claims (graph_of (reached steps code limits state)) later
+        → (further : List Claim) × StepsBackward code limits levels k claims further state later }
+    ensures level { (code : Code) (limits : SearchLimits) (levels : List ℕ) (k depth : ℕ)
         (claims : List Claim) (start state : State) (later : Assignment)
-        → IsTrue (is_well_formed program) → AreLevelsOf program levels
-        → TracedAt program limits.step levels k start
-        → Among state (level program limits start depth)
-        → Good program claims (graph_of state) later
+        → IsTrue (is_well_formed code) → AreLevelsOf code levels
+        → TracedAt code limits.step levels k start
+        → Among state (level code limits start depth)
+        → Good code claims (graph_of state) later
         → (further : List Claim)
-        × StepsBack program limits.step levels k claims further start later }
+        × StepsBackward code limits.step levels k claims further start later }
 {}
 
 /// Searches for all values of a function are sound. Where one begins, goes on
@@ -108,34 +108,34 @@ pub fn traced_steps_are_sound()
 /// back over the same claims. Where it ends, one more row is claimed of the
 /// state before: it is `Found`, and of a function of a lower level.
 pub fn searches_are_sound()
-    ensures begins { (program : Code) (limits : Limits) (levels : List ℕ) (k : ℕ)
+    ensures begins { (code : Code) (limits : Limits) (levels : List ℕ) (k : ℕ)
         (claims : List Claim) (graph after : Graph) (root top : ℕ) (goals others : List ℕ)
         (id : ℕ) (found : List Value) (inner : States) (states : List State) (later : Assignment)
-        → IsTrue (is_well_formed program)
-        → TracedAt program limits levels k (Branch graph root goals Idle)
-        → next program limits (Branch graph root goals Idle) ≡ Go states
+        → IsTrue (is_well_formed code)
+        → TracedAt code limits levels k (Branch graph root goals Idle)
+        → next code limits (Branch graph root goals Idle) ≡ Go states
         → Among (Branch after top others (Running id found inner)) states
-        → Good program claims after later
-        → StepsBack program limits levels k claims [] (Branch graph root goals Idle) later }
-    ensures runs { (program : Code) (limits : Limits) (levels : List ℕ) (k : ℕ)
+        → Good code claims after later
+        → StepsBackward code limits levels k claims [] (Branch graph root goals Idle) later }
+    ensures runs { (code : Code) (limits : Limits) (levels : List ℕ) (k : ℕ)
         (claims : List Claim) (graph : Graph) (root : ℕ) (goals : List ℕ) (id : ℕ)
         (found : List Value) (inner : States) (state : State) (states : List State)
-        (later : Assignment) → IsTrue (is_well_formed program)
-        → TracedAt program limits levels k (Branch graph root goals (Running id found inner))
-        → next program limits (Branch graph root goals (Running id found inner)) ≡ Go states
-        → Among state states → Good program claims (graph_of state) later
-        → StepsBack program limits levels k claims
+        (later : Assignment) → IsTrue (is_well_formed code)
+        → TracedAt code limits levels k (Branch graph root goals (Running id found inner))
+        → next code limits (Branch graph root goals (Running id found inner)) ≡ Go states
+        → Among state states → Good code claims (graph_of state) later
+        → StepsBackward code limits levels k claims
         (claims_of_end (Branch graph root goals (Running id found inner)))
         (Branch graph root goals (Running id found inner)) later }
-    ensures ended { (program : Code) (limits : Limits) (levels : List ℕ) (k : ℕ)
+    ensures ended { (code : Code) (limits : Limits) (levels : List ℕ) (k : ℕ)
         (claims : List Claim) (graph : Graph) (root : ℕ) (goals : List ℕ) (id : ℕ) (f : FunId)
         (args : List ℕ) (found : List Value) (later : Assignment)
-        → TracedAt program limits levels k (Branch graph root goals (Running id found NoState))
+        → TracedAt code limits levels k (Branch graph root goals (Running id found NoState))
         → node_at graph id ≡ record { kind = SetCall f; args = args }
-        → Good program claims (delivered program graph id found) later
-        → Found program limits f (spelled_values graph args) (sorted found)
+        → Good code claims (delivered code graph id found) later
+        → Found code limits f (spelled_values graph args) (sorted found)
         × (level_of levels f < k) × (earlier : Assignment)
-        × Good program (claims ++ claim_of f (spelled_values graph args) (sorted found) ∷ [])
+        × Good code (claims ++ claim_of f (spelled_values graph args) (sorted found) ∷ [])
         graph earlier × RisesTo later earlier }
 {}
 
@@ -145,25 +145,25 @@ pub fn searches_are_sound()
 /// the goal's, the goal has the value on what its variables are bound to, with
 /// call-time choice; some proof that checks concludes it.
 pub fn answers_of_traced_states_follow()
-    ensures read { (program : Code) (limits : Limits) (levels : List ℕ) (k : ℕ) (graph : Graph)
+    ensures read { (code : Code) (limits : Limits) (levels : List ℕ) (k : ℕ) (graph : Graph)
         (root : ℕ) (goals : List ℕ) (search : Search) (reading : Reading)
-        → TracedAt program limits levels k (Branch graph root goals search)
-        → next program limits (Branch graph root goals search) ≡ Answer reading
-        → (assigned : Assignment) × Good program [] graph assigned
+        → TracedAt code limits levels k (Branch graph root goals search)
+        → next code limits (Branch graph root goals search) ≡ Answer reading
+        → (assigned : Assignment) × Good code [] graph assigned
         × (map assigned goals ≡ reading.bindings) × (assigned root ≡ reading.value) }
-    ensures concluded { (program : Code) (limits : SearchLimits) (levels : List ℕ) (goal : FunId)
-        (depth : ℕ) (state : State) (reading : Reading) → IsTrue (is_well_formed program)
-        → IsTrue (is_rule (body_of program goal)) → AreLevelsOf program levels
-        → Among state (level program limits (start_of program goal) depth)
-        → run limits.stride program limits.step state ≡ Answer reading → (claims : List Claim)
-        × AreFound program limits.step claims × AreBelow levels (level_of levels goal) claims
-        × Concludes (program_of program) claims goal (values_of reading.bindings) reading.value }
-    ensures proved { (program : Code) (limits : SearchLimits) (levels : List ℕ) (goal : FunId)
-        (depth : ℕ) (state : State) (reading : Reading) → IsTrue (is_well_formed program)
-        → IsTrue (is_rule (body_of program goal)) → AreLevelsOf program levels
-        → Among state (level program limits (start_of program goal) depth)
-        → run limits.stride program limits.step state ≡ Answer reading → (claims : List Claim)
-        × AreFound program limits.step claims × AreBelow levels (level_of levels goal) claims
-        × IsProved (program_of program) claims
+    ensures concluded { (code : Code) (limits : SearchLimits) (levels : List ℕ) (goal : FunId)
+        (depth : ℕ) (state : State) (reading : Reading) → IsTrue (is_well_formed code)
+        → IsTrue (is_rule (body_of code goal)) → AreLevelsOf code levels
+        → Among state (level code limits (start_of code goal) depth)
+        → run limits.stride code limits.step state ≡ Answer reading → (claims : List Claim)
+        × AreFound code limits.step claims × AreBelow levels (level_of levels goal) claims
+        × Concludes (program_of code) claims goal (values_of reading.bindings) reading.value }
+    ensures proved { (code : Code) (limits : SearchLimits) (levels : List ℕ) (goal : FunId)
+        (depth : ℕ) (state : State) (reading : Reading) → IsTrue (is_well_formed code)
+        → IsTrue (is_rule (body_of code goal)) → AreLevelsOf code levels
+        → Among state (level code limits (start_of code goal) depth)
+        → run limits.stride code limits.step state ≡ Answer reading → (claims : List Claim)
+        × AreFound code limits.step claims × AreBelow levels (level_of levels goal) claims
+        × IsProved (program_of code) claims
         (call_statement goal (values_of reading.bindings) reading.value) }
 {}

@@ -67,15 +67,15 @@ at-start whole text due is = by (marks_from [] (due_at_start whole (token_sights
     by (Ok marks) = refl
     by (Err number) = ap Err (sym (zero-add number))
 
-behind : (laid a i e : List Token) (t : Token) → laid ++ ((a ++ t ∷ i) ++ e) ≡ ((laid ++ a) ++ t ∷ []) ++ (i ++ e)
-behind laid a i e t = simp append_assoc
+laid_after : (laid a i e : List Token) (t : Token) → laid ++ ((a ++ t ∷ i) ++ e) ≡ ((laid ++ a) ++ t ∷ []) ++ (i ++ e)
+laid_after laid a i e t = simp append_assoc
 
 -- one token more, whose marks and stack are known
 one-more : (before : Option Token) (laid laid' : List Token) (count : ℕ) (t : Token) (more : List Token) (marks : List LayoutMark) (found : Result Marks ℕ) → laid' ≡ with_marks_at t.place marks laid
     → laid_then laid count (result_map_both (λ m. interleaving emitted_token (t ∷ more) m.before ++ map (emitted_token (last_of before (t ∷ more))) m.after) (λ number. number) (result_map_both (marks_with marks) suc found))
     ≡ laid_then (laid' ++ t ∷ []) (count + 1) (result_map_both (λ m. interleaving emitted_token more m.before ++ map (emitted_token (last_of (Some t) more)) m.after) (λ number. number) found)
 one-more before laid laid' count t more marks (Ok m) is =
-    ap Ok (behind laid (map (mark_at t.place) marks) (interleaving emitted_token more m.before) (map (emitted_token (last_of (Some t) more)) m.after) t
+    ap Ok (laid_after laid (map (mark_at t.place) marks) (interleaving emitted_token more m.before) (map (emitted_token (last_of (Some t) more)) m.after) t
     ∙ ap (λ ts. (ts ++ t ∷ []) ++ (interleaving emitted_token more m.before ++ map (emitted_token (last_of (Some t) more)) m.after)) (sym is))
 one-more before laid laid' count t more marks (Err number) is = ap Err (omega arith)
 
@@ -127,13 +127,13 @@ pub record UpTo (whole : Bool) (tokens out : List Token) (stack : List Standing)
 pub up-to-first : (whole : Bool) (tokens left out : List Token) (stack : List Standing) (due : Bool) → left ≡ reverse tokens → due ≡ due_at_start whole (token_sights tokens) → out ≡ [] → stack ≡ []
     → UpTo whole tokens out stack due None (reverse left)
 up-to-first whole tokens left out stack due reversed is no-out no-stack =
-    let back : tokens ≡ reverse left = sym (ap reverse reversed ∙ reverse-reverse tokens) in
+    let converse : tokens ≡ reverse left = sym (ap reverse reversed ∙ reverse-reverse tokens) in
     record {
       done = [];
-      text = back;
+      text = converse;
       last = refl;
       laid = at-start whole tokens due is
-          ∙ ap (λ ts. laid_then [] 0 (block_from None (stack_of []) due ts)) back
+          ∙ ap (λ ts. laid_then [] 0 (block_from None (stack_of []) due ts)) converse
           ∙ ap (λ ts. laid_then ts 0 (block_from None (stack_of []) due (reverse left))) (sym no-out)
           ∙ ap (λ s. laid_then out 0 (block_from None (stack_of s) due (reverse left))) (sym no-stack);
     }
@@ -177,16 +177,16 @@ pub at-last : (whole : Bool) (tokens out : List Token) (stack : List Standing) (
 at-last whole tokens out stack due begins before left seen t left' k popped form-is begins-is =
     record { text = k.text; last = k.last; laid = k.laid; next = ap reverse popped ∙ reverse-append left' (t ∷ []); what = form-is; first = begins-is }
 
-pub up-to-next : (whole : Bool) (tokens front out out' out'' : List Token) (stack stack' : List Standing) (due due' begins : Bool) (before : Option Place) (left : List Token) (seen : Form) (t : Token) (left' kept : List Token)
-    → At whole tokens front out stack due begins before left seen t (reverse left') → LaysOut due begins seen t.place out out' stack stack' → out'' ≡ out' ++ t ∷ [] → due' ≡ is_block_keyword seen → kept ≡ left'
+pub up-to-next : (whole : Bool) (tokens prefix out out' out'' : List Token) (stack stack' : List Standing) (due due' begins : Bool) (before : Option Place) (left : List Token) (seen : Form) (t : Token) (left' kept : List Token)
+    → At whole tokens prefix out stack due begins before left seen t (reverse left') → LaysOut due begins seen t.place out out' stack stack' → out'' ≡ out' ++ t ∷ [] → due' ≡ is_block_keyword seen → kept ≡ left'
     → UpTo whole tokens out'' stack' due' (Some t.place) (reverse kept)
-up-to-next whole tokens front out out' out'' stack stack' due due' begins before left seen t left' kept at lays pushed keyword same =
+up-to-next whole tokens prefix out out' out'' stack stack' due due' begins before left seen t left' kept at lays pushed keyword same =
     subst (λ ts. UpTo whole tokens out'' stack' due' (Some t.place) (reverse ts)) (sym same)
     (record {
-      done = front ++ t ∷ [];
-      text = text-more tokens front left (reverse left') t at.text at.next;
-      last = last-more front t;
-      laid = laid-more whole tokens front out out' out'' stack stack' due due' begins before left seen t (reverse left') at lays pushed keyword;
+      done = prefix ++ t ∷ [];
+      text = text-more tokens prefix left (reverse left') t at.text at.next;
+      last = last-more prefix t;
+      laid = laid-more whole tokens prefix out out' out'' stack stack' due due' begins before left seen t (reverse left') at lays pushed keyword;
     })
 
 stands-at : (done left' : List Token) (t : Token) → slice_get (done ++ t ∷ left') (length done + 0) ≡ Some t

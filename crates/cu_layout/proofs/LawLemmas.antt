@@ -14,7 +14,7 @@ use Rattle.cu_lex.specs.declared.token.TokenKind.TheVariants as token
 use Rattle.cu_lex.specs.Reading.{is_written, lexeme_of, kind_of, position_of, HasKind, HasNatural, IsTokenOf}
 use Rattle.cu_layout.specs.Blocks.{Marks, block, interleaving, last_of, layout_marks, with_marks}
 use Rattle.cu_layout.specs.Forms.{form_of, sight_of, token_form, token_sight}
-use Rattle.cu_layout.specs.Laws.{GivesTextBack, KeepsNames, KeepsNaturals, KeepsOwners, KeepsTokens, ReadsAlike, without_layout}
+use Rattle.cu_layout.specs.Laws.{RestoresText, KeepsNames, KeepsNaturals, KeepsOwners, KeepsTokens, ReadsAlike, without_layout}
 use Rattle.cu_layout.specs.Reading.{emitted_lexeme, emitted_token, token_view}
 use Rattle.cu_names.specs.declared.names.NameId.{NameId}
 
@@ -40,7 +40,7 @@ without-interleaving [] marks = refl
 without-interleaving (t ∷ more) [] = refl
 without-interleaving (t ∷ more) (here ∷ marks) =
     filter-append (λ x. is_written x.kind) (map (emitted_token (Some t)) here) (t ∷ interleaving emitted_token more marks)
-    ∙ ap (λ front. front ++ without_layout (t ∷ interleaving emitted_token more marks)) (without-emitted (Some t) here)
+    ∙ ap (λ prefix. prefix ++ without_layout (t ∷ interleaving emitted_token more marks)) (without-emitted (Some t) here)
     ∙ without-token t (interleaving emitted_token more marks) more (without-interleaving more marks)
 
 without-marks : (text : List Token) (marks : Marks) → without_layout (with_marks emitted_token text marks) ≡ without_layout text
@@ -58,8 +58,8 @@ without-written (t ∷ more) all =
     ap (λ written. if written then t ∷ without_layout more else without_layout more) (all 0 t (omega arith))
     ∙ ap (λ ts. t ∷ ts) (without-written more (λ k d fits. all (suc k) d (omega arith)))
 
-pub text-back : GivesTextBack
-text-back whole text laid all is = tokens-kept whole text laid is ∙ without-written text all
+pub text-restored : RestoresText
+text-restored whole text laid all is = tokens-kept whole text laid is ∙ without-written text all
 
 -- ---- what holds of the tokens of the text, and of a mark at the place of each, is kept
 

@@ -18,8 +18,8 @@ KeepsTokens = (whole : Bool) (text laid : List Token) → block token_view whole
 
 -- Where the rules had put in nothing before, the tokens laid out are the text again when what the
 -- rules put in is left out.
-abbrev pub GivesTextBack : Type 0
-GivesTextBack = (whole : Bool) (text laid : List Token) → All (λ t. is_written t.kind ≡ true) text
+abbrev pub RestoresText : Type 0
+RestoresText = (whole : Bool) (text laid : List Token) → All (λ t. is_written t.kind ≡ true) text
     → block token_view whole text ≡ Ok laid → without_layout laid ≡ text
 
 -- Layout doesn't depend on what names stand for: to read the tokens in a table of names and then

@@ -9,7 +9,7 @@ use Rattle.std.specs.Str.{byte, bytes_eq}
 use Rattle.cu_lex.specs.declared.cursor.Cursor.{Cursor}
 use Rattle.cu_lex.specs.declared.word.WordKind.{WordKind}
 use Rattle.cu_lex.specs.declared.word.WordKind.TheVariants as kind
-use Rattle.cu_lex.specs.Chains.{Reaches, BeginsAt, IsBehind}
+use Rattle.cu_lex.specs.Chains.{Reaches, BeginsAt, IsAfter}
 use Rattle.cu_lex.specs.Chains.Reaches.{last, link}
 use Rattle.cu_lex.specs.Located.{Located, characters}
 use Rattle.cu_lex.specs.Scanning.{skip, first_of, later, left, is_base, is_underscore, IsWord, IsOfKind, class_of, con_id_kind, HasNoWord, HasNoBase}
@@ -67,12 +67,12 @@ class-cases (kind.Keyword k) = inl refl
 class-cases (kind.Reserved k) = inr refl
 class-cases kind.Dashes = inr refl
 
-pub first-front : (p : ℕ → Bool) (front rest : List Located) → begins_with p (characters front) ≡ true → begins_with p (characters (front ++ rest)) ≡ true
-first-front p [] rest is = absurd (true≢false (sym is))
-first-front p (c ∷ front) rest is = is
+pub first-prefix : (p : ℕ → Bool) (prefix rest : List Located) → begins_with p (characters prefix) ≡ true → begins_with p (characters (prefix ++ rest)) ≡ true
+first-prefix p [] rest is = absurd (true≢false (sym is))
+first-prefix p (c ∷ prefix) rest is = is
 
 pub word-first : (text : List Located) (k : WordKind) (end : List Located) → IsWord text k end → begins_with (class_of k) (characters text) ≡ true
-word-first text k end word = subst (λ t. begins_with (class_of k) (characters t) ≡ true) word.whole (first-front (class_of k) word.front end word.some)
+word-first text k end word = subst (λ t. begins_with (class_of k) (characters t) ≡ true) word.whole (first-prefix (class_of k) word.prefix end word.some)
 
 pub name-symbol : (text : List Located) → begins_with is_name_character (characters text) ≡ true → begins_with is_symbol (characters text) ≡ true → ⊥
 name-symbol [] is is' = true≢false (sym is)
@@ -94,26 +94,26 @@ same-class text k k' end end' w w' = by (class-cases k) (class-cases k')
     by (inr a) (inr b) = a ∙ sym b
 
 pub word-end : (text : List Located) (k : WordKind) (end : List Located) → IsWord text k end → skip (class_of k) text ≡ end
-word-end text k end w = ap (skip (class_of k)) (sym w.whole) ∙ run-unique (class_of k) w.front end w.all w.ended
+word-end text k end w = ap (skip (class_of k)) (sym w.whole) ∙ run-unique (class_of k) w.prefix end w.all w.ended
 
 pub same-end : (text : List Located) (k k' : WordKind) (end end' : List Located) → IsWord text k end → IsWord text k' end' → end ≡ end'
 same-end text k k' end end' w w' =
     sym (word-end text k end w) ∙ ap (λ f. skip f text) (same-class text k k' end end' w w') ∙ word-end text k' end' w'
 
 -- what stands before the same end is the same
-pub same-front : (front front' end : List Located) → front ++ end ≡ front' ++ end → front ≡ front'
-same-front [] [] end whole = refl
-same-front [] (d ∷ front') end whole = let sizes = ap length whole in absurd (omega (arith, length-append (d ∷ front') end))
-same-front (c ∷ front) [] end whole = let sizes = ap length whole in absurd (omega (arith, length-append (c ∷ front) end))
-same-front (c ∷ front) (d ∷ front') end whole =
+pub same-prefix : (prefix prefix' end : List Located) → prefix ++ end ≡ prefix' ++ end → prefix ≡ prefix'
+same-prefix [] [] end whole = refl
+same-prefix [] (d ∷ prefix') end whole = let sizes = ap length whole in absurd (omega (arith, length-append (d ∷ prefix') end))
+same-prefix (c ∷ prefix) [] end whole = let sizes = ap length whole in absurd (omega (arith, length-append (c ∷ prefix) end))
+same-prefix (c ∷ prefix) (d ∷ prefix') end whole =
     let heads : c ≡ d = cc in
-    let tails : front ++ end ≡ front' ++ end = cc in
-    let more = same-front front front' end tails in
+    let tails : prefix ++ end ≡ prefix' ++ end = cc in
+    let more = same-prefix prefix prefix' end tails in
     (λ j. heads j ∷ more j)
 
-pub fronts : (text : List Located) (k k' : WordKind) (end end' : List Located) (w : IsWord text k end) (w' : IsWord text k' end') → w.front ≡ w'.front
-fronts text k k' end end' w w' =
-    same-front w.front w'.front end' (ap (λ t. w.front ++ t) (sym (same-end text k k' end end' w w')) ∙ w.whole ∙ sym w'.whole)
+pub prefixes : (text : List Located) (k k' : WordKind) (end end' : List Located) (w : IsWord text k end) (w' : IsWord text k' end') → w.prefix ≡ w'.prefix
+prefixes text k k' end end' w w' =
+    same-prefix w.prefix w'.prefix end' (ap (λ t. w.prefix ++ t) (sym (same-end text k k' end end' w w')) ∙ w.whole ∙ sym w'.whole)
 
 -- ---- words of one kind aren't of another
 
@@ -230,24 +230,24 @@ advance text k end rest w base (last k' w' base') =
     inl (subst (λ t. length end ≤ length t) same (omega arith))
 advance text k end rest w base (link end' w' dot more) =
     let same = same-end text k con_id_kind end end' w w' in
-    let con : is_con_id (characters w.front) ≡ true = subst (λ f. is_con_id (characters f) ≡ true) (sym (fronts text k con_id_kind end end' w w')) w'.is in
+    let con : is_con_id (characters w.prefix) ≡ true = subst (λ f. is_con_id (characters f) ≡ true) (sym (prefixes text k con_id_kind end end' w w')) w'.is in
     inr (record {
-      con_id = con-kind (characters w.front) k con w.is base;
+      con_id = con-kind (characters w.prefix) k con w.is base;
       dot = subst (λ t. first_of t ≡ Some (byte ".")) (sym same) dot;
       more = subst (λ t. Reaches rest (later t)) (sym same) more;
     })
 
 -- a name of a variable begins with a small letter, after any underscores
-pub form-first : (front rest : List Located) → has_variable_form (characters front) ≡ true → begins_with is_ascii_lowercase (characters (skip is_underscore (front ++ rest))) ≡ true
+pub form-first : (prefix rest : List Located) → has_variable_form (characters prefix) ≡ true → begins_with is_ascii_lowercase (characters (skip is_underscore (prefix ++ rest))) ≡ true
 form-first [] rest is = absurd (true≢false (sym is))
-form-first (c ∷ front) rest is = by (λ h. form-first front rest h) (is_underscore c.char) refl (is_ascii_lowercase c.char) refl is
+form-first (c ∷ prefix) rest is = by (λ h. form-first prefix rest h) (is_underscore c.char) refl (is_ascii_lowercase c.char) refl is
   where
-    by : (has_variable_form (characters front) ≡ true → begins_with is_ascii_lowercase (characters (skip is_underscore (front ++ rest))) ≡ true)
+    by : (has_variable_form (characters prefix) ≡ true → begins_with is_ascii_lowercase (characters (skip is_underscore (prefix ++ rest))) ≡ true)
         → (a : Bool) → is_underscore c.char ≡ a → (b : Bool) → is_ascii_lowercase c.char ≡ b
-        → (a && has_variable_form (characters front)) || (b && list_all is_name_character (characters front)) ≡ true
-        → begins_with is_ascii_lowercase (characters (skip is_underscore (c ∷ front ++ rest))) ≡ true
+        → (a && has_variable_form (characters prefix)) || (b && list_all is_name_character (characters prefix)) ≡ true
+        → begins_with is_ascii_lowercase (characters (skip is_underscore (c ∷ prefix ++ rest))) ≡ true
     by more true h true h' is = absurd (true≢false (sym h' ∙ ap is_ascii_lowercase (eqb-true c.char 95 h)))
-    by more true h false h' is = rw h (more (or-first (has_variable_form (characters front)) is))
+    by more true h false h' is = rw h (more (or-first (has_variable_form (characters prefix)) is))
       where
         or-first : (b : Bool) → b || false ≡ true → b ≡ true
         or-first true is = refl
@@ -258,13 +258,13 @@ form-first (c ∷ front) rest is = by (λ h. form-first front rest h) (is_unders
 -- where no name or operator begins, no chain does
 no-word : (text : List Located) (k : WordKind) (end : List Located) → HasNoWord text → IsWord text k end → is_base k ≡ true → ⊥
 no-word text kind.VarId end none w base =
-    true≢false (sym (subst (λ t. begins_with is_ascii_lowercase (characters (skip is_underscore t)) ≡ true) w.whole (form-first w.front end (var-form (characters w.front) w.is))) ∙ none.variable)
+    true≢false (sym (subst (λ t. begins_with is_ascii_lowercase (characters (skip is_underscore t)) ≡ true) w.whole (form-first w.prefix end (var-form (characters w.prefix) w.is))) ∙ none.variable)
 no-word text kind.ConId end none w base =
-    true≢false (sym (subst (λ t. begins_with is_ascii_uppercase (characters t) ≡ true) w.whole (first-front is_ascii_uppercase w.front end (con-capital (characters w.front) w.is))) ∙ none.capital)
+    true≢false (sym (subst (λ t. begins_with is_ascii_uppercase (characters t) ≡ true) w.whole (first-prefix is_ascii_uppercase w.prefix end (con-capital (characters w.prefix) w.is))) ∙ none.capital)
 no-word text kind.VarOp end none w base =
-    true≢false (sym (subst (λ t. begins_with is_symbol (characters t) ≡ true) w.whole (first-front is_symbol w.front end (operator-first (characters w.front) w.is.0))) ∙ none.symbol)
+    true≢false (sym (subst (λ t. begins_with is_symbol (characters t) ≡ true) w.whole (first-prefix is_symbol w.prefix end (operator-first (characters w.prefix) w.is.0))) ∙ none.symbol)
 no-word text kind.ConOp end none w base =
-    true≢false (sym (subst (λ t. begins_with is_symbol (characters t) ≡ true) w.whole (first-front is_symbol w.front end (operator-first (characters w.front) w.is.0))) ∙ none.symbol)
+    true≢false (sym (subst (λ t. begins_with is_symbol (characters t) ≡ true) w.whole (first-prefix is_symbol w.prefix end (operator-first (characters w.prefix) w.is.0))) ∙ none.symbol)
 no-word text (kind.Keyword k) end none w base = true≢false (sym base)
 no-word text (kind.Reserved k) end none w base = true≢false (sym base)
 no-word text kind.Dashes end none w base = true≢false (sym base)
@@ -275,13 +275,13 @@ no-chain text rest none (last k w base) = by none
     by : HasNoBase text → ⊥
     by (inl empty) = no-word text k rest empty w base
     by (inr (k', end', w', base')) =
-        kinds-apart (characters w.front) k k' (same-class text k k' rest end' w w') w.is base (subst (λ f. IsOfKind k' (characters f)) (sym (fronts text k k' rest end' w w')) w'.is) base'
+        kinds-apart (characters w.prefix) k k' (same-class text k k' rest end' w w') w.is base (subst (λ f. IsOfKind k' (characters f)) (sym (prefixes text k k' rest end' w w')) w'.is) base'
 no-chain text rest none (link end w dot more) = by none
   where
     by : HasNoBase text → ⊥
     by (inl empty) = no-word text con_id_kind end empty w refl
     by (inr (k', end', w', base')) =
-        kinds-apart (characters w.front) con_id_kind k' (same-class text con_id_kind k' end end' w w') w.is refl (subst (λ f. IsOfKind k' (characters f)) (sym (fronts text con_id_kind k' end end' w w')) w'.is) base'
+        kinds-apart (characters w.prefix) con_id_kind k' (same-class text con_id_kind k' end end' w w') w.is refl (subst (λ f. IsOfKind k' (characters f)) (sym (prefixes text con_id_kind k' end end' w w')) w'.is) base'
 
 -- ---- names of modules
 
@@ -332,33 +332,33 @@ dotted (d ∷ end) first =
     let at : d.char ≡ 46 = cc in
     (d, at, refl)
 
-pub behind : (text base end base' : List Located) (dot : Option Cursor) → BeginsAt text base dot → IsWord base con_id_kind end → first_of end ≡ Some (byte ".") → base' ≡ later end → IsBehind text end base'
-behind text base end base' None begins w dot after = record {
-  outer = w.front;
+pub after_dot : (text base end base' : List Located) (dot : Option Cursor) → BeginsAt text base dot → IsWord base con_id_kind end → first_of end ≡ Some (byte ".") → base' ≡ later end → IsAfter text end base'
+after_dot text base end base' None begins w dot after = record {
+  outer = w.prefix;
   whole = w.whole ∙ begins;
-  is = con-module (characters w.front) w.is;
+  is = con-module (characters w.prefix) w.is;
   dotted = dot;
   after = after;
 }
-behind text base end base' (Some old) begins w dot after =
+after_dot text base end base' (Some old) begins w dot after =
     let point = dotted (left old) begins.dotted in
-    let joined : characters (begins.outer ++ point.0 ∷ w.front) ≡ characters begins.outer ++ 46 ∷ characters w.front =
-    map-append (λ (l : Located). l.char) begins.outer (point.0 ∷ w.front) ∙ ap (λ d. characters begins.outer ++ d ∷ characters w.front) point.1 in
+    let joined : characters (begins.outer ++ point.0 ∷ w.prefix) ≡ characters begins.outer ++ 46 ∷ characters w.prefix =
+    map-append (λ (l : Located). l.char) begins.outer (point.0 ∷ w.prefix) ∙ ap (λ d. characters begins.outer ++ d ∷ characters w.prefix) point.1 in
     record {
-      outer = begins.outer ++ point.0 ∷ w.front;
-      whole = append_assoc begins.outer (point.0 ∷ w.front) end ∙ ap (λ t. begins.outer ++ point.0 ∷ t) (w.whole ∙ begins.after) ∙ ap (λ t. begins.outer ++ t) (sym point.2) ∙ begins.whole;
-      is = ap is_module_name joined ∙ module-join (characters begins.outer) (characters w.front) begins.is (con-module (characters w.front) w.is);
+      outer = begins.outer ++ point.0 ∷ w.prefix;
+      whole = append_assoc begins.outer (point.0 ∷ w.prefix) end ∙ ap (λ t. begins.outer ++ point.0 ∷ t) (w.whole ∙ begins.after) ∙ ap (λ t. begins.outer ++ t) (sym point.2) ∙ begins.whole;
+      is = ap is_module_name joined ∙ module-join (characters begins.outer) (characters w.prefix) begins.is (con-module (characters w.prefix) w.is);
       dotted = dot;
       after = after;
     }
 
 -- what follows a word is shorter
 pub word-shorter : (text : List Located) (k : WordKind) (end : List Located) → IsWord text k end → length end < length text
-word-shorter text k end w = by w.front w.some w.whole
+word-shorter text k end w = by w.prefix w.some w.whole
   where
-    by : (front : List Located) → begins_with (class_of k) (characters front) ≡ true → front ++ end ≡ text → length end < length text
+    by : (prefix : List Located) → begins_with (class_of k) (characters prefix) ≡ true → prefix ++ end ≡ text → length end < length text
     by [] some whole = absurd (true≢false (sym some))
-    by (c ∷ front) some whole = omega (arith, ap length whole, length-append (c ∷ front) end)
+    by (c ∷ prefix) some whole = omega (arith, ap length whole, length-append (c ∷ prefix) end)
 
 pub later-shorter : (text : List Located) → length (later text) ≤ length text
 later-shorter [] = omega arith

@@ -17,12 +17,12 @@ use Rattle.cu_lex.specs.Pieces.Piece.{Blank, Token}
 use Rattle.cu_lex.specs.Scanning.{class_of, IsWord, IsOfKind}
 use Rattle.cu_lex.specs.Words.{begins_with, is_single, is_separator, is_name_character, is_symbol, is_dash, is_dashes, mark_of, marks, is_line_comment, is_nested_comment}
 use Rattle.cu_lex.proofs.AsciiLemmas.{and-left, and-right, and-both, apart, all_below, small-symbol, small-name}
-use Rattle.cu_lex.proofs.ChainLemmas.{entry-none, operator-dashes, first-front, same-end, word-first, name-symbol, class-cases, classes-differ}
+use Rattle.cu_lex.proofs.ChainLemmas.{entry-none, operator-dashes, first-prefix, same-end, word-first, name-symbol, class-cases, classes-differ}
 use Rattle.cu_lex.proofs.FirstLemmas.{is_char, is_dashes_kind, stands-named, number-none, literal-none, word-is}
 use Rattle.cu_lex.proofs.ItemLemmas.{not-some}
-use Rattle.cu_lex.proofs.PieceLemmas.{FrontIs, front-cases, PieceIs, piece-longest, front-first, shorter-front, dash-symbol, reserved-dashes}
-use Rattle.cu_lex.proofs.PieceLemmas.PieceIs.{blank_front, word_front, number_front, character_front, string_front}
-use Rattle.cu_lex.proofs.PieceLemmas.FrontIs.{plain, marked, chained}
+use Rattle.cu_lex.proofs.PieceLemmas.{PrefixIs, prefix-cases, PieceIs, piece-longest, prefix-first, shorter-prefix, dash-symbol, reserved-dashes}
+use Rattle.cu_lex.proofs.PieceLemmas.PieceIs.{blank_prefix, word_prefix, number_prefix, character_prefix, string_prefix}
+use Rattle.cu_lex.proofs.PieceLemmas.PrefixIs.{plain, marked, chained}
 
 pub begins-apart : (p q : ℕ → Bool) → ((c : ℕ) → p c ≡ true → c < 128) → all_below 128 (λ c. not (p c && q c)) ≡ true → (w : List ℕ) → begins_with p w ≡ true → begins_with q w ≡ false
 begins-apart p q small all [] is = refl
@@ -32,14 +32,14 @@ map-not-some : {X Y : Type 0} (g : X → Y) (o : Option X) → o ≡ None → Is
 map-not-some g o none some = true≢false (sym some ∙ ap (λ x. is_some (option_map g x)) none)
 
 pub no-number : (f r text : List Located) → f ++ r ≡ text → 0 < length f → begins_with is_ascii_digit (characters text) ≡ false → IsSome (number (start f) (characters f) (characters r)) → ⊥
-no-number f r text whole some digit is = map-not-some _ _ (number-none (characters f) (characters r) (front-first is_ascii_digit f r text whole some ∙ digit)) is
+no-number f r text whole some digit is = map-not-some _ _ (number-none (characters f) (characters r) (prefix-first is_ascii_digit f r text whole some ∙ digit)) is
 
 pub no-literal : (quote : ℕ) (f r text : List Located) → f ++ r ≡ text → 0 < length f → begins_with (is_char quote) (characters text) ≡ false → IsSome (items_between quote f) → ⊥
-no-literal quote f r text whole some fails is = not-some (items_between quote f) (literal-none quote f (front-first (is_char quote) f r text whole some ∙ fails)) is
+no-literal quote f r text whole some fails is = not-some (items_between quote f) (literal-none quote f (prefix-first (is_char quote) f r text whole some ∙ fails)) is
 
 pub no-character : (f r text : List Located) → f ++ r ≡ text → 0 < length f → begins_with (is_char 39) (characters text) ≡ false → IsSome (option_and_then one_character (items_between 39 f)) → ⊥
 no-character f r text whole some fails is =
-    true≢false (sym is ∙ ap (λ o. is_some (option_and_then one_character o)) (literal-none 39 f (front-first (is_char 39) f r text whole some ∙ fails)))
+    true≢false (sym is ∙ ap (λ o. is_some (option_and_then one_character o)) (literal-none 39 f (prefix-first (is_char 39) f r text whole some ∙ fails)))
 
 -- marks are single characters
 one_char : List ℕ → Bool
@@ -109,18 +109,18 @@ comment-first (c ∷ w) is = by (is_dash c) refl is
     by false h is = is
 
 -- a longer front goes on into what follows the shorter
-pub record GoesOn (front rest f r : List Located) : Type 0 where
+pub record GoesOn (prefix rest f r : List Located) : Type 0 where
   pub more : List Located
-  pub whole : f ≡ front ++ more
+  pub whole : f ≡ prefix ++ more
   pub after : rest ≡ more ++ r
 
-pub goes-on : (front rest f r : List Located) → front ++ rest ≡ f ++ r → length front ≤ length f → GoesOn front rest f r
+pub goes-on : (prefix rest f r : List Located) → prefix ++ rest ≡ f ++ r → length prefix ≤ length f → GoesOn prefix rest f r
 goes-on [] rest f r whole fits = record { more = f; whole = refl; after = whole }
-goes-on (c ∷ front) rest [] r whole fits = absurd (omega arith)
-goes-on (c ∷ front) rest (d ∷ f) r whole fits =
+goes-on (c ∷ prefix) rest [] r whole fits = absurd (omega arith)
+goes-on (c ∷ prefix) rest (d ∷ f) r whole fits =
     let heads : d ≡ c = cc in
-    let tails : front ++ rest ≡ f ++ r = cc in
-    let g = goes-on front rest f r tails (omega arith) in
+    let tails : prefix ++ rest ≡ f ++ r = cc in
+    let g = goes-on prefix rest f r tails (omega arith) in
     record { more = g.more; whole = (λ j. heads j ∷ g.whole j); after = g.after }
 
 no-dashes : (k : WordKind) (w : List ℕ) → IsOfKind k w → is_dashes_kind k ≡ false → class_of k ≡ is_symbol → is_dashes w ≡ false
@@ -144,24 +144,24 @@ first-more p [] r fails = refl
 first-more p (c ∷ more) r fails = fails
 
 -- a comment is no longer than a word that isn't dashes
-pub comment-shorter : (text f r : List Located) (k : WordKind) (end : List Located) → f ++ r ≡ text → 0 < length f → (w : IsWord text k end) → is_dashes_kind k ≡ false → is_line_comment (characters f) ≡ true → length f < length w.front
-comment-shorter text f r k end whole some w other is = ⊎_elim (λ lt. lt) (λ ge. absurd (longer ge (class-cases k))) (cases_lt (length f) (length w.front))
+pub comment-shorter : (text f r : List Located) (k : WordKind) (end : List Located) → f ++ r ≡ text → 0 < length f → (w : IsWord text k end) → is_dashes_kind k ≡ false → is_line_comment (characters f) ≡ true → length f < length w.prefix
+comment-shorter text f r k end whole some w other is = ⊎_elim (λ lt. lt) (λ ge. absurd (longer ge (class-cases k))) (cases_lt (length f) (length w.prefix))
   where
     dash : begins_with is_symbol (characters text) ≡ true
-    dash = subst (λ t. begins_with is_symbol (characters t) ≡ true) whole (first-front is_symbol f r (first (characters f) (comment-first (characters f) is)))
+    dash = subst (λ t. begins_with is_symbol (characters t) ≡ true) whole (first-prefix is_symbol f r (first (characters f) (comment-first (characters f) is)))
       where
         first : (v : List ℕ) → begins_with is_dash v ≡ true → begins_with is_symbol v ≡ true
         first [] h = h
         first (c ∷ v) h = dash-symbol c h
 
-    longer : length w.front ≤ length f → (class_of k ≡ is_name_character) ⊎ (class_of k ≡ is_symbol) → ⊥
+    longer : length w.prefix ≤ length f → (class_of k ≡ is_name_character) ⊎ (class_of k ≡ is_symbol) → ⊥
     longer fits (inl name) = name-symbol text (subst (λ p. begins_with p (characters text) ≡ true) name (word-first text k end w)) dash
     longer fits (inr symbol) =
-        let g = goes-on w.front end f r (w.whole ∙ sym whole) fits in
+        let g = goes-on w.prefix end f r (w.whole ∙ sym whole) fits in
         let fails = first-more is_symbol g.more r (ap (λ t. begins_with is_symbol (characters t)) (sym g.after) ∙ subst (λ p. begins_with p (characters end) ≡ false) symbol w.ended) in
-        let parts : characters f ≡ characters w.front ++ characters g.more = ap characters g.whole ∙ map-append (λ (l : Located). l.char) w.front g.more in
-        let dashes = comment-dashes (characters w.front) (characters g.more) (subst (λ p. list_all p (characters w.front) ≡ true) symbol w.all) fails (ap is_line_comment (sym parts) ∙ is) in
-        true≢false (sym dashes ∙ no-dashes k (characters w.front) w.is other symbol)
+        let parts : characters f ≡ characters w.prefix ++ characters g.more = ap characters g.whole ∙ map-append (λ (l : Located). l.char) w.prefix g.more in
+        let dashes = comment-dashes (characters w.prefix) (characters g.more) (subst (λ p. list_all p (characters w.prefix) ≡ true) symbol w.all) fails (ap is_line_comment (sym parts) ∙ is) in
+        true≢false (sym dashes ∙ no-dashes k (characters w.prefix) w.is other symbol)
 
 -- ---- words
 
@@ -204,19 +204,19 @@ is-comment w separator brace some = by (is_line_comment w) refl (subst IsSome (b
     by true h is = refl
     by false h is = absurd (true≢false (sym is))
 
-pub word-some : (text : List Located) (k : WordKind) (end : List Located) (w : IsWord text k end) → 0 < length w.front
-word-some text k end w = by w.front w.some
+pub word-some : (text : List Located) (k : WordKind) (end : List Located) (w : IsWord text k end) → 0 < length w.prefix
+word-some text k end w = by w.prefix w.some
   where
-    by : (front : List Located) → begins_with (class_of k) (characters front) ≡ true → 0 < length front
+    by : (prefix : List Located) → begins_with (class_of k) (characters prefix) ≡ true → 0 < length prefix
     by [] is = absurd (true≢false (sym is))
-    by (c ∷ front) is = omega arith
+    by (c ∷ prefix) is = omega arith
 
 -- the fronts of a text that a word begins
-pub word-most : (text : List Located) (k : WordKind) (end : List Located) → IsPlain text → (w : IsWord text k end) → (f r : List Located) → f ++ r ≡ text → 0 < length f → IsSome (word (characters f) (characters r)) → length f ≤ length w.front
-word-most text k end facts w f r whole some is = by (front-cases text f r whole is)
+pub word-most : (text : List Located) (k : WordKind) (end : List Located) → IsPlain text → (w : IsWord text k end) → (f r : List Located) → f ++ r ≡ text → 0 < length f → IsSome (word (characters f) (characters r)) → length f ≤ length w.prefix
+word-most text k end facts w f r whole some is = by (prefix-cases text f r whole is)
   where
-    by : FrontIs text f r → length f ≤ length w.front
-    by (plain k' w' other) = shorter-front f r w.front end text whole w.whole (let same = ap length (same-end text k k' end r w w') in omega arith)
+    by : PrefixIs text f r → length f ≤ length w.prefix
+    by (plain k' w' other) = shorter-prefix f r w.prefix end text whole w.whole (let same = ap length (same-end text k k' end r w w') in omega arith)
     by (marked m at ok) = let a = mark-size f m at in let b = word-some text k end w in omega arith
     by (chained capital reaches) = absurd (true≢false (sym capital ∙ facts.capital))
 
@@ -225,32 +225,32 @@ unfolding piece
 word-piece f r what no_blank is ok = rw (no_blank, is, ok) refl
 
 pub word-longest : (text : List Located) (k : WordKind) (end : List Located) → IsPlain text → (w : IsWord text k end) → is_dashes_kind k ≡ false
-    → longest piece text ≡ Some (cut_at w.front end (Token (named None k (characters w.front))))
+    → longest piece text ≡ Some (cut_at w.prefix end (Token (named None k (characters w.prefix))))
 word-longest text k end facts w other =
-    piece-longest text w.front end (Token (named None k (characters w.front))) w.whole (word-some text k end w)
-    (word-piece w.front end (named None k (characters w.front)) no-blank (word-is (characters w.front) k w.is other)
-    (stands-named None k (characters w.front) (characters end) other ∙ ap not w.ended))
+    piece-longest text w.prefix end (Token (named None k (characters w.prefix))) w.whole (word-some text k end w)
+    (word-piece w.prefix end (named None k (characters w.prefix)) no-blank (word-is (characters w.prefix) k w.is other)
+    (stands-named None k (characters w.prefix) (characters end) other ∙ ap not w.ended))
     most
   where
-    front-is : (p : ℕ → Bool) → begins_with p (characters text) ≡ false → begins_with p (characters w.front) ≡ false
-    front-is p fails = front-first p w.front end text w.whole (word-some text k end w) ∙ fails
+    prefix-is : (p : ℕ → Bool) → begins_with p (characters text) ≡ false → begins_with p (characters w.prefix) ≡ false
+    prefix-is p fails = prefix-first p w.prefix end text w.whole (word-some text k end w) ∙ fails
 
-    comment-none : (b : Bool) → is_line_comment (characters w.front) ≡ b → (if b then Some Blank else None) ≡ None
+    comment-none : (b : Bool) → is_line_comment (characters w.prefix) ≡ b → (if b then Some Blank else None) ≡ None
     comment-none false h = refl
-    comment-none true h = absurd (let lt = comment-shorter text w.front end k end w.whole (word-some text k end w) w other h in omega arith)
+    comment-none true h = absurd (let lt = comment-shorter text w.prefix end k end w.whole (word-some text k end w) w other h in omega arith)
 
-    no-blank : blank (characters w.front) ≡ None
-    no-blank = blank-comment (characters w.front) (front-is is_separator facts.separator) (front-is (is_char 123) (word-brace text k end w)) ∙ comment-none (is_line_comment (characters w.front)) refl
+    no-blank : blank (characters w.prefix) ≡ None
+    no-blank = blank-comment (characters w.prefix) (prefix-is is_separator facts.separator) (prefix-is (is_char 123) (word-brace text k end w)) ∙ comment-none (is_line_comment (characters w.prefix)) refl
 
-    most : (f r : List Located) → f ++ r ≡ text → 0 < length f → PieceIs f r → length f ≤ length w.front
-    most f r whole some (blank_front is) =
-        let comment = is-comment (characters f) (front-first is_separator f r text whole some ∙ facts.separator) (front-first (is_char 123) f r text whole some ∙ word-brace text k end w) is in
+    most : (f r : List Located) → f ++ r ≡ text → 0 < length f → PieceIs f r → length f ≤ length w.prefix
+    most f r whole some (blank_prefix is) =
+        let comment = is-comment (characters f) (prefix-first is_separator f r text whole some ∙ facts.separator) (prefix-first (is_char 123) f r text whole some ∙ word-brace text k end w) is in
         let lt = comment-shorter text f r k end whole some w other comment in
         omega arith
-    most f r whole some (word_front is) = word-most text k end facts w f r whole some is
-    most f r whole some (number_front is) = absurd (no-number f r text whole some facts.digit is)
-    most f r whole some (character_front is) = absurd (no-character f r text whole some facts.quote is)
-    most f r whole some (string_front is) = absurd (no-literal 34 f r text whole some facts.quotes is)
+    most f r whole some (word_prefix is) = word-most text k end facts w f r whole some is
+    most f r whole some (number_prefix is) = absurd (no-number f r text whole some facts.digit is)
+    most f r whole some (character_prefix is) = absurd (no-character f r text whole some facts.quote is)
+    most f r whole some (string_prefix is) = absurd (no-literal 34 f r text whole some facts.quotes is)
 
 -- ---- dashes that begin a comment
 

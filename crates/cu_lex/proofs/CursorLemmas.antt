@@ -43,27 +43,27 @@ shorter-later bs ds c is =
     omega (arith, length-encode c, bounds.0)
 
 -- the bytes of what stands before
-pub before : (front : List Located) (p q : Position) (bs ds : List ℕ) → is_utf8 bs ≡ true → is_utf8 ds ≡ true
-    → front ++ located_from q (chars ds) ≡ located_from p (chars bs) → bs ≡ encodes (characters front) ++ ds
-before front p q bs ds utf8 utf8' whole =
-    let parts : chars bs ≡ characters front ++ chars ds =
-    sym (characters-located p (chars bs)) ∙ ap characters (sym whole) ∙ map-append (λ (l : Located). l.char) front (located_from q (chars ds))
-    ∙ ap (λ t. characters front ++ t) (characters-located q (chars ds)) in
-    sym (encodes-chars bs (IsUtf8-from_is_utf8 bs utf8)) ∙ ap encodes parts ∙ encodes-append (characters front) (chars ds)
-    ∙ ap (λ t. encodes (characters front) ++ t) (encodes-chars ds (IsUtf8-from_is_utf8 ds utf8'))
+pub before : (prefix : List Located) (p q : Position) (bs ds : List ℕ) → is_utf8 bs ≡ true → is_utf8 ds ≡ true
+    → prefix ++ located_from q (chars ds) ≡ located_from p (chars bs) → bs ≡ encodes (characters prefix) ++ ds
+before prefix p q bs ds utf8 utf8' whole =
+    let parts : chars bs ≡ characters prefix ++ chars ds =
+    sym (characters-located p (chars bs)) ∙ ap characters (sym whole) ∙ map-append (λ (l : Located). l.char) prefix (located_from q (chars ds))
+    ∙ ap (λ t. characters prefix ++ t) (characters-located q (chars ds)) in
+    sym (encodes-chars bs (IsUtf8-from_is_utf8 bs utf8)) ∙ ap encodes parts ∙ encodes-append (characters prefix) (chars ds)
+    ∙ ap (λ t. encodes (characters prefix) ++ t) (encodes-chars ds (IsUtf8-from_is_utf8 ds utf8'))
 
-pub fits-before : (front bs ds : List ℕ) → bs ≡ front ++ ds → length ds ≤ length bs
-fits-before front bs ds is = omega (arith, ap length is, length-append front ds)
+pub fits-before : (prefix bs ds : List ℕ) → bs ≡ prefix ++ ds → length ds ≤ length bs
+fits-before prefix bs ds is = omega (arith, ap length is, length-append prefix ds)
 
-pub boundary : (front bs ds : List ℕ) → is_utf8 ds ≡ true → bs ≡ front ++ ds → IsCharBoundary bs (length bs - length ds)
-boundary front bs ds utf8 is =
-    let size : length bs - length ds ≡ length front = omega (arith, ap length is, length-append front ds) in
-    rw size (IsCharBoundary-at_seam bs front ds is (IsUtf8-from_is_utf8 ds utf8))
+pub boundary : (prefix bs ds : List ℕ) → is_utf8 ds ≡ true → bs ≡ prefix ++ ds → IsCharBoundary bs (length bs - length ds)
+boundary prefix bs ds utf8 is =
+    let size : length bs - length ds ≡ length prefix = omega (arith, ap length is, length-append prefix ds) in
+    rw size (IsCharBoundary-at_seam bs prefix ds is (IsUtf8-from_is_utf8 ds utf8))
 
-pub taken : (front bs ds : List ℕ) → bs ≡ front ++ ds → slice_range bs 0 (length bs - length ds) ≡ front
-taken front bs ds is =
-    let size : (length bs - length ds) - 0 ≡ length front = omega (arith, ap length is, length-append front ds) in
-    rw size (ap (take (length front)) is ∙ take-append_seam front ds)
+pub taken : (prefix bs ds : List ℕ) → bs ≡ prefix ++ ds → slice_range bs 0 (length bs - length ds) ≡ prefix
+taken prefix bs ds is =
+    let size : (length bs - length ds) - 0 ≡ length prefix = omega (arith, ap length is, length-append prefix ds) in
+    rw size (ap (take (length prefix)) is ∙ take-append_seam prefix ds)
 
 pub first-at : (p : Position) (cs : List ℕ) (first : Located) (rest : List Located) → located_from p cs ≡ first ∷ rest → p ≡ first.at
 unfolding located_from

@@ -11,7 +11,7 @@ module _ {X : Type 0} (classes : Classes X) where
   rest-shorter text cut is =
       let law = longest-is classes text cut is in
       let some = law.some in
-      omega (arith, ap length law.whole, length-append cut.front cut.rest)
+      omega (arith, ap length law.whole, length-append cut.prefix cut.rest)
 
   -- more steps than characters change nothing
   pub cut-enough : (n m : ℕ) (text : List Located) → length text ≤ n → length text ≤ m → cut_within classes n text ≡ cut_within classes m text

@@ -16,27 +16,27 @@ same-tests false true to from = from refl
 same-tests false false to from = refl
 
 -- what follows a text decides
-pub utf8-behind : (front bytes : List ℕ) → IsUtf8 front → is_utf8 (front ++ bytes) ≡ is_utf8 bytes
-utf8-behind front bytes text = same-tests (is_utf8 (front ++ bytes)) (is_utf8 bytes) to from
+pub utf8-after : (prefix bytes : List ℕ) → IsUtf8 prefix → is_utf8 (prefix ++ bytes) ≡ is_utf8 bytes
+utf8-after prefix bytes text = same-tests (is_utf8 (prefix ++ bytes)) (is_utf8 bytes) to from
   where
-    to : is_utf8 (front ++ bytes) ≡ true → is_utf8 bytes ≡ true
+    to : is_utf8 (prefix ++ bytes) ≡ true → is_utf8 bytes ≡ true
     to is =
-        let whole = IsUtf8-from_is_utf8 (front ++ bytes) is in
-        let fits : length front ≤ length (front ++ bytes) = omega (arith, length-append front bytes) in
-        let cut = IsCharBoundary-from_take (front ++ bytes) (length front) whole fits (subst IsUtf8 (sym (take-append_seam front bytes)) text) in
-        is_utf8-from_IsUtf8 bytes (subst IsUtf8 (drop-append_seam front bytes) (IsUtf8-drop (front ++ bytes) (length front) whole cut))
+        let whole = IsUtf8-from_is_utf8 (prefix ++ bytes) is in
+        let fits : length prefix ≤ length (prefix ++ bytes) = omega (arith, length-append prefix bytes) in
+        let cut = IsCharBoundary-from_take (prefix ++ bytes) (length prefix) whole fits (subst IsUtf8 (sym (take-append_seam prefix bytes)) text) in
+        is_utf8-from_IsUtf8 bytes (subst IsUtf8 (drop-append_seam prefix bytes) (IsUtf8-drop (prefix ++ bytes) (length prefix) whole cut))
 
-    from : is_utf8 bytes ≡ true → is_utf8 (front ++ bytes) ≡ true
-    from is = is_utf8-from_IsUtf8 (front ++ bytes) (IsUtf8-append front bytes text (IsUtf8-from_is_utf8 bytes is))
+    from : is_utf8 bytes ≡ true → is_utf8 (prefix ++ bytes) ≡ true
+    from is = is_utf8-from_IsUtf8 (prefix ++ bytes) (IsUtf8-append prefix bytes text (IsUtf8-from_is_utf8 bytes is))
 
-any-same : (front bytes : List ℕ) → IsUtf8 front → (ends : List (List ℕ)) → list_any (λ e. is_utf8 ((front ++ bytes) ++ e)) ends ≡ list_any (λ e. is_utf8 (bytes ++ e)) ends
-any-same front bytes text [] = refl
-any-same front bytes text (e ∷ ends) =
-    (λ j. (ap is_utf8 (append_assoc front bytes e) ∙ utf8-behind front (bytes ++ e) text) j || any-same front bytes text ends j)
+any-same : (prefix bytes : List ℕ) → IsUtf8 prefix → (ends : List (List ℕ)) → list_any (λ e. is_utf8 ((prefix ++ bytes) ++ e)) ends ≡ list_any (λ e. is_utf8 (bytes ++ e)) ends
+any-same prefix bytes text [] = refl
+any-same prefix bytes text (e ∷ ends) =
+    (λ j. (ap is_utf8 (append_assoc prefix bytes e) ∙ utf8-after prefix (bytes ++ e) text) j || any-same prefix bytes text ends j)
 
-pub begins-behind : (front bytes : List ℕ) → IsUtf8 front → begins_text (front ++ bytes) ≡ begins_text bytes
+pub begins-after : (prefix bytes : List ℕ) → IsUtf8 prefix → begins_text (prefix ++ bytes) ≡ begins_text bytes
 unfolding begins_text
-begins-behind front bytes text = any-same front bytes text endings
+begins-after prefix bytes text = any-same prefix bytes text endings
 
 pub take-split : (n m : ℕ) (bytes : List ℕ) → n ≤ m → take m bytes ≡ take n bytes ++ take (m - n) (drop n bytes)
 take-split zero m bytes fits = let same : m - 0 ≡ m = omega arith in rw same refl
@@ -51,7 +51,7 @@ take-split (suc n) (suc m) (b ∷ bytes) fits =
     rw same (ap (λ t. b ∷ t) (take-split n m bytes (omega arith)))
 
 pub begins-slice : (bytes : List ℕ) (valid m : ℕ) → IsUtf8 (take valid bytes) → valid ≤ m → begins_text (take m bytes) ≡ begins_text (slice_range bytes valid m)
-begins-slice bytes valid m text fits = ap begins_text (take-split valid m bytes fits) ∙ begins-behind (take valid bytes) (take (m - valid) (drop valid bytes)) text
+begins-slice bytes valid m text fits = ap begins_text (take-split valid m bytes fits) ∙ begins-after (take valid bytes) (take (m - valid) (drop valid bytes)) text
 
 -- a text begins itself
 pub text-begins : (bytes : List ℕ) → IsUtf8 bytes → begins_text bytes ≡ true

@@ -27,8 +27,8 @@ at l c kind = record { what = kind; at = place l c }
 abbrev plain : Text → Spelling
 plain word = spelled None (codes word)
 
-abbrev behind : Text → Text → Spelling
-behind outer word = spelled (Some (codes outer)) (codes word)
+abbrev after : Text → Text → Spelling
+after outer word = spelled (Some (codes outer)) (codes word)
 
 -- Texts, and their tokens.
 abbrev texts : List (Text × Result (List Lexeme) Fault)
@@ -40,7 +40,7 @@ texts =
     -- a comment begins with dashes alone
     ∷ ("-->x", Ok (at 1 1 (VarOp (plain "-->")) ∷ at 1 4 (VarId (plain "x")) ∷ []))
     -- a qualified name, and what follows its whole run
-    ∷ ("A.B.x.y", Ok (at 1 1 (VarId (behind "A.B" "x")) ∷ at 1 6 (VarOp (plain ".")) ∷ at 1 7 (VarId (plain "y")) ∷ []))
+    ∷ ("A.B.x.y", Ok (at 1 1 (VarId (after "A.B" "x")) ∷ at 1 6 (VarOp (plain ".")) ∷ at 1 7 (VarId (plain "y")) ∷ []))
     -- no qualified name ends in a keyword
     ∷ ("A.of", Ok (at 1 1 (ConId (plain "A")) ∷ at 1 2 (VarOp (plain ".")) ∷ at 1 3 (Keyword keyword.Of) ∷ []))
     -- no qualified operator is reserved
@@ -48,7 +48,7 @@ texts =
     -- or begins a comment
     ∷ ("A.--", Ok (at 1 1 (ConId (plain "A")) ∷ at 1 2 (VarOp (plain ".--")) ∷ []))
     -- a qualified dot
-    ∷ ("A..b", Ok (at 1 1 (VarOp (behind "A" ".")) ∷ at 1 4 (VarId (plain "b")) ∷ []))
+    ∷ ("A..b", Ok (at 1 1 (VarOp (after "A" ".")) ∷ at 1 4 (VarId (plain "b")) ∷ []))
     -- three dots are one operator
     ∷ ("A...b", Ok (at 1 1 (ConId (plain "A")) ∷ at 1 2 (VarOp (plain "...")) ∷ at 1 5 (VarId (plain "b")) ∷ []))
     -- one backslash is reserved
@@ -58,7 +58,7 @@ texts =
     -- keywords go on as names
     ∷ ("if if' iff", Ok (at 1 1 (Keyword keyword.If) ∷ at 1 4 (VarId (plain "if'")) ∷ at 1 8 (VarId (plain "iff")) ∷ []))
     -- names with a meaning of their own
-    ∷ ("qualified as - A.as", Ok (at 1 1 (VarId (plain "qualified")) ∷ at 1 11 (VarId (plain "as")) ∷ at 1 14 (VarOp (plain "-")) ∷ at 1 16 (VarId (behind "A" "as")) ∷ []))
+    ∷ ("qualified as - A.as", Ok (at 1 1 (VarId (plain "qualified")) ∷ at 1 11 (VarId (plain "as")) ∷ at 1 14 (VarOp (plain "-")) ∷ at 1 16 (VarId (after "A" "as")) ∷ []))
     -- a number with a dot and a digit is none
     ∷ ("a 1.5", Err (BadToken (place 1 3)))
     -- a number before dots

@@ -21,7 +21,7 @@ use Rattle.cu_lex.specs.Words.{begins_with, is_separator, is_name_character, is_
 use Rattle.cu_lex.proofs.AsciiLemmas.{apart, small-capital, small-symbol, at_below, above_range, capital-name}
 use Rattle.cu_lex.proofs.ChainLemmas.{entry-none, keyword-small, reserved-symbol, var-form, var-keyword, con-capital, con-all, operator-first, operator-reserved, capital-var, symbol-var, symbol-capital, name-apart, capital-small}
 use Rattle.cu_lex.proofs.ItemLemmas.{digits-none}
-use Rattle.cu_lex.proofs.QualifiedLemmas.{is_base_word, no-dot, capital-front, module-capital, parts-are}
+use Rattle.cu_lex.proofs.QualifiedLemmas.{is_base_word, no-dot, capital-prefix, module-capital, parts-are}
 
 -- ---- first characters of each class
 
@@ -286,7 +286,7 @@ base-word w kind.Dashes is base = absurd (true≢false (sym base))
 pub qualified-is : (o i : List ℕ) (k : WordKind) → is_module_name o ≡ true → IsOfKind k i → is_base k ≡ true → word_kind (o ++ 46 ∷ i) ≡ Some (named (Some o) k i)
 unfolding word_kind name_kind
 qualified-is o i k outer is base =
-    let capital = capital-front o (46 ∷ i) (module-capital o outer) in
+    let capital = capital-prefix o (46 ∷ i) (module-capital o outer) in
     let w = o ++ 46 ∷ i in
     let parts = ap (option_and_then (λ parts. name_kind (Some parts.0) parts.1)) (parts-are o i outer (base-word i k is base)) ∙ name-is (Some o) i k is base in
     rw (keyword-small w (capital-small w capital), reserved-symbol w (capital-no-symbol w capital), mark-none w (capital-mark w capital), var-no-con w capital, dot-con o i, no-symbol-operator w (capital-no-symbol w capital)) parts

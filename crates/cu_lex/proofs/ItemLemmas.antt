@@ -18,11 +18,11 @@ use Rattle.cu_lex.proofs.WordLemmas.{is-run}
 -- ---- the longest word of a class of words
 
 pub record Longest {X : Type 0} (words : List ℕ → Option X) (text : List Located) (what : X) (rest : List Located) : Type 0 where
-  pub front : List Located
-  pub whole : front ++ rest ≡ text
-  pub some : 0 < length front
-  pub allowed : words (characters front) ≡ Some what
-  pub most : (f r : List Located) → f ++ r ≡ text → IsSome (words (characters f)) → length f ≤ length front
+  pub prefix : List Located
+  pub whole : prefix ++ rest ≡ text
+  pub some : 0 < length prefix
+  pub allowed : words (characters prefix) ≡ Some what
+  pub most : (f r : List Located) → f ++ r ≡ text → IsSome (words (characters f)) → length f ≤ length prefix
 
 abbrev pub Outcome : {X : Type 0} → (List ℕ → Option X) → List Located → Option (X × List Located) → Type 0
 Outcome words text None = (f r : List Located) → f ++ r ≡ text → words (characters f) ≡ None
@@ -43,14 +43,14 @@ outcome-shift {X} words words' c text None step empty none = by
         let tails : f ++ r ≡ text = cc in
         ap (λ x. words' (x ∷ characters f)) heads ∙ step (characters f) ∙ none f r tails
 outcome-shift {X} words words' c text (Some found) step empty longest = record {
-  front = c ∷ longest.front;
+  prefix = c ∷ longest.prefix;
   whole = ap (λ t. c ∷ t) longest.whole;
   some = omega arith;
-  allowed = step (characters longest.front) ∙ longest.allowed;
+  allowed = step (characters longest.prefix) ∙ longest.allowed;
   most = by;
 }
   where
-    by : (f r : List Located) → f ++ r ≡ c ∷ text → IsSome (words' (characters f)) → length f ≤ length (c ∷ longest.front)
+    by : (f r : List Located) → f ++ r ≡ c ∷ text → IsSome (words' (characters f)) → length f ≤ length (c ∷ longest.prefix)
     by [] r whole is = omega arith
     by (d ∷ f) r whole is =
         let heads : d.char ≡ c.char = ap (λ l. l.char) (let e : d ≡ c = cc in e) in
@@ -63,10 +63,10 @@ pub outcome-same : {X : Type 0} (words words' : List ℕ → Option X) (text : L
     → ((f r : List Located) → f ++ r ≡ text → words' (characters f) ≡ words (characters f)) → Outcome words text r → Outcome words' text r
 outcome-same words words' text None same none = λ f r whole. same f r whole ∙ none f r whole
 outcome-same words words' text (Some found) same longest = record {
-  front = longest.front;
+  prefix = longest.prefix;
   whole = longest.whole;
   some = longest.some;
-  allowed = same longest.front found.1 longest.whole ∙ longest.allowed;
+  allowed = same longest.prefix found.1 longest.whole ∙ longest.allowed;
   most = λ f r whole is. longest.most f r whole (subst IsSome (same f r whole) is);
 }
 
@@ -74,7 +74,7 @@ outcome-same words words' text (Some found) same longest = record {
 pub outcome-one : {X : Type 0} (words : List ℕ → Option X) (c : Located) (text : List Located) (what : X)
     → words (c.char ∷ []) ≡ Some what → ((d : ℕ) (w : List ℕ) → words (c.char ∷ d ∷ w) ≡ None) → Longest words (c ∷ text) what text
 outcome-one words c text what is none = record {
-  front = c ∷ [];
+  prefix = c ∷ [];
   whole = refl;
   some = omega arith;
   allowed = is;
@@ -131,10 +131,10 @@ pub digits-none : (base : ℕ) (w : List ℕ) → begins_with (is_digit_of base)
 unfolding digits_value
 digits-none base w is = rw is refl
 
-first-of-front : (class : ℕ → Bool) (f r text : List Located) → f ++ r ≡ text → begins_with class (characters text) ≡ false → begins_with class (characters f) ≡ false
-first-of-front class [] r text whole is = refl
-first-of-front class (d ∷ f) r [] whole is = cc
-first-of-front class (d ∷ f) r (c ∷ text) whole is =
+first-of-prefix : (class : ℕ → Bool) (f r text : List Located) → f ++ r ≡ text → begins_with class (characters text) ≡ false → begins_with class (characters f) ≡ false
+first-of-prefix class [] r text whole is = refl
+first-of-prefix class (d ∷ f) r [] whole is = cc
+first-of-prefix class (d ∷ f) r (c ∷ text) whole is =
     let heads : d.char ≡ c.char = ap (λ l. l.char) (let h : d ≡ c = cc in h) in
     ap class heads ∙ is
 
@@ -144,13 +144,13 @@ outcome-digits base text = by (begins_with (is_digit_of base) (characters text))
     by : (b : Bool) → begins_with (is_digit_of base) (characters text) ≡ b
         → Outcome (codes_in base) text (if b then Some (Some (digits_from base 0 (digits base text)), skip (is_digit_of base) text) else None)
     by true is = record {
-      front = run (is_digit_of base) text;
+      prefix = run (is_digit_of base) text;
       whole = run-skip (is_digit_of base) text;
       some = run-some (is_digit_of base) text is;
       allowed = ap (option_map Some) (digits-are base (digits base text) (is-run (is_digit_of base) text is));
       most = λ f r whole some. run-most (is_digit_of base) f r text whole (and-right (begins_with (is_digit_of base) (characters f)) (list_all (is_digit_of base) (characters f)) (digits-run base (characters f) some));
     }
-    by false is = λ f r whole. ap (option_map Some) (digits-none base (characters f) (first-of-front (is_digit_of base) f r text whole is))
+    by false is = λ f r whole. ap (option_map Some) (digits-none base (characters f) (first-of-prefix (is_digit_of base) f r text whole is))
 
 -- ---- escapes
 
@@ -285,10 +285,10 @@ outcome-item quote (c ∷ text) = by (c.char == 92) refl (c.char == quote || is_
 -- ---- the longest item
 
 pub longest-item : (quote : ℕ) (text : List Located) (what : Option ℕ) (rest : List Located) → item_scan quote text ≡ Some (what, rest)
-    → (front : List Located) × (longest (item quote) text ≡ Some (cut_at front rest what))
+    → (prefix : List Located) × (longest (item quote) text ≡ Some (cut_at prefix rest what))
 longest-item quote text what rest is =
     let found : Longest (item_of quote) text what rest = subst (Outcome (item_of quote) text) is (outcome-item quote text) in
-    (found.front, is-longest (item quote) text (cut_at found.front rest what) (record { whole = found.whole; some = found.some; allowed = found.allowed; most = found.most }))
+    (found.prefix, is-longest (item quote) text (cut_at found.prefix rest what) (record { whole = found.whole; some = found.some; allowed = found.allowed; most = found.most }))
 
 pub no-longest-item : (quote : ℕ) (text : List Located) → item_scan quote text ≡ None → longest (item quote) text ≡ None
 no-longest-item quote text is =

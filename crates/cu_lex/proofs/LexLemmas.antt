@@ -29,8 +29,8 @@ no-number-piece text digit is = number-never text digit (no-scan (number_scan te
 pub record Scan (text : List Located) (value : Option ℕ) (end : List Located) : Type 0 where
   pub number : ℕ
   pub held_as : value ≡ within number
-  pub front : List Located
-  pub cut : longest piece text ≡ Some (cut_at front end (number_at (start text) number))
+  pub prefix : List Located
+  pub cut : longest piece text ≡ Some (cut_at prefix end (number_at (start text) number))
 
 pub number-scan : (text : List Located) (value : Option ℕ) (end : List Located) → begins_with is_ascii_digit (characters text) ≡ true → Some (value, end) ≡ option_map held (number_scan text) → Scan text value end
 number-scan text value end digit is = by (number_scan text) refl is
@@ -43,7 +43,7 @@ number-scan text value end digit is = by (number_scan text) refl is
         record {
           number = n;
           held_as = ap (λ x. x.0) both;
-          front = found.0;
+          prefix = found.0;
           cut = found.1 ∙ ap (λ t. Some (cut_at found.0 t (number_at (start text) n))) (sym (ap (λ x. x.1) both));
         }
 
@@ -62,7 +62,7 @@ out-of-range p n is = by (is_integer (pos n)) is
     by false is = refl
 
 pub int-piece : (text : List Located) (value : Option ℕ) (end : List Located) (v : ℤ) (s : Scan text value end) → Some v ≡ checked (pos s.number) → IsPiece text (Token (Int v)) end
-int-piece text value end v s is = record { front = s.front; cut = s.cut ∙ ap (λ p. Some (cut_at s.front end p)) (in-range (start text) s.number v is) }
+int-piece text value end v s is = record { prefix = s.prefix; cut = s.cut ∙ ap (λ p. Some (cut_at s.prefix end p)) (in-range (start text) s.number v is) }
 
 start-at : (text : List Located) (p : Position) → begins_with is_ascii_digit (characters text) ≡ true → ((first : Located) (rest : List Located) → text ≡ first ∷ rest → p ≡ first.at) → start text ≡ p
 start-at [] p digit at = absurd (true≢false (sym digit))
@@ -71,7 +71,7 @@ start-at (c ∷ text) p digit at = sym (at c text refl)
 pub int-fault : (text : List Located) (value : Option ℕ) (end : List Located) (p : Position) → begins_with is_ascii_digit (characters text) ≡ true → ((first : Located) (rest : List Located) → text ≡ first ∷ rest → p ≡ first.at)
     → (s : Scan text value end) → None ≡ checked (pos s.number) → IsPiece text (OutOfRange p) end
 int-fault text value end p digit at s is =
-    record { front = s.front; cut = s.cut ∙ ap (λ q. Some (cut_at s.front end q)) (out-of-range (start text) s.number is ∙ ap OutOfRange (start-at text p digit at)) }
+    record { prefix = s.prefix; cut = s.cut ∙ ap (λ q. Some (cut_at s.prefix end q)) (out-of-range (start text) s.number is ∙ ap OutOfRange (start-at text p digit at)) }
 
 -- ---- characters
 
@@ -86,7 +86,7 @@ character-piece-is [] close end n begins is q fits = absurd (true≢false (sym b
 character-piece-is (first ∷ text) close end n begins is q fits =
     let one = one-from first text close end n is q in
     let found = character-longest (first ∷ text) end n one.0 begins one.2 in
-    record { front = found.0; cut = found.1 ∙ ap (λ p. Some (cut_at found.0 end p)) (char-in-range one.0 n fits) }
+    record { prefix = found.0; cut = found.1 ∙ ap (λ p. Some (cut_at found.0 end p)) (char-in-range one.0 n fits) }
 
 pub character-fault : (text close end : List Located) (n : ℕ) (p : Position) → begins_with (is_char 39) (characters text) ≡ true → item_scan 39 (later text) ≡ Some (Some n, close) → IsQuoted 39 close end → scalar n ≡ false
     → ((first : Located) (rest : List Located) → later text ≡ first ∷ rest → p ≡ first.at) → IsPiece text (OutOfRange p) end
@@ -96,7 +96,7 @@ character-fault (first ∷ c ∷ text) close end n p begins is q wrong at =
     let one = one-from first (c ∷ text) close end n is q in
     let found = character-longest (first ∷ c ∷ text) end n one.0 begins one.2 in
     let same : one.0 ≡ p = one.1 c text refl ∙ sym (at c text refl) in
-    record { front = found.0; cut = found.1 ∙ ap (λ x. Some (cut_at found.0 end x)) (char-out one.0 n wrong ∙ ap OutOfRange same) }
+    record { prefix = found.0; cut = found.1 ∙ ap (λ x. Some (cut_at found.0 end x)) (char-out one.0 n wrong ∙ ap OutOfRange same) }
 
 pub character-bad : (text : List Located) → begins_with (is_char 39) (characters text) ≡ true → ((n : ℕ) (close end : List Located) → item_scan 39 (later text) ≡ Some (Some n, close) → IsQuoted 39 close end → ⊥) → longest piece text ≡ None
 character-bad text begins never = character-never text begins (λ end n p one. let s = scan-from text end n p one in never n s.0 end s.1 s.2)
@@ -106,9 +106,9 @@ character-bad text begins never = character-never text begins (λ end n p one. l
 pub string-piece-is : (text end : List Located) (value : List ℕ) → begins_with (is_char 34) (characters text) ≡ true → IsQuoted 34 ((string_items text).left) end → codes_of (string_items text).pieces ≡ Ok value → IsPiece text (Token (String value)) end
 string-piece-is text end value begins q codes =
     let found = string-longest text end begins q in
-    record { front = found.0; cut = found.1 ∙ ap (λ c. Some (cut_at found.0 end (string_of c))) codes }
+    record { prefix = found.0; cut = found.1 ∙ ap (λ c. Some (cut_at found.0 end (string_of c))) codes }
 
 pub string-fault : (text end : List Located) (p p' : Position) → begins_with (is_char 34) (characters text) ≡ true → IsQuoted 34 ((string_items text).left) end → codes_of (string_items text).pieces ≡ Err p' → p ≡ p' → IsPiece text (OutOfRange p) end
 string-fault text end p p' begins q codes same =
     let found = string-longest text end begins q in
-    record { front = found.0; cut = found.1 ∙ ap (λ c. Some (cut_at found.0 end (string_of c))) codes ∙ ap (λ x. Some (cut_at found.0 end (OutOfRange x))) (sym same) }
+    record { prefix = found.0; cut = found.1 ∙ ap (λ c. Some (cut_at found.0 end (string_of c))) codes ∙ ap (λ x. Some (cut_at found.0 end (OutOfRange x))) (sym same) }

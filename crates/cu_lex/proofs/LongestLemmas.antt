@@ -22,12 +22,12 @@ use Rattle.cu_lex.specs.Pieces.Piece.{Blank, Token}
 use Rattle.cu_lex.specs.Scanning.{is_underscore, first_of, later, run, skip, is_base, class_of, comment_end, IsWord, IsOfKind, HasNoWord}
 use Rattle.cu_lex.specs.Words.{entry, begins_with, is_single, is_separator, is_name_character, is_symbol, is_dash, keyword_of, mark_of, marks, is_line_comment, is_nested_comment, closes, has_variable_form}
 use Rattle.cu_lex.proofs.AsciiLemmas.{and-left, and-right, small-capital, small-separator}
-use Rattle.cu_lex.proofs.ChainLemmas.{var-form, form-first, keyword-small, reserved-symbol, con-capital, operator-first, first-front, word-first, symbol-capitals, capital-small, class-cases, none-is}
+use Rattle.cu_lex.proofs.ChainLemmas.{var-form, form-first, keyword-small, reserved-symbol, con-capital, operator-first, first-prefix, word-first, symbol-capitals, capital-small, class-cases, none-is}
 use Rattle.cu_lex.proofs.ClassLemmas.{begins-apart, no-number, no-literal, no-character, mark-size, comment-first, is-comment, word-some, word-most, word-piece, word-brace, dashes-comment, comment-inline, nested-first, single-first}
 use Rattle.cu_lex.proofs.FirstLemmas.{begins_blank, is_char, blank-none, reserved-first, keyword-form, mark-none, capital-mark}
-use Rattle.cu_lex.proofs.PieceLemmas.{FrontIs, front-cases, PieceIs, piece-longest, piece-none, front-first, shorter-front, dash-symbol, dashes-run}
-use Rattle.cu_lex.proofs.PieceLemmas.PieceIs.{blank_front, word_front, number_front, character_front, string_front}
-use Rattle.cu_lex.proofs.PieceLemmas.FrontIs.{plain, marked, chained}
+use Rattle.cu_lex.proofs.PieceLemmas.{PrefixIs, prefix-cases, PieceIs, piece-longest, piece-none, prefix-first, shorter-prefix, dash-symbol, dashes-run}
+use Rattle.cu_lex.proofs.PieceLemmas.PieceIs.{blank_prefix, word_prefix, number_prefix, character_prefix, string_prefix}
+use Rattle.cu_lex.proofs.PieceLemmas.PrefixIs.{plain, marked, chained}
 use Rattle.cu_lex.proofs.ScanLemmas.{run-skip, all-run}
 use Rattle.cu_lex.proofs.ItemLemmas.{run-most, not-some}
 
@@ -50,41 +50,41 @@ capital-quotes w is = begins-apart is_ascii_uppercase (is_char 34) small-capital
 capital-symbol : (w : List ℕ) → begins_with is_ascii_uppercase w ≡ true → begins_with is_symbol w ≡ true → ⊥
 capital-symbol w capital symbol = symbol-capitals w symbol capital
 
-word-reaches : (text : List Located) (k : WordKind) (r : List Located) → begins_with is_ascii_uppercase (characters text) ≡ true → (w : IsWord text k r) → 0 < length w.front → Reaches r text
+word-reaches : (text : List Located) (k : WordKind) (r : List Located) → begins_with is_ascii_uppercase (characters text) ≡ true → (w : IsWord text k r) → 0 < length w.prefix → Reaches r text
 word-reaches text k r capital w some = by k w.is w refl
   where
-    front-capital : begins_with is_ascii_uppercase (characters w.front) ≡ true
-    front-capital = front-first is_ascii_uppercase w.front r text w.whole some ∙ capital
+    prefix-capital : begins_with is_ascii_uppercase (characters w.prefix) ≡ true
+    prefix-capital = prefix-first is_ascii_uppercase w.prefix r text w.whole some ∙ capital
 
-    by : (k' : WordKind) → IsOfKind k' (characters w.front) → IsWord text k' r → is_base k' ≡ is_base k' → Reaches r text
+    by : (k' : WordKind) → IsOfKind k' (characters w.prefix) → IsWord text k' r → is_base k' ≡ is_base k' → Reaches r text
     by kind.VarId is w' same = last kind.VarId w' refl
     by kind.ConId is w' same = last kind.ConId w' refl
     by kind.VarOp is w' same = last kind.VarOp w' refl
     by kind.ConOp is w' same = last kind.ConOp w' refl
-    by (kind.Keyword k') is w' same = absurd (none-is (keyword_of (characters w.front)) k' (ap is_none (keyword-small (characters w.front) (capital-small (characters w.front) front-capital))) is)
-    by (kind.Reserved k') is w' same = absurd (capital-symbol (characters w.front) front-capital (reserved-first (characters w.front) k' is))
-    by kind.Dashes is w' same = absurd (capital-symbol (characters w.front) front-capital (and-left (begins_with is_symbol (characters w.front)) (list_all is_symbol (characters w.front)) (dashes-run (characters w.front) is)))
+    by (kind.Keyword k') is w' same = absurd (none-is (keyword_of (characters w.prefix)) k' (ap is_none (keyword-small (characters w.prefix) (capital-small (characters w.prefix) prefix-capital))) is)
+    by (kind.Reserved k') is w' same = absurd (capital-symbol (characters w.prefix) prefix-capital (reserved-first (characters w.prefix) k' is))
+    by kind.Dashes is w' same = absurd (capital-symbol (characters w.prefix) prefix-capital (and-left (begins_with is_symbol (characters w.prefix)) (list_all is_symbol (characters w.prefix)) (dashes-run (characters w.prefix) is)))
 
-pub capital-longest : (text front end : List Located) (what : Kind) → begins_with is_ascii_uppercase (characters text) ≡ true → front ++ end ≡ text → 0 < length front
-    → word_kind (characters front) ≡ Some what → stands_before what (characters end) ≡ true → ((r : List Located) → Reaches r text → length end ≤ length r)
-    → longest piece text ≡ Some (cut_at front end (Token what))
-capital-longest text front end what capital whole some is ok reach =
-    piece-longest text front end (Token what) whole some (word-piece front end what no-blank is ok) most
+pub capital-longest : (text prefix end : List Located) (what : Kind) → begins_with is_ascii_uppercase (characters text) ≡ true → prefix ++ end ≡ text → 0 < length prefix
+    → word_kind (characters prefix) ≡ Some what → stands_before what (characters end) ≡ true → ((r : List Located) → Reaches r text → length end ≤ length r)
+    → longest piece text ≡ Some (cut_at prefix end (Token what))
+capital-longest text prefix end what capital whole some is ok reach =
+    piece-longest text prefix end (Token what) whole some (word-piece prefix end what no-blank is ok) most
   where
-    no-blank : blank (characters front) ≡ None
-    no-blank = blank-none (characters front) (capital-blank (characters front) (front-first is_ascii_uppercase front end text whole some ∙ capital))
+    no-blank : blank (characters prefix) ≡ None
+    no-blank = blank-none (characters prefix) (capital-blank (characters prefix) (prefix-first is_ascii_uppercase prefix end text whole some ∙ capital))
 
-    from : (f r : List Located) → f ++ r ≡ text → 0 < length f → FrontIs text f r → length f ≤ length front
-    from f r w s (plain k w' other) = shorter-front f r front end text w whole (reach r (word-reaches text k r capital w' (word-some text k r w')))
-    from f r w s (marked m at fits) = absurd (none-is (mark_of (characters f)) m (ap is_none (mark-none (characters f) (capital-mark (characters f) (front-first is_ascii_uppercase f r text w s ∙ capital)))) at)
-    from f r w s (chained c reaches) = shorter-front f r front end text w whole (reach r reaches)
+    from : (f r : List Located) → f ++ r ≡ text → 0 < length f → PrefixIs text f r → length f ≤ length prefix
+    from f r w s (plain k w' other) = shorter-prefix f r prefix end text w whole (reach r (word-reaches text k r capital w' (word-some text k r w')))
+    from f r w s (marked m at fits) = absurd (none-is (mark_of (characters f)) m (ap is_none (mark-none (characters f) (capital-mark (characters f) (prefix-first is_ascii_uppercase f r text w s ∙ capital)))) at)
+    from f r w s (chained c reaches) = shorter-prefix f r prefix end text w whole (reach r reaches)
 
-    most : (f r : List Located) → f ++ r ≡ text → 0 < length f → PieceIs f r → length f ≤ length front
-    most f r w s (blank_front h) = absurd (not-some (blank (characters f)) (blank-none (characters f) (front-first begins_blank f r text w s ∙ capital-blank (characters text) capital)) h)
-    most f r w s (word_front h) = from f r w s (front-cases text f r w h)
-    most f r w s (number_front h) = absurd (no-number f r text w s (capital-digit (characters text) capital) h)
-    most f r w s (character_front h) = absurd (no-character f r text w s (capital-quote (characters text) capital) h)
-    most f r w s (string_front h) = absurd (no-literal 34 f r text w s (capital-quotes (characters text) capital) h)
+    most : (f r : List Located) → f ++ r ≡ text → 0 < length f → PieceIs f r → length f ≤ length prefix
+    most f r w s (blank_prefix h) = absurd (not-some (blank (characters f)) (blank-none (characters f) (prefix-first begins_blank f r text w s ∙ capital-blank (characters text) capital)) h)
+    most f r w s (word_prefix h) = from f r w s (prefix-cases text f r w h)
+    most f r w s (number_prefix h) = absurd (no-number f r text w s (capital-digit (characters text) capital) h)
+    most f r w s (character_prefix h) = absurd (no-character f r text w s (capital-quote (characters text) capital) h)
+    most f r w s (string_prefix h) = absurd (no-literal 34 f r text w s (capital-quotes (characters text) capital) h)
 
 -- ---- separators
 
@@ -134,22 +134,22 @@ separator-size f sep some = by (is_single is_separator (characters f)) refl (is_
     by false ha false hb true hc is = absurd (true≢false (sym hc ∙ nested-first (characters f) (separator-word (characters f) sep).7))
     by false ha false hb false hc is = absurd (true≢false (sym is))
 
-pub separator-longest : (text : List Located) → begins_with is_separator (characters text) ≡ true → (front : List Located) × (longest piece text ≡ Some (cut_at front (later text) Blank))
+pub separator-longest : (text : List Located) → begins_with is_separator (characters text) ≡ true → (prefix : List Located) × (longest piece text ≡ Some (cut_at prefix (later text) Blank))
 separator-longest [] is = absurd (true≢false (sym is))
 separator-longest (c ∷ text) is =
     (c ∷ [], piece-longest (c ∷ text) (c ∷ []) text Blank refl (omega arith) (blank-piece (c ∷ []) text (single-blank c.char is)) most)
   where
-    from : (f r : List Located) → FrontIs (c ∷ text) f r → length f ≤ 1
+    from : (f r : List Located) → PrefixIs (c ∷ text) f r → length f ≤ 1
     from f r (plain k w other) = absurd (word-class (c ∷ text) k r (separator-word (characters (c ∷ text)) is).4 (separator-word (characters (c ∷ text)) is).5 w)
     from f r (marked m at fits) = mark-size f m at
     from f r (chained capital reaches) = absurd (true≢false (sym capital ∙ (separator-word (characters (c ∷ text)) is).0))
 
     most : (f r : List Located) → f ++ r ≡ c ∷ text → 0 < length f → PieceIs f r → length f ≤ 1
-    most f r w s (blank_front h) = separator-size f (front-first is_separator f r (c ∷ text) w s ∙ is) h
-    most f r w s (word_front h) = from f r (front-cases (c ∷ text) f r w h)
-    most f r w s (number_front h) = absurd (no-number f r (c ∷ text) w s (separator-word (characters (c ∷ text)) is).1 h)
-    most f r w s (character_front h) = absurd (no-character f r (c ∷ text) w s (separator-word (characters (c ∷ text)) is).2 h)
-    most f r w s (string_front h) = absurd (no-literal 34 f r (c ∷ text) w s (separator-word (characters (c ∷ text)) is).3 h)
+    most f r w s (blank_prefix h) = separator-size f (prefix-first is_separator f r (c ∷ text) w s ∙ is) h
+    most f r w s (word_prefix h) = from f r (prefix-cases (c ∷ text) f r w h)
+    most f r w s (number_prefix h) = absurd (no-number f r (c ∷ text) w s (separator-word (characters (c ∷ text)) is).1 h)
+    most f r w s (character_prefix h) = absurd (no-character f r (c ∷ text) w s (separator-word (characters (c ∷ text)) is).2 h)
+    most f r w s (string_prefix h) = absurd (no-literal 34 f r (c ∷ text) w s (separator-word (characters (c ∷ text)) is).3 h)
 
 -- ---- dashes
 
@@ -173,69 +173,69 @@ run-first p class (c ∷ text) fails = by (class c.char)
     by false = refl
 
 pub dashes-longest : (text end : List Located) → IsPlain text → (w : IsWord text kind.Dashes end)
-    → longest piece text ≡ Some (cut_at (w.front ++ run (λ c. not (c == 10)) end) (skip (λ c. not (c == 10)) end) Blank)
+    → longest piece text ≡ Some (cut_at (w.prefix ++ run (λ c. not (c == 10)) end) (skip (λ c. not (c == 10)) end) Blank)
 dashes-longest text end facts w =
-    piece-longest text (w.front ++ run class end) (skip class end) Blank
-    (append_assoc w.front (run class end) (skip class end) ∙ ap (λ t. w.front ++ t) (run-skip class end) ∙ w.whole)
-    (let s = word-some text kind.Dashes end w in omega (arith, length-append w.front (run class end)))
-    (blank-piece (w.front ++ run class end) (skip class end) comment)
+    piece-longest text (w.prefix ++ run class end) (skip class end) Blank
+    (append_assoc w.prefix (run class end) (skip class end) ∙ ap (λ t. w.prefix ++ t) (run-skip class end) ∙ w.whole)
+    (let s = word-some text kind.Dashes end w in omega (arith, length-append w.prefix (run class end)))
+    (blank-piece (w.prefix ++ run class end) (skip class end) comment)
     most
   where
     class : ℕ → Bool
     class c = not (c == 10)
 
-    dashes : list_all is_dash (characters w.front) ≡ true
-    dashes = and-right (nat_le 2 (length (characters w.front))) (list_all is_dash (characters w.front)) w.is
+    dashes : list_all is_dash (characters w.prefix) ≡ true
+    dashes = and-right (nat_le 2 (length (characters w.prefix))) (list_all is_dash (characters w.prefix)) w.is
 
-    joined : characters (w.front ++ run class end) ≡ characters w.front ++ characters (run class end)
-    joined = map-append (λ (l : Located). l.char) w.front (run class end)
+    joined : characters (w.prefix ++ run class end) ≡ characters w.prefix ++ characters (run class end)
+    joined = map-append (λ (l : Located). l.char) w.prefix (run class end)
 
-    all-inline : list_all class (characters w.front ++ characters (run class end)) ≡ true
-    all-inline = ap (list_all class) (sym joined) ∙ ap (λ t. list_all class (characters t)) (sym (dashes-inline w.front end dashes)) ∙ all-run class (w.front ++ end)
+    all-inline : list_all class (characters w.prefix ++ characters (run class end)) ≡ true
+    all-inline = ap (list_all class) (sym joined) ∙ ap (λ t. list_all class (characters t)) (sym (dashes-inline w.prefix end dashes)) ∙ all-run class (w.prefix ++ end)
 
-    line : is_line_comment (characters (w.front ++ run class end)) ≡ true
-    line = ap is_line_comment joined ∙ dashes-comment (characters w.front) (characters (run class end)) w.is (run-first is_symbol class end w.ended) all-inline
+    line : is_line_comment (characters (w.prefix ++ run class end)) ≡ true
+    line = ap is_line_comment joined ∙ dashes-comment (characters w.prefix) (characters (run class end)) w.is (run-first is_symbol class end w.ended) all-inline
 
-    comment : blank (characters (w.front ++ run class end)) ≡ Some Blank
-    comment = rw line (or-blank (is_single is_separator (characters (w.front ++ run class end))))
+    comment : blank (characters (w.prefix ++ run class end)) ≡ Some Blank
+    comment = rw line (or-blank (is_single is_separator (characters (w.prefix ++ run class end))))
 
-    at-most : length (run class text) ≡ length (w.front ++ run class end)
-    at-most = ap (λ t. length (run class t)) (sym w.whole) ∙ ap length (dashes-inline w.front end dashes)
+    at-most : length (run class text) ≡ length (w.prefix ++ run class end)
+    at-most = ap (λ t. length (run class t)) (sym w.whole) ∙ ap length (dashes-inline w.prefix end dashes)
 
-    most : (f r : List Located) → f ++ r ≡ text → 0 < length f → PieceIs f r → length f ≤ length (w.front ++ run class end)
-    most f r whole some (blank_front is) =
-        let line = is-comment (characters f) (front-first is_separator f r text whole some ∙ facts.separator) (front-first (is_char 123) f r text whole some ∙ word-brace text kind.Dashes end w) is in
+    most : (f r : List Located) → f ++ r ≡ text → 0 < length f → PieceIs f r → length f ≤ length (w.prefix ++ run class end)
+    most f r whole some (blank_prefix is) =
+        let line = is-comment (characters f) (prefix-first is_separator f r text whole some ∙ facts.separator) (prefix-first (is_char 123) f r text whole some ∙ word-brace text kind.Dashes end w) is in
         let short = run-most class f r text whole (comment-inline (characters f) line) in
         omega (arith, at-most)
-    most f r whole some (word_front is) = let short = word-most text kind.Dashes end facts w f r whole some is in omega (arith, length-append w.front (run class end))
-    most f r whole some (number_front is) = absurd (no-number f r text whole some facts.digit is)
-    most f r whole some (character_front is) = absurd (no-character f r text whole some facts.quote is)
-    most f r whole some (string_front is) = absurd (no-literal 34 f r text whole some facts.quotes is)
+    most f r whole some (word_prefix is) = let short = word-most text kind.Dashes end facts w f r whole some is in omega (arith, length-append w.prefix (run class end))
+    most f r whole some (number_prefix is) = absurd (no-number f r text whole some facts.digit is)
+    most f r whole some (character_prefix is) = absurd (no-character f r text whole some facts.quote is)
+    most f r whole some (string_prefix is) = absurd (no-literal 34 f r text whole some facts.quotes is)
 
 -- ---- marks, and where there is nothing
 
 -- no word that is more than a mark
-pub no-front-word : (text : List Located) → HasNoWord text → (k : WordKind) (r : List Located) → IsWord text k r → ⊥
-no-front-word text none k r w = by k w.is
+pub no-prefix-word : (text : List Located) → HasNoWord text → (k : WordKind) (r : List Located) → IsWord text k r → ⊥
+no-prefix-word text none k r w = by k w.is
   where
-    front-fails : (p : ℕ → Bool) → begins_with p (characters text) ≡ false → begins_with p (characters w.front) ≡ true → ⊥
-    front-fails p fails is = true≢false (sym (subst (λ t. begins_with p (characters t) ≡ true) w.whole (first-front p w.front r is)) ∙ fails)
+    prefix-fails : (p : ℕ → Bool) → begins_with p (characters text) ≡ false → begins_with p (characters w.prefix) ≡ true → ⊥
+    prefix-fails p fails is = true≢false (sym (subst (λ t. begins_with p (characters t) ≡ true) w.whole (first-prefix p w.prefix r is)) ∙ fails)
 
-    symbols : IsOfKind kind.Dashes (characters w.front) → begins_with is_symbol (characters w.front) ≡ true
-    symbols is = and-left (begins_with is_symbol (characters w.front)) (list_all is_symbol (characters w.front)) (dashes-run (characters w.front) is)
+    symbols : IsOfKind kind.Dashes (characters w.prefix) → begins_with is_symbol (characters w.prefix) ≡ true
+    symbols is = and-left (begins_with is_symbol (characters w.prefix)) (list_all is_symbol (characters w.prefix)) (dashes-run (characters w.prefix) is)
 
-    by : (k' : WordKind) → IsOfKind k' (characters w.front) → ⊥
-    by kind.VarId is = variable (var-form (characters w.front) is)
+    by : (k' : WordKind) → IsOfKind k' (characters w.prefix) → ⊥
+    by kind.VarId is = variable (var-form (characters w.prefix) is)
       where
-        variable : has_variable_form (characters w.front) ≡ true → ⊥
-        variable form = true≢false (sym (subst (λ t. begins_with is_ascii_lowercase (characters (skip is_underscore t)) ≡ true) w.whole (form-first w.front r form)) ∙ none.variable)
-    by kind.ConId is = front-fails is_ascii_uppercase none.capital (con-capital (characters w.front) is)
-    by kind.VarOp is = front-fails is_symbol none.symbol (operator-first (characters w.front) is.0)
-    by kind.ConOp is = front-fails is_symbol none.symbol (operator-first (characters w.front) is.0)
+        variable : has_variable_form (characters w.prefix) ≡ true → ⊥
+        variable form = true≢false (sym (subst (λ t. begins_with is_ascii_lowercase (characters (skip is_underscore t)) ≡ true) w.whole (form-first w.prefix r form)) ∙ none.variable)
+    by kind.ConId is = prefix-fails is_ascii_uppercase none.capital (con-capital (characters w.prefix) is)
+    by kind.VarOp is = prefix-fails is_symbol none.symbol (operator-first (characters w.prefix) is.0)
+    by kind.ConOp is = prefix-fails is_symbol none.symbol (operator-first (characters w.prefix) is.0)
     by (kind.Keyword k') is =
-        true≢false (sym (subst (λ t. begins_with is_ascii_lowercase (characters (skip is_underscore t)) ≡ true) w.whole (form-first w.front r (keyword-form (characters w.front) k' is))) ∙ none.variable)
-    by (kind.Reserved k') is = front-fails is_symbol none.symbol (reserved-first (characters w.front) k' is)
-    by kind.Dashes is = front-fails is_symbol none.symbol (symbols is)
+        true≢false (sym (subst (λ t. begins_with is_ascii_lowercase (characters (skip is_underscore t)) ≡ true) w.whole (form-first w.prefix r (keyword-form (characters w.prefix) k' is))) ∙ none.variable)
+    by (kind.Reserved k') is = prefix-fails is_symbol none.symbol (reserved-first (characters w.prefix) k' is)
+    by kind.Dashes is = prefix-fails is_symbol none.symbol (symbols is)
 
 pub record HasNoComment (text : List Located) : Type 0 where
   pub never : OpensComment text → ⊥
@@ -287,13 +287,13 @@ nested-end (suc n) (c ∷ d ∷ f) r is =
     by false false more go is = go is
 
 pub record Closed (depth : ℕ) (text end : List Located) : Type 0 where
-  pub front : List Located
-  pub whole : front ++ end ≡ text
-  pub is : closes depth (characters front) ≡ true
+  pub prefix : List Located
+  pub whole : prefix ++ end ≡ text
+  pub is : closes depth (characters prefix) ≡ true
 
 pub closed-from : (depth : ℕ) (text end : List Located) → comment_end depth text ≡ Some end → Closed depth text end
 unfolding closes
-closed-from zero text end is = let same : text ≡ end = cc in record { front = []; whole = sym same; is = refl }
+closed-from zero text end is = let same : text ≡ end = cc in record { prefix = []; whole = sym same; is = refl }
 closed-from (suc n) [] end is = cc
 closed-from (suc n) (c ∷ []) end is = cc
 closed-from (suc n) (c ∷ d ∷ text) end is =
@@ -304,30 +304,30 @@ closed-from (suc n) (c ∷ d ∷ text) end is =
         → (if a then comment_end (suc (suc n)) text else if b then comment_end n text else comment_end (suc n) (d ∷ text)) ≡ Some end → Closed (suc n) (c ∷ d ∷ text) end
     by true ha b hb more go is =
         let inner = more (suc (suc n)) is in
-        record { front = c ∷ d ∷ inner.front; whole = ap (λ t. c ∷ d ∷ t) inner.whole; is = rw ha inner.is }
+        record { prefix = c ∷ d ∷ inner.prefix; whole = ap (λ t. c ∷ d ∷ t) inner.whole; is = rw ha inner.is }
     by false ha true hb more go is =
         let inner = more n is in
-        record { front = c ∷ d ∷ inner.front; whole = ap (λ t. c ∷ d ∷ t) inner.whole; is = rw (ha, hb) inner.is }
+        record { prefix = c ∷ d ∷ inner.prefix; whole = ap (λ t. c ∷ d ∷ t) inner.whole; is = rw (ha, hb) inner.is }
     by false ha false hb more go is = on (go is)
       where
         on : Closed (suc n) (d ∷ text) end → Closed (suc n) (c ∷ d ∷ text) end
-        on inner = step inner.front inner.whole inner.is
+        on inner = step inner.prefix inner.whole inner.is
           where
-            step : (front : List Located) → front ++ end ≡ d ∷ text → closes (suc n) (characters front) ≡ true → Closed (suc n) (c ∷ d ∷ text) end
+            step : (prefix : List Located) → prefix ++ end ≡ d ∷ text → closes (suc n) (characters prefix) ≡ true → Closed (suc n) (c ∷ d ∷ text) end
             step [] whole is = absurd (true≢false (sym is))
-            step (e ∷ front) whole is =
+            step (e ∷ prefix) whole is =
                 let head : e.char ≡ d.char = ap (λ (l : Located). l.char) (let h : e ≡ d = cc in h) in
-                let tails : front ++ end ≡ text = cc in
-                let is' : closes (suc n) (d.char ∷ characters front) ≡ true = subst (λ x. closes (suc n) (x ∷ characters front) ≡ true) head is in
-                record { front = c ∷ d ∷ front; whole = ap (λ t. c ∷ d ∷ t) tails; is = rw (ha, hb) is' }
+                let tails : prefix ++ end ≡ text = cc in
+                let is' : closes (suc n) (d.char ∷ characters prefix) ≡ true = subst (λ x. closes (suc n) (x ∷ characters prefix) ≡ true) head is in
+                record { prefix = c ∷ d ∷ prefix; whole = ap (λ t. c ∷ d ∷ t) tails; is = rw (ha, hb) is' }
 
 -- what a blank is where neither a separator nor a symbol begins
 blank-nested : (f r text : List Located) → f ++ r ≡ text → 0 < length f → begins_with is_separator (characters text) ≡ false → begins_with is_dash (characters text) ≡ false → IsSome (blank (characters f)) → is_nested_comment (characters f) ≡ true
 blank-nested f r text whole some separator dash is = by (is_single is_separator (characters f)) refl (is_line_comment (characters f)) refl (is_nested_comment (characters f)) refl is
   where
     by : (a : Bool) → is_single is_separator (characters f) ≡ a → (b : Bool) → is_line_comment (characters f) ≡ b → (c : Bool) → is_nested_comment (characters f) ≡ c → IsSome (if a || (b || c) then Some Blank else None) → c ≡ true
-    by true ha b hb c hc is = absurd (true≢false (sym ha ∙ single-first (characters f) (front-first is_separator f r text whole some ∙ separator)))
-    by false ha true hb c hc is = absurd (true≢false (sym (comment-first (characters f) hb) ∙ front-first is_dash f r text whole some ∙ dash))
+    by true ha b hb c hc is = absurd (true≢false (sym ha ∙ single-first (characters f) (prefix-first is_separator f r text whole some ∙ separator)))
+    by false ha true hb c hc is = absurd (true≢false (sym (comment-first (characters f) hb) ∙ prefix-first is_dash f r text whole some ∙ dash))
     by false ha false hb true hc is = refl
     by false ha false hb false hc is = absurd (true≢false (sym is))
 
@@ -340,13 +340,13 @@ no-dash (c ∷ w) fails = by (is_dash c) refl
     by true h = absurd (true≢false (sym (dash-symbol c h) ∙ fails))
 
 -- one mark in front
-one-front : (f r : List Located) (c : Located) (text : List Located) → f ++ r ≡ c ∷ text → 0 < length f → length f ≤ 1 → (f ≡ c ∷ []) × (r ≡ text)
-one-front [] r c text whole some one = absurd (omega arith)
-one-front (d ∷ []) r c text whole some one =
+one-prefix : (f r : List Located) (c : Located) (text : List Located) → f ++ r ≡ c ∷ text → 0 < length f → length f ≤ 1 → (f ≡ c ∷ []) × (r ≡ text)
+one-prefix [] r c text whole some one = absurd (omega arith)
+one-prefix (d ∷ []) r c text whole some one =
     let heads : d ≡ c = cc in
     let tails : r ≡ text = cc in
     ((λ j. heads j ∷ []), tails)
-one-front (d ∷ e ∷ f) r c text whole some one = absurd (omega arith)
+one-prefix (d ∷ e ∷ f) r c text whole some one = absurd (omega arith)
 
 -- an entry of a table and its word
 entry-pair : {X : Type 0} (p : List ℕ → X → Bool) (table : List (List ℕ × X)) → list_all (λ e. p e.0 e.1) table ≡ true → (w : List ℕ) (x : X) → entry table w ≡ Some x → p w x ≡ true
@@ -437,19 +437,19 @@ keyword-never text none f r whole = by (keyword_of (characters f)) refl
     by (Some k) is = absurd (true≢false (sym (subst (λ t. begins_with is_ascii_lowercase (characters (skip is_underscore t)) ≡ true) whole (form-first f r (keyword-form (characters f) k is))) ∙ none.variable))
 
 -- fronts where no word begins
-mark-from : (text f r : List Located) → IsPlain text → HasNoWord text → FrontIs text f r → (m : mark.Mark) × (mark_of (characters f) ≡ Some m) × (stands_before (Mark m) (characters r) ≡ true)
-mark-from text f r facts none (plain k w other) = absurd (no-front-word text none k r w)
+mark-from : (text f r : List Located) → IsPlain text → HasNoWord text → PrefixIs text f r → (m : mark.Mark) × (mark_of (characters f) ≡ Some m) × (stands_before (Mark m) (characters r) ≡ true)
+mark-from text f r facts none (plain k w other) = absurd (no-prefix-word text none k r w)
 mark-from text f r facts none (marked m at fits) = (m, at, fits)
 mark-from text f r facts none (chained capital reaches) = absurd (true≢false (sym capital ∙ facts.capital))
 
 -- a piece in front of a text where no word but a mark begins
 only-mark : (text f r : List Located) → IsPlain text → HasNoWord text → HasNoComment text → f ++ r ≡ text → 0 < length f → PieceIs f r → (m : mark.Mark) × (mark_of (characters f) ≡ Some m)
-only-mark text f r facts none never whole some (blank_front is) =
+only-mark text f r facts none never whole some (blank_prefix is) =
     absurd (never.never (nested-opens f r text whole (blank-nested f r text whole some facts.separator (no-dash (characters text) none.symbol) is)))
-only-mark text f r facts none never whole some (word_front is) = let m = mark-from text f r facts none (front-cases text f r whole is) in (m.0, m.1)
-only-mark text f r facts none never whole some (number_front is) = absurd (no-number f r text whole some facts.digit is)
-only-mark text f r facts none never whole some (character_front is) = absurd (no-character f r text whole some facts.quote is)
-only-mark text f r facts none never whole some (string_front is) = absurd (no-literal 34 f r text whole some facts.quotes is)
+only-mark text f r facts none never whole some (word_prefix is) = let m = mark-from text f r facts none (prefix-cases text f r whole is) in (m.0, m.1)
+only-mark text f r facts none never whole some (number_prefix is) = absurd (no-number f r text whole some facts.digit is)
+only-mark text f r facts none never whole some (character_prefix is) = absurd (no-character f r text whole some facts.quote is)
+only-mark text f r facts none never whole some (string_prefix is) = absurd (no-literal 34 f r text whole some facts.quotes is)
 
 mark-kind : (c : Located) (text : List Located) (m : mark.Mark) → HasNoWord (c ∷ text) → mark_of (c.char ∷ []) ≡ Some m → word_kind (c.char ∷ []) ≡ Some (Mark m)
 unfolding word_kind
@@ -475,7 +475,7 @@ nothing-longest c text facts none never at = piece-none (c ∷ text) bad
     bad : (f r : List Located) → f ++ r ≡ c ∷ text → 0 < length f → PieceIs f r → ⊥
     bad f r whole some is =
         let m = only-mark (c ∷ text) f r facts none never whole some is in
-        let one = one-front f r c text whole some (mark-size f m.0 m.1) in
+        let one = one-prefix f r c text whole some (mark-size f m.0 m.1) in
         none-is (mark_of (c.char ∷ [])) m.0 (ap is_none at) (ap (λ t. mark_of (characters t)) (sym one.0) ∙ m.1)
 
 -- nested comments
@@ -494,19 +494,19 @@ only-nested c d text f r facts opens whole some is = by is
     brace : begins_with (is_char 123) (characters (c ∷ d ∷ text)) ≡ true
     brace = let at : c.char ≡ 123 = (let h = opens.0 in cc) in eq-eqb c.char 123 at
 
-    from : FrontIs (c ∷ d ∷ text) f r → ⊥
+    from : PrefixIs (c ∷ d ∷ text) f r → ⊥
     from (plain k w other) = word-class (c ∷ d ∷ text) k r (brace-facts (characters (c ∷ d ∷ text)) brace).0 (brace-facts (characters (c ∷ d ∷ text)) brace).1 w
     from (marked m at fits) =
-        let one = one-front f r c (d ∷ text) whole some (mark-size f m at) in
+        let one = one-prefix f r c (d ∷ text) whole some (mark-size f m at) in
         mark-opens c d text m opens (ap (λ t. mark_of (characters t)) (sym one.0) ∙ at) (ap (λ t. stands_before (Mark m) (characters t)) (sym one.1) ∙ fits)
     from (chained capital reaches) = true≢false (sym capital ∙ facts.capital)
 
     by : PieceIs f r → is_nested_comment (characters f) ≡ true
-    by (blank_front h) = blank-nested f r (c ∷ d ∷ text) whole some facts.separator (brace-facts (characters (c ∷ d ∷ text)) brace).2 h
-    by (word_front h) = absurd (from (front-cases (c ∷ d ∷ text) f r whole h))
-    by (number_front h) = absurd (no-number f r (c ∷ d ∷ text) whole some facts.digit h)
-    by (character_front h) = absurd (no-character f r (c ∷ d ∷ text) whole some facts.quote h)
-    by (string_front h) = absurd (no-literal 34 f r (c ∷ d ∷ text) whole some facts.quotes h)
+    by (blank_prefix h) = blank-nested f r (c ∷ d ∷ text) whole some facts.separator (brace-facts (characters (c ∷ d ∷ text)) brace).2 h
+    by (word_prefix h) = absurd (from (prefix-cases (c ∷ d ∷ text) f r whole h))
+    by (number_prefix h) = absurd (no-number f r (c ∷ d ∷ text) whole some facts.digit h)
+    by (character_prefix h) = absurd (no-character f r (c ∷ d ∷ text) whole some facts.quote h)
+    by (string_prefix h) = absurd (no-literal 34 f r (c ∷ d ∷ text) whole some facts.quotes h)
 
 blank-of : (a b : Bool) (w : List ℕ) → is_nested_comment w ≡ true → (if a || (b || is_nested_comment w) then Some Blank else None) ≡ Some Blank
 blank-of true b w is = refl
@@ -530,16 +530,16 @@ ends-at c d text (a ∷ b ∷ f) r whole is =
     ap (comment_end 1) (sym tails) ∙ nested-end 1 f r (nested-closes a b f is)
 
 pub comment-longest : (c d : Located) (text end : List Located) → IsPlain (c ∷ d ∷ text) → OpensComment (c ∷ d ∷ text) → comment_end 1 text ≡ Some end
-    → (front : List Located) × (longest piece (c ∷ d ∷ text) ≡ Some (cut_at front end Blank))
+    → (prefix : List Located) × (longest piece (c ∷ d ∷ text) ≡ Some (cut_at prefix end Blank))
 comment-longest c d text end facts opens is =
     let closed = closed-from 1 text end is in (
-      c ∷ d ∷ closed.front,
-      piece-longest (c ∷ d ∷ text) (c ∷ d ∷ closed.front) end Blank (ap (λ t. c ∷ d ∷ t) closed.whole) (omega arith)
-          (blank-piece (c ∷ d ∷ closed.front) end (blank-of (is_single is_separator (characters (c ∷ d ∷ closed.front))) (is_line_comment (characters (c ∷ d ∷ closed.front))) (characters (c ∷ d ∷ closed.front)) (nested-of c d closed.front (opens.0, opens.1) closed.is)))
+      c ∷ d ∷ closed.prefix,
+      piece-longest (c ∷ d ∷ text) (c ∷ d ∷ closed.prefix) end Blank (ap (λ t. c ∷ d ∷ t) closed.whole) (omega arith)
+          (blank-piece (c ∷ d ∷ closed.prefix) end (blank-of (is_single is_separator (characters (c ∷ d ∷ closed.prefix))) (is_line_comment (characters (c ∷ d ∷ closed.prefix))) (characters (c ∷ d ∷ closed.prefix)) (nested-of c d closed.prefix (opens.0, opens.1) closed.is)))
           (λ f r whole some p.
           let at = ends-at c d text f r whole (only-nested c d text f r facts opens whole some p) in
           let same : end ≡ r = (let e : Some end ≡ Some r = sym is ∙ at in cc) in
-          shorter-front f r (c ∷ d ∷ closed.front) end (c ∷ d ∷ text) whole (ap (λ t. c ∷ d ∷ t) closed.whole) (let sizes = ap length same in omega arith)),
+          shorter-prefix f r (c ∷ d ∷ closed.prefix) end (c ∷ d ∷ text) whole (ap (λ t. c ∷ d ∷ t) closed.whole) (let sizes = ap length same in omega arith)),
     )
 
 pub comment-never : (c d : Located) (text : List Located) → IsPlain (c ∷ d ∷ text) → OpensComment (c ∷ d ∷ text) → comment_end 1 text ≡ None → longest piece (c ∷ d ∷ text) ≡ None

@@ -23,14 +23,14 @@ use Rattle.cu_lex.proofs.LongestLemmas.{capital-longest, comment-longest, commen
 use Rattle.cu_lex.proofs.PieceLemmas.{base-dashes}
 
 -- the cut of a word
-word-cut : (text : List Located) (k : WordKind) (end : List Located) → IsPlain text → (w : IsWord text k end) → (front : List Located) × (longest piece text ≡ Some (word_cut k None (characters w.front) front end))
-word-cut text kind.VarId end facts w = (w.front, word-longest text kind.VarId end facts w refl)
-word-cut text kind.ConId end facts w = (w.front, word-longest text kind.ConId end facts w refl)
-word-cut text kind.VarOp end facts w = (w.front, word-longest text kind.VarOp end facts w refl)
-word-cut text kind.ConOp end facts w = (w.front, word-longest text kind.ConOp end facts w refl)
-word-cut text (kind.Keyword k) end facts w = (w.front, word-longest text (kind.Keyword k) end facts w refl)
-word-cut text (kind.Reserved k) end facts w = (w.front, word-longest text (kind.Reserved k) end facts w refl)
-word-cut text kind.Dashes end facts w = (w.front, dashes-longest text end facts w)
+word-cut : (text : List Located) (k : WordKind) (end : List Located) → IsPlain text → (w : IsWord text k end) → (prefix : List Located) × (longest piece text ≡ Some (word_cut k None (characters w.prefix) prefix end))
+word-cut text kind.VarId end facts w = (w.prefix, word-longest text kind.VarId end facts w refl)
+word-cut text kind.ConId end facts w = (w.prefix, word-longest text kind.ConId end facts w refl)
+word-cut text kind.VarOp end facts w = (w.prefix, word-longest text kind.VarOp end facts w refl)
+word-cut text kind.ConOp end facts w = (w.prefix, word-longest text kind.ConOp end facts w refl)
+word-cut text (kind.Keyword k) end facts w = (w.prefix, word-longest text (kind.Keyword k) end facts w refl)
+word-cut text (kind.Reserved k) end facts w = (w.prefix, word-longest text (kind.Reserved k) end facts w refl)
+word-cut text kind.Dashes end facts w = (w.prefix, dashes-longest text end facts w)
 
 -- a word without a qualifier
 pub plain-named : (found : Qualified) → found.dot ≡ None → IsPlain (left found.base) → IsWord (left found.base) found.word.kind (left found.word.end) → IsNamed (left found.base) found
@@ -41,25 +41,25 @@ plain-named found none facts w =
       word = w;
       outer = None;
       is_outer = subst (λ d. IsOuter (left found.base) d None) (sym none) tt;
-      front = cut.0;
+      prefix = cut.0;
       cut = cut.1;
     }
 
-base-cut : (k : WordKind) (q : Option (List ℕ)) (w : List ℕ) (front end : List Located) → is_base k ≡ true → cut_at front end (Token (named q k w)) ≡ word_cut k q w front end
-base-cut kind.VarId q w front end is = refl
-base-cut kind.ConId q w front end is = refl
-base-cut kind.VarOp q w front end is = refl
-base-cut kind.ConOp q w front end is = refl
-base-cut (kind.Keyword k) q w front end is = absurd (true≢false (sym is))
-base-cut (kind.Reserved k) q w front end is = absurd (true≢false (sym is))
-base-cut kind.Dashes q w front end is = absurd (true≢false (sym is))
+base-cut : (k : WordKind) (q : Option (List ℕ)) (w : List ℕ) (prefix end : List Located) → is_base k ≡ true → cut_at prefix end (Token (named q k w)) ≡ word_cut k q w prefix end
+base-cut kind.VarId q w prefix end is = refl
+base-cut kind.ConId q w prefix end is = refl
+base-cut kind.VarOp q w prefix end is = refl
+base-cut kind.ConOp q w prefix end is = refl
+base-cut (kind.Keyword k) q w prefix end is = absurd (true≢false (sym is))
+base-cut (kind.Reserved k) q w prefix end is = absurd (true≢false (sym is))
+base-cut kind.Dashes q w prefix end is = absurd (true≢false (sym is))
 
 -- a word with its qualifiers
 pub qualified-named : (text : List Located) (found : Qualified) → begins_with is_ascii_uppercase (characters text) ≡ true → IsQualified text found → IsNamed text found
 qualified-named text found capital q = by found.dot refl q.begins
   where
-    ok : (o : Option (List ℕ)) → stands_before (named o found.word.kind (characters q.word.front)) (characters (left found.word.end)) ≡ true
-    ok o = stands-named o found.word.kind (characters q.word.front) (characters (left found.word.end)) (base-dashes found.word.kind q.base) ∙ ap not q.word.ended
+    ok : (o : Option (List ℕ)) → stands_before (named o found.word.kind (characters q.word.prefix)) (characters (left found.word.end)) ≡ true
+    ok o = stands-named o found.word.kind (characters q.word.prefix) (characters (left found.word.end)) (base-dashes found.word.kind q.base) ∙ ap not q.word.ended
 
     by : (d : Option Cursor) → found.dot ≡ d → BeginsAt text (left found.base) d → IsNamed text found
     by None h begins =
@@ -68,27 +68,27 @@ qualified-named text found capital q = by found.dot refl q.begins
           word = q.word;
           outer = None;
           is_outer = subst (λ d. IsOuter text d None) (sym h) tt;
-          front = q.word.front;
-          cut = capital-longest text q.word.front (left found.word.end) (named None found.word.kind (characters q.word.front)) capital (q.word.whole ∙ begins)
-              (word-some (left found.base) found.word.kind (left found.word.end) q.word) (word-is (characters q.word.front) found.word.kind q.word.is (base-dashes found.word.kind q.base)) (ok None) q.most
-              ∙ ap Some (base-cut found.word.kind None (characters q.word.front) q.word.front (left found.word.end) q.base);
+          prefix = q.word.prefix;
+          cut = capital-longest text q.word.prefix (left found.word.end) (named None found.word.kind (characters q.word.prefix)) capital (q.word.whole ∙ begins)
+              (word-some (left found.base) found.word.kind (left found.word.end) q.word) (word-is (characters q.word.prefix) found.word.kind q.word.is (base-dashes found.word.kind q.base)) (ok None) q.most
+              ∙ ap Some (base-cut found.word.kind None (characters q.word.prefix) q.word.prefix (left found.word.end) q.base);
         }
     by (Some dot) h b =
         let point = dotted (left dot) b.dotted in
-        let front = b.outer ++ point.0 ∷ q.word.front in
-        let chars : characters front ≡ characters b.outer ++ 46 ∷ characters q.word.front =
-        map-append (λ (l : Located). l.char) b.outer (point.0 ∷ q.word.front) ∙ ap (λ x. characters b.outer ++ x ∷ characters q.word.front) point.1 in
-        let whole : front ++ left found.word.end ≡ text =
-        append_assoc b.outer (point.0 ∷ q.word.front) (left found.word.end) ∙ ap (λ t. b.outer ++ point.0 ∷ t) (q.word.whole ∙ b.after) ∙ ap (λ t. b.outer ++ t) (sym point.2) ∙ b.whole in
+        let prefix = b.outer ++ point.0 ∷ q.word.prefix in
+        let chars : characters prefix ≡ characters b.outer ++ 46 ∷ characters q.word.prefix =
+        map-append (λ (l : Located). l.char) b.outer (point.0 ∷ q.word.prefix) ∙ ap (λ x. characters b.outer ++ x ∷ characters q.word.prefix) point.1 in
+        let whole : prefix ++ left found.word.end ≡ text =
+        append_assoc b.outer (point.0 ∷ q.word.prefix) (left found.word.end) ∙ ap (λ t. b.outer ++ point.0 ∷ t) (q.word.whole ∙ b.after) ∙ ap (λ t. b.outer ++ t) (sym point.2) ∙ b.whole in
         record {
           begins = q.begins;
           word = q.word;
           outer = Some b.outer;
           is_outer = subst (λ d. IsOuter text d (Some b.outer)) (sym h) (b.whole, b.is, b.dotted);
-          front = front;
-          cut = capital-longest text front (left found.word.end) (named (Some (characters b.outer)) found.word.kind (characters q.word.front)) capital whole (omega (arith, length-append b.outer (point.0 ∷ q.word.front)))
-              (ap word_kind chars ∙ qualified-is (characters b.outer) (characters q.word.front) found.word.kind b.is q.word.is q.base) (ok (Some (characters b.outer))) q.most
-              ∙ ap Some (base-cut found.word.kind (Some (characters b.outer)) (characters q.word.front) front (left found.word.end) q.base);
+          prefix = prefix;
+          cut = capital-longest text prefix (left found.word.end) (named (Some (characters b.outer)) found.word.kind (characters q.word.prefix)) capital whole (omega (arith, length-append b.outer (point.0 ∷ q.word.prefix)))
+              (ap word_kind chars ∙ qualified-is (characters b.outer) (characters q.word.prefix) found.word.kind b.is q.word.is q.base) (ok (Some (characters b.outer))) q.most
+              ∙ ap Some (base-cut found.word.kind (Some (characters b.outer)) (characters q.word.prefix) prefix (left found.word.end) q.base);
         }
 
 -- ---- marks, comments and separators
@@ -96,7 +96,7 @@ qualified-named text found capital q = by found.dot refl q.begins
 pub mark-piece : (text : List Located) (m : mark.Mark) (end : List Located) → end ≡ later text → IsPlain text → HasNoWord text → (OpensComment text → ⊥) → Some m ≡ first_mark text → IsPiece text (Token (Mark m)) end
 mark-piece [] m end after facts none never is = absurd (let impossible : ⊥ = cc in impossible)
 mark-piece (c ∷ text) m end after facts none never is =
-    record { front = c ∷ []; cut = mark-longest c text m facts none (record { never = never }) (sym is) ∙ ap (λ t. Some (cut_at (c ∷ []) t (Token (Mark m)))) (sym after) }
+    record { prefix = c ∷ []; cut = mark-longest c text m facts none (record { never = never }) (sym is) ∙ ap (λ t. Some (cut_at (c ∷ []) t (Token (Mark m)))) (sym after) }
 
 pub no-mark : (text : List Located) → IsPlain text → HasNoWord text → (OpensComment text → ⊥) → None ≡ first_mark text → longest piece text ≡ None
 unfolding longest_after
@@ -106,7 +106,7 @@ no-mark (c ∷ text) facts none never is = nothing-longest c text facts none (re
 pub comment-piece : (text end : List Located) → IsPlain text → OpensComment text → Some end ≡ comment_end 1 (later (later text)) → IsPiece text Blank end
 comment-piece [] end facts opens is = absurd (let h = opens.0 in let impossible : ⊥ = cc in impossible)
 comment-piece (c ∷ []) end facts opens is = absurd (let h = opens.1 in let impossible : ⊥ = cc in impossible)
-comment-piece (c ∷ d ∷ text) end facts opens is = let found = comment-longest c d text end facts opens (sym is) in record { front = found.0; cut = found.1 }
+comment-piece (c ∷ d ∷ text) end facts opens is = let found = comment-longest c d text end facts opens (sym is) in record { prefix = found.0; cut = found.1 }
 
 pub no-comment : (text : List Located) → IsPlain text → OpensComment text → None ≡ comment_end 1 (later (later text)) → longest piece text ≡ None
 no-comment [] facts opens is = absurd (let h = opens.0 in let impossible : ⊥ = cc in impossible)
@@ -114,4 +114,4 @@ no-comment (c ∷ []) facts opens is = absurd (let h = opens.1 in let impossible
 no-comment (c ∷ d ∷ text) facts opens is = comment-never c d text facts opens (sym is)
 
 pub separator-piece : (text end : List Located) → begins_with is_separator (characters text) ≡ true → end ≡ later text → IsPiece text Blank end
-separator-piece text end is after = let found = separator-longest text is in record { front = found.0; cut = found.1 ∙ ap (λ t. Some (cut_at found.0 t Blank)) (sym after) }
+separator-piece text end is after = let found = separator-longest text is in record { prefix = found.0; cut = found.1 ∙ ap (λ t. Some (cut_at found.0 t Blank)) (sym after) }

@@ -10,14 +10,14 @@ use Rattle.cu_lex.specs.Pieces.{piece, blank, word, number, number_at, start}
 use Rattle.cu_lex.specs.Scanning.{later, run, skip, is_underscore, is_digit_of, digits, digits_from, digits_scan, based_scan, decimal_scan, number_scan, prefix_base, HasNoWord}
 use Rattle.cu_lex.specs.Words.{begins_with, is_symbol, is_run, entry, based_number, decimal_number, digits_value, goes_on_with_number, is_separator, mark_of}
 use Rattle.cu_lex.proofs.AsciiLemmas.{and-left, and-right, all_below, small-digit}
-use Rattle.cu_lex.proofs.ChainLemmas.{entry-none, first-front, none-is}
+use Rattle.cu_lex.proofs.ChainLemmas.{entry-none, first-prefix, none-is}
 use Rattle.cu_lex.proofs.ClassLemmas.{begins-apart, no-literal, no-character}
 use Rattle.cu_lex.proofs.FirstLemmas.{begins_blank, bases, begins-ten, blank-none, is_char, is_mark, mark-none}
 use Rattle.cu_lex.proofs.ItemLemmas.{digits-are, run-most, run-some, not-some}
-use Rattle.cu_lex.proofs.LongestLemmas.{no-front-word}
-use Rattle.cu_lex.proofs.PieceLemmas.{FrontIs, front-cases, PieceIs, piece-longest, piece-none, front-first, shorter-front}
-use Rattle.cu_lex.proofs.PieceLemmas.PieceIs.{blank_front, word_front, number_front, character_front, string_front}
-use Rattle.cu_lex.proofs.PieceLemmas.FrontIs.{plain, marked, chained}
+use Rattle.cu_lex.proofs.LongestLemmas.{no-prefix-word}
+use Rattle.cu_lex.proofs.PieceLemmas.{PrefixIs, prefix-cases, PieceIs, piece-longest, piece-none, prefix-first, shorter-prefix}
+use Rattle.cu_lex.proofs.PieceLemmas.PieceIs.{blank_prefix, word_prefix, number_prefix, character_prefix, string_prefix}
+use Rattle.cu_lex.proofs.PieceLemmas.PrefixIs.{plain, marked, chained}
 use Rattle.cu_lex.proofs.ScanLemmas.{run-skip, run-unique, skip-none}
 use Rattle.cu_lex.proofs.WordLemmas.{is-run}
 
@@ -45,15 +45,15 @@ alone class small a b c d e f text is =
     }
 
 pub alone-blank : (f r text : List Located) → f ++ r ≡ text → 0 < length f → IsAlone text → blank (characters f) ≡ None
-alone-blank f r text whole some facts = blank-none (characters f) (front-first begins_blank f r text whole some ∙ facts.blank)
+alone-blank f r text whole some facts = blank-none (characters f) (prefix-first begins_blank f r text whole some ∙ facts.blank)
 
-alone-front : (f r text : List Located) → f ++ r ≡ text → 0 < length f → IsAlone text → FrontIs text f r → ⊥
-alone-front f r text whole some facts (plain k w other) = no-front-word text facts.word k r w
-alone-front f r text whole some facts (marked m at fits) = none-is (mark_of (characters f)) m (ap is_none (mark-none (characters f) (front-first is_mark f r text whole some ∙ facts.mark))) at
-alone-front f r text whole some facts (chained capital reaches) = true≢false (sym capital ∙ facts.word.capital)
+alone-prefix : (f r text : List Located) → f ++ r ≡ text → 0 < length f → IsAlone text → PrefixIs text f r → ⊥
+alone-prefix f r text whole some facts (plain k w other) = no-prefix-word text facts.word k r w
+alone-prefix f r text whole some facts (marked m at fits) = none-is (mark_of (characters f)) m (ap is_none (mark-none (characters f) (prefix-first is_mark f r text whole some ∙ facts.mark))) at
+alone-prefix f r text whole some facts (chained capital reaches) = true≢false (sym capital ∙ facts.word.capital)
 
 pub alone-no-word : (f r text : List Located) → f ++ r ≡ text → 0 < length f → IsAlone text → IsSome (word (characters f) (characters r)) → ⊥
-alone-no-word f r text whole some facts is = alone-front f r text whole some facts (front-cases text f r whole is)
+alone-no-word f r text whole some facts is = alone-prefix f r text whole some facts (prefix-cases text f r whole is)
 
 none-from : {X : Type 0} (o : Option X) → (IsSome o → ⊥) → o ≡ None
 none-from None never = refl
@@ -72,9 +72,9 @@ record IsDecimal (f r : List Located) : Type 0 where
   all : is_run (is_digit_of 10) (characters f) ≡ true
   ended : goes_on_with_number (characters r) ≡ false
 
-decimal-front : (f r : List Located) → IsSome (decimal_number (characters f) (characters r)) → IsDecimal f r
+decimal-prefix : (f r : List Located) → IsSome (decimal_number (characters f) (characters r)) → IsDecimal f r
 unfolding decimal_number digits_value
-decimal-front f r is = by (goes_on_with_number (characters r)) refl (is_run (is_digit_of 10) (characters f)) refl is
+decimal-prefix f r is = by (goes_on_with_number (characters r)) refl (is_run (is_digit_of 10) (characters f)) refl is
   where
     by : (a : Bool) → goes_on_with_number (characters r) ≡ a → (b : Bool) → is_run (is_digit_of 10) (characters f) ≡ b
         → IsSome (if a then None else (if b then Some (digits_from 10 0 (characters f)) else None)) → IsDecimal f r
@@ -102,7 +102,7 @@ record IsBased (f r text : List Located) : Type 0 where
   a : Located
   b : Located
   more : List Located
-  front : f ≡ a ∷ b ∷ more
+  prefix : f ≡ a ∷ b ∷ more
   is : prefix_base text ≡ Some base
   all : is_run (is_digit_of base) (characters more) ≡ true
 
@@ -111,25 +111,25 @@ two_long [] = false
 two_long (c ∷ []) = false
 two_long (c ∷ d ∷ w) = true
 
-based-front : (f r text : List Located) → f ++ r ≡ text → IsSome (based_number (characters f)) → IsBased f r text
+based-prefix : (f r text : List Located) → f ++ r ≡ text → IsSome (based_number (characters f)) → IsBased f r text
 unfolding based_number two_long digits_value
-based-front [] r text whole is = absurd (not-some (based_number []) (ap (option_and_then (λ base. digits_value base [])) (entry-none two_long bases refl [] refl)) is)
-based-front (a ∷ []) r text whole is = absurd (not-some (based_number (a.char ∷ [])) (ap (option_and_then (λ base. digits_value base [])) (entry-none two_long bases refl (a.char ∷ []) refl)) is)
-based-front (a ∷ b ∷ f) r text whole is = by (entry bases (a.char ∷ b.char ∷ [])) refl is
+based-prefix [] r text whole is = absurd (not-some (based_number []) (ap (option_and_then (λ base. digits_value base [])) (entry-none two_long bases refl [] refl)) is)
+based-prefix (a ∷ []) r text whole is = absurd (not-some (based_number (a.char ∷ [])) (ap (option_and_then (λ base. digits_value base [])) (entry-none two_long bases refl (a.char ∷ []) refl)) is)
+based-prefix (a ∷ b ∷ f) r text whole is = by (entry bases (a.char ∷ b.char ∷ [])) refl is
   where
     same : prefix_base text ≡ entry bases (a.char ∷ b.char ∷ [])
     same = ap prefix_base (sym whole)
 
     digits-in : (base : ℕ) → entry bases (a.char ∷ b.char ∷ []) ≡ Some base → (x : Bool) → is_run (is_digit_of base) (characters f) ≡ x → IsSome (if x then Some (digits_from base 0 (characters f)) else None) → IsBased (a ∷ b ∷ f) r text
-    digits-in base at true h is = record { base = base; a = a; b = b; more = f; front = refl; is = same ∙ at; all = h }
+    digits-in base at true h is = record { base = base; a = a; b = b; more = f; prefix = refl; is = same ∙ at; all = h }
     digits-in base at false h is = absurd (true≢false (sym is))
 
     by : (o : Option ℕ) → entry bases (a.char ∷ b.char ∷ []) ≡ o → IsSome (option_and_then (λ base. digits_value base (characters f)) o) → IsBased (a ∷ b ∷ f) r text
     by None at is = absurd (true≢false (sym is))
     by (Some base) at is = digits-in base at (is_run (is_digit_of base) (characters f)) refl is
 
-number-front : (p : Position) (f r : List Located) → IsSome (number p (characters f) (characters r)) → IsSome (decimal_number (characters f) (characters r)) ⊎ IsSome (based_number (characters f))
-number-front p f r is = by (decimal_number (characters f) (characters r)) (based_number (characters f)) is
+number-prefix : (p : Position) (f r : List Located) → IsSome (number p (characters f) (characters r)) → IsSome (decimal_number (characters f) (characters r)) ⊎ IsSome (based_number (characters f))
+number-prefix p f r is = by (decimal_number (characters f) (characters r)) (based_number (characters f)) is
   where
     by : (a b : Option ℕ) → IsSome (option_map (number_at p) (option_or a b)) → IsSome a ⊎ IsSome b
     by (Some x) b is = inl refl
@@ -145,20 +145,20 @@ digit-quotes : (w : List ℕ) → begins_with is_ascii_digit w ≡ true → (beg
 digit-quotes w is = (begins-apart is_ascii_digit (is_char 39) small-digit refl w is, begins-apart is_ascii_digit (is_char 34) small-digit refl w is)
 
 -- a number in front of a text, where no other is longer
-number-longest-at : (text front end : List Located) (n : ℕ) → begins_with is_ascii_digit (characters text) ≡ true → front ++ end ≡ text → 0 < length front
-    → option_or (decimal_number (characters front) (characters end)) (based_number (characters front)) ≡ Some n
-    → ((f r : List Located) → f ++ r ≡ text → IsDecimal f r → length f ≤ length front) → ((f r : List Located) → f ++ r ≡ text → IsBased f r text → length f ≤ length front)
-    → longest piece text ≡ Some (cut_at front end (number_at (start front) n))
-number-longest-at text front end n digit whole some is decimal based =
-    piece-longest text front end (number_at (start front) n) whole some
-    (number-piece front end n (alone-blank front end text whole some (digit-alone text digit)) (alone-word front end text whole some (digit-alone text digit)) is) most
+number-longest-at : (text prefix end : List Located) (n : ℕ) → begins_with is_ascii_digit (characters text) ≡ true → prefix ++ end ≡ text → 0 < length prefix
+    → option_or (decimal_number (characters prefix) (characters end)) (based_number (characters prefix)) ≡ Some n
+    → ((f r : List Located) → f ++ r ≡ text → IsDecimal f r → length f ≤ length prefix) → ((f r : List Located) → f ++ r ≡ text → IsBased f r text → length f ≤ length prefix)
+    → longest piece text ≡ Some (cut_at prefix end (number_at (start prefix) n))
+number-longest-at text prefix end n digit whole some is decimal based =
+    piece-longest text prefix end (number_at (start prefix) n) whole some
+    (number-piece prefix end n (alone-blank prefix end text whole some (digit-alone text digit)) (alone-word prefix end text whole some (digit-alone text digit)) is) most
   where
-    most : (f r : List Located) → f ++ r ≡ text → 0 < length f → PieceIs f r → length f ≤ length front
-    most f r w s (blank_front h) = absurd (not-some (blank (characters f)) (alone-blank f r text w s (digit-alone text digit)) h)
-    most f r w s (word_front h) = absurd (alone-no-word f r text w s (digit-alone text digit) h)
-    most f r w s (number_front h) = ⊎_elim (λ d. decimal f r w (decimal-front f r d)) (λ b. based f r w (based-front f r text w b)) (number-front (start f) f r h)
-    most f r w s (character_front h) = absurd (no-character f r text w s (digit-quotes (characters text) digit).0 h)
-    most f r w s (string_front h) = absurd (no-literal 34 f r text w s (digit-quotes (characters text) digit).1 h)
+    most : (f r : List Located) → f ++ r ≡ text → 0 < length f → PieceIs f r → length f ≤ length prefix
+    most f r w s (blank_prefix h) = absurd (not-some (blank (characters f)) (alone-blank f r text w s (digit-alone text digit)) h)
+    most f r w s (word_prefix h) = absurd (alone-no-word f r text w s (digit-alone text digit) h)
+    most f r w s (number_prefix h) = ⊎_elim (λ d. decimal f r w (decimal-prefix f r d)) (λ b. based f r w (based-prefix f r text w b)) (number-prefix (start f) f r h)
+    most f r w s (character_prefix h) = absurd (no-character f r text w s (digit-quotes (characters text) digit).0 h)
+    most f r w s (string_prefix h) = absurd (no-literal 34 f r text w s (digit-quotes (characters text) digit).1 h)
 
 -- a prefix isn't two digits
 prefix-digits : (w : List ℕ) (base : ℕ) → entry bases w ≡ Some base → list_all (is_digit_of 10) w ≡ true → ⊥
@@ -199,22 +199,22 @@ scanned base text n end is = by (begins_with (is_digit_of base) (characters text
 based-most : (a b : Located) (text : List Located) (base : ℕ) (f r : List Located) → f ++ r ≡ a ∷ b ∷ text → IsBased f r (a ∷ b ∷ text) → prefix_base (a ∷ b ∷ text) ≡ Some base → length f ≤ length (a ∷ b ∷ run (is_digit_of base) text)
 based-most a b text base f r whole is at =
     let same : is.base ≡ base = (let e : Some is.base ≡ Some base = sym is.is ∙ at in cc) in
-    let whole' : is.a ∷ is.b ∷ (is.more ++ r) ≡ a ∷ b ∷ text = ap (λ t. t ++ r) (sym is.front) ∙ whole in
+    let whole' : is.a ∷ is.b ∷ (is.more ++ r) ≡ a ∷ b ∷ text = ap (λ t. t ++ r) (sym is.prefix) ∙ whole in
     let tails : is.more ++ r ≡ text = cc in
     let all : list_all (is_digit_of base) (characters is.more) ≡ true = subst (λ x. list_all (is_digit_of x) (characters is.more) ≡ true) same (run-all (is_digit_of is.base) (characters is.more) is.all) in
     let most = run-most (is_digit_of base) is.more r text tails all in
-    omega (arith, ap length is.front)
+    omega (arith, ap length is.prefix)
 
 based-longest : (base : ℕ) (text : List Located) (n : ℕ) (end : List Located) → begins_with is_ascii_digit (characters text) ≡ true → prefix_base text ≡ Some base → digits_scan base (later (later text)) ≡ Some (n, end)
-    → (front : List Located) × (longest piece text ≡ Some (cut_at front end (number_at (start text) n)))
+    → (prefix : List Located) × (longest piece text ≡ Some (cut_at prefix end (number_at (start text) n)))
 unfolding based_number
 based-longest base [] n end digit at is = absurd (true≢false (sym digit))
 based-longest base (a ∷ []) n end digit at is = absurd (none-is (prefix_base (a ∷ [])) base (ap is_none (short-prefix a.char)) at)
 based-longest base (a ∷ b ∷ text) n end digit at is =
     let s = scanned base text n end is in
-    let front = a ∷ b ∷ run (is_digit_of base) text in (
-      front,
-      number-longest-at (a ∷ b ∷ text) front end n digit (ap (λ t. a ∷ b ∷ run (is_digit_of base) text ++ t) (sym s.rest) ∙ ap (λ t. a ∷ b ∷ t) (run-skip (is_digit_of base) text)) (omega arith)
+    let prefix = a ∷ b ∷ run (is_digit_of base) text in (
+      prefix,
+      number-longest-at (a ∷ b ∷ text) prefix end n digit (ap (λ t. a ∷ b ∷ run (is_digit_of base) text ++ t) (sym s.rest) ∙ ap (λ t. a ∷ b ∷ t) (run-skip (is_digit_of base) text)) (omega arith)
           (allowed s)
           (λ f r whole d. let one = decimal-no-prefix f r (a ∷ b ∷ text) base whole d at in omega arith)
           (λ f r whole d. based-most a b text base f r whole d at),
@@ -226,7 +226,7 @@ based-longest base (a ∷ b ∷ text) n end digit at is =
         let found : option_and_then (λ x. digits_value x (characters (run (is_digit_of base) text))) (entry bases (a.char ∷ b.char ∷ [])) ≡ Some n = ap (option_and_then (λ x. digits_value x (characters (run (is_digit_of base) text)))) at ∙ value in
         ap (λ o. option_or o (based_number (a.char ∷ b.char ∷ characters (run (is_digit_of base) text))))
         (none-from (decimal_number (a.char ∷ b.char ∷ characters (run (is_digit_of base) text)) (characters end))
-        (λ some. no-two (decimal-front (a ∷ b ∷ run (is_digit_of base) text) end some))) ∙ found
+        (λ some. no-two (decimal-prefix (a ∷ b ∷ run (is_digit_of base) text) end some))) ∙ found
       where
         no-two : IsDecimal (a ∷ b ∷ run (is_digit_of base) text) end → ⊥
         no-two d = let one = decimal-no-prefix (a ∷ b ∷ run (is_digit_of base) text) end (a ∷ b ∷ run (is_digit_of base) text ++ end) base refl d at in absurd (omega arith)
@@ -236,10 +236,10 @@ no-based : (f r text : List Located) → f ++ r ≡ text → based_scan text ≡
 no-based f r text whole none is = true≢false (sym some ∙ ap is_some none)
   where
     rest : is.more ++ r ≡ later (later text)
-    rest = ap (λ t. later (later t)) (ap (λ t. t ++ r) (sym is.front) ∙ whole)
+    rest = ap (λ t. later (later t)) (ap (λ t. t ++ r) (sym is.prefix) ∙ whole)
 
     first : begins_with (is_digit_of is.base) (characters (later (later text))) ≡ true
-    first = subst (λ t. begins_with (is_digit_of is.base) (characters t) ≡ true) rest (first-front (is_digit_of is.base) is.more r (and-left (begins_with (is_digit_of is.base) (characters is.more)) (list_all (is_digit_of is.base) (characters is.more)) is.all))
+    first = subst (λ t. begins_with (is_digit_of is.base) (characters t) ≡ true) rest (first-prefix (is_digit_of is.base) is.more r (and-left (begins_with (is_digit_of is.base) (characters is.more)) (list_all (is_digit_of is.base) (characters is.more)) is.all))
 
     some : is_some (based_scan text) ≡ true
     some = ap (λ o. is_some (option_and_then (λ base. digits_scan base (later (later text))) o)) is.is ∙ ap (λ b. is_some (if b then Some (digits_at is.base (later (later text))) else None)) first
@@ -252,7 +252,7 @@ first-place : (class : ℕ → Bool) (c : Located) (text : List Located) → cla
 first-place class c text is = rw is refl
 
 decimal-longest : (text : List Located) (n : ℕ) (end : List Located) → begins_with is_ascii_digit (characters text) ≡ true → based_scan text ≡ None → decimal_scan text ≡ Some (n, end)
-    → (front : List Located) × (longest piece text ≡ Some (cut_at front end (number_at (start text) n)))
+    → (prefix : List Located) × (longest piece text ≡ Some (cut_at prefix end (number_at (start text) n)))
 decimal-longest [] n end digit none is = absurd (true≢false (sym digit))
 decimal-longest (c ∷ text) n end digit none is = by (goes_on_with_number (characters (skip (is_digit_of 10) (c ∷ text)))) refl is
   where
@@ -260,28 +260,28 @@ decimal-longest (c ∷ text) n end digit none is = by (goes_on_with_number (char
     ten = begins-ten (characters (c ∷ text)) ∙ digit
 
     by : (b : Bool) → goes_on_with_number (characters (skip (is_digit_of 10) (c ∷ text))) ≡ b → (if b then None else Some (digits_at 10 (c ∷ text))) ≡ Some (n, end)
-        → (front : List Located) × (longest piece (c ∷ text) ≡ Some (cut_at front end (number_at c.at n)))
+        → (prefix : List Located) × (longest piece (c ∷ text) ≡ Some (cut_at prefix end (number_at c.at n)))
     by true h is = absurd (let impossible : ⊥ = cc in impossible)
     by false h is =
         let both : digits_at 10 (c ∷ text) ≡ (n, end) = cc in
         let value : digits_from 10 0 (digits 10 (c ∷ text)) ≡ n = ap (λ x. x.0) both in
         let rest : skip (is_digit_of 10) (c ∷ text) ≡ end = ap (λ x. x.1) both in
-        let front = run (is_digit_of 10) (c ∷ text) in
-        let whole : front ++ end ≡ c ∷ text = ap (λ t. front ++ t) (sym rest) ∙ run-skip (is_digit_of 10) (c ∷ text) in
+        let prefix = run (is_digit_of 10) (c ∷ text) in
+        let whole : prefix ++ end ≡ c ∷ text = ap (λ t. prefix ++ t) (sym rest) ∙ run-skip (is_digit_of 10) (c ∷ text) in
         let ended : goes_on_with_number (characters end) ≡ false = ap (λ t. goes_on_with_number (characters t)) (sym rest) ∙ h in
-        let number = digits-are 10 (characters front) (is-run (is_digit_of 10) (c ∷ text) ten) ∙ ap Some value in (
-          front,
-          number-longest-at (c ∷ text) front end n digit whole (run-some (is_digit_of 10) (c ∷ text) ten)
-              (decimal-value (characters front) (characters end) n (based_number (characters front)) ended number)
-              (λ f r w d. shorter-front f r front end (c ∷ text) w whole (let at : length end ≡ length r = ap length (sym rest ∙ decimal-rest f r (c ∷ text) w d) in omega arith))
-              (λ f r w d. absurd (no-based f r (c ∷ text) w none d)) ∙ ap (λ p. Some (cut_at front end (number_at p n))) (first-place (is_digit_of 10) c text ten),
+        let number = digits-are 10 (characters prefix) (is-run (is_digit_of 10) (c ∷ text) ten) ∙ ap Some value in (
+          prefix,
+          number-longest-at (c ∷ text) prefix end n digit whole (run-some (is_digit_of 10) (c ∷ text) ten)
+              (decimal-value (characters prefix) (characters end) n (based_number (characters prefix)) ended number)
+              (λ f r w d. shorter-prefix f r prefix end (c ∷ text) w whole (let at : length end ≡ length r = ap length (sym rest ∙ decimal-rest f r (c ∷ text) w d) in omega arith))
+              (λ f r w d. absurd (no-based f r (c ∷ text) w none d)) ∙ ap (λ p. Some (cut_at prefix end (number_at p n))) (first-place (is_digit_of 10) c text ten),
         )
 
 pub number-longest : (text : List Located) (n : ℕ) (end : List Located) → begins_with is_ascii_digit (characters text) ≡ true → number_scan text ≡ Some (n, end)
-    → (front : List Located) × (longest piece text ≡ Some (cut_at front end (number_at (start text) n)))
+    → (prefix : List Located) × (longest piece text ≡ Some (cut_at prefix end (number_at (start text) n)))
 number-longest text n end digit is = by (prefix_base text) refl (based_scan text) refl is
   where
-    by : (o : Option ℕ) → prefix_base text ≡ o → (s : Option (ℕ × List Located)) → based_scan text ≡ s → option_or s (decimal_scan text) ≡ Some (n, end) → (front : List Located) × (longest piece text ≡ Some (cut_at front end (number_at (start text) n)))
+    by : (o : Option ℕ) → prefix_base text ≡ o → (s : Option (ℕ × List Located)) → based_scan text ≡ s → option_or s (decimal_scan text) ≡ Some (n, end) → (prefix : List Located) × (longest piece text ≡ Some (cut_at prefix end (number_at (start text) n)))
     by o at None none is = decimal-longest text n end digit none is
     by None at (Some found) none is = absurd (let e : None ≡ Some found = sym (ap (option_and_then (λ base. digits_scan base (later (later text)))) at) ∙ none in let impossible : ⊥ = cc in impossible)
     by (Some base) at (Some found) none is = based-longest base text n end digit at (sym (ap (option_and_then (λ b. digits_scan b (later (later text)))) at) ∙ none ∙ is)
@@ -290,16 +290,16 @@ pub number-never : (text : List Located) → begins_with is_ascii_digit (charact
 number-never text digit is = by (based_scan text) refl is
   where
     bad : based_scan text ≡ None → decimal_scan text ≡ None → (f r : List Located) → f ++ r ≡ text → 0 < length f → PieceIs f r → ⊥
-    bad none none' f r w s (blank_front h) = not-some (blank (characters f)) (alone-blank f r text w s (digit-alone text digit)) h
-    bad none none' f r w s (word_front h) = alone-no-word f r text w s (digit-alone text digit) h
-    bad none none' f r w s (number_front h) = ⊎_elim (λ d. no-decimal f r w (decimal-front f r d)) (λ b. no-based f r text w none (based-front f r text w b)) (number-front (start f) f r h)
+    bad none none' f r w s (blank_prefix h) = not-some (blank (characters f)) (alone-blank f r text w s (digit-alone text digit)) h
+    bad none none' f r w s (word_prefix h) = alone-no-word f r text w s (digit-alone text digit) h
+    bad none none' f r w s (number_prefix h) = ⊎_elim (λ d. no-decimal f r w (decimal-prefix f r d)) (λ b. no-based f r text w none (based-prefix f r text w b)) (number-prefix (start f) f r h)
       where
         no-decimal : (f r : List Located) → f ++ r ≡ text → IsDecimal f r → ⊥
         no-decimal f r w d =
             let ended : goes_on_with_number (characters (skip (is_digit_of 10) text)) ≡ false = ap (λ t. goes_on_with_number (characters t)) (decimal-rest f r text w d) ∙ d.ended in
             true≢false (ap (λ b. is_some (if b then None else Some (digits_at 10 text))) (sym ended) ∙ ap is_some none')
-    bad none none' f r w s (character_front h) = no-character f r text w s (digit-quotes (characters text) digit).0 h
-    bad none none' f r w s (string_front h) = no-literal 34 f r text w s (digit-quotes (characters text) digit).1 h
+    bad none none' f r w s (character_prefix h) = no-character f r text w s (digit-quotes (characters text) digit).0 h
+    bad none none' f r w s (string_prefix h) = no-literal 34 f r text w s (digit-quotes (characters text) digit).1 h
 
     by : (s : Option (ℕ × List Located)) → based_scan text ≡ s → option_or s (decimal_scan text) ≡ None → longest piece text ≡ None
     by None none is = piece-none text (bad none is)

@@ -21,10 +21,10 @@ use Rattle.cu_lex.specs.Pieces.Piece.{Token}
 use Rattle.cu_lex.specs.Scanning.{is_underscore, is_base, class_of, IsWord, IsOfKind}
 use Rattle.cu_lex.specs.Words.{begins_with, is_name_character, is_symbol, is_dash, is_dashes, is_run, keyword_of, keywords, reserved_of, reserved_operators, mark_of, is_con_id, has_variable_form, is_module_name, qualified_parts, between_dots}
 use Rattle.cu_lex.proofs.AsciiLemmas.{and-left, and-right, and-both, capital-name, small-name-character, underscore-name}
-use Rattle.cu_lex.proofs.ChainLemmas.{entry-none, var-form, con-capital, con-all, operator-run, first-front}
+use Rattle.cu_lex.proofs.ChainLemmas.{entry-none, var-form, con-capital, con-all, operator-run, first-prefix}
 use Rattle.cu_lex.proofs.FirstLemmas.{is_dashes_kind, stands-named, Named, name-cases}
 use Rattle.cu_lex.proofs.MunchLemmas.{is-longest, longest_from_none}
-use Rattle.cu_lex.proofs.QualifiedLemmas.{capital-front, chain-at, module-capital, parts-from}
+use Rattle.cu_lex.proofs.QualifiedLemmas.{capital-prefix, chain-at, module-capital, parts-from}
 
 -- ---- words of a kind are runs
 
@@ -104,7 +104,7 @@ pub word-of : (text f r : List Located) → f ++ r ≡ text → (k : WordKind) �
 word-of text f r whole k is ended =
     let all = kind-run k (characters f) is in
     record {
-      front = f;
+      prefix = f;
       whole = whole;
       is = is;
       all = and-right (begins_with (class_of k) (characters f)) (list_all (class_of k) (characters f)) all;
@@ -114,10 +114,10 @@ word-of text f r whole k is ended =
 
 -- ---- what a front that is a word is
 
-pub data FrontIs (text f r : List Located) : Type 0 where
-  plain : (k : WordKind) → IsWord text k r → is_dashes_kind k ≡ false → FrontIs text f r
-  marked : (m : mark.Mark) → mark_of (characters f) ≡ Some m → stands_before (Mark m) (characters r) ≡ true → FrontIs text f r
-  chained : begins_with is_ascii_uppercase (characters text) ≡ true → Reaches r text → FrontIs text f r
+pub data PrefixIs (text f r : List Located) : Type 0 where
+  plain : (k : WordKind) → IsWord text k r → is_dashes_kind k ≡ false → PrefixIs text f r
+  marked : (m : mark.Mark) → mark_of (characters f) ≡ Some m → stands_before (Mark m) (characters r) ≡ true → PrefixIs text f r
+  chained : begins_with is_ascii_uppercase (characters text) ≡ true → Reaches r text → PrefixIs text f r
 
 stands : (next : List ℕ) (k : Kind) → IsSome (word_before next k) → stands_before k next ≡ true
 stands next k some = by (stands_before k next) refl some
@@ -143,34 +143,34 @@ named-ended : (q : Option (List ℕ)) (w next : List ℕ) (found : Kind) (n : Na
 named-ended q w next found n is =
     not-false (begins_with (class_of n.what) next) (sym (stands-named q n.what w next (base-dashes n.what n.base)) ∙ ap (λ k. stands_before k next) (sym n.same_kind) ∙ is)
 
-front-capital : (o i w : List ℕ) → o ++ 46 ∷ i ≡ w → begins_with is_ascii_uppercase o ≡ true → begins_with is_ascii_uppercase w ≡ true
-front-capital o i w at is = subst (λ t. begins_with is_ascii_uppercase t ≡ true) at (capital-front o (46 ∷ i) is)
+prefix-capital : (o i w : List ℕ) → o ++ 46 ∷ i ≡ w → begins_with is_ascii_uppercase o ≡ true → begins_with is_ascii_uppercase w ≡ true
+prefix-capital o i w at is = subst (λ t. begins_with is_ascii_uppercase t ≡ true) at (capital-prefix o (46 ∷ i) is)
 
 module-all : (o : List ℕ) → is_module_name o ≡ true → list_all is_con_id (between_dots o) ≡ true
 unfolding is_module_name
 module-all o is = is
 
-pub front-cases : (text f r : List Located) → f ++ r ≡ text → IsSome (word (characters f) (characters r)) → FrontIs text f r
+pub prefix-cases : (text f r : List Located) → f ++ r ≡ text → IsSome (word (characters f) (characters r)) → PrefixIs text f r
 unfolding word_kind
-front-cases text f r whole some =
+prefix-cases text f r whole some =
     by (keyword_of (characters f)) refl (reserved_of (characters f)) refl (mark_of (characters f)) refl (name_kind None (characters f)) refl (qualified_parts (characters f)) refl some
   where
-    qualified : (o i : List ℕ) → qualified_parts (characters f) ≡ Some (o, i) → (found : Option Kind) → name_kind (Some o) i ≡ found → IsSome (option_and_then (word_before (characters r)) found) → FrontIs text f r
+    qualified : (o i : List ℕ) → qualified_parts (characters f) ≡ Some (o, i) → (found : Option Kind) → name_kind (Some o) i ≡ found → IsSome (option_and_then (word_before (characters r)) found) → PrefixIs text f r
     qualified o i at None is some = absurd (true≢false (sym some))
     qualified o i at (Some found) is some =
         let parts = parts-from (characters f) o i at in
         let n = name-cases (Some o) i found is in
         let ended = named-ended (Some o) i (characters r) found n (stands (characters r) found some) in
-        let capital = front-capital o i (characters f) parts.0 (module-capital o parts.1) in
+        let capital = prefix-capital o i (characters f) parts.0 (module-capital o parts.1) in
         chained
-        (subst (λ t. begins_with is_ascii_uppercase (characters t) ≡ true) whole (first-front is_ascii_uppercase f r capital))
+        (subst (λ t. begins_with is_ascii_uppercase (characters t) ≡ true) whole (first-prefix is_ascii_uppercase f r capital))
         (subst (Reaches r) whole (chain-at (length o) o i f r (omega arith) (module-all o parts.1) (sym parts.0)
         (λ g h. last n.what (word-of (g ++ r) g r refl n.what (subst (IsOfKind n.what) (sym h) n.is) ended) n.base)))
 
     by : (a : Option keyword.Keyword) → keyword_of (characters f) ≡ a → (b : Option ReservedOperator) → reserved_of (characters f) ≡ b → (c : Option mark.Mark) → mark_of (characters f) ≡ c
         → (d : Option Kind) → name_kind None (characters f) ≡ d → (e : Option (List ℕ × List ℕ)) → qualified_parts (characters f) ≡ e
         → IsSome (option_and_then (word_before (characters r)) (option_or (option_map Keyword a) (option_or (option_map Reserved b) (option_or (option_map Mark c) (option_or d (option_and_then (λ parts. name_kind (Some parts.0) parts.1) e))))))
-        → FrontIs text f r
+        → PrefixIs text f r
     by (Some k) ha b hb c hc d hd e he some =
         plain (kind.Keyword k) (word-of text f r whole (kind.Keyword k) ha (not-false (begins_with is_name_character (characters r)) (stands (characters r) (Keyword k) some))) refl
     by None ha (Some k) hb c hc d hd e he some =
@@ -185,11 +185,11 @@ front-cases text f r whole some =
 -- ---- which class a front that is a piece is of
 
 pub data PieceIs (f r : List Located) : Type 0 where
-  blank_front : IsSome (blank (characters f)) → PieceIs f r
-  word_front : IsSome (word (characters f) (characters r)) → PieceIs f r
-  number_front : IsSome (number (start f) (characters f) (characters r)) → PieceIs f r
-  character_front : IsSome (option_and_then one_character (items_between 39 f)) → PieceIs f r
-  string_front : IsSome (items_between 34 f) → PieceIs f r
+  blank_prefix : IsSome (blank (characters f)) → PieceIs f r
+  word_prefix : IsSome (word (characters f) (characters r)) → PieceIs f r
+  number_prefix : IsSome (number (start f) (characters f) (characters r)) → PieceIs f r
+  character_prefix : IsSome (option_and_then one_character (items_between 39 f)) → PieceIs f r
+  string_prefix : IsSome (items_between 34 f) → PieceIs f r
 
 pub piece-cases : (f r : List Located) → IsSome (piece f r) → PieceIs f r
 unfolding piece
@@ -199,20 +199,20 @@ piece-cases f r some =
     by : (a : Option Piece) → blank (characters f) ≡ a → (b : Option Piece) → word (characters f) (characters r) ≡ b → (c : Option Piece) → number (start f) (characters f) (characters r) ≡ c
         → (d : Option Piece) → option_and_then one_character (items_between 39 f) ≡ d → (e : _) → items_between 34 f ≡ e
         → IsSome (option_or a (option_or b (option_or c (option_or d (option_map string e))))) → PieceIs f r
-    by (Some x) ha b hb c hc d hd e he some = blank_front (ap is_some ha)
-    by None ha (Some x) hb c hc d hd e he some = word_front (ap is_some hb)
-    by None ha None hb (Some x) hc d hd e he some = number_front (ap is_some hc)
-    by None ha None hb None hc (Some x) hd e he some = character_front (ap is_some hd)
-    by None ha None hb None hc None hd (Some x) he some = string_front (ap is_some he)
+    by (Some x) ha b hb c hc d hd e he some = blank_prefix (ap is_some ha)
+    by None ha (Some x) hb c hc d hd e he some = word_prefix (ap is_some hb)
+    by None ha None hb (Some x) hc d hd e he some = number_prefix (ap is_some hc)
+    by None ha None hb None hc (Some x) hd e he some = character_prefix (ap is_some hd)
+    by None ha None hb None hc None hd (Some x) he some = string_prefix (ap is_some he)
     by None ha None hb None hc None hd None he some = absurd (true≢false (sym some))
 
 -- the longest piece, by what other fronts can be
-pub piece-longest : (text front rest : List Located) (what : Piece) → front ++ rest ≡ text → 0 < length front → piece front rest ≡ Some what
-    → ((f r : List Located) → f ++ r ≡ text → 0 < length f → PieceIs f r → length f ≤ length front) → longest piece text ≡ Some (cut_at front rest what)
-piece-longest text front rest what whole some is most =
-    is-longest piece text (cut_at front rest what) (record { whole = whole; some = some; allowed = is; most = all })
+pub piece-longest : (text prefix rest : List Located) (what : Piece) → prefix ++ rest ≡ text → 0 < length prefix → piece prefix rest ≡ Some what
+    → ((f r : List Located) → f ++ r ≡ text → 0 < length f → PieceIs f r → length f ≤ length prefix) → longest piece text ≡ Some (cut_at prefix rest what)
+piece-longest text prefix rest what whole some is most =
+    is-longest piece text (cut_at prefix rest what) (record { whole = whole; some = some; allowed = is; most = all })
   where
-    all : (f r : List Located) → f ++ r ≡ text → IsSome (piece f r) → length f ≤ length front
+    all : (f r : List Located) → f ++ r ≡ text → IsSome (piece f r) → length f ≤ length prefix
     all [] r w is = omega arith
     all (c ∷ f) r w is = most (c ∷ f) r w (omega arith) (piece-cases (c ∷ f) r is)
 
@@ -224,9 +224,9 @@ piece-none text none = longest_from_none piece text (λ f r w some. by f r w som
     by f r w some (Some p) is = absurd (none f r w some (piece-cases f r (ap is_some is)))
 
 -- the first character of a front is the text's
-pub front-first : (p : ℕ → Bool) (f r text : List Located) → f ++ r ≡ text → 0 < length f → begins_with p (characters f) ≡ begins_with p (characters text)
-front-first p [] r text whole some = absurd (omega arith)
-front-first p (c ∷ f) r text whole some = ap (λ t. begins_with p (characters t)) whole
+pub prefix-first : (p : ℕ → Bool) (f r text : List Located) → f ++ r ≡ text → 0 < length f → begins_with p (characters f) ≡ begins_with p (characters text)
+prefix-first p [] r text whole some = absurd (omega arith)
+prefix-first p (c ∷ f) r text whole some = ap (λ t. begins_with p (characters t)) whole
 
-pub shorter-front : (f r front rest text : List Located) → f ++ r ≡ text → front ++ rest ≡ text → length rest ≤ length r → length f ≤ length front
-shorter-front f r front rest text whole whole' short = omega (arith, ap length whole, ap length whole', length-append f r, length-append front rest)
+pub shorter-prefix : (f r prefix rest text : List Located) → f ++ r ≡ text → prefix ++ rest ≡ text → length rest ≤ length r → length f ≤ length prefix
+shorter-prefix f r prefix rest text whole whole' short = omega (arith, ap length whole, ap length whole', length-append f r, length-append prefix rest)

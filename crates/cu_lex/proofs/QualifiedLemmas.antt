@@ -121,9 +121,9 @@ pub module-capital : (m : List ℕ) → is_module_name m ≡ true → begins_wit
 unfolding is_module_name
 module-capital m is = module-first m is
 
-pub capital-front : (m rest : List ℕ) → begins_with is_ascii_uppercase m ≡ true → begins_with is_ascii_uppercase (m ++ rest) ≡ true
-capital-front [] rest is = absurd (true≢false (sym is))
-capital-front (c ∷ m) rest is = is
+pub capital-prefix : (m rest : List ℕ) → begins_with is_ascii_uppercase m ≡ true → begins_with is_ascii_uppercase (m ++ rest) ≡ true
+capital-prefix [] rest is = absurd (true≢false (sym is))
+capital-prefix (c ∷ m) rest is = is
 
 -- a ConId has no dot
 dot-no-name : is_name_character 46 ≡ false
@@ -148,7 +148,7 @@ unfolding is_module_name
 apart-parts o m i outer base =
     let parts = sym (list_all-append is_con_id (between_dots o) (between_dots m)) ∙ ap (list_all is_con_id) (sym (between-join o m)) ∙ outer in
     let capital = module-first m (and-right (list_all is_con_id (between_dots o)) (list_all is_con_id (between_dots m)) parts) in
-    no-dot m i (con-all (m ++ 46 ∷ i) (capital-base (m ++ 46 ∷ i) (capital-front m (46 ∷ i) capital) base))
+    no-dot m i (con-all (m ++ 46 ∷ i) (capital-base (m ++ 46 ∷ i) (capital-prefix m (46 ∷ i) capital) base))
 
 pub one-split : (o i o' i' : List ℕ) → are_parts (o, i) ≡ true → are_parts (o', i') ≡ true → o ++ 46 ∷ i ≡ o' ++ 46 ∷ i' → (o ≡ o') × (i ≡ i')
 one-split o i o' i' is is' whole = elim (aligned o i o' i' whole) [
@@ -208,37 +208,37 @@ outer o is = by (cut1 o)
         let both = ap (list_all is_con_id) (sym q) ∙ is in
         more a o' p (and-left (is_con_id a) (list_all is_con_id (between_dots o')) both) (and-right (is_con_id a) (list_all is_con_id (between_dots o')) both)
 
-pub record SplitAt (front : List Located) (a b : List ℕ) : Type 0 where
+pub record SplitAt (prefix : List Located) (a b : List ℕ) : Type 0 where
   pub before : List Located
   pub after : List Located
-  pub whole : before ++ after ≡ front
+  pub whole : before ++ after ≡ prefix
   pub first : characters before ≡ a
   pub second : characters after ≡ b
 
-pub split-at : (front : List Located) (a b : List ℕ) → characters front ≡ a ++ b → SplitAt front a b
-split-at front [] b is = record { before = []; after = front; whole = refl; first = refl; second = is }
+pub split-at : (prefix : List Located) (a b : List ℕ) → characters prefix ≡ a ++ b → SplitAt prefix a b
+split-at prefix [] b is = record { before = []; after = prefix; whole = refl; first = refl; second = is }
 split-at [] (x ∷ a) b is = cc
-split-at (c ∷ front) (x ∷ a) b is =
+split-at (c ∷ prefix) (x ∷ a) b is =
     let heads : c.char ≡ x = cc in
-    let tails : characters front ≡ a ++ b = cc in
-    let more = split-at front a b tails in
+    let tails : characters prefix ≡ a ++ b = cc in
+    let more = split-at prefix a b tails in
     record { before = c ∷ more.before; after = more.after; whole = ap (λ t. c ∷ t) more.whole; first = (λ j. heads j ∷ more.first j); second = more.second }
 
 -- a ConId and a dot, before a chain
-pub link-at : (front rest : List Located) (a w : List ℕ) → characters front ≡ a ++ 46 ∷ w → is_con_id a ≡ true
-    → ((f : List Located) → characters f ≡ w → Reaches rest (f ++ rest)) → Reaches rest (front ++ rest)
-link-at front rest a w is con reaches =
-    let s = split-at front a (46 ∷ w) is in
+pub link-at : (prefix rest : List Located) (a w : List ℕ) → characters prefix ≡ a ++ 46 ∷ w → is_con_id a ≡ true
+    → ((f : List Located) → characters f ≡ w → Reaches rest (f ++ rest)) → Reaches rest (prefix ++ rest)
+link-at prefix rest a w is con reaches =
+    let s = split-at prefix a (46 ∷ w) is in
     by s.before s.after s.whole s.first s.second
   where
-    by : (before after : List Located) → before ++ after ≡ front → characters before ≡ a → characters after ≡ 46 ∷ w → Reaches rest (front ++ rest)
+    by : (before after : List Located) → before ++ after ≡ prefix → characters before ≡ a → characters after ≡ 46 ∷ w → Reaches rest (prefix ++ rest)
     by before [] at head tail = cc
     by before (d ∷ after) at head tail =
         let dotted : d.char ≡ 46 = cc in
         let tails : characters after ≡ w = cc in
         let con' : is_con_id (characters before) ≡ true = ap is_con_id head ∙ con in
         link (d ∷ after ++ rest) (record {
-          front = before;
+          prefix = before;
           whole = sym (append_assoc before (d ∷ after) rest) ∙ ap (λ t. t ++ rest) at;
           is = con';
           all = con-all (characters before) con';
@@ -251,17 +251,17 @@ link-at front rest a w is con reaches =
         first-name (c ∷ word) is = capital-name c is
 
 -- a qualified word is a chain
-pub chain-at : (n : ℕ) (o i : List ℕ) (front rest : List Located) → length o ≤ n → list_all is_con_id (between_dots o) ≡ true → characters front ≡ o ++ 46 ∷ i
-    → ((f : List Located) → characters f ≡ i → Reaches rest (f ++ rest)) → Reaches rest (front ++ rest)
-chain-at zero o i front rest fits is at reaches = by (outer o is)
+pub chain-at : (n : ℕ) (o i : List ℕ) (prefix rest : List Located) → length o ≤ n → list_all is_con_id (between_dots o) ≡ true → characters prefix ≡ o ++ 46 ∷ i
+    → ((f : List Located) → characters f ≡ i → Reaches rest (f ++ rest)) → Reaches rest (prefix ++ rest)
+chain-at zero o i prefix rest fits is at reaches = by (outer o is)
   where
-    by : Outer o → Reaches rest (front ++ rest)
-    by (one con) = link-at front rest o i at con reaches
+    by : Outer o → Reaches rest (prefix ++ rest)
+    by (one con) = link-at prefix rest o i at con reaches
     by (more a o' p con all) = absurd (omega (arith, ap length p, length-append a (46 ∷ o')))
-chain-at (suc n) o i front rest fits is at reaches = by (outer o is) (λ o' small all f h. chain-at n o' i f rest small all h reaches)
+chain-at (suc n) o i prefix rest fits is at reaches = by (outer o is) (λ o' small all f h. chain-at n o' i f rest small all h reaches)
   where
     by : Outer o → ((o' : List ℕ) → length o' ≤ n → list_all is_con_id (between_dots o') ≡ true → (f : List Located) → characters f ≡ o' ++ 46 ∷ i → Reaches rest (f ++ rest))
-        → Reaches rest (front ++ rest)
-    by (one con) next = link-at front rest o i at con reaches
+        → Reaches rest (prefix ++ rest)
+    by (one con) next = link-at prefix rest o i at con reaches
     by (more a o' p con all) next =
-        link-at front rest a (o' ++ 46 ∷ i) (at ∙ ap (λ t. t ++ 46 ∷ i) p ∙ append_assoc a (46 ∷ o') (46 ∷ i)) con (λ f h. next o' (omega (arith, ap length p, length-append a (46 ∷ o'))) all f h)
+        link-at prefix rest a (o' ++ 46 ∷ i) (at ∙ ap (λ t. t ++ 46 ∷ i) p ∙ append_assoc a (46 ∷ o') (46 ∷ i)) con (λ f h. next o' (omega (arith, ap length p, length-append a (46 ∷ o'))) all f h)

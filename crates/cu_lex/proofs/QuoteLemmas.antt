@@ -18,8 +18,8 @@ use Rattle.cu_lex.proofs.ItemLemmas.{longest-item, not-some}
 use Rattle.cu_lex.proofs.LiteralLemmas.{ended}
 use Rattle.cu_lex.proofs.MunchLemmas.{is-longest, longest-is}
 use Rattle.cu_lex.proofs.NumberLemmas.{IsAlone, alone, alone-blank, alone-word, alone-no-word}
-use Rattle.cu_lex.proofs.PieceLemmas.{PieceIs, piece-longest, piece-none, front-first, shorter-front}
-use Rattle.cu_lex.proofs.PieceLemmas.PieceIs.{blank_front, word_front, number_front, character_front, string_front}
+use Rattle.cu_lex.proofs.PieceLemmas.{PieceIs, piece-longest, piece-none, prefix-first, shorter-prefix}
+use Rattle.cu_lex.proofs.PieceLemmas.PieceIs.{blank_prefix, word_prefix, number_prefix, character_prefix, string_prefix}
 
 -- ---- more text behind an item
 
@@ -27,7 +27,7 @@ abbrev a_scan : Option ℕ → List Located → Option ℕ × List Located
 a_scan code text = (code, text)
 
 record RunOn (class : ℕ → Bool) (text r : List Located) (c : Located) (rest : List Located) : Type 0 where
-  front : run class (text ++ r) ≡ run class text
+  prefix : run class (text ++ r) ≡ run class text
   end : skip class (text ++ r) ≡ c ∷ rest ++ r
 
 run-on : (class : ℕ → Bool) (text r : List Located) (c : Located) (rest : List Located) → skip class text ≡ c ∷ rest → RunOn class text r c rest
@@ -35,8 +35,8 @@ run-on class [] r c rest is = absurd (let impossible : ⊥ = cc in impossible)
 run-on class (d ∷ text) r c rest is = by (class d.char) refl (λ h. run-on class text r c rest h) is
   where
     by : (b : Bool) → class d.char ≡ b → (skip class text ≡ c ∷ rest → RunOn class text r c rest) → (if b then skip class text else d ∷ text) ≡ c ∷ rest → RunOn class (d ∷ text) r c rest
-    by true h more is = let m = more is in record { front = rw h (ap (λ t. d ∷ t) m.front); end = rw h m.end }
-    by false h more is = record { front = rw h refl; end = rw h (ap (λ t. t ++ r) is) }
+    by true h more is = let m = more is in record { prefix = rw h (ap (λ t. d ∷ t) m.prefix); end = rw h m.end }
+    by false h more is = record { prefix = rw h refl; end = rw h (ap (λ t. t ++ r) is) }
 
 abbrev numeric_at : ℕ → List Located → Option ℕ × List Located
 numeric_at base text = (Some (digits_from base 0 (digits base text)), skip (is_digit_of base) text)
@@ -50,7 +50,7 @@ numeric-extend base (d ∷ text) r what c rest is = by (is_digit_of base d.char)
     by true h is =
         let both : numeric_at base (d ∷ text) ≡ (what, c ∷ rest) = cc in
         let on = run-on (is_digit_of base) (d ∷ text) r c rest (ap (λ x. x.1) both) in
-        (λ j. Some ((ap (λ t. Some (digits_from base 0 (characters t))) on.front ∙ ap (λ x. x.0) both) j, on.end j))
+        (λ j. Some ((ap (λ t. Some (digits_from base 0 (characters t))) on.prefix ∙ ap (λ x. x.0) both) j, on.end j))
     by false h is = absurd (let impossible : ⊥ = cc in impossible)
 
 short-extend : (o : Option ℕ) (text r : List Located) (what : Option ℕ) (c : Located) (rest : List Located) → 0 < length text → short_or_decimal o text ≡ Some (what, c ∷ rest) → short_or_decimal o (text ++ r) ≡ Some (what, c ∷ rest ++ r)
@@ -137,10 +137,10 @@ extended quote (suc n) (d ∷ text) r c fits other at is =
 -- ---- the same items before the quote alone
 
 pub record Before (quote : ℕ) (text end : List Located) (c : Located) : Type 0 where
-  pub front : List Located
-  pub whole : front ++ end ≡ text
-  pub over : (cut_all (item quote) front).left ≡ c ∷ []
-  pub pieces : (cut_all (item quote) front).pieces ≡ (cut_all (item quote) text).pieces
+  pub prefix : List Located
+  pub whole : prefix ++ end ≡ text
+  pub over : (cut_all (item quote) prefix).left ≡ c ∷ []
+  pub pieces : (cut_all (item quote) prefix).pieces ≡ (cut_all (item quote) text).pieces
 
 pub before : (quote n : ℕ) (text end : List Located) (c : Located) → length text ≤ n → (quote == 92) ≡ false → c.char ≡ quote → (cut_all (item quote) text).left ≡ c ∷ end → Before quote text end c
 before quote n [] end c fits other at is = absurd (let e : (cut_all (item quote) []).left ≡ [] = left-none quote [] refl in let impossible : ⊥ = cc in impossible)
@@ -153,7 +153,7 @@ before quote (suc n) (d ∷ text) end c fits other at is =
         let left : d ∷ text ≡ c ∷ end = sym (left-none quote (d ∷ text) none) ∙ is in
         let none' = quote-none quote c [] other at in
         record {
-          front = c ∷ [];
+          prefix = c ∷ [];
           whole = sym left;
           over = left-none quote (c ∷ []) none';
           pieces = ap (λ cut. cut.pieces) (ended quote (c ∷ []) none') ∙ sym (ap (λ cut. cut.pieces) (ended quote (d ∷ text) none));
@@ -164,12 +164,12 @@ before quote (suc n) (d ∷ text) end c fits other at is =
         let shorter = rest-shorter (item quote) (d ∷ text) (cut_at found.0 rest what) found.1 in
         let inner = more rest (omega arith) (sym (ap (λ cut. cut.left) step) ∙ is) in
         let law = longest-is (item quote) (d ∷ text) (cut_at found.0 rest what) found.1 in
-        joined-front found.0 inner.front rest what inner.whole inner.over inner.pieces law step
+        joined-prefix found.0 inner.prefix rest what inner.whole inner.over inner.pieces law step
       where
-        joined-front : (f g rest : List Located) (what : Option ℕ) → g ++ end ≡ rest → (cut_all (item quote) g).left ≡ c ∷ [] → (cut_all (item quote) g).pieces ≡ (cut_all (item quote) rest).pieces
+        joined-prefix : (f g rest : List Located) (what : Option ℕ) → g ++ end ≡ rest → (cut_all (item quote) g).left ≡ c ∷ [] → (cut_all (item quote) g).pieces ≡ (cut_all (item quote) rest).pieces
             → IsLongest (item quote) (d ∷ text) (cut_at f rest what) → cut_all (item quote) (d ∷ text) ≡ with_piece what d.at (cut_all (item quote) rest) → Before quote (d ∷ text) end c
-        joined-front [] g rest what whole over pieces law step = absurd (let some = law.some in omega arith)
-        joined-front (e ∷ f) g rest what whole over pieces law step =
+        joined-prefix [] g rest what whole over pieces law step = absurd (let some = law.some in omega arith)
+        joined-prefix (e ∷ f) g rest what whole over pieces law step =
             let head : e ≡ d = (let w = law.whole in cc) in
             let all : (e ∷ f ++ g) ++ end ≡ d ∷ text = append_assoc (e ∷ f) g end ∙ ap (λ t. e ∷ f ++ t) whole ∙ law.whole in
             let short = is-longest (item quote) (e ∷ f ++ g) (cut_at (e ∷ f) g what) (record {
@@ -180,7 +180,7 @@ before quote (suc n) (d ∷ text) end c fits other at is =
             }) in
             let step' = cut-step (item quote) e (f ++ g) (cut_at (e ∷ f) g what) short in
             record {
-              front = e ∷ f ++ g;
+              prefix = e ∷ f ++ g;
               whole = all;
               over = ap (λ cut. cut.left) step' ∙ over;
               pieces = ap (λ cut. cut.pieces) step' ∙ (λ j. record { what = what; at = (head j).at } ∷ pieces j) ∙ sym (ap (λ cut. cut.pieces) step);
@@ -192,7 +192,7 @@ record Between (quote : ℕ) (f : List Located) (items : List (Placed (Option �
   first : Located
   inside : List Located
   close : Located
-  front : f ≡ first ∷ inside
+  prefix : f ≡ first ∷ inside
   over : (cut_all (item quote) inside).left ≡ close ∷ []
   is : close.char ≡ quote
   pieces : (cut_all (item quote) inside).pieces ≡ items
@@ -214,7 +214,7 @@ between quote (first ∷ f) items is = by (first.char == quote) (bytes_eq (chara
     by true true h is =
         let one = one-left quote (cut_all (item quote) f).left h in
         let same : (cut_all (item quote) f).pieces ≡ items = cc in
-        record { first = first; inside = f; close = one.0; front = refl; over = one.1; is = one.2; pieces = same }
+        record { first = first; inside = f; close = one.0; prefix = refl; over = one.1; is = one.2; pieces = same }
     by true false h is = absurd (let impossible : ⊥ = cc in impossible)
     by false b h is = absurd (let impossible : ⊥ = cc in impossible)
 
@@ -236,7 +236,7 @@ pub whole-items : (quote : ℕ) (f r text : List Located) (items : List (Placed 
 whole-items quote f r text items other whole is =
     let b = between quote f items is in
     let e = extended quote (length b.inside) b.inside r b.close (omega arith) other b.is b.over in
-    let at : b.inside ++ r ≡ later text = ap (λ t. later (t ++ r)) (sym b.front) ∙ ap later whole in
+    let at : b.inside ++ r ≡ later text = ap (λ t. later (t ++ r)) (sym b.prefix) ∙ ap later whole in
     record {
       close = b.close;
       is = b.is;
@@ -246,20 +246,20 @@ whole-items quote f r text items other whole is =
 
 -- the front that ends at the quote
 pub record Quoted (quote : ℕ) (text end : List Located) : Type 0 where
-  pub front : List Located
-  pub whole : front ++ end ≡ text
-  pub some : 0 < length front
-  pub items : items_between quote front ≡ Some (cut_all (item quote) (later text)).pieces
+  pub prefix : List Located
+  pub whole : prefix ++ end ≡ text
+  pub some : 0 < length prefix
+  pub items : items_between quote prefix ≡ Some (cut_all (item quote) (later text)).pieces
 
-pub quoted-front : (quote : ℕ) (text end : List Located) → (quote == 92) ≡ false → begins_with (is_char quote) (characters text) ≡ true → IsQuoted quote (cut_all (item quote) (later text)).left end → Quoted quote text end
-quoted-front quote [] end other begins q = absurd (true≢false (sym begins))
-quoted-front quote (first ∷ text) end other begins q =
+pub quoted-prefix : (quote : ℕ) (text end : List Located) → (quote == 92) ≡ false → begins_with (is_char quote) (characters text) ≡ true → IsQuoted quote (cut_all (item quote) (later text)).left end → Quoted quote text end
+quoted-prefix quote [] end other begins q = absurd (true≢false (sym begins))
+quoted-prefix quote (first ∷ text) end other begins q =
     let b = before quote (length text) text end q.mark (omega arith) other q.is q.whole in
     record {
-      front = first ∷ b.front;
+      prefix = first ∷ b.prefix;
       whole = ap (λ t. first ∷ t) b.whole;
       some = omega arith;
-      items = items-are quote first q.mark b.front (eqb-true first.char quote begins) q.is b.over ∙ ap Some b.pieces;
+      items = items-are quote first q.mark b.prefix (eqb-true first.char quote begins) q.is b.over ∙ ap Some b.pieces;
     }
 
 pub quote-alone : (text : List Located) → begins_with (is_char 39) (characters text) ≡ true → IsAlone text
@@ -277,7 +277,7 @@ quotes-digit : (w : List ℕ) → begins_with (is_char 34) w ≡ true → (begin
 quotes-digit w is = (begins-apart (is_char 34) is_ascii_digit (λ c h. let at = eqb-true c 34 h in omega arith) refl w is, begins-apart (is_char 34) (is_char 39) (λ c h. let at = eqb-true c 34 h in omega arith) refl w is)
 
 number-no : (f r text : List Located) → f ++ r ≡ text → 0 < length f → begins_with is_ascii_digit (characters text) ≡ false → number (start f) (characters f) (characters r) ≡ None
-number-no f r text whole some digit = rw (number-none (characters f) (characters r) (front-first is_ascii_digit f r text whole some ∙ digit)) refl
+number-no f r text whole some digit = rw (number-none (characters f) (characters r) (prefix-first is_ascii_digit f r text whole some ∙ digit)) refl
 
 string-piece : (f r : List Located) (items : List (Placed (Option ℕ))) → blank (characters f) ≡ None → word (characters f) (characters r) ≡ None → number (start f) (characters f) (characters r) ≡ None → items_between 39 f ≡ None → items_between 34 f ≡ Some items
     → piece f r ≡ Some (string items)
@@ -296,23 +296,23 @@ some-of (Some x) is = (x, refl)
 -- ---- strings
 
 pub string-longest : (text end : List Located) → begins_with (is_char 34) (characters text) ≡ true → IsQuoted 34 ((string_items text).left) end
-    → (front : List Located) × (longest piece text ≡ Some (cut_at front end (string (string_items text).pieces)))
+    → (prefix : List Located) × (longest piece text ≡ Some (cut_at prefix end (string (string_items text).pieces)))
 string-longest text end begins q =
-    let front = quoted-front 34 text end refl begins q in (
-      front.front,
-      piece-longest text front.front end (string (string_items text).pieces) front.whole front.some
-          (string-piece front.front end (string_items text).pieces (alone-blank front.front end text front.whole front.some (quotes-alone text begins)) (alone-word front.front end text front.whole front.some (quotes-alone text begins))
-          (number-no front.front end text front.whole front.some (quotes-digit (characters text) begins).0)
-          (literal-none 39 front.front (front-first (is_char 39) front.front end text front.whole front.some ∙ (quotes-digit (characters text) begins).1)) front.items)
-          (λ f r whole some p. shorter-front f r front.front end text whole front.whole (most f r whole some p)),
+    let prefix = quoted-prefix 34 text end refl begins q in (
+      prefix.prefix,
+      piece-longest text prefix.prefix end (string (string_items text).pieces) prefix.whole prefix.some
+          (string-piece prefix.prefix end (string_items text).pieces (alone-blank prefix.prefix end text prefix.whole prefix.some (quotes-alone text begins)) (alone-word prefix.prefix end text prefix.whole prefix.some (quotes-alone text begins))
+          (number-no prefix.prefix end text prefix.whole prefix.some (quotes-digit (characters text) begins).0)
+          (literal-none 39 prefix.prefix (prefix-first (is_char 39) prefix.prefix end text prefix.whole prefix.some ∙ (quotes-digit (characters text) begins).1)) prefix.items)
+          (λ f r whole some p. shorter-prefix f r prefix.prefix end text whole prefix.whole (most f r whole some p)),
     )
   where
     most : (f r : List Located) → f ++ r ≡ text → 0 < length f → PieceIs f r → length end ≤ length r
-    most f r w s (blank_front h) = absurd (not-some (blank (characters f)) (alone-blank f r text w s (quotes-alone text begins)) h)
-    most f r w s (word_front h) = absurd (alone-no-word f r text w s (quotes-alone text begins) h)
-    most f r w s (number_front h) = absurd (no-number f r text w s (quotes-digit (characters text) begins).0 h)
-    most f r w s (character_front h) = absurd (no-character f r text w s (quotes-digit (characters text) begins).1 h)
-    most f r w s (string_front h) =
+    most f r w s (blank_prefix h) = absurd (not-some (blank (characters f)) (alone-blank f r text w s (quotes-alone text begins)) h)
+    most f r w s (word_prefix h) = absurd (alone-no-word f r text w s (quotes-alone text begins) h)
+    most f r w s (number_prefix h) = absurd (no-number f r text w s (quotes-digit (characters text) begins).0 h)
+    most f r w s (character_prefix h) = absurd (no-character f r text w s (quotes-digit (characters text) begins).1 h)
+    most f r w s (string_prefix h) =
         let items = some-of (items_between 34 f) h in
         let all = whole-items 34 f r text items.0 refl w items.1 in
         let same : q.mark ∷ end ≡ all.close ∷ r = sym q.whole ∙ all.over in
@@ -324,11 +324,11 @@ pub string-never : (text : List Located) → begins_with (is_char 34) (character
 string-never text begins never = piece-none text bad
   where
     bad : (f r : List Located) → f ++ r ≡ text → 0 < length f → PieceIs f r → ⊥
-    bad f r w s (blank_front h) = not-some (blank (characters f)) (alone-blank f r text w s (quotes-alone text begins)) h
-    bad f r w s (word_front h) = alone-no-word f r text w s (quotes-alone text begins) h
-    bad f r w s (number_front h) = no-number f r text w s (quotes-digit (characters text) begins).0 h
-    bad f r w s (character_front h) = no-character f r text w s (quotes-digit (characters text) begins).1 h
-    bad f r w s (string_front h) =
+    bad f r w s (blank_prefix h) = not-some (blank (characters f)) (alone-blank f r text w s (quotes-alone text begins)) h
+    bad f r w s (word_prefix h) = alone-no-word f r text w s (quotes-alone text begins) h
+    bad f r w s (number_prefix h) = no-number f r text w s (quotes-digit (characters text) begins).0 h
+    bad f r w s (character_prefix h) = no-character f r text w s (quotes-digit (characters text) begins).1 h
+    bad f r w s (string_prefix h) =
         let items = some-of (items_between 34 f) h in
         let all = whole-items 34 f r text items.0 refl w items.1 in
         never r (record { mark = all.close; is = all.is; whole = all.over })
@@ -349,8 +349,8 @@ one-item (i ∷ []) is = by i.what refl is
     by (Some n) at is = (n, i.at, (λ j. record { what = at j; at = i.at } ∷ []))
 one-item (i ∷ j ∷ items) is = absurd (true≢false (sym is))
 
-character-front-is : (f r text : List Located) → f ++ r ≡ text → IsSome (option_and_then one_character (items_between 39 f)) → (n : ℕ) × (p : Position) × IsOne text r n p
-character-front-is f r text w is = by (items_between 39 f) refl is
+character-prefix-is : (f r text : List Located) → f ++ r ≡ text → IsSome (option_and_then one_character (items_between 39 f)) → (n : ℕ) × (p : Position) × IsOne text r n p
+character-prefix-is f r text w is = by (items_between 39 f) refl is
   where
     by : (o : Option (List (Placed (Option ℕ)))) → items_between 39 f ≡ o → IsSome (option_and_then one_character o) → (n : ℕ) × (p : Position) × IsOne text r n p
     by None at is = absurd (true≢false (sym is))
@@ -360,24 +360,24 @@ character-front-is f r text w is = by (items_between 39 f) refl is
         (one.0, one.1, record { quoted = record { mark = all.close; is = all.is; whole = all.over }; pieces = all.pieces ∙ one.2 })
 
 pub character-longest : (text end : List Located) (n : ℕ) (p : Position) → begins_with (is_char 39) (characters text) ≡ true → IsOne text end n p
-    → (front : List Located) × (longest piece text ≡ Some (cut_at front end (character_at p n)))
+    → (prefix : List Located) × (longest piece text ≡ Some (cut_at prefix end (character_at p n)))
 character-longest text end n p begins one =
-    let front = quoted-front 39 text end refl begins one.quoted in (
-      front.front,
-      piece-longest text front.front end (character_at p n) front.whole front.some
-          (character-piece front.front end (character_at p n) (alone-blank front.front end text front.whole front.some (quote-alone text begins)) (alone-word front.front end text front.whole front.some (quote-alone text begins))
-          (number-no front.front end text front.whole front.some (quote-digit (characters text) begins).0)
-          (ap (option_and_then one_character) front.items ∙ ap one_character one.pieces))
-          (λ f r whole some q. shorter-front f r front.front end text whole front.whole (most f r whole some q)),
+    let prefix = quoted-prefix 39 text end refl begins one.quoted in (
+      prefix.prefix,
+      piece-longest text prefix.prefix end (character_at p n) prefix.whole prefix.some
+          (character-piece prefix.prefix end (character_at p n) (alone-blank prefix.prefix end text prefix.whole prefix.some (quote-alone text begins)) (alone-word prefix.prefix end text prefix.whole prefix.some (quote-alone text begins))
+          (number-no prefix.prefix end text prefix.whole prefix.some (quote-digit (characters text) begins).0)
+          (ap (option_and_then one_character) prefix.items ∙ ap one_character one.pieces))
+          (λ f r whole some q. shorter-prefix f r prefix.prefix end text whole prefix.whole (most f r whole some q)),
     )
   where
     most : (f r : List Located) → f ++ r ≡ text → 0 < length f → PieceIs f r → length end ≤ length r
-    most f r w s (blank_front h) = absurd (not-some (blank (characters f)) (alone-blank f r text w s (quote-alone text begins)) h)
-    most f r w s (word_front h) = absurd (alone-no-word f r text w s (quote-alone text begins) h)
-    most f r w s (number_front h) = absurd (no-number f r text w s (quote-digit (characters text) begins).0 h)
-    most f r w s (string_front h) = absurd (no-literal 34 f r text w s (quote-digit (characters text) begins).1 h)
-    most f r w s (character_front h) =
-        let found = character-front-is f r text w h in
+    most f r w s (blank_prefix h) = absurd (not-some (blank (characters f)) (alone-blank f r text w s (quote-alone text begins)) h)
+    most f r w s (word_prefix h) = absurd (alone-no-word f r text w s (quote-alone text begins) h)
+    most f r w s (number_prefix h) = absurd (no-number f r text w s (quote-digit (characters text) begins).0 h)
+    most f r w s (string_prefix h) = absurd (no-literal 34 f r text w s (quote-digit (characters text) begins).1 h)
+    most f r w s (character_prefix h) =
+        let found = character-prefix-is f r text w h in
         let q' = found.2.quoted in
         let same : one.quoted.mark ∷ end ≡ q'.mark ∷ r = sym one.quoted.whole ∙ q'.whole in
         let tails : end ≡ r = cc in
@@ -388,11 +388,11 @@ pub character-never : (text : List Located) → begins_with (is_char 39) (charac
 character-never text begins never = piece-none text bad
   where
     bad : (f r : List Located) → f ++ r ≡ text → 0 < length f → PieceIs f r → ⊥
-    bad f r w s (blank_front h) = not-some (blank (characters f)) (alone-blank f r text w s (quote-alone text begins)) h
-    bad f r w s (word_front h) = alone-no-word f r text w s (quote-alone text begins) h
-    bad f r w s (number_front h) = no-number f r text w s (quote-digit (characters text) begins).0 h
-    bad f r w s (string_front h) = no-literal 34 f r text w s (quote-digit (characters text) begins).1 h
-    bad f r w s (character_front h) = let found = character-front-is f r text w h in never r found.0 found.1 found.2
+    bad f r w s (blank_prefix h) = not-some (blank (characters f)) (alone-blank f r text w s (quote-alone text begins)) h
+    bad f r w s (word_prefix h) = alone-no-word f r text w s (quote-alone text begins) h
+    bad f r w s (number_prefix h) = no-number f r text w s (quote-digit (characters text) begins).0 h
+    bad f r w s (string_prefix h) = no-literal 34 f r text w s (quote-digit (characters text) begins).1 h
+    bad f r w s (character_prefix h) = let found = character-prefix-is f r text w h in never r found.0 found.1 found.2
 
 -- one item, as it is read
 pub one-from : (first : Located) (text close end : List Located) (n : ℕ) → item_scan 39 text ≡ Some (Some n, close) → IsQuoted 39 close end → (p : Position) × ((c : Located) (t : List Located) → text ≡ c ∷ t → p ≡ c.at) × IsOne (first ∷ text) end n p

@@ -56,13 +56,13 @@ and-right true b is = is
 and-right false b is = absurd (true≢false (sym is))
 
 -- a front of the class, behind which nothing goes on with it, is the run
-pub run-unique : (class : ℕ → Bool) (front rest : List Located) → list_all class (characters front) ≡ true → begins_with class (characters rest) ≡ false
-    → skip class (front ++ rest) ≡ rest
+pub run-unique : (class : ℕ → Bool) (prefix rest : List Located) → list_all class (characters prefix) ≡ true → begins_with class (characters rest) ≡ false
+    → skip class (prefix ++ rest) ≡ rest
 run-unique class [] rest all ended = skip-none class rest ended
-run-unique class (c ∷ front) rest all ended =
-    let first : class c.char ≡ true = and-left (class c.char) (list_all class (characters front)) all in
-    let others : list_all class (characters front) ≡ true = and-right (class c.char) (list_all class (characters front)) all in
-    rw first (run-unique class front rest others ended)
+run-unique class (c ∷ prefix) rest all ended =
+    let first : class c.char ≡ true = and-left (class c.char) (list_all class (characters prefix)) all in
+    let others : list_all class (characters prefix) ≡ true = and-right (class c.char) (list_all class (characters prefix)) all in
+    rw first (run-unique class prefix rest others ended)
 
 sizes : (text : List Located) → length (characters text) ≡ length text
 sizes [] = refl

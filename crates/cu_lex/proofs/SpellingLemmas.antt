@@ -23,8 +23,8 @@ use Rattle.cu_lex.proofs.ChainLemmas.{class-cases, dotted, con-all}
 
 -- ---- the bytes of words
 
-pub word-bytes : (text : List Located) (k : WordKind) (end : List Located) (w : IsWord text k end) → encodes (characters w.front) ≡ characters w.front
-word-bytes text k end w = encodes-class (class_of k) (characters w.front) (small (class-cases k)) w.all
+pub word-bytes : (text : List Located) (k : WordKind) (end : List Located) (w : IsWord text k end) → encodes (characters w.prefix) ≡ characters w.prefix
+word-bytes text k end w = encodes-class (class_of k) (characters w.prefix) (small (class-cases k)) w.all
   where
     small : (class_of k ≡ is_name_character) ⊎ (class_of k ≡ is_symbol) → (c : ℕ) → class_of k c ≡ true → c < 128
     small (inl h) c is = small-name c (subst (λ p. p c ≡ true) h is)
@@ -75,42 +75,42 @@ module-bytes o is = encodes-class is_module_character o small-module (dots-all o
 
 -- ---- a word with its qualifier
 
-pub plain-parts : (text : List Located) (found : Qualified) (n : IsNamed text found) → found.dot ≡ None → (n.word.front ++ left found.word.end ≡ text) × (n.outer ≡ None)
+pub plain-parts : (text : List Located) (found : Qualified) (n : IsNamed text found) → found.dot ≡ None → (n.word.prefix ++ left found.word.end ≡ text) × (n.outer ≡ None)
 plain-parts text found n none = by found.dot none n.begins n.outer n.is_outer
   where
-    by : (dot : Option Cursor) → dot ≡ None → BeginsAt text (left found.base) dot → (outer : Option (List Located)) → IsOuter text dot outer → (n.word.front ++ left found.word.end ≡ text) × (outer ≡ None)
+    by : (dot : Option Cursor) → dot ≡ None → BeginsAt text (left found.base) dot → (outer : Option (List Located)) → IsOuter text dot outer → (n.word.prefix ++ left found.word.end ≡ text) × (outer ≡ None)
     by None h begins None is = (n.word.whole ∙ begins, refl)
     by None h begins (Some outer) is = absurd is
     by (Some dot) h begins outer is = absurd (let impossible : ⊥ = cc in impossible)
 
-pub record Behind (text : List Located) (found : Qualified) (n : IsNamed text found) (dot : Cursor) : Type 0 where
+pub record After (text : List Located) (found : Qualified) (n : IsNamed text found) (dot : Cursor) : Type 0 where
   pub outer : List Located
   pub point : Located
   pub is : n.outer ≡ Some outer
   pub whole : outer ++ left dot ≡ text
-  pub all : (outer ++ point ∷ n.word.front) ++ left found.word.end ≡ text
+  pub all : (outer ++ point ∷ n.word.prefix) ++ left found.word.end ≡ text
   pub outer_bytes : encodes (characters outer) ≡ characters outer
-  pub all_bytes : encodes (characters (outer ++ point ∷ n.word.front)) ≡ characters outer ++ 46 ∷ characters n.word.front
+  pub all_bytes : encodes (characters (outer ++ point ∷ n.word.prefix)) ≡ characters outer ++ 46 ∷ characters n.word.prefix
 
-pub behind-parts : (text : List Located) (found : Qualified) (n : IsNamed text found) (dot : Cursor) → found.dot ≡ Some dot → Behind text found n dot
-behind-parts text found n dot some = by found.dot some n.begins n.outer refl n.is_outer
+pub after-parts : (text : List Located) (found : Qualified) (n : IsNamed text found) (dot : Cursor) → found.dot ≡ Some dot → After text found n dot
+after-parts text found n dot some = by found.dot some n.begins n.outer refl n.is_outer
   where
-    by : (d : Option Cursor) → d ≡ Some dot → BeginsAt text (left found.base) d → (outer : Option (List Located)) → n.outer ≡ outer → IsOuter text d outer → Behind text found n dot
+    by : (d : Option Cursor) → d ≡ Some dot → BeginsAt text (left found.base) d → (outer : Option (List Located)) → n.outer ≡ outer → IsOuter text d outer → After text found n dot
     by None h begins outer same is = absurd (let impossible : ⊥ = cc in impossible)
     by (Some d) h begins None same is = absurd is
     by (Some d) h begins (Some outer) same is =
         let at : d ≡ dot = cc in
         let point = dotted (left d) is.2 in
-        let chars : characters (outer ++ point.0 ∷ n.word.front) ≡ characters outer ++ 46 ∷ characters n.word.front =
-        map-append (λ (l : Located). l.char) outer (point.0 ∷ n.word.front) ∙ ap (λ x. characters outer ++ x ∷ characters n.word.front) point.1 in
+        let chars : characters (outer ++ point.0 ∷ n.word.prefix) ≡ characters outer ++ 46 ∷ characters n.word.prefix =
+        map-append (λ (l : Located). l.char) outer (point.0 ∷ n.word.prefix) ∙ ap (λ x. characters outer ++ x ∷ characters n.word.prefix) point.1 in
         record {
           outer = outer;
           point = point.0;
           is = same;
           whole = ap (λ x. outer ++ left x) (sym at) ∙ is.0;
-          all = append_assoc outer (point.0 ∷ n.word.front) (left found.word.end) ∙ ap (λ t. outer ++ point.0 ∷ t) (n.word.whole ∙ begins.after) ∙ ap (λ t. outer ++ t) (sym point.2) ∙ is.0;
+          all = append_assoc outer (point.0 ∷ n.word.prefix) (left found.word.end) ∙ ap (λ t. outer ++ point.0 ∷ t) (n.word.whole ∙ begins.after) ∙ ap (λ t. outer ++ t) (sym point.2) ∙ is.0;
           outer_bytes = module-bytes (characters outer) is.1;
-          all_bytes = ap encodes chars ∙ encodes-append (characters outer) (46 ∷ characters n.word.front)
+          all_bytes = ap encodes chars ∙ encodes-append (characters outer) (46 ∷ characters n.word.prefix)
               ∙ (λ j. module-bytes (characters outer) is.1 j ++ (encode_ascii 46 (omega arith) j ++ word-bytes (left found.base) found.word.kind (left found.word.end) n.word j));
         }
 
@@ -118,8 +118,8 @@ pub ends : (text : List Located) (found : Qualified) → IsNamed text found → 
 ends text found n = by found.dot refl
   where
     by : (d : Option Cursor) → found.dot ≡ d → EndsIn text (left found.word.end)
-    by None h = (n.word.front, (plain-parts text found n h).0)
-    by (Some dot) h = let b = behind-parts text found n dot h in (b.outer ++ b.point ∷ n.word.front, b.all)
+    by None h = (n.word.prefix, (plain-parts text found n h).0)
+    by (Some dot) h = let b = after-parts text found n dot h in (b.outer ++ b.point ∷ n.word.prefix, b.all)
 
 -- ---- names in tables
 
@@ -141,6 +141,6 @@ pub qualified-spelled : (first second third : List (List ℕ)) (id outer base : 
 qualified-spelled first second third id outer base whole before after o w q grows grows' at at' at'' same same' same'' is =
     let all = extends-trans grows grows' in
     let text : text_of third id ≡ (o ++ 46 ∷ []) ++ w = text_of-extends all id (known_at first id whole at) ∙ text_of-at first id whole at ∙ same ∙ sym (append_assoc o (46 ∷ []) w) in
-    let front : text_of third outer ≡ o = text_of-extends grows' outer (known_at second outer before at') ∙ text_of-at second outer before at' ∙ same' in
+    let prefix : text_of third outer ≡ o = text_of-extends grows' outer (known_at second outer before at') ∙ text_of-at second outer before at' ∙ same' in
     let last : text_of third base ≡ w = text_of-at third base after at'' ∙ same'' in
-    (rw (text, front, last, is) refl, (known-extends all id (known_at first id whole at), known-extends grows' outer (known_at second outer before at'), known_at third base after at''))
+    (rw (text, prefix, last, is) refl, (known-extends all id (known_at first id whole at), known-extends grows' outer (known_at second outer before at'), known_at third base after at''))

@@ -146,9 +146,9 @@ complete_nil : Completed []
 complete_nil = (0, [], refl, IsUtf8-nil)
 
 -- a front of a character's bytes that lacks some of them
-complete_front : (c : ℕ) (bytes rest : List ℕ) → scalar c ≡ true → encode c ≡ bytes ++ rest → 0 < length rest → Completed bytes
-complete_front c [] rest is at some = complete_nil
-complete_front c (b₀ ∷ bytes) rest is at some = ⊎_elim below_128 (λ h. ⊎_elim (below_2048 h) (λ h. ⊎_elim (below_65536 h) from_65536 (cases_lt c 65536)) (cases_lt c 2048)) (cases_lt c 128)
+complete_prefix : (c : ℕ) (bytes rest : List ℕ) → scalar c ≡ true → encode c ≡ bytes ++ rest → 0 < length rest → Completed bytes
+complete_prefix c [] rest is at some = complete_nil
+complete_prefix c (b₀ ∷ bytes) rest is at some = ⊎_elim below_128 (λ h. ⊎_elim (below_2048 h) (λ h. ⊎_elim (below_65536 h) from_65536 (cases_lt c 65536)) (cases_lt c 2048)) (cases_lt c 128)
   where
     below_128 : c < 128 → Completed (b₀ ∷ bytes)
     below_128 h =
@@ -203,17 +203,17 @@ complete_front c (b₀ ∷ bytes) rest is at some = ⊎_elim below_128 (λ h. �
             absurd (omega (arith, length-append bytes rest))
 
 -- two ways to split a list: one front goes on to the other
-data Splits (front rest other left : List ℕ) : Type 0 where
-  longer : (middle : List ℕ) → other ≡ front ++ middle → rest ≡ middle ++ left → Splits front rest other left
-  shorter : (middle : List ℕ) → front ≡ other ++ middle → left ≡ middle ++ rest → 0 < length middle → Splits front rest other left
+data Splits (prefix rest other left : List ℕ) : Type 0 where
+  longer : (middle : List ℕ) → other ≡ prefix ++ middle → rest ≡ middle ++ left → Splits prefix rest other left
+  shorter : (middle : List ℕ) → prefix ≡ other ++ middle → left ≡ middle ++ rest → 0 < length middle → Splits prefix rest other left
 
-splits : (front rest other left : List ℕ) → front ++ rest ≡ other ++ left → Splits front rest other left
+splits : (prefix rest other left : List ℕ) → prefix ++ rest ≡ other ++ left → Splits prefix rest other left
 splits [] rest other left whole = longer other refl whole
-splits (x ∷ front) rest [] left whole = shorter (x ∷ front) refl (sym whole) (omega arith)
-splits (x ∷ front) rest (y ∷ other) left whole =
+splits (x ∷ prefix) rest [] left whole = shorter (x ∷ prefix) refl (sym whole) (omega arith)
+splits (x ∷ prefix) rest (y ∷ other) left whole =
     let heads : y ≡ x = cc in
-    let tails : front ++ rest ≡ other ++ left = cc in
-    elim (splits front rest other left tails) [
+    let tails : prefix ++ rest ≡ other ++ left = cc in
+    elim (splits prefix rest other left tails) [
       | longer middle p q ↦ longer middle (λ j. heads j ∷ p j) q
       | shorter middle p q some ↦ shorter middle (λ j. sym heads j ∷ p j) q some
     ]
@@ -229,7 +229,7 @@ complete (c ∷ cs) bytes rest are whole =
     by is (longer middle p q) further =
         let more = further middle q in
         (more.0, more.1, more.2, subst IsUtf8 (sym (append_assoc (encode c) middle more.1) ∙ ap (λ f. f ++ more.1) (sym p)) (IsUtf8-append (encode c) (middle ++ more.1) (IsUtf8-encode c is) more.3))
-    by is (shorter middle p q some) further = complete_front c bytes middle is p some
+    by is (shorter middle p q some) further = complete_prefix c bytes middle is p some
 
 -- Bytes begin a UTF-8 text where one of the endings completes them.
 pub begins_texts : BeginsTexts

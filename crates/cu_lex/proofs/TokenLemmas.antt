@@ -50,7 +50,7 @@ before found more = result_map_both (λ later. found ++ later) (λ fault. fault)
 
 pub piece-step : (first : Located) (text end : List Located) (what : Piece) → IsPiece (first ∷ text) what end → lexemes (first ∷ text) ≡ with_lexeme what first.at (lexemes end)
 piece-step first text end what is =
-    ap (λ cut. lexemes_of cut.pieces cut.left) (cut-step piece first text (cut_at is.front end what) is.cut)
+    ap (λ cut. lexemes_of cut.pieces cut.left) (cut-step piece first text (cut_at is.prefix end what) is.cut)
 
 pub piece-missing : (first : Located) (text : List Located) → longest piece (first ∷ text) ≡ None → lexemes (first ∷ text) ≡ Err (BadToken first.at)
 piece-missing first text is = ap (λ cut. lexemes_of cut.pieces cut.left) (cut-none piece (first ∷ text) is)
@@ -87,7 +87,7 @@ tells owner (c ∷ text) found first answer.SourceTooBig at fails = absurd fails
 tells owner (c ∷ text) found first (answer.NotUtf8 offset) at fails = absurd fails
 
 pub next-shorter : (text : List Located) (what : Piece) (end : List Located) → IsPiece text what end → length end < length text
-next-shorter text what end is = rest-shorter piece text (cut_at is.front end what) is.cut
+next-shorter text what end is = rest-shorter piece text (cut_at is.prefix end what) is.cut
 
 -- ---- tables that grow
 

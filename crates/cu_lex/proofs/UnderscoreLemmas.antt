@@ -75,9 +75,9 @@ rest_of : Option (Cut Piece) → List Located
 rest_of None = []
 rest_of (Some cut) = cut.rest
 
-no-name : (text front rest end : List Located) (what : Piece) (m : mark.Mark) → longest piece text ≡ Some (cut_at front rest what) → IsPiece text (Token (Mark m)) end → what ≡ Token (Mark m)
+no-name : (text prefix rest end : List Located) (what : Piece) (m : mark.Mark) → longest piece text ≡ Some (cut_at prefix rest what) → IsPiece text (Token (Mark m)) end → what ≡ Token (Mark m)
 unfolding what_of
-no-name text front rest end what m is p = ap what_of (sym is ∙ p.cut)
+no-name text prefix rest end what m is p = ap what_of (sym is ∙ p.cut)
 
 -- it begins no name
 lone : (text end : List Located) (m : mark.Mark) → IsPlain text → IsPiece text (Token (Mark m)) end → HasNoVariable text
@@ -89,11 +89,11 @@ lone text end m plain p = by (begins_with is_ascii_lowercase (characters (skip i
     kinds : (o : Option Keyword) → keyword_of word ≡ o → begins_with is_ascii_lowercase (characters (skip is_underscore text)) ≡ true → ⊥
     kinds None none small =
         let w = word-at is_name_character text (skip is_name_character text) kind.VarId refl refl (variable-first text small) (var-id-kind word (variable-form text small) none) in
-        let same = no-name text w.front (skip is_name_character text) end _ m (word-longest text kind.VarId (skip is_name_character text) plain w refl) p in
+        let same = no-name text w.prefix (skip is_name_character text) end _ m (word-longest text kind.VarId (skip is_name_character text) plain w refl) p in
         let impossible : ⊥ = cc in impossible
     kinds (Some k) is small =
         let w = word-at is_name_character text (skip is_name_character text) (kind.Keyword k) refl refl (variable-first text small) is in
-        let same = no-name text w.front (skip is_name_character text) end _ m (word-longest text (kind.Keyword k) (skip is_name_character text) plain w refl) p in
+        let same = no-name text w.prefix (skip is_name_character text) end _ m (word-longest text (kind.Keyword k) (skip is_name_character text) plain w refl) p in
         let impossible : ⊥ = cc in impossible
 
     by : (b : Bool) → begins_with is_ascii_lowercase (characters (skip is_underscore text)) ≡ b → b ≡ false
@@ -108,9 +108,9 @@ unfolding mark_of
 is-mark = refl
 
 -- and none begins behind it
-no-variable-behind : (c : Located) (text end : List Located) (m : mark.Mark) → c.char ≡ 95 → IsPiece (c ∷ text) (Token (Mark m)) end → HasNoVariable end
+no-variable-after : (c : Located) (text end : List Located) (m : mark.Mark) → c.char ≡ 95 → IsPiece (c ∷ text) (Token (Mark m)) end → HasNoVariable end
 unfolding rest_of
-no-variable-behind c text end m is p =
+no-variable-after c text end m is p =
     let plain = plain-underscore c text is in
     let none = lone (c ∷ text) end m plain p in
     let q = mark-piece (c ∷ text) marks.Underscore text refl plain (no-word-underscore c text is none) (no-comment-underscore c text is) (sym (ap (λ n. mark_of (n ∷ [])) is ∙ is-mark)) in
@@ -126,5 +126,5 @@ underscore-kept names (c ∷ text) end first kind alone at p is holds = by kind 
     char = (let same : c.char ≡ first = cc in same) ∙ eqb-true first 95 (and-left (is_underscore first) (is_mark kind) (sym is ∙ holds))
 
     by : (kind : Option TokenKind) → IsPiece (c ∷ text) (piece_of names kind) end → is_mark kind ≡ true → HasNoVariable end
-    by (Some (token.Mark m)) p marked = no-variable-behind c text end m char p
+    by (Some (token.Mark m)) p marked = no-variable-after c text end m char p
     by _ p marked = absurd (true≢false (sym marked))

@@ -19,14 +19,14 @@ is-run class text is = and-both (begins_with class (characters (run class text))
 
 -- what a cursor's text is
 pub run-text : (class : ℕ → Bool) (text end : List Located) (word : List ℕ) → ((c : ℕ) → class c ≡ true → c < 128) → end ≡ skip class text
-    → ((front : List Located) → front ++ end ≡ text → word ≡ encodes (characters front)) → word ≡ characters (run class text)
+    → ((prefix : List Located) → prefix ++ end ≡ text → word ≡ encodes (characters prefix)) → word ≡ characters (run class text)
 run-text class text end word small at is =
     is (run class text) (ap (λ t. run class text ++ t) at ∙ run-skip class text) ∙ encodes-class class (characters (run class text)) small (all-run class text)
 
 pub word-at : (class : ℕ → Bool) (text end : List Located) (kind : WordKind) → class_of kind ≡ class → end ≡ skip class text
     → begins_with class (characters text) ≡ true → IsOfKind kind (characters (run class text)) → IsWord text kind end
 word-at class text end kind same at some is = record {
-  front = run class text;
+  prefix = run class text;
   whole = ap (λ t. run class text ++ t) at ∙ run-skip class text;
   is = is;
   all = subst (λ f. list_all f (characters (run class text)) ≡ true) (sym same) (all-run class text);

@@ -78,16 +78,16 @@ word_kind-text w =
 
 -- ---- pieces
 
-word-text : (front next : List ℕ) → IfSome (word front next) IsTextPiece
-word-text front next =
-    then-if IsText IsTextPiece (word_before next) (word_kind front) (word_kind-text front)
+word-text : (prefix next : List ℕ) → IfSome (word prefix next) IsTextPiece
+word-text prefix next =
+    then-if IsText IsTextPiece (word_before next) (word_kind prefix) (word_kind-text prefix)
     (λ kind p. choice-if (λ o. IfSome o IsTextPiece) (stands_before kind next) (Some (Token kind)) None p tt)
 
-blank-text : (front : List ℕ) → IfSome (blank front) IsTextPiece
-blank-text front = choice-if (λ o. IfSome o IsTextPiece) (is_blank front) (Some Blank) None tt tt
+blank-text : (prefix : List ℕ) → IfSome (blank prefix) IsTextPiece
+blank-text prefix = choice-if (λ o. IfSome o IsTextPiece) (is_blank prefix) (Some Blank) None tt tt
 
-number-text : (p : Position) (front next : List ℕ) → IfSome (number p front next) IsTextPiece
-number-text p front next = map-if IsTextPiece (number_at p) (option_or (decimal_number front next) (based_number front)) (λ n. number_at-text p n)
+number-text : (p : Position) (prefix next : List ℕ) → IfSome (number p prefix next) IsTextPiece
+number-text p prefix next = map-if IsTextPiece (number_at p) (option_or (decimal_number prefix next) (based_number prefix)) (λ n. number_at-text p n)
   where
     number_at-text : (p : Position) (n : ℕ) → IsTextPiece (number_at p n)
     number_at-text p n = choice-if IsTextPiece (is_integer (pos n)) (Token (Int (pos n))) (OutOfRange p) tt tt
@@ -104,14 +104,14 @@ string-text items = by (codes_of items)
     by (Ok value) = tt
     by (Err p) = tt
 
-piece-text : (front rest : List Located) → IfSome (piece front rest) IsTextPiece
+piece-text : (prefix rest : List Located) → IfSome (piece prefix rest) IsTextPiece
 unfolding piece
-piece-text front rest =
-    or-if IsTextPiece _ _ (blank-text (characters front))
-    (or-if IsTextPiece _ _ (word-text (characters front) (characters rest))
-    (or-if IsTextPiece _ _ (number-text (start front) (characters front) (characters rest))
-    (or-if IsTextPiece _ _ (then-if (λ items. Unit {0}) IsTextPiece one_character (items_between (byte "'") front) (any (items_between (byte "'") front)) (λ items p. character-text items))
-    (map-if IsTextPiece string (items_between (byte "\"") front) string-text))))
+piece-text prefix rest =
+    or-if IsTextPiece _ _ (blank-text (characters prefix))
+    (or-if IsTextPiece _ _ (word-text (characters prefix) (characters rest))
+    (or-if IsTextPiece _ _ (number-text (start prefix) (characters prefix) (characters rest))
+    (or-if IsTextPiece _ _ (then-if (λ items. Unit {0}) IsTextPiece one_character (items_between (byte "'") prefix) (any (items_between (byte "'") prefix)) (λ items p. character-text items))
+    (map-if IsTextPiece string (items_between (byte "\"") prefix) string-text))))
   where
     any : (o : Option (List (Placed (Option ℕ)))) → IfSome o (λ items. Unit {0})
     any None = tt
@@ -119,8 +119,8 @@ piece-text front rest =
 
 found-text : (text end : List Located) (what : Piece) → IsPiece text what end → IsTextPiece what
 found-text text end what is =
-    let law = longest-is piece text (cut_at is.front end what) is.cut in
-    subst (λ o. IfSome o IsTextPiece) law.allowed (piece-text is.front end)
+    let law = longest-is piece text (cut_at is.prefix end what) is.cut in
+    subst (λ o. IfSome o IsTextPiece) law.allowed (piece-text is.prefix end)
 
 -- ---- tokens
 

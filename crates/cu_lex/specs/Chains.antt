@@ -16,7 +16,7 @@ pub data Reaches (rest : List Located) : List Located → Type 0 where
       → first_of end ≡ Some (byte ".") → Reaches rest (later end) → Reaches rest text
 
 -- A base begins right after a dot of a text, and a qualifier ends before the dot.
-pub record IsBehind (text dot base : List Located) : Type 0 where
+pub record IsAfter (text dot base : List Located) : Type 0 where
   pub outer : List Located
   pub whole : outer ++ dot ≡ text
   pub is : is_module_name (characters outer) ≡ true
@@ -27,7 +27,7 @@ pub record IsBehind (text dot base : List Located) : Type 0 where
 -- dot.
 abbrev pub BeginsAt : List Located → List Located → Option Cursor → Type 0
 BeginsAt text base None = base ≡ text
-BeginsAt text base (Some dot) = IsBehind text (left dot) base
+BeginsAt text base (Some dot) = IsAfter text (left dot) base
 
 -- The word that was found at the start of a text has all its qualifiers: no other reaches further.
 pub record IsQualified (text : List Located) (found : Qualified) : Type 0 where

@@ -14,8 +14,8 @@ GivesLongest {X} classes = (text : List Located) (cut : Cut X)
 abbrev pub GivesNone : {X : Type 0} → Classes X → Type 0
 GivesNone classes =
     (text : List Located)
-    → (longest classes text ≡ None) ↔ ((front rest : List Located) → front ++ rest ≡ text
-    → 0 < length front → classes front rest ≡ None)
+    → (longest classes text ≡ None) ↔ ((prefix rest : List Located) → prefix ++ rest ≡ text
+    → 0 < length prefix → classes prefix rest ≡ None)
 
 -- Bytes begin a UTF-8 text where some bytes complete them to one.
 abbrev pub BeginsTexts : Type 0

@@ -43,8 +43,8 @@ HasNames names (Some kind) = HasKind names kind
 
 -- The longest piece at the start of a text is this one, and this end follows it.
 pub record IsPiece (text : List Located) (what : Piece) (end : List Located) : Type 0 where
-  pub front : List Located
-  pub cut : longest piece text ≡ Some (cut_at front end what)
+  pub prefix : List Located
+  pub cut : longest piece text ≡ Some (cut_at prefix end what)
 
 -- The piece that was found is the longest at the start of a text, with what follows it.
 pub record FindsPiece (names : List (List ℕ)) (text : List Located)
@@ -96,13 +96,14 @@ is_inline c = not (c == 10)
 -- The cut of a text at a word, which is a token, or with two or more dashes a comment up to its
 -- line's end.
 abbrev pub word_cut : WordKind → Option (List ℕ) → List ℕ → List Located → List Located → Cut Piece
-word_cut kind.Dashes q w front end = cut_at (front ++ run is_inline end) (skip is_inline end) Blank
-word_cut kind.VarId q w front end = cut_at front end (Token (named q kind.VarId w))
-word_cut kind.ConId q w front end = cut_at front end (Token (named q kind.ConId w))
-word_cut kind.VarOp q w front end = cut_at front end (Token (named q kind.VarOp w))
-word_cut kind.ConOp q w front end = cut_at front end (Token (named q kind.ConOp w))
-word_cut (kind.Keyword k) q w front end = cut_at front end (Token (Keyword k))
-word_cut (kind.Reserved k) q w front end = cut_at front end (Token (Reserved k))
+word_cut kind.Dashes q w prefix end =
+    cut_at (prefix ++ run is_inline end) (skip is_inline end) Blank
+word_cut kind.VarId q w prefix end = cut_at prefix end (Token (named q kind.VarId w))
+word_cut kind.ConId q w prefix end = cut_at prefix end (Token (named q kind.ConId w))
+word_cut kind.VarOp q w prefix end = cut_at prefix end (Token (named q kind.VarOp w))
+word_cut kind.ConOp q w prefix end = cut_at prefix end (Token (named q kind.ConOp w))
+word_cut (kind.Keyword k) q w prefix end = cut_at prefix end (Token (Keyword k))
+word_cut (kind.Reserved k) q w prefix end = cut_at prefix end (Token (Reserved k))
 
 -- This stands before a dot of a text, a qualifier, where there is a dot.
 abbrev pub IsOuter : List Located → Option Cursor → Option (List Located) → Type 0
@@ -118,15 +119,15 @@ pub record IsNamed (text : List Located) (found : Qualified) : Type 0 where
   pub word : IsWord (left found.base) found.word.kind (left found.word.end)
   pub outer : Option (List Located)
   pub is_outer : IsOuter text found.dot outer
-  pub front : List Located
+  pub prefix : List Located
   pub cut : longest piece text
-      ≡ Some (word_cut found.word.kind (option_map characters outer) (characters word.front) front
+      ≡ Some (word_cut found.word.kind (option_map characters outer) (characters word.prefix) prefix
       (left found.word.end))
 
 -- A name's texts are those of the word that was found.
 abbrev pub IsSpelled : List (List ℕ) → List Located → Qualified → Name → Type 0
 IsSpelled names text found name = (n : IsNamed text found)
-    → (spelling_of names name ≡ spelled (option_map characters n.outer) (characters n.word.front))
+    → (spelling_of names name ≡ spelled (option_map characters n.outer) (characters n.word.prefix))
     × HasName names name
 
 -- A text doesn't begin with a separator, a capital letter, a digit or a quote.

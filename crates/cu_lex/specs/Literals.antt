@@ -41,7 +41,7 @@ item_of quote (c ∷ d ∷ cs) = if c == byte "\\" then escape (d ∷ cs) else N
 -- What a prefix of a text is as an item of a literal between such quotes: its code, or none. None
 -- where it is no item.
 abbrev pub item : ℕ → Classes (Option ℕ)
-item quote front rest = item_of quote (characters front)
+item quote prefix rest = item_of quote (characters prefix)
 
 -- The items of a literal: after the quote that opens it they are the longest pieces, and what is
 -- left then is the quote that closes it.

@@ -10,22 +10,22 @@ Classes X = List Located → List Located → Option X
 
 -- A prefix of a text, what it is, and what follows it.
 pub record Cut (X : Type 0) : Type 0 where
-  pub front : List Located
+  pub prefix : List Located
   pub what : X
   pub rest : List Located
 
 -- The cut between a prefix and what is left.
 abbrev pub cut_at : {X : Type 0} → List Located → List Located → X → Cut X
-cut_at begun left x = record { front = begun; what = x; rest = left }
+cut_at begun left x = record { prefix = begun; what = x; rest = left }
 
 -- The longest prefix of a class, of the prefixes that begin with `begun` and go on into `text`.
 unfoldable pub longest_after : {X : Type 0} → Classes X → List Located → List Located
     → Option (Cut X)
 longest_after classes begun [] = None
 longest_after classes begun (c ∷ text) =
-    let front = begun ++ c ∷ [] in
-    option_or (longest_after classes front text)
-    (option_map (cut_at front text) (classes front text))
+    let prefix = begun ++ c ∷ [] in
+    option_or (longest_after classes prefix text)
+    (option_map (cut_at prefix text) (classes prefix text))
 
 -- The longest prefix of a class.
 abbrev pub longest : {X : Type 0} → Classes X → List Located → Option (Cut X)
@@ -35,11 +35,11 @@ longest classes text = longest_after classes [] text
 -- longer prefix is.
 pub record IsLongest {X : Type 0} (classes : Classes X) (text : List Located)
     (cut : Cut X) : Type 0 where
-  pub whole : cut.front ++ cut.rest ≡ text
-  pub some : 0 < length cut.front
-  pub allowed : classes cut.front cut.rest ≡ Some cut.what
-  pub most : (front rest : List Located) → front ++ rest ≡ text → IsSome (classes front rest)
-      → length front ≤ length cut.front
+  pub whole : cut.prefix ++ cut.rest ≡ text
+  pub some : 0 < length cut.prefix
+  pub allowed : classes cut.prefix cut.rest ≡ Some cut.what
+  pub most : (prefix rest : List Located) → prefix ++ rest ≡ text → IsSome (classes prefix rest)
+      → length prefix ≤ length cut.prefix
 
 -- A piece of a text, at the place of its first character.
 pub record Placed (X : Type 0) : Type 0 where

@@ -90,7 +90,7 @@ word_before next kind = if stands_before kind next then Some (Token kind) else N
 
 -- The piece that a prefix of a text is, where it is a keyword, a name, an operator or a mark.
 abbrev pub word : List ℕ → List ℕ → Option Piece
-word front next = option_and_then (word_before next) (word_kind front)
+word prefix next = option_and_then (word_before next) (word_kind prefix)
 
 -- ---- literals
 
@@ -101,8 +101,8 @@ number_at p n = if is_integer (pos n) then Token (Int (pos n)) else OutOfRange p
 
 -- The piece that a prefix of a text is, where it is a number.
 abbrev pub number : Position → List ℕ → List ℕ → Option Piece
-number p front next =
-    option_map (number_at p) (option_or (decimal_number front next) (based_number front))
+number p prefix next =
+    option_map (number_at p) (option_or (decimal_number prefix next) (based_number prefix))
 
 -- The piece of a character literal with this code: a token where it is a Unicode scalar value, and
 -- else out of range.
@@ -146,9 +146,9 @@ start (first ∷ text) = first.at
 -- What a prefix of a text is before what follows it: a blank, a word, a number, a character
 -- literal, or a string literal.
 unfoldable pub piece : Classes Piece
-piece front rest =
-    option_or (blank (characters front))
-    (option_or (word (characters front) (characters rest))
-    (option_or (number (start front) (characters front) (characters rest))
-    (option_or (option_and_then one_character (items_between (byte "'") front))
-    (option_map string (items_between (byte "\"") front)))))
+piece prefix rest =
+    option_or (blank (characters prefix))
+    (option_or (word (characters prefix) (characters rest))
+    (option_or (number (start prefix) (characters prefix) (characters rest))
+    (option_or (option_and_then one_character (items_between (byte "'") prefix))
+    (option_map string (items_between (byte "\"") prefix)))))

@@ -44,7 +44,7 @@ skip class (c ∷ text) = if class c.char then skip class text else c ∷ text
 
 -- A text ends with another.
 abbrev pub EndsIn : List Located → List Located → Type 0
-EndsIn text end = (front : List Located) × (front ++ end ≡ text)
+EndsIn text end = (prefix : List Located) × (prefix ++ end ≡ text)
 
 -- What follows the comment that closes so many open ones.
 abbrev pub comment_end : ℕ → List Located → Option (List Located)
@@ -167,11 +167,11 @@ is_base kind.Dashes = false
 -- A text begins with a word of this kind, which is the whole run of its first characters, and this
 -- end follows it.
 pub record IsWord (text : List Located) (kind : WordKind) (end : List Located) : Type 0 where
-  pub front : List Located
-  pub whole : front ++ end ≡ text
-  pub is : IsOfKind kind (characters front)
-  pub all : list_all (class_of kind) (characters front) ≡ true
-  pub some : begins_with (class_of kind) (characters front) ≡ true
+  pub prefix : List Located
+  pub whole : prefix ++ end ≡ text
+  pub is : IsOfKind kind (characters prefix)
+  pub all : list_all (class_of kind) (characters prefix) ≡ true
+  pub some : begins_with (class_of kind) (characters prefix) ≡ true
   pub ended : begins_with (class_of kind) (characters end) ≡ false
 
 -- Whether a character is the underscore.

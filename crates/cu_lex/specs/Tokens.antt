@@ -21,8 +21,8 @@ pub data Fault : Type 0 where
   LiteralRange : Position → Fault
 
 -- The most bytes of a text.
-abbrev pub most_bytes : ℕ
-most_bytes = 16777216
+abbrev pub max_text_bytes : ℕ
+max_text_bytes = 16777216
 
 -- What a piece adds to the tokens after it: nothing, a token, or the fault that it is out of range.
 abbrev pub with_lexeme : Piece → Position → Result (List Lexeme) Fault → Result (List Lexeme) Fault
@@ -45,6 +45,6 @@ lexemes text = let cut = cut_all piece text in lexemes_of cut.pieces cut.left
 -- The tokens of a text given as bytes, or its first fault.
 unfoldable pub tokens : List ℕ → Result (List Lexeme) Fault
 tokens bytes =
-    if nat_lt most_bytes (length bytes) then Err SourceTooBig
+    if nat_lt max_text_bytes (length bytes) then Err SourceTooBig
     else if is_utf8 bytes then lexemes (located (chars bytes))
     else Err (NotUtf8 (fault_offset bytes))

@@ -86,8 +86,8 @@ impl<'a> Cursor<'a> {
     /// The text from here to a later cursor.
     pub fn text_to(self, end: Cursor<'a>) -> &'a str
         requires { EndsIn (left self) (left end) }
-        ensures { (front : List Located) → front ++ left end.entry ≡ left self.entry
-            → result.now ≡ encodes (characters front) }
+        ensures { (prefix : List Located) → prefix ++ left end.entry ≡ left self.entry
+            → result.now ≡ encodes (characters prefix) }
     {
         &self.text[..self.text.len() - end.text.len()]
     }

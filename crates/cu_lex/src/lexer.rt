@@ -26,7 +26,7 @@ use cu_names::{NameId, Names, Place};
 use std::alloc::Global;
 
 /// The most bytes of a text.
-const MOST_BYTES: usize = 16_777_216;
+const MAX_TEXT_BYTES: usize = 16_777_216;
 /// The least natural number that no Int holds.
 const FIRST_BEYOND_INT: u128 = 1 << 127;
 
@@ -44,7 +44,7 @@ pub fn lex(
     ensures names { Extends names.old names.new }
     ensures differ { AllDiffer names.old → AllDiffer names.new }
 {
-    if bytes.len() > MOST_BYTES {
+    if bytes.len() > MAX_TEXT_BYTES {
         return Err(LexFault::SourceTooBig);
     }
     let text = match str::from_utf8(bytes) {
@@ -56,10 +56,10 @@ pub fn lex(
     };
     let mut tokens = Vec::new(alloc);
     let mut rest = Cursor::new(text);
-    let mut behind_underscore = false;
+    let mut after_underscore = false;
     while let Some(first) = rest.peek() {
-        let (kind, next) = piece(alloc, names, module, rest, behind_underscore)?;
-        behind_underscore = is_lone_underscore(first, &kind);
+        let (kind, next) = piece(alloc, names, module, rest, after_underscore)?;
+        after_underscore = is_lone_underscore(first, &kind);
         add_token(&mut tokens, kind, rest.place(module))?;
         rest = next;
     }
@@ -94,14 +94,14 @@ fn piece<'a>(
     names: &mut Names,
     module: NameId,
     start: Cursor<'a>,
-    behind_underscore: bool,
+    after_underscore: bool,
 ) -> Result<(Option<TokenKind>, Cursor<'a>), LexFault>
-    requires { behind_underscore ≡ true → HasNoVariable (left start) }
+    requires { after_underscore ≡ true → HasNoVariable (left start) }
     ensures lexes { Lexes «module» names.new (left start.entry) result }
     ensures names { Extends names.old names.new }
     ensures differ { AllDiffer names.old → AllDiffer names.new }
 {
-    if behind_underscore && start.peek() == Some('_') {
+    if after_underscore && start.peek() == Some('_') {
         return mark_at(module, start);
     }
     if Class::Separator.begins(start) {

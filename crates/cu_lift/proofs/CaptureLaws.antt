@@ -54,11 +54,11 @@ module _ (top : kernel.TopFunction) (functions : List LocalFunction) (locals : L
   outer : (v k : ℕ) (f : kernel.LocalFunction) → slice_get ls k ≡ Some f → IsTrue (holds v (outer_binders top k)) → IsTrue (holds v (local_binders f)) → ⊥
   outer v k f e p q =
       let rules = rules_binders (rules_of top.body) in
-      let front = flat_map local_binders (take k top.locals) in
-      let back = flat_map local_binders (drop (k + 1) top.locals) in
+      let prefix = flat_map local_binders (take k top.locals) in
+      let suffix = flat_map local_binders (drop (k + 1) top.locals) in
       let at = subst (λ (xs : List kernel.LocalFunction). slice_get xs k ≡ Some f) (sym meant) e in
-      elim (or_cases (holds v rules) (holds v (front ++ back))
-      (sym (any_append (nat_eq v) rules (front ++ back)) ∙ p)) [
+      elim (or_cases (holds v rules) (holds v (prefix ++ suffix))
+      (sym (any_append (nat_eq v) rules (prefix ++ suffix)) ∙ p)) [
         | inl here ↦
             linear_apart v rules (flat_map local_binders top.locals) scoped.once here (held_at v k f top.locals at q)
         | inr rest ↦ apart_at v k f top.locals at (linear_rest rules (flat_map local_binders top.locals) scoped.once) rest q

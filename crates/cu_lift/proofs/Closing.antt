@@ -1,6 +1,6 @@
 -- A part that is closed keeps a search good.
 use Rattle.std.proofs.Common.{◌≡◌, ℕ, zero, suc, ◌+◌, ◌<◌, ◌≤◌, ◌⊎◌, inl, inr, true, false, cond, nat_le, List, [], ◌∷◌, ◌++◌, length, take, Option, None, Some, option_map, slice_get, refl, ap, ◌∙◌, subst, arith}
-use Rattle.cu_calculus.proofs.Lists.{get_front, get_last}
+use Rattle.cu_calculus.proofs.Lists.{get_prefix, get_last}
 use Rattle.cu_lift.proofs.Joining.{awaits_below, before_or_not, below_top, own_below, own_top, top_there}
 use Rattle.cu_lift.proofs.Places.{take_keeps, take_less, within}
 use Rattle.cu_lift.proofs.Reaching.{onward}
@@ -106,7 +106,7 @@ module _ (g : Graph) (places new : List Place) (path pending : List ℕ) (rest :
   left = take top.start path
 
   kept : (i : ℕ) (p : Part) → slice_get rest i ≡ Some p → slice_get parts i ≡ Some p
-  kept i p e = get_front rest (top ∷ []) i p e
+  kept i p e = get_prefix rest (top ∷ []) i p e
 
   at_open : (v s : ℕ) → slice_get new v ≡ Some (Open s) → slice_get left s ≡ Some v
   at_open v s e = let old = was_open top.start count places new are v s e in take_keeps path top.start s v old.1 (good.at_open v s old.0)
@@ -130,10 +130,10 @@ module _ (g : Graph) (places new : List Place) (path pending : List ℕ) (rest :
   later : (s t u v : ℕ) → s ≤ t → slice_get left s ≡ Some u → slice_get left t ≡ Some v → Reach g u v
   later s t u v less e d = good.later s t u v less (take_less path top.start s u e).1 (take_less path top.start t v d).1
 
-  back : (i : ℕ) (p : Part) (t u v : ℕ) → Own rest t i p → slice_get left t ≡ Some u → slice_get left p.start ≡ Some v → Reach g u v
-  back i p t u v own e d =
+  to_start : (i : ℕ) (p : Part) (t u v : ℕ) → Own rest t i p → slice_get left t ≡ Some u → slice_get left p.start ≡ Some v → Reach g u v
+  to_start i p t u v own e d =
       let at = take_less path top.start t u e in
-      good.back i p t u v (own_below g places path pending rest top count good t i p own at.0) at.1 (take_less path top.start p.start v d).1
+      good.to_start i p t u v (own_below g places path pending rest top count good t i p own at.0) at.1 (take_less path top.start p.start v d).1
 
   passes : (p : Part) (w : ℕ) → Followed places path pending p w → Followed new left pending p w
   passes p w (search_.closed c e) = search_.closed c (stays_closed top.start count places new are w c e)
@@ -201,7 +201,7 @@ module _ (g : Graph) (places new : List Place) (path pending : List ℕ) (rest :
       by (now s old more same) (now t other high also) =
           let x = top_there g places path pending rest top count good in
           onward g u x.0 v
-          (good.back (length rest) top s u x.0 (own_top g places path pending rest top count good s more) (good.at_open u s old) x.1)
+          (good.to_start (length rest) top s u x.0 (own_top g places path pending rest top count good s more) (good.at_open u s old) x.1)
           (good.later top.start t x.0 v high x.1 (good.at_open v t other))
 
   room : count + 1 + length left + weigh one g new ≤ length g
@@ -223,7 +223,7 @@ module _ (g : Graph) (places new : List Place) (path pending : List ℕ) (rest :
     start = start;
     rising = λ i j p q e d more. good.rising i j p q (kept i p e) (kept j q d) more;
     later = later;
-    back = back;
+    to_start = to_start;
     follows = follows;
     source = source;
     closed_below = closed_below;

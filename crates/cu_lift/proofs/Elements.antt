@@ -7,8 +7,8 @@ use Rattle.std.specs.List.{All}
 use Rattle.std.specs.Ordering.{match_ordering, nat_cmp}
 use Rattle.std.specs.declared.cmp.Ordering.TheVariants.{Equal, Greater, Less}
 use Rattle.std.specs.declared.cmp.Ordering.{Ordering}
-use Rattle.cu_calculus.proofs.Lists.{get_front, get_last}
-use Rattle.cu_lift.proofs.Places.{front_or_last, take_less, within}
+use Rattle.cu_calculus.proofs.Lists.{get_prefix, get_last}
+use Rattle.cu_lift.proofs.Places.{prefix_or_last, take_less, within}
 use Rattle.cu_lift.specs.Groups.{IsIn}
 
 pub none_in : {A : Type 0} (x : A) → IsIn [] x → ⊥
@@ -24,14 +24,14 @@ pub first_or_rest : {A : Type 0} (x y : A) (xs : List A) → IsIn (y ∷ xs) x �
 first_or_rest x y xs (zero, e) = let same : y ≡ x = cc in inl same
 first_or_rest x y xs (suc k, e) = inr (k, e)
 
-pub in_front : {A : Type 0} (x : A) (xs ys : List A) → IsIn xs x → IsIn (xs ++ ys) x
-in_front x xs ys (k, e) = (k, get_front xs ys k x e)
+pub in_prefix : {A : Type 0} (x : A) (xs ys : List A) → IsIn xs x → IsIn (xs ++ ys) x
+in_prefix x xs ys (k, e) = (k, get_prefix xs ys k x e)
 
 pub in_last : {A : Type 0} (x : A) (xs : List A) → IsIn (xs ++ x ∷ []) x
 in_last x xs = (length xs, get_last xs x)
 
-pub front_or_new : {A : Type 0} (x y : A) (xs : List A) → IsIn (xs ++ y ∷ []) x → IsIn xs x ⊎ (y ≡ x)
-front_or_new x y xs (k, e) = elim (front_or_last xs y k x e) [ inl h ↦ inl (k, h) | inr h ↦ inr h.1 ]
+pub prefix_or_new : {A : Type 0} (x y : A) (xs : List A) → IsIn (xs ++ y ∷ []) x → IsIn xs x ⊎ (y ≡ x)
+prefix_or_new x y xs (k, e) = elim (prefix_or_last xs y k x e) [ inl h ↦ inl (k, h) | inr h ↦ inr h.1 ]
 
 pub taken_in : {A : Type 0} (x : A) (xs : List A) (n : ℕ) → IsIn (take n xs) x → IsIn xs x
 taken_in x xs n (k, e) = (k, (take_less xs n k x e).1)

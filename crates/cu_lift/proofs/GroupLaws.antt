@@ -42,10 +42,10 @@ rising_same [] (y ∷ ys) h k p q = absurd (none_in y (q y (in_first y ys)))
 rising_same (x ∷ xs) [] h k p q = absurd (none_in x (p x (in_first x xs)))
 rising_same (x ∷ xs) (y ∷ ys) h k p q =
     let same : x ≡ y = first_same x y xs ys h k (p x (in_first x xs)) (q y (in_first y ys)) in
-    let front : (z : ℕ) → IsIn (x ∷ xs) z → IsIn (x ∷ ys) z = λ z at. subst (λ (w : ℕ). IsIn (w ∷ ys) z) (sym same) (p z at) in
-    let back : (z : ℕ) → IsIn (y ∷ ys) z → IsIn (y ∷ xs) z = λ z at. subst (λ (w : ℕ). IsIn (w ∷ xs) z) same (q z at) in
+    let prefix : (z : ℕ) → IsIn (x ∷ xs) z → IsIn (x ∷ ys) z = λ z at. subst (λ (w : ℕ). IsIn (w ∷ ys) z) (sym same) (p z at) in
+    let converse : (z : ℕ) → IsIn (y ∷ ys) z → IsIn (y ∷ xs) z = λ z at. subst (λ (w : ℕ). IsIn (w ∷ xs) z) same (q z at) in
     ap (λ w. w ∷ xs) same
-    ∙ ap (λ zs. y ∷ zs) (rising_same xs ys (rest_rises x xs h) (rest_rises y ys k) (in_rest_too x xs ys h front) (in_rest_too y ys xs k back))
+    ∙ ap (λ zs. y ∷ zs) (rising_same xs ys (rest_rises x xs h) (rest_rises y ys k) (in_rest_too x xs ys h prefix) (in_rest_too y ys xs k converse))
 
 functions_of : (fs : List FunId) → map function_at (numbers fs) ≡ fs
 functions_of [] = refl
@@ -125,10 +125,10 @@ next_same program first second one two k group alike e = by (same_or_not at.0 k)
         two.next k at.0 other group d at.1 less (subst (λ (xs : List (List FunId)). IsReady program xs group) alike (one.ready k group e)) in
         omega arith
 
-    back : (other : List FunId) (i : ℕ) → slice_get second k ≡ Some other → slice_get first i ≡ Some other → k < at.0 → (i ≡ k) ⊎ (i ≢ k) → slice_get second k ≡ Some group
-    back other i d there_too less (inl same) =
+    converse : (other : List FunId) (i : ℕ) → slice_get second k ≡ Some other → slice_get first i ≡ Some other → k < at.0 → (i ≡ k) ⊎ (i ≢ k) → slice_get second k ≡ Some group
+    converse other i d there_too less (inl same) =
         d ∙ sym there_too ∙ ap (slice_get first) same ∙ e
-    back other i d there_too less (inr apart) =
+    converse other i d there_too less (inr apart) =
         let late_too : k ≤ i = not_before program second first two one k other i (sym alike) d there_too in
         absurd (against other i d there_too less (omega arith))
 
@@ -139,7 +139,7 @@ next_same program first second one two k group alike e = by (same_or_not at.0 k)
         let long = within second at.0 group at.1 in
         let other = there second k (omega arith) in
         let its = found program second first two one k other.0 other.1 in
-        back other.0 its.0 other.1 its.1 less (same_or_not its.0 k)
+        converse other.0 its.0 other.1 its.1 less (same_or_not its.0 k)
 
 module _ (program : Program) (first second : List (List FunId)) (one : AreGroups program first) (two : AreGroups program second) where
   step : (n : ℕ) → take n first ≡ take n second → (x y : Option (List FunId)) → slice_get first n ≡ x → slice_get second n ≡ y

@@ -17,7 +17,7 @@ use Rattle.cu_kernel.specs.declared.term.Term.{Term}
 use Rattle.cu_kernel.specs.TypeExpr as clean_type
 use Rattle.cu_kernel.specs.TypesOf.{type_of, types_of}
 use Rattle.cu_kernel.specs.declared.type_term.TypeTerm.{TypeTerm}
-use Rattle.cu_lift.specs.Lifting.{Lifting, behind_parameters, behind_variables, lifted_alternatives, lifted_term, lifted_terms}
+use Rattle.cu_lift.specs.Lifting.{Lifting, after_parameters, after_variables, lifted_alternatives, lifted_term, lifted_terms}
 
 -- all were made
 pub all_made : {A B C : Type 0} (f : A → C) (g : B → C) (made : List A) (xs : List B) (i : ℕ) → length xs ≤ i → map f made ++ map g (drop i xs) ≡ map g xs
@@ -77,13 +77,13 @@ pub rows_lifted : (l : Lifting) (made : List (Pattern × Term)) (rows : List (Pa
     → alternatives_of made ≡ lifted_alternatives l (local_alternatives_of rows)
 rows_lifted l made rows e = rows_listed made ∙ ap row_list e ∙ sym (lifted_rows_listed l rows)
 
-patterns_behind : (xs : List ℕ) (ps : List Pattern) → patterns_of (map pattern.Var xs ++ ps) ≡ behind_parameters xs (patterns_of ps)
-patterns_behind [] ps = refl
-patterns_behind (x ∷ xs) ps = λ i. clean.MorePatterns (pattern_of-Var x i) (patterns_behind xs ps i)
+patterns_after : (xs : List ℕ) (ps : List Pattern) → patterns_of (map pattern.Var xs ++ ps) ≡ after_parameters xs (patterns_of ps)
+patterns_after [] ps = refl
+patterns_after (x ∷ xs) ps = λ i. clean.MorePatterns (pattern_of-Var x i) (patterns_after xs ps i)
 
-terms_behind : (xs : List ℕ) (ts : List Term) → terms_of (map term.Var xs ++ ts) ≡ behind_variables xs (terms_of ts)
-terms_behind [] ts = refl
-terms_behind (x ∷ xs) ts = λ i. clean.MoreTerms (term_of-Var x i) (terms_behind xs ts i)
+terms_after : (xs : List ℕ) (ts : List Term) → terms_of (map term.Var xs ++ ts) ≡ after_variables xs (terms_of ts)
+terms_after [] ts = refl
+terms_after (x ∷ xs) ts = λ i. clean.MoreTerms (term_of-Var x i) (terms_after xs ts i)
 
 pub case_lifted : (l : Lifting) (t : LocalTerm) (m : Mode) (a : Box Term Global) (b : Box LocalTerm Global) (rows : Vec (Pattern × Term) Global)
     (others : Vec (Pattern × LocalTerm) Global) (inner : LocalTerm) (all : List (Pattern × LocalTerm))
@@ -97,14 +97,14 @@ case_lifted l t m a b rows others inner all is first second same alike =
     ∙ ap (lifted_term l) (sym (ap local_term_of is ∙ local_term_of-Case m b others))
 
 pub patterns_put : (xs : List ℕ) (i : ℕ) (all new ps : List Pattern) (qs : clean.Patterns) → length xs ≤ i → all ≡ map pattern.Var (take i xs) → new ≡ all ++ ps
-    → patterns_of ps ≡ qs → patterns_of new ≡ behind_parameters xs qs
+    → patterns_of ps ≡ qs → patterns_of new ≡ after_parameters xs qs
 patterns_put xs i all new ps qs past made whole same =
-    ap patterns_of (whole ∙ ap (λ ys. ys ++ ps) (made ∙ ap (map pattern.Var) (take_all i xs past))) ∙ patterns_behind xs ps ∙ ap (behind_parameters xs) same
+    ap patterns_of (whole ∙ ap (λ ys. ys ++ ps) (made ∙ ap (map pattern.Var) (take_all i xs past))) ∙ patterns_after xs ps ∙ ap (after_parameters xs) same
 
 pub terms_put : (xs : List ℕ) (i : ℕ) (all new ts : List Term) → length xs ≤ i → all ≡ map term.Var (take i xs) → new ≡ all ++ ts
-    → terms_of new ≡ behind_variables xs (terms_of ts)
+    → terms_of new ≡ after_variables xs (terms_of ts)
 terms_put xs i all new ts past made whole =
-    ap terms_of (whole ∙ ap (λ ys. ys ++ ts) (made ∙ ap (map term.Var) (take_all i xs past))) ∙ terms_behind xs ts
+    ap terms_of (whole ∙ ap (λ ys. ys ++ ts) (made ∙ ap (map term.Var) (take_all i xs past))) ∙ terms_after xs ts
 
 pub map_twice : {A B C : Type 0} (g : A → B) (h : B → C) (xs : List A) → map (λ x. h (g x)) xs ≡ map h (map g xs)
 map_twice g h [] = refl

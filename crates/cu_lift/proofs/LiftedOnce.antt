@@ -20,7 +20,7 @@ use Rattle.cu_kernel.specs.declared.local.LocalHead.{LocalHead}
 use Rattle.cu_lift.proofs.LiftedOrder.{EachStands, each_stands}
 use Rattle.cu_lift.proofs.LiftedRules.{all_left, all_right, one_part}
 use Rattle.cu_lift.proofs.LiftedTerms.{either, there}
-use Rattle.cu_lift.specs.Lifting.{Lifting, Lifts, Locals, Numbered, behind_parameters, behind_variables, functions_from, in_order, lifted, lifted_alternatives, lifted_body, lifted_group, lifted_head, lifted_local, lifted_rule, lifted_term, lifted_terms, lifting_of, local_mark, local_name, marks_from, passed, rank, top_number}
+use Rattle.cu_lift.specs.Lifting.{Lifting, Lifts, Locals, Numbered, after_parameters, after_variables, functions_from, in_order, lifted, lifted_alternatives, lifted_body, lifted_group, lifted_head, lifted_local, lifted_rule, lifted_term, lifted_terms, lifting_of, local_mark, local_name, marks_from, passed, rank, top_number}
 use Rattle.cu_names.specs.Texts.{AllDiffer, text_of}
 use Rattle.cu_names.specs.declared.names.NameId.{NameId}
 
@@ -88,18 +88,18 @@ module _ (locals : List LocalFunction) (top inner : ℕ → ℕ) (c d : ℕ → 
   m = record { top = top; inner = inner; captured = d }
 
   whole_agrees : (h : LocalHead) (n : ℕ) (ts us : clean.Terms) → IsTrue (takes_locally locals h n) → ts ≡ us
-      → clean.Whole (lifted_head l h) (behind_variables (passed l h) ts) ≡ clean.Whole (lifted_head m h) (behind_variables (passed m h) us)
+      → clean.Whole (lifted_head l h) (after_variables (passed l h) ts) ≡ clean.Whole (lifted_head m h) (after_variables (passed m h) us)
   whole_agrees (local_head.Global h) n ts us at same = ap (clean.Whole (lifted_head l (local_head.Global h))) same
   whole_agrees (local_head.Local k) n ts us at same =
       let g = there locals k n takes refl at in
-      let xs = agree k g.0 g.1 in λ i. clean.Whole (lifted_head l (local_head.Local k)) (behind_variables (xs i) (same i))
+      let xs = agree k g.0 g.1 in λ i. clean.Whole (lifted_head l (local_head.Local k)) (after_variables (xs i) (same i))
 
   part_agrees : (h : LocalHead) (n : ℕ) (ts us : clean.Terms) → IsTrue (takes_more_locally locals h n) → ts ≡ us
-      → clean.Part (lifted_head l h) (behind_variables (passed l h) ts) ≡ clean.Part (lifted_head m h) (behind_variables (passed m h) us)
+      → clean.Part (lifted_head l h) (after_variables (passed l h) ts) ≡ clean.Part (lifted_head m h) (after_variables (passed m h) us)
   part_agrees (local_head.Global h) n ts us at same = ap (clean.Part (lifted_head l (local_head.Global h))) same
   part_agrees (local_head.Local k) n ts us at same =
       let g = there locals k n takes_more refl at in
-      let xs = agree k g.0 g.1 in λ i. clean.Part (lifted_head l (local_head.Local k)) (behind_variables (xs i) (same i))
+      let xs = agree k g.0 g.1 in λ i. clean.Part (lifted_head l (local_head.Local k)) (after_variables (xs i) (same i))
 
   mutual
     term_agrees : (t : LocalTerm) → IsTrue (term_passes (local_heads locals) t) → lifted_term l t ≡ lifted_term m t
@@ -147,7 +147,7 @@ module _ (locals : List LocalFunction) (top inner : ℕ → ℕ) (c d : ℕ → 
       let body = (and_parts (patterns_pass (local_heads locals) rule.params) (term_passes (local_heads locals) rule.body) parts.0).1 in
       let one = term_agrees rule.body body in
       let rest = rules_agree xs ys rules same parts.1 in
-      λ i. record { params = behind_parameters (same i) rule.params; body = one i } ∷ rest i
+      λ i. record { params = after_parameters (same i) rule.params; body = one i } ∷ rest i
 
   body_agrees : (body : LocalBody) → IsTrue (list_all (rule_passes (local_heads locals)) (rules_of body)) → lifted_body l body ≡ lifted_body m body
   body_agrees (kernel.Rules rules) h = ap calculus.Rules (rules_agree [] [] rules refl h)

@@ -7,7 +7,7 @@ use Rattle.cu_kernel.proofs.Loops.{left}
 use Rattle.cu_kernel.specs.LocalKernel.{LocalFunction, TopFunction}
 use Rattle.cu_lift.proofs.LiftedCopies.{map_twice}
 use Rattle.cu_lift.proofs.LiftedOrder.{each_stands, length_order, stands_at}
-use Rattle.cu_lift.proofs.Places.{front_or_last, mapped_at, one_element, there, within}
+use Rattle.cu_lift.proofs.Places.{prefix_or_last, mapped_at, one_element, there, within}
 use Rattle.cu_lift.specs.Inside.LiftedPlaces.{AreBelow, AreNames, ArePlaced, AreRows, IsPlacement, entry_of, entry_rank, numbered, ordered_numbers, row_items}
 use Rattle.cu_lift.specs.Lifting.{Numbered, in_order, local_name, local_number, rank, rank_in, top_number, top_numbers}
 use Rattle.cu_lift.specs.declared.local_order.Entry.{Entry}
@@ -18,8 +18,8 @@ use Rattle.cu_names.specs.declared.names.NameId.{NameId}
 
 -- ---- names
 
-abbrev name_behind : List ℕ → ℕ → List ℕ
-name_behind text n = text ++ (codes "#" ++ decimal n)
+abbrev name_after : List ℕ → ℕ → List ℕ
+name_after text n = text ++ (codes "#" ++ decimal n)
 
 pub names_step : (old mid new : List (List ℕ)) (function : NameId) (number i : ℕ) (numbers : List ℕ) (ids more : List NameId) (id : NameId) (d : ℕ)
     → Extends old mid → Extends mid new → IsKnown old function → i < length numbers
@@ -40,16 +40,16 @@ names_step old mid new function number i numbers ids more id d first second know
     x : ℕ
     x = get_or numbers i d
 
-    front_many : length ids ≡ length (take i numbers)
-    front_many = before.as_many
+    prefix_many : length ids ≡ length (take i numbers)
+    prefix_many = before.as_many
 
     many : length more ≡ length (take (i + 1) numbers)
     many =
-        ap length pushed ∙ length-append ids (id ∷ []) ∙ ap (λ n. n + 1) front_many
+        ap length pushed ∙ length-append ids (id ∷ []) ∙ ap (λ n. n + 1) prefix_many
         ∙ sym (ap length (take_more numbers i d below) ∙ length-append (take i numbers) (get_or numbers i d ∷ []))
 
     ids_known : (k : ℕ) (found : NameId) → slice_get (ids ++ id ∷ []) k ≡ Some found → IsKnown new found
-    ids_known k found at = elim (front_or_last ids id k found at) [
+    ids_known k found at = elim (prefix_or_last ids id k found at) [
       | inl h ↦ known-extends second found (before.known k found h)
       | inr h ↦ subst (λ (j : NameId). IsKnown new j) h.1 is_known
     ]
@@ -57,18 +57,18 @@ names_step old mid new function number i numbers ids more id d first second know
     ids_named : (k n : ℕ) (found : NameId) → slice_get (ids ++ id ∷ []) k ≡ Some found
         → slice_get (take i numbers ++ get_or numbers i d ∷ []) k ≡ Some n
         → text_of new found ≡ text_of old function ++ (codes "#" ++ decimal (n - number))
-    ids_named k n found at number_at = elim (front_or_last ids id k found at) [
-      | inl h ↦ elim (front_or_last (take i numbers) (get_or numbers i d) k n number_at) [
+    ids_named k n found at number_at = elim (prefix_or_last ids id k found at) [
+      | inl h ↦ elim (prefix_or_last (take i numbers) (get_or numbers i d) k n number_at) [
         | inl g ↦ text_of-extends second found (before.known k found h) ∙ before.named k n found h g
         | inr g ↦
-            let low = within ids k found h in let same : k ≡ length (take i numbers) = g.0 in let count = front_many in absurd (omega (arith, low, same, count))
+            let low = within ids k found h in let same : k ≡ length (take i numbers) = g.0 in let count = prefix_many in absurd (omega (arith, low, same, count))
       ]
-      | inr h ↦ elim (front_or_last (take i numbers) (get_or numbers i d) k n number_at) [
+      | inr h ↦ elim (prefix_or_last (take i numbers) (get_or numbers i d) k n number_at) [
         | inl g ↦
-            let low = within (take i numbers) k n g in let same : k ≡ length ids = h.0 in let count = front_many in absurd (omega (arith, low, same, count))
+            let low = within (take i numbers) k n g in let same : k ≡ length ids = h.0 in let count = prefix_many in absurd (omega (arith, low, same, count))
         | inr g ↦
-            ap (text_of new) (sym h.1) ∙ spelled ∙ ap (λ t. name_behind t (get_or numbers i d - number)) (text_of-extends first function known)
-            ∙ ap (λ m. name_behind (text_of old function) (m - number)) g.1
+            ap (text_of new) (sym h.1) ∙ spelled ∙ ap (λ t. name_after t (get_or numbers i d - number)) (text_of-extends first function known)
+            ∙ ap (λ m. name_after (text_of old function) (m - number)) g.1
       ]
     ]
 
@@ -78,7 +78,7 @@ each_reversed : (P : Entry → Type 0) (xs : List Entry) → ((k : ℕ) (e : Ent
     → (k : ℕ) (e : Entry) → slice_get (reverse xs) k ≡ Some e → P e
 each_reversed P [] each k e at = each k e at
 each_reversed P (x ∷ xs) each k e at =
-    elim (front_or_last (reverse xs) x k e (subst (λ (ys : List Entry). slice_get ys k ≡ Some e) (reverse-append (x ∷ []) xs) at)) [
+    elim (prefix_or_last (reverse xs) x k e (subst (λ (ys : List Entry). slice_get ys k ≡ Some e) (reverse-append (x ∷ []) xs) at)) [
       | inl h ↦ each_reversed P xs (λ j f there. each (suc j) f there) k e h
       | inr h ↦ each zero e (ap (λ y. Some y) h.1)
     ]
@@ -115,9 +115,9 @@ numbers_are : (order : List Entry) (locals : List LocalFunction) (number : ℕ) 
 numbers_are order locals number numbers sorted lifted k =
     lifted.1 k ∙ ap (λ es. number + 1 + entry_rank k es) sorted ∙ ap (λ n. number + 1 + n) (entry_ranks k (in_order locals))
 
-pub numbers_behind : (order : List Entry) (locals : List LocalFunction) (number : ℕ) (numbers : List ℕ) → reverse order ≡ map entry_of (in_order locals)
+pub numbers_after : (order : List Entry) (locals : List LocalFunction) (number : ℕ) (numbers : List ℕ) → reverse order ≡ map entry_of (in_order locals)
     → AreLifted numbers order (number + 1) → (k n : ℕ) → slice_get numbers k ≡ Some n → number < n
-numbers_behind order locals number numbers sorted lifted k n at =
+numbers_after order locals number numbers sorted lifted k n at =
     let is = numbers_are order locals number numbers sorted lifted k in
     let found = get_or_from_slice_get numbers k n (number + 1 + length order) at in
     omega (arith, is, found)
@@ -144,9 +144,9 @@ placement_made old new number f order p grown known sorted ends ordered lifted c
         let found = there p.numbers.items k below in
         let value = get_or_from_slice_get p.numbers.items k found.0 (number + 1 + length order) found.1 in
         let is = numbers_are order f.locals number p.numbers.items sorted lifted k in
-        let behind : found.0 - number ≡ rank f.locals k + 1 = omega (arith, value, is) in
-        names.named k found.0 id at found.1 ∙ ap (λ n. name_behind (text_of old f.name) n) behind
-        ∙ ap (λ t. name_behind t (rank f.locals k + 1)) (sym (text_of-extends grown f.name known))
+        let after : found.0 - number ≡ rank f.locals k + 1 = omega (arith, value, is) in
+        names.named k found.0 id at found.1 ∙ ap (λ n. name_after (text_of old f.name) n) after
+        ∙ ap (λ t. name_after t (rank f.locals k + 1)) (sym (text_of-extends grown f.name known))
 
 -- ---- all top-level functions
 
@@ -164,7 +164,7 @@ placement_grows old new number f p grown known is = record {
   known = λ k id at. known-extends grown id (is.known k id at);
   named = λ k id at.
       text_of-extends grown id (is.known k id at) ∙ is.named k id at
-      ∙ ap (λ t. name_behind t (rank f.locals k + 1)) (sym (text_of-extends grown f.name known));
+      ∙ ap (λ t. name_after t (rank f.locals k + 1)) (sym (text_of-extends grown f.name known));
 }
 
 pub placements_step : (old new : List (List ℕ)) (fs : List TopFunction) (ps more : List Placement) (i number : ℕ) (f : TopFunction) (p : Placement)
@@ -176,7 +176,7 @@ placements_step old new fs ps more i number f p grown known many at is before pl
   where
     go : (k : ℕ) (g : TopFunction) (q : Placement) → slice_get fs k ≡ Some g → slice_get (ps ++ p ∷ []) k ≡ Some q
         → IsPlacement new (top_number fs k) g q
-    go k g q found there = elim (front_or_last ps p k q there) [
+    go k g q found there = elim (prefix_or_last ps p k q there) [
       | inl h ↦ placement_grows old new (top_number fs k) g q grown (known k g found) (before.each k g q found h)
       | inr h ↦
           let place : k ≡ i = h.0 ∙ many in

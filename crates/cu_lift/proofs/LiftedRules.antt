@@ -14,7 +14,7 @@ use Rattle.cu_kernel.specs.LocalKernel.{LocalBody, LocalFunction, LocalRule, Top
 use Rattle.cu_kernel.specs.LocalTerm.{LocalTerm}
 use Rattle.cu_kernel.specs.LocalValid.{IsScoped, all_rules, binders, fits_arity, fits_local, global_heads, has_arity, local_binders, local_heads, local_rules, patterns_pass, rule_binders, rule_lets, rule_passes, rules_binders, rules_of, term_passes}
 use Rattle.cu_lift.proofs.LiftedTerms.{FreeBy, HeadsFit, IsCalm, calm_left, calm_right, either, held_either, held_left, held_right, is_free, linear_apart, linear_from, linear_left, linear_right, not_from_never, own, patterns_fit, term_fits, through}
-use Rattle.cu_lift.specs.Lifting.{Lifting, behind_parameters, lifted_body, lifted_rule, lifted_term}
+use Rattle.cu_lift.specs.Lifting.{Lifting, after_parameters, lifted_body, lifted_rule, lifted_term}
 
 -- ---- parts of lists
 
@@ -63,12 +63,12 @@ part_apart v f (y ∷ xs) zero x at once others mine =
     let same : y ≡ x = cc in
     linear_apart v (f y) (flat_map f xs) once (subst (λ z. IsTrue (holds v (f z))) (sym same) mine) others
 part_apart v f (y ∷ xs) (suc k) x at once others mine =
-    let front = flat_map f (take k xs) in let rest = flat_map f (drop (suc k) xs) in
-    either (held_either v (f y ++ front) rest others)
-    (λ e. either (held_either v (f y) front e)
+    let prefix = flat_map f (take k xs) in let rest = flat_map f (drop (suc k) xs) in
+    either (held_either v (f y ++ prefix) rest others)
+    (λ e. either (held_either v (f y) prefix e)
     (λ d. linear_apart v (f y) (flat_map f xs) once d (held_part v f xs k x at mine))
-    (λ d. part_apart v f xs k x at (linear_right (f y) (flat_map f xs) once) (held_left v front rest d) mine))
-    (λ e. part_apart v f xs k x at (linear_right (f y) (flat_map f xs) once) (held_right v front rest e) mine)
+    (λ d. part_apart v f xs k x at (linear_right (f y) (flat_map f xs) once) (held_left v prefix rest d) mine))
+    (λ e. part_apart v f xs k x at (linear_right (f y) (flat_map f xs) once) (held_right v prefix rest e) mine)
 
 -- ---- one rule
 
@@ -79,18 +79,18 @@ pub record IsRight (locals : List LocalFunction) (heads : calculus.Program) (rul
   pub once : IsTrue (is_linear (rule_binders rule))
   pub calm : IsCalm locals (rule_lets rule)
 
-count_parameters : (xs : List ℕ) (ps : clean.Patterns) → pattern_count (behind_parameters xs ps) ≡ length xs + pattern_count ps
+count_parameters : (xs : List ℕ) (ps : clean.Patterns) → pattern_count (after_parameters xs ps) ≡ length xs + pattern_count ps
 count_parameters [] ps = omega arith
 count_parameters (x ∷ xs) ps = let rest = count_parameters xs ps in omega (arith, rest)
 
 parameters_fit : (program : calculus.Program) (xs : List ℕ) (ps : clean.Patterns) → IsTrue (fit_patterns program ps)
-    → IsTrue (fit_patterns program (behind_parameters xs ps))
+    → IsTrue (fit_patterns program (after_parameters xs ps))
 parameters_fit program [] ps h = h
-parameters_fit program (x ∷ xs) ps h = and_from true (fit_patterns program (behind_parameters xs ps)) refl (parameters_fit program xs ps h)
+parameters_fit program (x ∷ xs) ps h = and_from true (fit_patterns program (after_parameters xs ps)) refl (parameters_fit program xs ps h)
 
-variables_behind : (xs : List ℕ) (ps : clean.Patterns) → all_variables (behind_parameters xs ps) ≡ xs ++ all_variables ps
-variables_behind [] ps = refl
-variables_behind (x ∷ xs) ps = ap (λ ys. x ∷ ys) (variables_behind xs ps)
+variables_after : (xs : List ℕ) (ps : clean.Patterns) → all_variables (after_parameters xs ps) ≡ xs ++ all_variables ps
+variables_after [] ps = refl
+variables_after (x ∷ xs) ps = ap (λ ys. x ∷ ys) (variables_after xs ps)
 
 pub rule_fits : (locals : List LocalFunction) (l : Lifting) (heads program : calculus.Program) → HeadsFit locals l heads program
     → (xs : List ℕ) (arity : ℕ) (rule : LocalRule) → IsRight locals heads rule → IsTrue (has_arity arity rule) → IsTrue (is_linear xs)
@@ -99,12 +99,12 @@ pub rule_fits : (locals : List LocalFunction) (l : Lifting) (heads program : cal
     → IsTrue (fits_rule program (length xs + arity) (lifted_rule l xs rule))
 rule_fits locals l heads program fit xs arity rule right count linear apart bound =
     let ps = rule.params in
-    let whole = behind_parameters xs ps in
+    let whole = after_parameters xs ps in
     let inner = and_parts (patterns_pass (local_heads locals) ps) (term_passes (local_heads locals) rule.body) right.inner in
     let outer = and_parts (patterns_pass (global_heads heads) ps) (term_passes (global_heads heads) rule.body) right.outer in
     let number : pattern_count ps ≡ arity = eqb-true (pattern_count ps) arity count in
     let as_many : pattern_count whole ≡ length xs + arity = count_parameters xs ps ∙ ap (λ n. length xs + n) number in
-    let vs = variables_behind xs ps in
+    let vs = variables_after xs ps in
     let different : IsTrue (is_linear (all_variables whole)) =
     subst (λ (ys : List ℕ). IsTrue (is_linear ys)) (sym vs)
     (linear_from xs (all_variables ps) linear (linear_left (all_variables ps) (binders rule.body) right.once) apart) in

@@ -1,7 +1,7 @@
 -- Lifted terms fit a program: heads have the arguments that they take, and each variable is bound.
 use Rattle.std.proofs.Common.{◌≡◌, ℕ, zero, suc, ◌+◌, Bool, true, false, not, ◌&&◌, ◌||◌, List, [], ◌∷◌, ◌++◌, length, Option, None, Some, IsTrue, nat_eq, slice_get, option_map, refl, ap, sym, ◌∙◌, subst, arith, inl, inr, ⊎_elim, ◌⊎◌}
 use Rattle.std.proofs.lemmas.Bool.{and_from, and_parts, eqb-true, eq-eqb, not_from_false, or_cases, or_left, or_right}
-use Rattle.cu_calculus.proofs.Lists.{get_behind, get_front}
+use Rattle.cu_calculus.proofs.Lists.{get_suffix, get_prefix}
 use Rattle.cu_calculus.specs.Program as calculus
 use Rattle.cu_calculus.specs.Program.{arity_in}
 use Rattle.cu_calculus.specs.Shape.{is_allowed, takes, takes_more}
@@ -17,7 +17,7 @@ use Rattle.cu_kernel.specs.LocalTerm.{LocalAlternatives, LocalTerm, LocalTerms}
 use Rattle.cu_kernel.specs.LocalValid.{Heads, alternative_binders, alternatives_pass, binders, binders_all, builds, global_heads, lets, lets_of_all, lets_of_alternatives, local_arity, local_heads, pattern_passes, patterns_pass, takes_globally, takes_locally, takes_more_globally, takes_more_locally, term_count, term_passes, terms_pass}
 use Rattle.cu_kernel.specs.declared.local.LocalHead.TheVariants as local_head
 use Rattle.cu_kernel.specs.declared.local.LocalHead.{LocalHead}
-use Rattle.cu_lift.specs.Lifting.{Lifting, behind_variables, lifted_alternatives, lifted_head, lifted_term, lifted_terms, passed}
+use Rattle.cu_lift.specs.Lifting.{Lifting, after_variables, lifted_alternatives, lifted_head, lifted_term, lifted_terms, passed}
 
 -- ---- free variables of parts
 
@@ -40,10 +40,10 @@ pub record IsCalm (locals : List LocalFunction) (ls : List (ℕ × LocalTerm)) :
   pub calm : (k x : ℕ) (a : LocalTerm) → slice_get ls k ≡ Some (x, a) → FreeBy locals x (λ c. uses c x a) → ⊥
 
 pub calm_left : (locals : List LocalFunction) (xs ys : List (ℕ × LocalTerm)) → IsCalm locals (xs ++ ys) → IsCalm locals xs
-calm_left locals xs ys h = record { calm = λ k x a e. h.calm k x a (get_front xs ys k (x, a) e) }
+calm_left locals xs ys h = record { calm = λ k x a e. h.calm k x a (get_prefix xs ys k (x, a) e) }
 
 pub calm_right : (locals : List LocalFunction) (xs ys : List (ℕ × LocalTerm)) → IsCalm locals (xs ++ ys) → IsCalm locals ys
-calm_right locals xs ys h = record { calm = λ k x a e. h.calm (length xs + k) x a (get_behind xs ys k ∙ e) }
+calm_right locals xs ys h = record { calm = λ k x a e. h.calm (length xs + k) x a (get_suffix xs ys k ∙ e) }
 
 calm_rest : (locals : List LocalFunction) (l : ℕ × LocalTerm) (ls : List (ℕ × LocalTerm)) → IsCalm locals (l ∷ ls) → IsCalm locals ls
 calm_rest locals l ls h = record { calm = λ k x a e. h.calm (suc k) x a e }
@@ -110,9 +110,9 @@ linear_from (x ∷ xs) ys left right apart =
 
 -- ---- numbers of arguments
 
-pub count_behind : (xs : List ℕ) (ts : clean.Terms) → valid.term_count (behind_variables xs ts) ≡ length xs + valid.term_count ts
-count_behind [] ts = omega arith
-count_behind (x ∷ xs) ts = let rest = count_behind xs ts in omega (arith, rest)
+pub count_after : (xs : List ℕ) (ts : clean.Terms) → valid.term_count (after_variables xs ts) ≡ length xs + valid.term_count ts
+count_after [] ts = omega arith
+count_after (x ∷ xs) ts = let rest = count_after xs ts in omega (arith, rest)
 
 pub count_lifted : (l : Lifting) (ts : LocalTerms) → valid.term_count (lifted_terms l ts) ≡ term_count ts
 count_lifted l local.NoTerm = refl
@@ -164,10 +164,10 @@ module _ (locals : List LocalFunction) (l : Lifting) (heads program : calculus.P
         and_from (fits_pattern program p) (fit_patterns program ps) (pattern_fits p parts.0) (patterns_fit ps parts.1)
 
   variables_fit : (may : ℕ → Bool) (xs : List ℕ) (ts : clean.Terms) → ((v : ℕ) → IsTrue (holds v xs) → IsTrue (may v))
-      → IsTrue (fit_terms program may ts) → IsTrue (fit_terms program may (behind_variables xs ts))
+      → IsTrue (fit_terms program may ts) → IsTrue (fit_terms program may (after_variables xs ts))
   variables_fit may [] ts each h = h
   variables_fit may (x ∷ xs) ts each h =
-      and_from (may x) (fit_terms program may (behind_variables xs ts)) (each x (or_left (nat_eq x x) (holds x xs) (eq-eqb x x refl)))
+      and_from (may x) (fit_terms program may (after_variables xs ts)) (each x (or_left (nat_eq x x) (holds x xs) (eq-eqb x x refl)))
       (variables_fit may xs ts (λ v k. each v (or_right (nat_eq v x) (holds v xs) k)) h)
 
   -- the variables that a call passes are free in it
@@ -226,10 +226,10 @@ module _ (locals : List LocalFunction) (l : Lifting) (heads program : calculus.P
         (λ v c e. or_right (c f) (any_use c v ts) e) each) in
         let there : (j : ℕ) → f ≡ local_head.Local j → IsTrue (takes (local_arity locals j) n) =
         λ j e. subst (λ (g : LocalHead). IsTrue (takes_locally locals g n)) e one.0 in
-        let count : length (passed l f) + n ≡ valid.term_count (behind_variables (passed l f) (lifted_terms l ts)) =
-        ap (λ m. length (passed l f) + m) (sym (count_lifted l ts)) ∙ sym (count_behind (passed l f) (lifted_terms l ts)) in
-        and_from (is_allowed program (lifted_head l f) && takes (arity_in program (lifted_head l f)) (valid.term_count (behind_variables (passed l f) (lifted_terms l ts))))
-        (fit_terms program may (behind_variables (passed l f) (lifted_terms l ts)))
+        let count : length (passed l f) + n ≡ valid.term_count (after_variables (passed l f) (lifted_terms l ts)) =
+        ap (λ m. length (passed l f) + m) (sym (count_lifted l ts)) ∙ sym (count_after (passed l f) (lifted_terms l ts)) in
+        and_from (is_allowed program (lifted_head l f) && takes (arity_in program (lifted_head l f)) (valid.term_count (after_variables (passed l f) (lifted_terms l ts))))
+        (fit_terms program may (after_variables (passed l f) (lifted_terms l ts)))
         (subst (λ (m : ℕ). IsTrue (is_allowed program (lifted_head l f) && takes (arity_in program (lifted_head l f)) m)) count (fit.whole f n one.0 two.0))
         (variables_fit may (passed l f) (lifted_terms l ts) (passed_are_free may f n ts takes refl there each) rest)
     term_fits may (local.Part f ts) h k once calm each =
@@ -240,10 +240,10 @@ module _ (locals : List LocalFunction) (l : Lifting) (heads program : calculus.P
         (λ v c e. or_right (c f) (any_use c v ts) e) each) in
         let there : (j : ℕ) → f ≡ local_head.Local j → IsTrue (takes_more (local_arity locals j) n) =
         λ j e. subst (λ (g : LocalHead). IsTrue (takes_more_locally locals g n)) e one.0 in
-        let count : length (passed l f) + n ≡ valid.term_count (behind_variables (passed l f) (lifted_terms l ts)) =
-        ap (λ m. length (passed l f) + m) (sym (count_lifted l ts)) ∙ sym (count_behind (passed l f) (lifted_terms l ts)) in
-        and_from (is_allowed program (lifted_head l f) && takes_more (arity_in program (lifted_head l f)) (valid.term_count (behind_variables (passed l f) (lifted_terms l ts))))
-        (fit_terms program may (behind_variables (passed l f) (lifted_terms l ts)))
+        let count : length (passed l f) + n ≡ valid.term_count (after_variables (passed l f) (lifted_terms l ts)) =
+        ap (λ m. length (passed l f) + m) (sym (count_lifted l ts)) ∙ sym (count_after (passed l f) (lifted_terms l ts)) in
+        and_from (is_allowed program (lifted_head l f) && takes_more (arity_in program (lifted_head l f)) (valid.term_count (after_variables (passed l f) (lifted_terms l ts))))
+        (fit_terms program may (after_variables (passed l f) (lifted_terms l ts)))
         (subst (λ (m : ℕ). IsTrue (is_allowed program (lifted_head l f) && takes_more (arity_in program (lifted_head l f)) m)) count (fit.part f n one.0 two.0))
         (variables_fit may (passed l f) (lifted_terms l ts) (passed_are_free may f n ts takes_more refl there each) rest)
     term_fits may (local.Apply f a) h k once calm each =
@@ -302,18 +302,18 @@ module _ (locals : List LocalFunction) (l : Lifting) (heads program : calculus.P
         let first = and_parts (pattern_passes inner p) (term_passes inner t) one.0 in
         let second = and_parts (pattern_passes outer p) (term_passes outer t) two.0 in
         let xs = variables_of p in
-        let behind = linear_right xs (binders t ++ alternative_binders rows) once in
+        let after = linear_right xs (binders t ++ alternative_binders rows) once in
         let pattern = fits_pattern program p in
         let body = fits_term program (also_all xs may) (lifted_term l t) in
         and_from (pattern && is_linear xs && body) (fit_alternatives program may (lifted_alternatives l rows))
         (and_from (pattern && is_linear xs) body
         (and_from pattern (is_linear xs) (pattern_fits p second.0) (linear_left xs (binders t ++ alternative_binders rows) once))
-        (term_fits (also_all xs may) t first.1 second.1 (linear_left (binders t) (alternative_binders rows) behind)
+        (term_fits (also_all xs may) t first.1 second.1 (linear_left (binders t) (alternative_binders rows) after)
         (calm_left locals (lets t) (lets_of_alternatives rows) calm)
         (under may (λ v. holds v xs) (λ v c. uses c v t) (λ v c. (not (holds v xs) && uses c v t) || alternatives_use c v rows)
         (λ v c e g. or_left (not (holds v xs) && uses c v t) (alternatives_use c v rows)
         (and_from (not (holds v xs)) (uses c v t) (not_from_false (holds v xs) e) g)) each)))
-        (alternatives_fit may rows one.1 two.1 (linear_right (binders t) (alternative_binders rows) behind)
+        (alternatives_fit may rows one.1 two.1 (linear_right (binders t) (alternative_binders rows) after)
         (calm_right locals (lets t) (lets_of_alternatives rows) calm)
         (part_may may (λ v c. alternatives_use c v rows) (λ v c. (not (holds v xs) && uses c v t) || alternatives_use c v rows)
         (λ v c e. or_right (not (holds v xs) && uses c v t) (alternatives_use c v rows) e) each))

@@ -3,7 +3,7 @@ use Rattle.std.proofs.Common.{◌≡◌, ◌≢◌, ℕ, zero, suc, ◌+◌, ◌
 use Rattle.std.specs.declared.alloc.Global.{Global}
 use Rattle.std.specs.declared.vec.Vec.{Vec}
 use Rattle.cu_calculus.specs.declared.FunId.{FunId}
-use Rattle.cu_lift.proofs.Places.{nothing_behind, same_or_not, set_cases}
+use Rattle.cu_lift.proofs.Places.{nothing_after, same_or_not, set_cases}
 use Rattle.cu_lift.specs.Inside.Levelling.{AreMembers, of_rank}
 
 pub eq_true : (a b : ℕ) → a ≡ b → nat_eq a b ≡ true
@@ -118,5 +118,5 @@ pub members_done : (ranks : List ℕ) (count n : ℕ) (members : List (Vec FunId
 members_done ranks count n members end size keeps = record {
   sized = size;
   each = λ r row e.
-      nothing_behind row.items ∙ ap (λ (x : List ℕ). row.items ++ of_rank r n x) (sym (drop_all ranks n end)) ∙ keeps r row e;
+      nothing_after row.items ∙ ap (λ (x : List ℕ). row.items ++ of_rank r n x) (sym (drop_all ranks n end)) ∙ keeps r row e;
 }

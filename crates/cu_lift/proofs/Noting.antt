@@ -8,7 +8,7 @@ use Rattle.std.specs.List.{list_any}
 use Rattle.std.specs.Ordering.{is_eq, nat_cmp}
 use Rattle.std.specs.declared.cmp.Ordering.TheVariants.{Equal, Greater, Less}
 use Rattle.std.specs.declared.cmp.Ordering.{Ordering}
-use Rattle.cu_lift.proofs.Elements.{equal_by, first_or_rest, front_or_new, in_first, in_front, in_last, in_rest, inserted, none_in}
+use Rattle.cu_lift.proofs.Elements.{equal_by, first_or_rest, prefix_or_new, in_first, in_prefix, in_last, in_rest, inserted, none_in}
 use Rattle.cu_lift.proofs.Joining.{before_or_not}
 use Rattle.cu_lift.proofs.Places.{one_element}
 use Rattle.cu_lift.proofs.RowSteps.{pushed_keeps, pushed_or_old, pushed_there}
@@ -56,7 +56,7 @@ no_key xs x h at = let is : list_any (is_at (nat_cmp x)) xs ≡ true = key_is xs
 
 other_kind : (ps : List Part) (part q : Part) (A : Type 0) → (part ≡ q → ⊥) → A ↔ IsIn ps q → A ↔ IsIn (ps ++ part ∷ []) q
 other_kind ps part q A other h =
-    (λ a. in_front q ps (part ∷ []) (h.0 a), λ k. elim (front_or_new q part ps k) [ inl old ↦ h.1 old | inr same ↦ absurd (other same) ])
+    (λ a. in_prefix q ps (part ∷ []) (h.0 a), λ k. elim (prefix_or_new q part ps k) [ inl old ↦ h.1 old | inr same ↦ absurd (other same) ])
 
 -- a number that is put among others, or behind them
 module _ (make : ℕ → Part) (same : (x y : ℕ) → make x ≡ make y → x ≡ y) (ps : List Part) (x : ℕ) where
@@ -64,10 +64,10 @@ module _ (make : ℕ → Part) (same : (x y : ℕ) → make x ≡ make y → x �
       → IsIn xs y ↔ IsIn ps (make y) → IsIn more y ↔ IsIn (ps ++ make x ∷ []) (make y)
   put_kind xs more y new old all h = (
     λ k. elim (all y k) [
-      | inl p ↦ in_front (make y) ps (make x ∷ []) (h.0 p)
+      | inl p ↦ in_prefix (make y) ps (make x ∷ []) (h.0 p)
       | inr p ↦ subst (λ (z : ℕ). IsIn (ps ++ make x ∷ []) (make z)) p (in_last (make x) ps)
     ],
-    λ k. elim (front_or_new (make y) (make x) ps k) [
+    λ k. elim (prefix_or_new (make y) (make x) ps k) [
       | inl p ↦ old y (h.1 p)
       | inr p ↦ subst (λ (z : ℕ). IsIn more z) (same x y p) new
     ],
@@ -81,7 +81,7 @@ module _ (make : ℕ → Part) (same : (x y : ℕ) → make x ≡ make y → x �
   pushed_kind : (xs more : List ℕ) (y : ℕ) → more ≡ xs ++ x ∷ [] → IsIn xs y ↔ IsIn ps (make y) → IsIn more y ↔ IsIn (ps ++ make x ∷ []) (make y)
   pushed_kind xs more y is h =
       subst (λ (zs : List ℕ). IsIn zs y ↔ IsIn (ps ++ make x ∷ []) (make y)) (sym is)
-      (put_kind xs (xs ++ x ∷ []) y (in_last x xs) (λ z k. in_front z xs (x ∷ []) k) (λ z k. front_or_new z x xs k) h)
+      (put_kind xs (xs ++ x ∷ []) y (in_last x xs) (λ z k. in_prefix z xs (x ∷ []) k) (λ z k. prefix_or_new z x xs k) h)
 
 same_use : (x y : ℕ) → Uses x ≡ Uses y → x ≡ y
 same_use x y e = cc
@@ -175,13 +175,13 @@ adds_none calls k rows = record {
 
 module _ (calls : List ℕ) (k i c : ℕ) (first old : List Row) (at : slice_get calls i ≡ Some c) (adds : Adds (take i calls) k first old) where
   more_in : (h : ℕ) → IsIn (take i calls) h → IsIn (take (i + 1) calls) h
-  more_in h p = subst (λ (xs : List ℕ). IsIn xs h) (sym (take_next calls i c at)) (in_front h (take i calls) (c ∷ []) p)
+  more_in h p = subst (λ (xs : List ℕ). IsIn xs h) (sym (take_next calls i c at)) (in_prefix h (take i calls) (c ∷ []) p)
 
   now_in : IsIn (take (i + 1) calls) c
   now_in = subst (λ (xs : List ℕ). IsIn xs c) (sym (take_next calls i c at)) (in_last c (take i calls))
 
   in_or_now : (h : ℕ) → IsIn (take (i + 1) calls) h → IsIn (take i calls) h ⊎ (c ≡ h)
-  in_or_now h p = front_or_new h c (take i calls) (subst (λ (xs : List ℕ). IsIn xs h) (take_next calls i c at) p)
+  in_or_now h p = prefix_or_new h c (take i calls) (subst (λ (xs : List ℕ). IsIn xs h) (take_next calls i c at) p)
 
   -- a call of a local function that there isn't
   pub adds_outside : length old ≤ c → Adds (take (i + 1) calls) k first old
@@ -251,7 +251,7 @@ users_all locals n rows end users = record {
 -- ---- one more element
 
 pub first_or_next : {A : Type 0} (xs : List A) (i : ℕ) (x y : A) → slice_get xs i ≡ Some x → IsIn (take (i + 1) xs) y → IsIn (take i xs) y ⊎ (x ≡ y)
-first_or_next {A} xs i x y e h = front_or_new y x (take i xs) (subst (λ (zs : List A). IsIn zs y) (take_next xs i x e) h)
+first_or_next {A} xs i x y e h = prefix_or_new y x (take i xs) (subst (λ (zs : List A). IsIn zs y) (take_next xs i x e) h)
 
 -- what was added stays, and so does what is added
 pub added : (first old new : List ℕ) (x : ℕ) → new ≡ insert_key nat_cmp old x → ((y : ℕ) → IsIn first y → IsIn old y)

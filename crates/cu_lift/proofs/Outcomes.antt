@@ -39,8 +39,8 @@ module _ (g : Graph) (ranks : List ℕ) (count : ℕ) (calls : List (Option Call
     pub reaches_caller : Reach g first call.caller
     reaches_caller = are.alike first call.caller is_first.rank is_first.is_rank is_call.caller_rank
 
-    pub reaches_back : Reach g call.collected first
-    reaches_back = are.alike call.collected first is_first.rank is_call.collected_rank is_first.is_rank
+    pub reaches_first : Reach g call.collected first
+    reaches_first = are.alike call.collected first is_first.rank is_call.collected_rank is_first.is_rank
 
 pub found_levels : (program : Program) (g : Graph) (ranks : List ℕ) (count : ℕ) (levels : List ℕ) → rows_of g ≡ graph_of program
     → AreRanks g ranks count → LevelsTo g ranks count levels → AreLeastLevels program levels

@@ -14,7 +14,7 @@ use Rattle.cu_kernel.specs.declared.local.LocalTerm.TheVariants as term
 use Rattle.cu_kernel.specs.declared.local.LocalTerm.{LocalTerm}
 use Rattle.cu_kernel.specs.declared.term.Pattern.TheVariants as pattern
 use Rattle.cu_kernel.specs.declared.term.Pattern.{Pattern}
-use Rattle.cu_lift.proofs.Places.{nothing_behind}
+use Rattle.cu_lift.proofs.Places.{nothing_after}
 use Rattle.cu_lift.specs.Inside.Capturing.{alternative_parts, bound, parts}
 use Rattle.cu_lift.specs.declared.captures.Part.{Part}
 use Rattle.cu_lift.specs.declared.captures.Part.TheVariants.{Binds}
@@ -23,7 +23,7 @@ one_then : (old mid new rest : List Part) (x : Part) → mid ≡ old ++ x ∷ []
 one_then old mid new rest x p q = q ∙ ap (λ xs. xs ++ rest) p ∙ append_assoc old (x ∷ []) rest
 
 pub literal_pattern : (ps : List Part) (p : Pattern) (l : Lit) → p ≡ pattern.Lit l → ps ≡ ps ++ bound (variables_of (pattern_of p))
-literal_pattern ps p l is = nothing_behind ps ∙ ap (λ (q : calculus.Pattern). ps ++ bound (variables_of q)) (sym (ap pattern_of is ∙ pattern_of-Lit l))
+literal_pattern ps p l is = nothing_after ps ∙ ap (λ (q : calculus.Pattern). ps ++ bound (variables_of q)) (sym (ap pattern_of is ∙ pattern_of-Lit l))
 
 pub alias_pattern : (old mid new : List Part) (p part : Pattern) (x : ℕ) (b : Box Pattern Global) → p ≡ pattern.Alias x b → part ≡ b.value
     → mid ≡ old ++ Binds x ∷ [] → new ≡ mid ++ bound (variables_of (pattern_of part)) → new ≡ old ++ bound (variables_of (pattern_of p))
@@ -33,7 +33,7 @@ alias_pattern old mid new p part x b is same first rest =
     ∙ ap (λ (q : calculus.Pattern). old ++ bound (variables_of q)) (sym (ap pattern_of is ∙ pattern_of-Alias x b))
 
 pub literal_parts : (ps : List Part) (t : LocalTerm) (l : Lit) → t ≡ term.Lit l → ps ≡ ps ++ parts (local_term_of t)
-literal_parts ps t l is = nothing_behind ps ∙ ap (λ (u : local.LocalTerm). ps ++ parts u) (sym (ap local_term_of is ∙ local_term_of-Lit l))
+literal_parts ps t l is = nothing_after ps ∙ ap (λ (u : local.LocalTerm). ps ++ parts u) (sym (ap local_term_of is ∙ local_term_of-Lit l))
 
 pub free_parts : (old mid new : List Part) (t body : LocalTerm) (x : ℕ) (b : Box LocalTerm Global) → t ≡ term.Free x b → body ≡ b.value
     → mid ≡ old ++ Binds x ∷ [] → new ≡ mid ++ parts (local_term_of body) → new ≡ old ++ parts (local_term_of t)

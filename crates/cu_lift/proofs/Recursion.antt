@@ -8,7 +8,7 @@ use Rattle.cu_calculus.specs.Program.{Program}
 use Rattle.cu_calculus.specs.declared.FunId.{FunId}
 use Rattle.cu_lift.proofs.Bridges.{collected_is, function_at, has_mentioned, mention_edge, mentioned_has, mentions_edge, steps_walk}
 use Rattle.cu_lift.proofs.Joining.{before_or_not}
-use Rattle.cu_lift.proofs.Places.{front_or_behind, within}
+use Rattle.cu_lift.proofs.Places.{prefix_or_suffix, within}
 use Rattle.cu_lift.specs.Inside.Graph.{AreRanks, Edge, Graph, IsWhole}
 use Rattle.cu_lift.specs.Inside.Levelling.{AreCalls, IsCalm, IsCall, IsCycleOf, IsFirstCall}
 use Rattle.cu_lift.specs.Inside.MentionsOf.{graph_of, mention_by, rows_of}
@@ -45,33 +45,33 @@ module _ (program : Program) (rank : ℕ → ℕ) (falls : (f g : FunId) → Men
   cycle_ranks : (start f : FunId) (cycle : List FunId) (c : IsSetCycle program start cycle) → (k : ℕ) → slice_get cycle k ≡ Some f
       → (rank f.0 ≡ rank c.caller.0) × (rank c.collected.0 ≡ rank c.caller.0)
   cycle_ranks start f cycle c k e =
-      by (front_or_behind c.front (c.caller ∷ c.back) k f (subst (λ (x : List FunId). slice_get x k ≡ Some f) c.whole e))
+      by (prefix_or_suffix c.prefix (c.caller ∷ c.suffix) k f (subst (λ (x : List FunId). slice_get x k ≡ Some f) c.whole e))
     where
       to : rank c.caller.0 ≤ rank start.0
-      to = walk_falls start c.caller c.front c.to_caller
+      to = walk_falls start c.caller c.prefix c.to_caller
 
       call : rank c.collected.0 ≤ rank c.caller.0
       call = falls c.caller c.collected (inr c.call)
 
       from : rank start.0 ≤ rank c.collected.0
-      from = walk_falls c.collected start c.back c.from_collected
+      from = walk_falls c.collected start c.suffix c.from_collected
 
-      back : (j : ℕ) → slice_get (c.caller ∷ c.back) j ≡ Some f → rank f.0 ≡ rank c.caller.0
-      back zero d = let same : f ≡ c.caller = cc in ap (λ (y : FunId). rank y.0) same
-      back (suc j) d =
-          let between = walk_between c.collected start c.back j f c.from_collected d in
+      suffix : (j : ℕ) → slice_get (c.caller ∷ c.suffix) j ≡ Some f → rank f.0 ≡ rank c.caller.0
+      suffix zero d = let same : f ≡ c.caller = cc in ap (λ (y : FunId). rank y.0) same
+      suffix (suc j) d =
+          let between = walk_between c.collected start c.suffix j f c.from_collected d in
           let high : rank f.0 ≤ rank c.collected.0 = between.0 in
           let low : rank start.0 ≤ rank f.0 = between.1 in
           omega (arith, to, call, from)
 
-      by : (slice_get c.front k ≡ Some f) ⊎ ((j : ℕ) × (k ≡ length c.front + j) × (slice_get (c.caller ∷ c.back) j ≡ Some f))
+      by : (slice_get c.prefix k ≡ Some f) ⊎ ((j : ℕ) × (k ≡ length c.prefix + j) × (slice_get (c.caller ∷ c.suffix) j ≡ Some f))
           → (rank f.0 ≡ rank c.caller.0) × (rank c.collected.0 ≡ rank c.caller.0)
       by (inl d) =
-          let between = walk_between start c.caller c.front k f c.to_caller d in
+          let between = walk_between start c.caller c.prefix k f c.to_caller d in
           let high : rank f.0 ≤ rank start.0 = between.0 in
           let low : rank c.caller.0 ≤ rank f.0 = between.1 in
           (omega (arith, to, call, from), omega (arith, to, call, from))
-      by (inr h) = (back h.0 h.2, omega (arith, to, call, from))
+      by (inr h) = (suffix h.0 h.2, omega (arith, to, call, from))
 
 -- ---- no levels
 
@@ -88,8 +88,8 @@ no_levels program start cycle c levels are =
     let falls = level_falls program levels are in
     let less : slice_index levels c.collected.0 < slice_index levels c.caller.0 =
     are.allowed c.caller.0 c.call.place c.call.function (Collected c.collected) c.call.is_function c.call.is_there in
-    let to = walk_falls program (slice_index levels) falls start c.caller c.front c.to_caller in
-    let from = walk_falls program (slice_index levels) falls c.collected start c.back c.from_collected in
+    let to = walk_falls program (slice_index levels) falls start c.caller c.prefix c.to_caller in
+    let from = walk_falls program (slice_index levels) falls c.collected start c.suffix c.from_collected in
     omega arith
 
 -- ---- what the code finds
@@ -137,11 +137,11 @@ module _ (program : Program) (rows : Graph) (same : rows_of rows ≡ graph_of pr
     set_cycle = record {
       caller = function_at call.caller;
       collected = function_at call.collected;
-      front = walked.front;
-      back = walked.back;
-      to_caller = steps_walk program rows same first walked.front call.caller walked.to;
+      prefix = walked.prefix;
+      suffix = walked.suffix;
+      to_caller = steps_walk program rows same first walked.prefix call.caller walked.to;
       call = has_call;
-      from_collected = steps_walk program rows same call.collected walked.back first walked.from;
+      from_collected = steps_walk program rows same call.collected walked.suffix first walked.from;
       whole = walked.whole;
     }
 

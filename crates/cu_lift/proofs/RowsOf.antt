@@ -1,6 +1,6 @@
 -- The rows of functions are those of their program.
 use Rattle.std.proofs.Common.{◌≡◌, ℕ, zero, suc, ◌≤◌, List, [], ◌∷◌, ◌++◌, drop, length, map, refl, ap, sym, ◌∙◌, arith}
-use Rattle.cu_lift.proofs.Places.{nothing_behind}
+use Rattle.cu_lift.proofs.Places.{nothing_after}
 use Rattle.cu_calculus.specs.Claims as claims
 use Rattle.cu_calculus.specs.Claims.{body_mentions}
 use Rattle.cu_kernel.specs.Kernel as kernel
@@ -29,4 +29,4 @@ drop_all (f ∷ fs) (suc i) h = drop_all fs i (omega arith)
 
 pub all_rows : (rows : List (List claims.Mention)) (fs : List Function) (i : ℕ) → length fs ≤ i
     → rows ++ function_rows (drop i fs) ≡ function_rows fs → rows ≡ function_rows fs
-all_rows rows fs i end e = nothing_behind rows ∙ ap (λ (x : List Function). rows ++ function_rows x) (sym (drop_all fs i end)) ∙ e
+all_rows rows fs i end e = nothing_after rows ∙ ap (λ (x : List Function). rows ++ function_rows x) (sym (drop_all fs i end)) ∙ e

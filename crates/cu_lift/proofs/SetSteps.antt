@@ -5,7 +5,7 @@ use Rattle.std.proofs.lemmas.Bool.{and_from, and_parts}
 use Rattle.std.specs.List.{list_all}
 use Rattle.cu_calculus.proofs.Lists.{all_append}
 use Rattle.cu_kernel.specs.Captures.{are_rising}
-use Rattle.cu_lift.proofs.Elements.{first_or_rest, front_or_new, in_first, in_front, in_last, in_rest, none_in}
+use Rattle.cu_lift.proofs.Elements.{first_or_rest, prefix_or_new, in_first, in_prefix, in_last, in_rest, none_in}
 use Rattle.cu_lift.proofs.Joining.{before_or_not}
 use Rattle.cu_lift.proofs.Leaders.{less_true}
 use Rattle.cu_lift.proofs.Places.{one_element, same_or_not, set_cases, set_elsewhere, there, within}
@@ -136,7 +136,7 @@ module _ (locals : List Local) (keys rest : List ℕ) (x : ℕ) (met : List Bool
       → ((row.items ≡ before.items ++ x ∷ []) × (slice_get met k ≡ Some true)) ⊎ ((row.items ≡ before.items) × (slice_get met k ≡ Some false))
       → IsIn row.items z → IsAt old k z ⊎ ((x ≡ z) × (slice_get met k ≡ Some true))
   in_by k z row before e (inl h) at =
-      elim (front_or_new z x before.items (subst (λ (xs : List ℕ). IsIn xs z) h.0 at)) [ inl p ↦ inl (before, e, p) | inr p ↦ inr (p, h.1) ]
+      elim (prefix_or_new z x before.items (subst (λ (xs : List ℕ). IsIn xs z) h.0 at)) [ inl p ↦ inl (before, e, p) | inr p ↦ inr (p, h.1) ]
   in_by k z row before e (inr h) at = inl (before, e, subst (λ (xs : List ℕ). IsIn xs z) h.0 at)
 
   in_was : (k z : ℕ) → IsAt new k z → IsAt old k z ⊎ ((x ≡ z) × (slice_get met k ≡ Some true))
@@ -145,7 +145,7 @@ module _ (locals : List Local) (keys rest : List ℕ) (x : ℕ) (met : List Bool
   keeps_by : (k z : ℕ) (row before : Row)
       → ((row.items ≡ before.items ++ x ∷ []) × (slice_get met k ≡ Some true)) ⊎ ((row.items ≡ before.items) × (slice_get met k ≡ Some false))
       → IsIn before.items z → IsIn row.items z
-  keeps_by k z row before (inl h) at = subst (λ (xs : List ℕ). IsIn xs z) (sym h.0) (in_front z before.items (x ∷ []) at)
+  keeps_by k z row before (inl h) at = subst (λ (xs : List ℕ). IsIn xs z) (sym h.0) (in_prefix z before.items (x ∷ []) at)
   keeps_by k z row before (inr h) at = subst (λ (xs : List ℕ). IsIn xs z) (sym h.0) at
 
   keeps : (k z : ℕ) → IsAt old k z → IsAt new k z

@@ -2,10 +2,10 @@
 use Rattle.std.proofs.Common.{◌≡◌, ◌≢◌, ℕ, zero, suc, ◌+◌, ◌<◌, ◌≤◌, ◌⊎◌, inl, inr, Bool, true, false, List, [], ◌∷◌, ◌++◌, length, length-append, replicate, set, slice_get, take, Option, None, Some, IsSome, refl, ap, sym, ◌∙◌, subst, arith}
 use Rattle.std.proofs.Math.ListN.{length-set}
 use Rattle.std.specs.Option.{option_to_list}
-use Rattle.cu_lift.proofs.Elements.{first_or_rest, front_or_new, in_first, in_front, in_last, none_in}
+use Rattle.cu_lift.proofs.Elements.{first_or_rest, prefix_or_new, in_first, in_prefix, in_last, none_in}
 use Rattle.cu_lift.proofs.Joining.{before_or_not}
 use Rattle.cu_lift.proofs.Noting.{first_or_next}
-use Rattle.cu_lift.proofs.Places.{nothing_behind, one_element, same_or_not, set_cases, set_elsewhere, set_there, within}
+use Rattle.cu_lift.proofs.Places.{nothing_after, one_element, same_or_not, set_cases, set_elsewhere, set_there, within}
 use Rattle.cu_lift.proofs.Trails.{unmet_set}
 use Rattle.cu_lift.specs.Groups.{IsIn}
 use Rattle.cu_lift.specs.Inside.Capturing as capturing
@@ -63,7 +63,7 @@ spreads_met locals x hand k old new s meets (capturing.again e met pending) = re
 spreads_met locals x hand k old new s meets (capturing.first e met pending) = record {
   sized = ap length met ∙ length-set old.met.items k true ∙ s.sized;
   sound = λ j h. sound j (set_cases old.met.items k j true true (subst (λ (xs : List Bool). slice_get xs j ≡ Some true) met h));
-  pending = λ j h. waits j (front_or_new j k old.pending.items (subst (λ (xs : List ℕ). IsIn xs j) pending h));
+  pending = λ j h. waits j (prefix_or_new j k old.pending.items (subst (λ (xs : List ℕ). IsIn xs j) pending h));
   settled = λ j h. settled j (set_cases old.met.items k j true true (subst (λ (xs : List Bool). slice_get xs j ≡ Some true) met h));
 }
   where
@@ -80,7 +80,7 @@ spreads_met locals x hand k old new s meets (capturing.first e met pending) = re
 
     on : (j : ℕ) → IsIn old.pending.items j ⊎ (IsIn hand j ⊎ IsSettled locals x old.met.items j)
         → IsIn new.pending.items j ⊎ (IsIn hand j ⊎ IsSettled locals x new.met.items j)
-    on j (inl p) = inl (subst (λ (xs : List ℕ). IsIn xs j) (sym pending) (in_front j old.pending.items (k ∷ []) p))
+    on j (inl p) = inl (subst (λ (xs : List ℕ). IsIn xs j) (sym pending) (in_prefix j old.pending.items (k ∷ []) p))
     on j (inr (inl p)) = inr (inl p)
     on j (inr (inr p)) = inr (inr (settled_stays locals x old new j stays p))
 
@@ -180,7 +180,7 @@ spreads_popped locals x c old new met popped s = record {
   sound = λ j h. s.sound j (subst (λ (xs : List Bool). slice_get xs j ≡ Some true) met h);
   pending = λ j h.
       subst (λ (xs : List Bool). slice_get xs j ≡ Some true) (sym met)
-      (s.pending j (subst (λ (xs : List ℕ). IsIn xs j) (sym popped) (in_front j new.pending.items (c ∷ []) h)));
+      (s.pending j (subst (λ (xs : List ℕ). IsIn xs j) (sym popped) (in_prefix j new.pending.items (c ∷ []) h)));
   settled = λ j h. by j (s.settled j (subst (λ (xs : List Bool). slice_get xs j ≡ Some true) met h));
 }
   where
@@ -190,7 +190,7 @@ spreads_popped locals x c old new met popped s = record {
 
     by : (j : ℕ) → IsIn old.pending.items j ⊎ (IsIn [] j ⊎ IsSettled locals x old.met.items j)
         → IsIn new.pending.items j ⊎ (IsIn (c ∷ []) j ⊎ IsSettled locals x new.met.items j)
-    by j (inl p) = out j (front_or_new j c new.pending.items (subst (λ (xs : List ℕ). IsIn xs j) popped p))
+    by j (inl p) = out j (prefix_or_new j c new.pending.items (subst (λ (xs : List ℕ). IsIn xs j) popped p))
     by j (inr (inl p)) = absurd (none_in j p)
     by j (inr (inr p)) = inr (inr (subst (λ (xs : List Bool). IsSettled locals x xs j) (sym met) p))
 
@@ -251,7 +251,7 @@ popped_nothing None n old new whole some size none = by old whole size
     empty (x ∷ xs) e = let is : false ≡ true = some (omega arith) in let absent : ⊥ = cc in absurd absent
 
     by : (old : List ℕ) → old ≡ new ++ [] → n ≡ length old → (old ≡ []) × (new ≡ [])
-    by xs w e = let is = empty xs e in (is, nothing_behind new ∙ sym w ∙ is)
+    by xs w e = let is = empty xs e in (is, nothing_after new ∙ sym w ∙ is)
 
 pub spreads_empty : (locals : List Local) (x : ℕ) (old new : Spreading) → new.met.items ≡ old.met.items → old.pending.items ≡ [] → new.pending.items ≡ []
     → Spreads locals x [] old → Spreads locals x [] new

@@ -3,7 +3,7 @@ use Rattle.std.proofs.Common.{◌≡◌, ℕ, ◌⊎◌, inl, inr, List, [], ◌
 use Rattle.cu_kernel.specs.LocalKernelOf.{local_rule_meaning}
 use Rattle.cu_kernel.specs.declared.local.LocalFunction.{LocalFunction}
 use Rattle.cu_lift.proofs.Elements.{none_in}
-use Rattle.cu_lift.proofs.Places.{front_or_last, one_element}
+use Rattle.cu_lift.proofs.Places.{prefix_or_last, one_element}
 use Rattle.cu_lift.specs.Groups.{IsIn}
 use Rattle.cu_lift.specs.Inside.Capturing.{AllOwned, AreLocals, IsLocal, Owns, rules_parts}
 use Rattle.cu_lift.specs.declared.captures.Local.{Local}
@@ -13,7 +13,7 @@ no_local locals k l none e = none_in l (subst (λ (xs : List Local). IsIn xs l) 
 
 pub locals_next : (functions : List LocalFunction) (locals : List Local) (n : ℕ) (f : LocalFunction) (l : Local) → slice_get functions n ≡ Some f
     → length locals ≡ n → IsLocal (rules_parts (map local_rule_meaning f.rules.items)) l → AreLocals functions locals → AreLocals functions (locals ++ l ∷ [])
-locals_next functions locals n f l at size is are k g m e d = by (front_or_last locals l k m d)
+locals_next functions locals n f l at size is are k g m e d = by (prefix_or_last locals l k m d)
   where
     by : (slice_get locals k ≡ Some m) ⊎ ((k ≡ length locals) × (l ≡ m)) → IsLocal (rules_parts (map local_rule_meaning g.rules.items)) m
     by (inl h) = are k g m e h
@@ -24,7 +24,7 @@ locals_next functions locals n f l at size is are k g m e d = by (front_or_last 
 
 pub owned_next : (locals : List Local) (old new : List ℕ) (l : Local) → ((x : ℕ) → IsIn old x → IsIn new x) → ((x : ℕ) → Owns l x → IsIn new x)
     → AllOwned locals old → AllOwned (locals ++ l ∷ []) new
-owned_next locals old new l keeps owned all k x m e owns = elim (front_or_last locals l k m e) [
+owned_next locals old new l keeps owned all k x m e owns = elim (prefix_or_last locals l k m e) [
   | inl h ↦ keeps x (all k x m h owns)
   | inr h ↦ owned x (subst (λ (y : Local). Owns y x) (sym h.1) owns)
 ]

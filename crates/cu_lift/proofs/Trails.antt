@@ -2,9 +2,9 @@
 use Rattle.std.proofs.Common.{◌≡◌, ◌≢◌, ℕ, zero, suc, ◌+◌, ◌<◌, ◌⊎◌, inl, inr, Bool, true, false, List, [], ◌∷◌, ◌++◌, length, replicate, reverse, set, slice_get, Some, refl, ap, sym, ◌∙◌, subst, arith, length-append, append_assoc}
 use Rattle.std.proofs.Math.ListN.{length-set}
 use Rattle.std.proofs.lemmas.List.{reverse-append}
-use Rattle.cu_calculus.proofs.Lists.{get_front, get_last}
+use Rattle.cu_calculus.proofs.Lists.{get_prefix, get_last}
 use Rattle.cu_calculus.specs.declared.FunId.{FunId}
-use Rattle.cu_lift.proofs.Places.{front_or_last, nothing_behind, one_element, same_or_not, set_cases, set_elsewhere, set_there, within}
+use Rattle.cu_lift.proofs.Places.{prefix_or_last, nothing_after, one_element, same_or_not, set_cases, set_elsewhere, set_there, within}
 use Rattle.cu_lift.specs.Inside.Graph as graph
 use Rattle.cu_lift.specs.Inside.Graph.{Edge, Graph, Reach}
 use Rattle.cu_lift.specs.Inside.Trail as trail
@@ -37,8 +37,8 @@ unmet_length : (n : ℕ) → length (replicate n false) ≡ n
 unmet_length zero = refl
 unmet_length (suc n) = ap suc (unmet_length n)
 
-none_behind : {A : Type 0} (x y : A) (i : ℕ) → slice_get (x ∷ []) (suc i) ≡ Some y → ⊥
-none_behind x y i e = cc
+none_after : {A : Type 0} (x y : A) (i : ℕ) → slice_get (x ∷ []) (suc i) ≡ Some y → ⊥
+none_after x y i e = cc
 
 module _ (g : Graph) (start : ℕ) (low : start < length g) where
   abbrev first : Found
@@ -52,7 +52,7 @@ module _ (g : Graph) (start : ℕ) (low : start < length g) where
 
   link : (i : ℕ) (f : Found) → slice_get (first ∷ []) i ≡ Some f → 0 < i → Linked g (first ∷ []) i f
   link zero f e h = absurd (omega arith)
-  link (suc i) f e h = absurd (none_behind first f i e)
+  link (suc i) f e h = absurd (none_after first f i e)
 
   met_found : (v : ℕ) → slice_get met v ≡ Some true → (i : ℕ) × (f : Found) × (slice_get (first ∷ []) i ≡ Some f) × (f.function ≡ v)
   met_found v e = by (set_cases (replicate (length g) false) start v true true e)
@@ -65,7 +65,7 @@ module _ (g : Graph) (start : ℕ) (low : start < length g) where
   found_met : (i : ℕ) (f : Found) → slice_get (first ∷ []) i ≡ Some f → slice_get met f.function ≡ Some true
   found_met zero f e =
       let same : first ≡ f = cc in subst (λ (x : Found). slice_get met x.function ≡ Some true) same is_met
-  found_met (suc i) f e = absurd (none_behind first f i e)
+  found_met (suc i) f e = absurd (none_after first f i e)
 
   pub begun : Trails g (first ∷ []) met
   begun = record {
@@ -95,19 +95,19 @@ module _ (g : Graph) (found : List Found) (met : List Bool) (t from : ℕ) (sour
   next = record { function = t; from = from }
 
   link_then : (i : ℕ) (f : Found) → slice_get (found ++ next ∷ []) i ≡ Some f → 0 < i → Linked g (found ++ next ∷ []) i f
-  link_then i f e h = by (front_or_last found next i f e)
+  link_then i f e h = by (prefix_or_last found next i f e)
     where
       by : (slice_get found i ≡ Some f) ⊎ ((i ≡ length found) × (next ≡ f)) → Linked g (found ++ next ∷ []) i f
       by (inl old) =
           let l = trails.link i f old h in
-          record { before = l.before; source = l.source; is_there = get_front found (next ∷ []) f.from l.source l.is_there; edge = l.edge }
+          record { before = l.before; source = l.source; is_there = get_prefix found (next ∷ []) f.from l.source l.is_there; edge = l.edge }
       by (inr k) =
           let place : i ≡ length found = k.0 in
           let low : from < length found = within found from source is_source in
           let one : Linked g (found ++ next ∷ []) i next = record {
             before = omega arith;
             source = source;
-            is_there = get_front found (next ∷ []) from source is_source;
+            is_there = get_prefix found (next ∷ []) from source is_source;
             edge = edge;
           } in
           subst (λ (x : Found). Linked g (found ++ next ∷ []) i x) k.1 one
@@ -120,7 +120,7 @@ module _ (g : Graph) (found : List Found) (met : List Bool) (t from : ℕ) (sour
           → (i : ℕ) × (f : Found) × (slice_get (found ++ next ∷ []) i ≡ Some f) × (f.function ≡ v)
       by (inl h) = (length found, next, get_last found next, sym h.0)
       by (inr h) =
-          let old = trails.met_found v h.1 in (old.0, old.1, get_front found (next ∷ []) old.0 old.1 old.2, old.3)
+          let old = trails.met_found v h.1 in (old.0, old.1, get_prefix found (next ∷ []) old.0 old.1 old.2, old.3)
 
   pub met_stays : (v : ℕ) → slice_get met v ≡ Some true → slice_get (set met t true) v ≡ Some true
   met_stays v e = elim (same_or_not v t) [
@@ -129,7 +129,7 @@ module _ (g : Graph) (found : List Found) (met : List Bool) (t from : ℕ) (sour
   ]
 
   found_met_then : (i : ℕ) (f : Found) → slice_get (found ++ next ∷ []) i ≡ Some f → slice_get (set met t true) f.function ≡ Some true
-  found_met_then i f e = by (front_or_last found next i f e)
+  found_met_then i f e = by (prefix_or_last found next i f e)
     where
       by : (slice_get found i ≡ Some f) ⊎ ((i ≡ length found) × (next ≡ f)) → slice_get (set met t true) f.function ≡ Some true
       by (inl old) = met_stays f.function (trails.found_met i f old)
@@ -168,7 +168,7 @@ still_met met t v is_new e = elim (same_or_not v t) [
 
 pub meets_grows : (old new : Spread) (t from : ℕ) → Meeting old new t from → Grows old new
 meets_grows old new t from (trail.again e same alike) = record {
-  found = ([], same ∙ nothing_behind old.found.items);
+  found = ([], same ∙ nothing_after old.found.items);
   met = λ v d. subst (λ (x : List Bool). slice_get x v ≡ Some true) (sym alike) d;
 }
 meets_grows old new t from (trail.first e more alike) = record {
@@ -186,11 +186,11 @@ grows_on one two three p q = record {
 }
 
 pub grows_not : (s : Spread) → Grows s s
-grows_not s = record { found = ([], nothing_behind s.found.items); met = λ v e. e }
+grows_not s = record { found = ([], nothing_after s.found.items); met = λ v e. e }
 
 pub found_stays : (old new : Spread) (i : ℕ) (f : Found) → Grows old new → slice_get old.found.items i ≡ Some f → slice_get new.found.items i ≡ Some f
 found_stays old new i f grows e =
-    subst (λ (x : List Found). slice_get x i ≡ Some f) (sym grows.found.1) (get_front old.found.items grows.found.0 i f e)
+    subst (λ (x : List Found). slice_get x i ≡ Some f) (sym grows.found.1) (get_prefix old.found.items grows.found.0 i f e)
 
 -- what is done stays done
 pub done_stays : (g : Graph) (old new : Spread) (i : ℕ) → Grows old new → i < length old.found.items → IsDone g old i → IsDone g new i
@@ -237,15 +237,15 @@ not_missing g start end first s low b grows trails done reach missing =
     missing at.0 at.1 at.2 at.3
 
 -- a walk gets one more step at its front
-pub one_step : (g : Graph) (s : Spread) (at : ℕ) (f source here last : Found) (back : List FunId) → IsTrail g s
+pub one_step : (g : Graph) (s : Spread) (at : ℕ) (f source here last : Found) (suffix : List FunId) → IsTrail g s
     → slice_get s.found.items at ≡ Some f → 0 < at → slice_get s.found.items f.from ≡ Some source → slice_get s.found.items f.from ≡ Some here
-    → Steps g f.function (reverse back) last.function
-    → Steps g here.function (reverse (back ++ record { 0 = source.function } ∷ [])) last.function
-one_step g s at f source here last back trails e more is_source is_here steps =
+    → Steps g f.function (reverse suffix) last.function
+    → Steps g here.function (reverse (suffix ++ record { 0 = source.function } ∷ [])) last.function
+one_step g s at f source here last suffix trails e more is_source is_here steps =
     let l = trails.link at f e more in
     let same : source ≡ here = one_element s.found.items f.from source here is_source is_here in
     let from : l.source ≡ here = one_element s.found.items f.from l.source here l.is_there is_here in
-    let turned : reverse (back ++ record { 0 = source.function } ∷ []) ≡ record { 0 = source.function } ∷ reverse back =
-    reverse-append back (record { 0 = source.function } ∷ []) in
+    let turned : reverse (suffix ++ record { 0 = source.function } ∷ []) ≡ record { 0 = source.function } ∷ reverse suffix =
+    reverse-append suffix (record { 0 = source.function } ∷ []) in
     subst (λ (x : List FunId). Steps g here.function x last.function) (sym turned)
     (ap (λ (x : Found). x.function) same, f.function, subst (λ (x : Found). Edge g x.function f.function) from l.edge, steps)

@@ -1,5 +1,5 @@
 -- Dependency groups: functions that mention each other, by themselves or by way of others, and the
--- order in which groups come behind those that they mention.
+-- order in which groups come after those that they mention.
 use Rattle.std.specs.Prelude.{◌≡◌, ◌↔◌, ℕ, ◌<◌, ◌⊎◌, IsTrue, List, [], ◌∷◌, Some, length, map, slice_get, take}
 use Rattle.std.specs.declared.alloc.Global.{Global}
 use Rattle.std.specs.declared.vec.Vec.{Vec}
@@ -39,7 +39,7 @@ abbrev pub first_of : List FunId → ℕ
 first_of [] = 0
 first_of (f ∷ fs) = f.0
 
--- All groups, each behind those that it mentions. Of the groups that are ready the one comes next
+-- All groups, each after those that it mentions. Of the groups that are ready the one comes next
 -- whose first function comes first.
 pub record AreGroups (program : Program) (groups : List (List FunId)) : Type 0 where
   pub each : (k : ℕ) (group : List FunId) → slice_get groups k ≡ Some group → IsGroup program group

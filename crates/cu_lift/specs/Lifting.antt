@@ -55,7 +55,7 @@ rank_in k (f ∷ fs) = if nat_eq f.number k then 0 else rank_in k fs + 1
 abbrev pub rank : List LocalFunction → ℕ → ℕ
 rank locals k = rank_in k (in_order locals)
 
--- Top-level functions keep their order, and each has its local functions behind it: the numbers of
+-- Top-level functions keep their order, and each has its local functions after it: the numbers of
 -- some from a number on.
 abbrev pub top_numbers : ℕ → List TopFunction → List ℕ
 top_numbers n [] = []
@@ -64,7 +64,7 @@ top_numbers n (f ∷ fs) = n ∷ top_numbers (n + 1 + length f.locals) fs
 abbrev pub top_number : List TopFunction → ℕ → ℕ
 top_number functions i = slice_index_or (top_numbers 0 functions) i 0
 
--- The local functions of one stand directly behind it, in the order of their places.
+-- The local functions of one stand directly after it, in the order of their places.
 abbrev pub local_number : ℕ → List LocalFunction → ℕ → ℕ
 local_number number locals k = number + 1 + rank locals k
 
@@ -93,24 +93,24 @@ abbrev pub passed : Lifting → LocalHead → List ℕ
 passed l (local_head.Global h) = []
 passed l (local_head.Local k) = l.captured k
 
--- arguments behind variables
-abbrev pub behind_variables : List ℕ → clean.Terms → clean.Terms
-behind_variables [] ts = ts
-behind_variables (x ∷ xs) ts = clean.MoreTerms (clean.Variable x) (behind_variables xs ts)
+-- arguments after variables
+abbrev pub after_variables : List ℕ → clean.Terms → clean.Terms
+after_variables [] ts = ts
+after_variables (x ∷ xs) ts = clean.MoreTerms (clean.Variable x) (after_variables xs ts)
 
--- patterns behind variables
-abbrev pub behind_parameters : List ℕ → clean.Patterns → clean.Patterns
-behind_parameters [] ps = ps
-behind_parameters (x ∷ xs) ps = clean.MorePatterns (clean.Any x) (behind_parameters xs ps)
+-- patterns after variables
+abbrev pub after_parameters : List ℕ → clean.Patterns → clean.Patterns
+after_parameters [] ps = ps
+after_parameters (x ∷ xs) ps = clean.MorePatterns (clean.Any x) (after_parameters xs ps)
 
 abbrev mutual
   pub lifted_term : Lifting → LocalTerm → clean.Term
   lifted_term l (local.Variable x) = clean.Variable x
   lifted_term l (local.Literal n) = clean.Literal n
   lifted_term l (local.Whole h ts) =
-      clean.Whole (lifted_head l h) (behind_variables (passed l h) (lifted_terms l ts))
+      clean.Whole (lifted_head l h) (after_variables (passed l h) (lifted_terms l ts))
   lifted_term l (local.Part h ts) =
-      clean.Part (lifted_head l h) (behind_variables (passed l h) (lifted_terms l ts))
+      clean.Part (lifted_head l h) (after_variables (passed l h) (lifted_terms l ts))
   lifted_term l (local.Apply f a) = clean.Apply (lifted_term l f) (lifted_term l a)
   lifted_term l (local.Let x a b) = clean.Let x (lifted_term l a) (lifted_term l b)
   lifted_term l (local.Free x t) = clean.Free x (lifted_term l t)
@@ -132,7 +132,7 @@ abbrev mutual
 -- a rule of a function that takes these variables first
 abbrev pub lifted_rule : Lifting → List ℕ → LocalRule → calculus.Rule
 lifted_rule l xs rule =
-    record { params = behind_parameters xs rule.params; body = lifted_term l rule.body }
+    record { params = after_parameters xs rule.params; body = lifted_term l rule.body }
 
 abbrev pub lifted_body : Lifting → LocalBody → calculus.Body
 lifted_body l (kernel.Rules rules) = calculus.Rules (map (lifted_rule l []) rules)

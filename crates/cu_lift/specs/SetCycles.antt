@@ -14,12 +14,12 @@ use Rattle.cu_lift.specs.declared.set_levels.LevelFault.{LevelFault}
 pub record IsSetCycle (program : Program) (start : FunId) (cycle : List FunId) : Type 0 where
   pub caller : FunId
   pub collected : FunId
-  pub front : List FunId
-  pub back : List FunId
-  pub to_caller : Walk program start front caller
+  pub prefix : List FunId
+  pub suffix : List FunId
+  pub to_caller : Walk program start prefix caller
   pub call : Has program caller (Collected collected)
-  pub from_collected : Walk program collected back start
-  pub whole : cycle ≡ front ++ caller ∷ back
+  pub from_collected : Walk program collected suffix start
+  pub whole : cycle ≡ prefix ++ caller ∷ suffix
 
 -- a function stands on such a walk
 abbrev pub StandsOn : Program → FunId → Type 0

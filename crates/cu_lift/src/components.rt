@@ -70,9 +70,9 @@ impl Search {
         push_targets(&mut self.pending, &graph[function])
     }
 
-    /// Whether the last part begins behind a place of the path.
-    fn begins_behind(&self, at: usize) -> bool
-        ensures behind { IsTrue result → (p : Part) × IsLast self.now.parts.items p
+    /// Whether the last part begins after a place of the path.
+    fn begins_after(&self, at: usize) -> bool
+        ensures after { IsTrue result → (p : Part) × IsLast self.now.parts.items p
             × (at < p.start) }
         ensures before { IsFalse result → (p : Part) → IsLast self.now.parts.items p
             → p.start ≤ at }
@@ -89,7 +89,7 @@ impl Search {
         ensures only { OnlyParts self.old self.new }
         ensures before { (p : Part) → IsLast self.new.parts.items p → p.start ≤ at }
     {
-        while self.begins_behind(at) {
+        while self.begins_after(at) {
             self.parts.pop();
         }
     }

@@ -9,7 +9,7 @@ pub(crate) struct Placement {
     pub ordered: Vec<usize>,
     /// The number of each in the lifted program.
     pub numbers: Vec<usize>,
-    /// The number behind them all.
+    /// The number after them all.
     pub end: usize,
     /// The variables that each captures, in rising order.
     pub captured: Vec<Vec<u32>>,

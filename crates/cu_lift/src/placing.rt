@@ -14,8 +14,8 @@ use cu_kernel::TopFunction;
 use cu_names::{NameId, Names};
 use std::alloc::{AllocError, Global};
 
-/// The number behind a function and its local functions.
-fn behind(number: usize, locals: usize) -> Result<usize, AllocError>
+/// The number after a function and its local functions.
+fn after(number: usize, locals: usize) -> Result<usize, AllocError>
     ensures { IfOk result (λ next. next ≡ number + 1 + locals) }
 {
     let Some(first) = number.checked_add(1) else {
@@ -39,26 +39,26 @@ pub(crate) fn lifted_tops(
     let mut next = 0;
     for function in functions {
         numbers.push(next)?;
-        next = behind(next, function.locals.len())?;
+        next = after(next, function.locals.len())?;
     }
     Ok(numbers)
 }
 
-/// The name of the local function that stands so many places behind its
+/// The name of the local function that stands so many places after its
 /// top-level function.
 fn local_name(
     alloc: Global,
     names: &mut Names,
     function: NameId,
-    behind: usize,
+    after: usize,
 ) -> Result<NameId, AllocError>
     requires known { IsKnown names.old function }
     ensures table { Extends names.old names.new }
     ensures known { IfOk result (λ id. IsKnown names.new id) }
     ensures text { IfOk result (λ id. text_of names.new id
-        ≡ text_of names.old function ++ (codes "#" ++ decimal behind)) }
+        ≡ text_of names.old function ++ (codes "#" ++ decimal after)) }
 {
-    let text = format!(in alloc; "{}#{behind}", names.text(function))?;
+    let text = format!(in alloc; "{}#{after}", names.text(function))?;
     names.intern(text.as_str())
 }
 
@@ -71,7 +71,7 @@ fn local_names(
     numbers: &[usize],
 ) -> Result<Vec<NameId>, AllocError>
     requires known { IsKnown names.old function }
-    requires behind { (k n : ℕ) → slice_get numbers.now k ≡ Some n → number < n }
+    requires after { (k n : ℕ) → slice_get numbers.now k ≡ Some n → number < n }
     ensures table { Extends names.old names.new }
     ensures names { IfOk result (λ ids.
         AreNames names.new (text_of names.old function) number numbers.now ids.items) }
@@ -99,7 +99,7 @@ fn placement(
 {
     let locals = function.locals.as_slice();
     let order = last_first(alloc, locals)?;
-    let end = behind(number, order.len())?;
+    let end = after(number, order.len())?;
     let ordered = in_order(alloc, order.as_slice())?;
     let numbers = lifted_numbers(alloc, order.as_slice(), number + 1)?;
     let captured = captured(alloc, function)?;

@@ -5,7 +5,7 @@ ghost use Rattle.cu_kernel.specs.LocalKernelOf.{local_rule_meaning};
 ghost use Rattle.cu_kernel.specs.LocalTermsOf.{local_alternatives_of, local_term_of, local_terms_of};
 ghost use Rattle.cu_kernel.specs.TermsOf.{alternatives_of, pattern_of, patterns_of, term_of, terms_of};
 ghost use Rattle.cu_lift.specs.Inside.LiftedPlaces.{captured_in, lifting_meaning};
-ghost use Rattle.cu_lift.specs.Lifting.{behind_parameters, behind_variables, lifted_alternatives, lifted_head, lifted_rule, lifted_term, lifted_terms, moved, passed};
+ghost use Rattle.cu_lift.specs.Lifting.{after_parameters, after_variables, lifted_alternatives, lifted_head, lifted_rule, lifted_term, lifted_terms, moved, passed};
 
 use crate::placement::Placement;
 use cu_kernel::{FunId, Head, LocalHead, LocalRule, LocalTerm, Pattern, Rule, Term};
@@ -23,7 +23,7 @@ pub(crate) struct Renaming<'a> {
     pub placement: &'a Placement,
 }
 
-/// What stands at a place of a list, or something else behind its end.
+/// What stands at a place of a list, or something else after its end.
 pub(crate) fn number_at(numbers: &[usize], index: usize, past: usize) -> usize
     ensures { result ≡ slice_index_or numbers.now index past }
 {
@@ -111,14 +111,14 @@ fn copy_patterns(alloc: Global, patterns: &[Pattern]) -> Result<Vec<Pattern>, Al
     Ok(copies)
 }
 
-/// Patterns behind variables.
-fn behind_parameters(
+/// Patterns after variables.
+fn after_parameters(
     alloc: Global,
     variables: &[u32],
     patterns: &[Pattern],
 ) -> Result<Vec<Pattern>, AllocError>
     ensures { IfOk result (λ all. patterns_of all.items
-        ≡ behind_parameters variables.now (patterns_of patterns.now)) }
+        ≡ after_parameters variables.now (patterns_of patterns.now)) }
 {
     let mut all = Vec::new(alloc);
     for variable in variables {
@@ -129,14 +129,14 @@ fn behind_parameters(
     Ok(all)
 }
 
-/// Terms behind variables.
-fn behind_variables(
+/// Terms after variables.
+fn after_variables(
     alloc: Global,
     variables: &[u32],
     terms: Vec<Term>,
 ) -> Result<Vec<Term>, AllocError>
     ensures { IfOk result (λ all. terms_of all.items
-        ≡ behind_variables variables.now (terms_of terms.items)) }
+        ≡ after_variables variables.now (terms_of terms.items)) }
 {
     let mut all = Vec::new(alloc);
     for variable in variables {
@@ -203,7 +203,7 @@ fn lift_boxed(renaming: &Renaming, term: &LocalTerm) -> Result<Box<Term>, AllocE
     Ok(boxed)
 }
 
-/// The arguments of a head, behind the variables that it is passed.
+/// The arguments of a head, after the variables that it is passed.
 #[cycle(terms)]
 fn lift_arguments(
     renaming: &Renaming,
@@ -211,11 +211,11 @@ fn lift_arguments(
     terms: &[LocalTerm],
 ) -> Result<Vec<Term>, AllocError>
     ensures { IfOk result (λ arguments. terms_of arguments.items
-        ≡ behind_variables (passed (lifting_meaning renaming.now) head)
+        ≡ after_variables (passed (lifting_meaning renaming.now) head)
         (lifted_terms (lifting_meaning renaming.now) (local_terms_of terms.now))) }
 {
     let arguments = lift_terms(renaming, terms)?;
-    behind_variables(renaming.alloc, passed(renaming, head), arguments)
+    after_variables(renaming.alloc, passed(renaming, head), arguments)
 }
 
 /// Lifted terms.
@@ -255,7 +255,7 @@ fn lift_rule(renaming: &Renaming, variables: &[u32], rule: &LocalRule) -> Result
     ensures { IfOk result (λ lifted. rule_meaning lifted
         ≡ lifted_rule (lifting_meaning renaming.now) variables.now (local_rule_meaning rule.now)) }
 {
-    let params = behind_parameters(renaming.alloc, variables, rule.params.as_slice())?;
+    let params = after_parameters(renaming.alloc, variables, rule.params.as_slice())?;
     let body = lift_term(renaming, &rule.body)?;
     Ok(Rule { params, body })
 }

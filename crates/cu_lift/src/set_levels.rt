@@ -191,14 +191,14 @@ fn cycle(
     requires first { first < length graph.now }
     requires collected { call.collected < length graph.now }
     requires to { Reach graph.now first call.caller }
-    requires back { Reach graph.now call.collected first }
+    requires to_first { Reach graph.now call.collected first }
     ensures { IfOk result
         (λ cycle. IsCycleOf graph.now first call.caller call.collected cycle.items) }
 {
     let mut cycle = walk(alloc, graph, first, call.caller)?;
     cycle.push(FunId(call.caller))?;
-    let back = walk(alloc, graph, call.collected, first)?;
-    cycle.extend_from_slice(back.as_slice())?;
+    let suffix = walk(alloc, graph, call.collected, first)?;
+    cycle.extend_from_slice(suffix.as_slice())?;
     Ok(cycle)
 }
 

@@ -25,11 +25,11 @@ use Rattle.cu_translation.specs.declared.local_names.Entry as entries
 use Rattle.cu_translation.specs.declared.local_names.Local.TheVariants as local
 use Rattle.cu_translation.specs.declared.local_names.Binder.TheVariants as binder
 use Rattle.cu_translation.specs.declared.position.Position.{Position}
-use Rattle.cu_translation.specs.LocalNames.{At, Entry, LocalFunction, LocalVariable, Scope, declaration_entries, entries_behind, entry, variable_entries, variable_entry}
+use Rattle.cu_translation.specs.LocalNames.{At, Entry, LocalFunction, LocalVariable, Scope, declaration_entries, entries_after, entry, variable_entries, variable_entry}
 use Rattle.cu_translation.specs.Meaning.{entry_meaning, position_meaning}
 use Rattle.cu_translation.specs.Rules.{Begun, begun_by, begun_in, goes_on, pattern_count}
 use Rattle.cu_uses.specs.Inside.Gathered.{Adds, names_meaning, pattern_binds}
-use Rattle.cu_uses.proofs.FoundLemmas.{front, nothing_left}
+use Rattle.cu_uses.proofs.FoundLemmas.{prefix, nothing_left}
 use Rattle.cu_uses.proofs.ListLemmas.{name_at, no_name}
 use Rattle.cu_locals.specs.declared.begun.Begun as begun
 use Rattle.cu_locals.specs.declared.entries.Block.{Block}
@@ -116,12 +116,12 @@ variables_cons names x xs = refl
 here_is : {X : Type 0} (xs : List X) (i : ℕ) (d : X) → i < length xs → get_or xs i d ≡ get_or xs i (get_or xs i d)
 here_is xs i d within = sym (get_or_from_slice_get xs i (get_or xs i d) (get_or xs i d) (slice_get-get_or xs i d within))
 
-pub variables_front : (t : Text) (whole : Scope) (xs : List code.Name) (i : ℕ) (e : entries.Entry) (found now : List entries.Entry) → i < length xs
+pub variables_prefix : (t : Text) (whole : Scope) (xs : List code.Name) (i : ℕ) (e : entries.Entry) (found now : List entries.Entry) → i < length xs
     → Gathered t (variables_of t.names (drop i xs)) whole found → IsEntryOf t (variable_entry (name_meaning t.names (name_at xs i))) e → now ≡ found ++ e ∷ []
     → Gathered t (variables_of t.names (drop (i + 1) xs)) whole now
-variables_front t whole xs i e found now within before here pushed =
+variables_prefix t whole xs i e found now within before here pushed =
     gathered_more (variables_of t.names (drop (i + 1) xs)) (e ∷ []) now before
-    (front (variables_of t.names) (λ y. variable_entry (name_meaning t.names y) ∷ []) (variables_cons t.names) xs i (name_at xs i) (here_is xs i no_name within) within)
+    (prefix (variables_of t.names) (λ y. variable_entry (name_meaning t.names y) ∷ []) (variables_cons t.names) xs i (name_at xs i) (here_is xs i no_name within) within)
     (entries_one t (variable_entry (name_meaning t.names (name_at xs i))) e here) pushed
 
 pub variables_end : (t : Text) (whole : Scope) (xs : List code.Name) (i : ℕ) (found : List entries.Entry) → length xs ≤ i → Gathered t (variables_of t.names (drop i xs)) whole found → AreEntries t whole found
@@ -204,27 +204,27 @@ brings_none t a b same none = record { added = []; entries_are = same ∙ sym (a
 
 -- ---- blocks
 
-unfoldable pub brings_behind : List (List ℕ) → Option Begun → List Declaration → Scope
-brings_behind names b ds = entries_behind b (declarations_meaning names ds)
+unfoldable pub brings_after : List (List ℕ) → Option Begun → List Declaration → Scope
+brings_after names b ds = entries_after b (declarations_meaning names ds)
 
 brings_cons : (names : List (List ℕ)) (b : Option Begun) (d : Declaration) (ds : List Declaration)
-    → declaration_entries b (declaration_meaning names d) ++ brings_behind names (begun_in b (declaration_meaning names d)) ds ≡ brings_behind names b (d ∷ ds)
-unfolding brings_behind
+    → declaration_entries b (declaration_meaning names d) ++ brings_after names (begun_in b (declaration_meaning names d)) ds ≡ brings_after names b (d ∷ ds)
+unfolding brings_after
 brings_cons names b d ds = refl
 
-brings_nil : (names : List (List ℕ)) (b : Option Begun) → brings_behind names b [] ≡ []
-unfolding brings_behind
+brings_nil : (names : List (List ℕ)) (b : Option Begun) → brings_after names b [] ≡ []
+unfolding brings_after
 brings_nil names b = refl
 
-brings_all : (names : List (List ℕ)) (ds : List Declaration) → brings_behind names None ds ≡ block_brings names ds
-unfolding brings_behind block_brings
+brings_all : (names : List (List ℕ)) (ds : List Declaration) → brings_after names None ds ≡ block_brings names ds
+unfolding brings_after block_brings
 brings_all names ds = refl
 
 -- what was found among the first declarations of a block
 pub record Found (t : Text) (ds : List Declaration) (i : ℕ) (b : Block) : Type 0 where
   pub begun : Option Begun
   pub before : IsBefore t begun b.begun
-  pub gathered : Gathered t (brings_behind t.names begun (drop i ds)) (block_brings t.names ds) b.entries.items
+  pub gathered : Gathered t (brings_after t.names begun (drop i ds)) (block_brings t.names ds) b.entries.items
 
 pub found_none : (t : Text) (ds : List Declaration) (b : Block) → b.entries.items ≡ [] → b.begun ≡ None → Found t ds 0 b
 found_none t ds b empty none = record {
@@ -235,18 +235,18 @@ found_none t ds b empty none = record {
 
 pub found_more : (t : Text) (ds : List Declaration) (i : ℕ) (d : Declaration) (a b : Block) → d ≡ get_or ds i d → i < length ds → Found t ds i a → Declares t a (declaration_meaning t.names d) b → Found t ds (i + 1) b
 found_more t ds i d a b is within before declared =
-    let split : declaration_entries before.begun (declaration_meaning t.names d) ++ brings_behind t.names (begun_in before.begun (declaration_meaning t.names d)) (drop (i + 1) ds) ≡ brings_behind t.names before.begun (drop i ds) =
-    brings_cons t.names before.begun d (drop (i + 1) ds) ∙ sym (ap (brings_behind t.names before.begun) (dropped ds i d is within)) in
+    let split : declaration_entries before.begun (declaration_meaning t.names d) ++ brings_after t.names (begun_in before.begun (declaration_meaning t.names d)) (drop (i + 1) ds) ≡ brings_after t.names before.begun (drop i ds) =
+    brings_cons t.names before.begun d (drop (i + 1) ds) ∙ sym (ap (brings_after t.names before.begun) (dropped ds i d is within)) in
     let same = before.before.meaning in
     record {
       begun = begun_in before.begun (declaration_meaning t.names d);
       before = subst (λ x. IsBefore t (begun_in x (declaration_meaning t.names d)) b.begun) same declared.begun;
-      gathered = gathered_more (brings_behind t.names (begun_in before.begun (declaration_meaning t.names d)) (drop (i + 1) ds)) declared.added b.entries.items before.gathered split
+      gathered = gathered_more (brings_after t.names (begun_in before.begun (declaration_meaning t.names d)) (drop (i + 1) ds)) declared.added b.entries.items before.gathered split
           (subst (λ x. AreEntries t (declaration_entries x (declaration_meaning t.names d)) declared.added) same declared.are) declared.entries_are;
     }
 
 pub found_all : (t : Text) (ds : List Declaration) (i : ℕ) (b : Block) → length ds ≤ i → Found t ds i b → AreEntries t (block_brings t.names ds) b.entries.items
-found_all t ds i b past found = gathered_all found.gathered (nothing_left (brings_behind t.names found.begun) (brings_nil t.names found.begun) ds i past)
+found_all t ds i b past found = gathered_all found.gathered (nothing_left (brings_after t.names found.begun) (brings_nil t.names found.begun) ds i past)
 
 -- ---- whether a list has elements
 

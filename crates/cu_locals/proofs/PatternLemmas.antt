@@ -20,7 +20,7 @@ use Rattle.cu_translation.specs.Meaning.{position_meaning}
 use Rattle.cu_translation.specs.Numbering.{declared_places}
 use Rattle.cu_uses.specs.Binders.{pattern_variables}
 use Rattle.cu_uses.specs.Inside.Gathered.{Adds, operands_bind, pattern_binds, patterns_bind}
-use Rattle.cu_uses.proofs.FoundLemmas.{adds_both, adds_none, adds_one, front, nothing_left}
+use Rattle.cu_uses.proofs.FoundLemmas.{adds_both, adds_none, adds_one, prefix, nothing_left}
 use Rattle.cu_locals.specs.declared.declared.Declared.{Declared}
 use Rattle.cu_locals.specs.Text.{Text}
 use Rattle.cu_locals.specs.Places.{Finds, operands_place, pattern_places, patterns_place, positions_meaning}
@@ -54,14 +54,14 @@ finds_wildcard t a b at p names places is = record {
 }
 
 -- one round of a loop
-finds_front : {X : Type 0} (P : X → Type 0) (F : List X → List Name) (G : List X → List located.Position) (f : X → List Name) (g : X → List located.Position)
+finds_prefix : {X : Type 0} (P : X → Type 0) (F : List X → List Name) (G : List X → List located.Position) (f : X → List Name) (g : X → List located.Position)
     → ((x : X) (xs : List X) → F (x ∷ xs) ≡ f x ++ F xs) → ((x : X) (xs : List X) → G (x ∷ xs) ≡ g x ++ G xs)
     → (t : Text) (xs : List X) (i : ℕ) (x : X) (a b c : Declared) → x ≡ get_or xs i x → i < length xs → All P xs
     → (P x → Finds t a (f x) (g x) b) → Finds t b (F (drop (i + 1) xs)) (G (drop (i + 1) xs)) c → Finds t a (F (drop i xs)) (G (drop i xs)) c
-finds_front P F G f g consF consG t xs i x a b c is within all here behind =
-    subst (λ ys. Finds t a ys (G (drop i xs)) c) (front F f consF xs i x is within)
-    (subst (λ ys. Finds t a (f x ++ F (drop (i + 1) xs)) ys c) (front G g consG xs i x is within)
-    (finds_both (here (subst P (sym is) (All-get_or P xs i x within all))) behind))
+finds_prefix P F G f g consF consG t xs i x a b c is within all here suffix =
+    subst (λ ys. Finds t a ys (G (drop i xs)) c) (prefix F f consF xs i x is within)
+    (subst (λ ys. Finds t a (f x ++ F (drop (i + 1) xs)) ys c) (prefix G g consG xs i x is within)
+    (finds_both (here (subst P (sym is) (All-get_or P xs i x within all))) suffix))
 
 finds_end : {X : Type 0} (F : List X → List Name) (G : List X → List located.Position) → F [] ≡ [] → G [] ≡ [] → (t : Text) (xs : List X) (i : ℕ) (a : Declared) → length xs ≤ i
     → Finds t a (F (drop i xs)) (G (drop i xs)) a
@@ -146,11 +146,11 @@ patterns_place_nil : (names : List (List ℕ)) → patterns_place names [] ≡ [
 unfolding patterns_place
 patterns_place_nil names = refl
 
-pub patterns_front : (P : Pattern → Type 0) (t : Text) (xs : List Pattern) (i : ℕ) (x : Pattern) (a b c : Declared) → x ≡ get_or xs i x → i < length xs → All P xs
+pub patterns_prefix : (P : Pattern → Type 0) (t : Text) (xs : List Pattern) (i : ℕ) (x : Pattern) (a b c : Declared) → x ≡ get_or xs i x → i < length xs → All P xs
     → (P x → Finds t a (pattern_binds t.names x) (pattern_places t.names x) b) → Finds t b (patterns_bind t.names (drop (i + 1) xs)) (patterns_place t.names (drop (i + 1) xs)) c
     → Finds t a (patterns_bind t.names (drop i xs)) (patterns_place t.names (drop i xs)) c
-patterns_front P t =
-    finds_front P (patterns_bind t.names) (patterns_place t.names) (pattern_binds t.names) (pattern_places t.names) (patterns_bind_cons t.names) (patterns_place_cons t.names) t
+patterns_prefix P t =
+    finds_prefix P (patterns_bind t.names) (patterns_place t.names) (pattern_binds t.names) (pattern_places t.names) (patterns_bind_cons t.names) (patterns_place_cons t.names) t
 
 pub patterns_end : (t : Text) (xs : List Pattern) (i : ℕ) (a : Declared) → length xs ≤ i → Finds t a (patterns_bind t.names (drop i xs)) (patterns_place t.names (drop i xs)) a
 patterns_end t = finds_end (patterns_bind t.names) (patterns_place t.names) (patterns_bind_nil t.names) (patterns_place_nil t.names) t
@@ -177,11 +177,11 @@ operands_place_nil : (names : List (List ℕ)) → operands_place names [] ≡ [
 unfolding operands_place
 operands_place_nil names = refl
 
-pub operands_front : (P : ConstructorItem → Type 0) (t : Text) (xs : List ConstructorItem) (i : ℕ) (x : ConstructorItem) (a b c : Declared) → x ≡ get_or xs i x → i < length xs → All P xs
+pub operands_prefix : (P : ConstructorItem → Type 0) (t : Text) (xs : List ConstructorItem) (i : ℕ) (x : ConstructorItem) (a b c : Declared) → x ≡ get_or xs i x → i < length xs → All P xs
     → (P x → Finds t a (operand_binds t.names x) (operand_places t.names x) b) → Finds t b (operands_bind t.names (drop (i + 1) xs)) (operands_place t.names (drop (i + 1) xs)) c
     → Finds t a (operands_bind t.names (drop i xs)) (operands_place t.names (drop i xs)) c
-operands_front P t =
-    finds_front P (operands_bind t.names) (operands_place t.names) (operand_binds t.names) (operand_places t.names) (operands_bind_cons t.names) (operands_place_cons t.names) t
+operands_prefix P t =
+    finds_prefix P (operands_bind t.names) (operands_place t.names) (operand_binds t.names) (operand_places t.names) (operands_bind_cons t.names) (operands_place_cons t.names) t
 
 pub operands_end : (t : Text) (xs : List ConstructorItem) (i : ℕ) (a : Declared) → length xs ≤ i → Finds t a (operands_bind t.names (drop i xs)) (operands_place t.names (drop i xs)) a
 operands_end t = finds_end (operands_bind t.names) (operands_place t.names) (operands_bind_nil t.names) (operands_place_nil t.names) t

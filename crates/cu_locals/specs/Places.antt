@@ -7,7 +7,7 @@ use Rattle.cu_syntax.specs.Patterns.{pattern_meaning, patterns_meaning, rest_mea
 use Rattle.cu_syntax.specs.Syntax.{Name}
 use Rattle.cu_translation.specs.declared.position.Position.{Position}
 use Rattle.cu_translation.specs.Meaning.{position_meaning}
-use Rattle.cu_translation.specs.Numbering.{all_places, declared_places, places_behind}
+use Rattle.cu_translation.specs.Numbering.{all_places, declared_places, places_after}
 use Rattle.cu_uses.specs.Inside.Gathered.{Adds}
 use Rattle.cu_locals.specs.declared.declared.Declared.{Declared}
 use Rattle.cu_locals.specs.Text.{Text}
@@ -22,7 +22,7 @@ unfoldable pub patterns_place : List (List ℕ) → List Pattern → List locate
 patterns_place names ps = all_places (patterns_meaning names ps)
 
 unfoldable pub operands_place : List (List ℕ) → List ConstructorItem → List located.Position
-operands_place names items = places_behind (rest_meaning names items)
+operands_place names items = places_after (rest_meaning names items)
 
 -- What was found of patterns grew by these variables, and by the places of these variables and
 -- wildcards.

@@ -159,8 +159,8 @@ alone_good f next k whole pass = record { parts = tt; top = record { whole = who
 
 pub after_good : (f : Frame) (next : ℕ) (nodes : List Node) (built : Built) → AllGood f next nodes → GoodBuilt f (next + length nodes) built
     → GoodBuilt f next (after nodes built)
-after_good f next nodes built front good = record {
-  parts = good_append f next nodes built.parts front good.parts;
+after_good f next nodes built prefix good = record {
+  parts = good_append f next nodes built.parts prefix good.parts;
   top = subst (λ (n : ℕ). TopGood f n built.top) (rw (length-append nodes built.parts) (omega arith)) good.top;
 }
 

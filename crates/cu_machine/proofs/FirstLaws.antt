@@ -12,8 +12,8 @@ pub or_true : (b : Bool) → (b || true) ≡ true
 or_true true = refl
 or_true false = refl
 
-pub at_front : (x : ℕ) (xs : List ℕ) → holds (x ∷ xs) x ≡ true
-at_front x xs = ap (λ b. b || holds xs x) (eq-eqb x x refl)
+pub at_prefix : (x : ℕ) (xs : List ℕ) → holds (x ∷ xs) x ≡ true
+at_prefix x xs = ap (λ b. b || holds xs x) (eq-eqb x x refl)
 
 pub later_holds : (x y : ℕ) (xs : List ℕ) → holds xs y ≡ true → holds (x ∷ xs) y ≡ true
 later_holds x y xs there = ap (λ b. nat_eq y x || b) there ∙ or_true (nat_eq y x)
@@ -64,7 +64,7 @@ joined_assoc a b c =
 pub none_left : (a b : List ℕ) → ((x : ℕ) → holds b x ≡ true → holds a x ≡ true) → filter (λ id. not (holds a id)) b ≡ []
 none_left a [] all = refl
 none_left a (x ∷ xs) all =
-    ap (λ b. cond (not b) (x ∷ filter (λ id. not (holds a id)) xs) (filter (λ id. not (holds a id)) xs)) (all x (at_front x xs))
+    ap (λ b. cond (not b) (x ∷ filter (λ id. not (holds a id)) xs) (filter (λ id. not (holds a id)) xs)) (all x (at_prefix x xs))
     ∙ none_left a xs (λ y there. all y (later_holds x y xs there))
 
 -- what is among places adds nothing to them

@@ -152,7 +152,7 @@ pub same_or_other : (x y : ℕ) → (x ≡ y) ⊎ (x ≢ y)
 same_or_other x y = elim (cases_lt x y) [
   | inl before ↦ inr (λ same. let no : ⊥ = omega arith in no)
   | inr from ↦ elim (cases_lt y x) [
-    | inl behind ↦ inr (λ same. let no : ⊥ = omega arith in no)
+    | inl after ↦ inr (λ same. let no : ⊥ = omega arith in no)
     | inr to ↦ inl (omega arith)
   ]
 ]

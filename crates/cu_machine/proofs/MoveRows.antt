@@ -58,8 +58,8 @@ both_first true true h = refl
 both_first true false h = h
 both_first false b h = h
 
-pub two_wanted : (n : ℕ) → nat_eq 2 n ≡ true → nat_eq n 2 ≡ true
-two_wanted n same = eq-eqb n 2 (sym (eqb-true 2 n same))
+pub two_needed : (n : ℕ) → nat_eq 2 n ≡ true → nat_eq n 2 ≡ true
+two_needed n same = eq-eqb n 2 (sym (eqb-true 2 n same))
 
 pub mode_is : (mode other : Mode) → same_mode mode other ≡ true → other ≡ mode
 mode_is Rigid Rigid same = refl
@@ -177,9 +177,9 @@ module _ (program : Code) (graph : Graph) (id : ℕ) where
   came_partial : (function argument : ℕ) (h : Head) (args : List ℕ) (o : Option ℕ) → node_at graph id ≡ node kind.Apply (function ∷ argument ∷ [])
       → head_at graph function ≡ node (kind.Part h) args → arity_of program h ≡ o → takes_more o (length args) ≡ true
       → Came program graph id (puts graph id (extended program h (args ++ argument ∷ []) o))
-  came_partial function argument h args None is head has more_wanted = let none_left : ⊥ = true≢false (sym more_wanted) in absurd none_left
-  came_partial function argument h args (Some arity) is head has more_wanted =
-      came_extended function argument h args arity (nat_lt (length (args ++ argument ∷ [])) arity) is head has (ltb-true (length args) arity more_wanted) refl
+  came_partial function argument h args None is head has more_needed = let none_left : ⊥ = true≢false (sym more_needed) in absurd none_left
+  came_partial function argument h args (Some arity) is head has more_needed =
+      came_extended function argument h args arity (nat_lt (length (args ++ argument ∷ [])) arity) is head has (ltb-true (length args) arity more_needed) refl
 
   came_unlike_partial : (function argument : ℕ) (k : Kind) (args : List ℕ) → node_at graph id ≡ node kind.Apply (function ∷ argument ∷ [])
       → head_at graph function ≡ node k args → is_partial k ≡ false → Came program graph id (alone_follows (failing graph id))
@@ -364,17 +364,17 @@ module _ (program : Code) (graph : Graph) (id : ℕ) where
       → has_arguments program (kind.Prim operation) (length args) ≡ true → is_ready graph (kind.Prim operation) args ≡ true
       → Came program graph id (operated program.special graph id operation args)
   came_operated prim.Equal args is whole ready =
-      let two = two_args args (two_wanted (length args) whole) in
+      let two = two_args args (two_needed (length args) whole) in
       subst (λ (xs : List ℕ). Came program graph id (operated program.special graph id prim.Equal xs)) (sym two.2)
       (came_equal two.0 two.1 (subst (λ (xs : List ℕ). node_at graph id ≡ node (kind.Prim prim.Equal) xs) two.2 is)
       (subst (λ (xs : List ℕ). list_all (has_bound_head graph) xs ≡ true) two.2 ready))
   came_operated prim.Unify args is whole ready =
-      let two = two_args args (two_wanted (length args) whole) in
+      let two = two_args args (two_needed (length args) whole) in
       subst (λ (xs : List ℕ). Came program graph id (operated program.special graph id prim.Unify xs)) (sym two.2)
       (came_unify two.0 two.1 (subst (λ (xs : List ℕ). node_at graph id ≡ node (kind.Prim prim.Unify) xs) two.2 is)
       (subst (λ (xs : List ℕ). list_all (has_head graph) xs ≡ true) two.2 ready))
   came_operated prim.And args is whole ready =
-      let two = two_args args (two_wanted (length args) whole) in
+      let two = two_args args (two_needed (length args) whole) in
       subst (λ (xs : List ℕ). Came program graph id (operated program.special graph id prim.And xs)) (sym two.2)
       (came_and two.0 two.1 (subst (λ (xs : List ℕ). node_at graph id ≡ node (kind.Prim prim.And) xs) two.2 is))
   came_operated prim.Failed args is whole ready = let none_left : ⊥ = true≢false (sym whole) in absurd none_left

@@ -19,8 +19,8 @@ use Rattle.cu_machine.proofs.Depth.{following_level}
 -- ---- one round
 
 -- lines before those of a round
-abbrev pub after_front : List Line → Round → Round
-after_front lines round = record { lines = lines ++ round.lines; tally = round.tally; end = round.end }
+abbrev pub after_prefix : List Line → Round → Round
+after_prefix lines round = record { lines = lines ++ round.lines; tally = round.tally; end = round.end }
 
 -- an end that comes in a round, after so many answers and then these lines
 abbrev pub EndsRound : Option ℕ → ℕ → ℕ → List Line → End → Type 0
@@ -29,61 +29,61 @@ EndsRound limit d answers lines (Stopped stop last) = last ≡ d
 EndsRound limit d answers lines _ = ⊥
 
 -- What a round lists of outcomes whose lines are these: all of them, and then what is after them,
--- or it ended there. `whole` is what the round lists, and `behind` what it lists after them with
+-- or it ended there. `whole` is what the round lists, and `later` what it lists after them with
 -- another count.
-pub data Passed (d : ℕ) (limit : Option ℕ) (answers : ℕ) (lines : List Line) (whole : Round) (behind : Tally → Round) : Type 0 where
-  passed : (after : Tally) → whole ≡ after_front lines (behind after) → after.answers ≡ answers + answers_in lines → Passed d limit answers lines whole behind
+pub data Passed (d : ℕ) (limit : Option ℕ) (answers : ℕ) (lines : List Line) (whole : Round) (later : Tally → Round) : Type 0 where
+  passed : (after : Tally) → whole ≡ after_prefix lines (later after) → after.answers ≡ answers + answers_in lines → Passed d limit answers lines whole later
   ended : (end : End) (rest : List Line) → whole.end ≡ Some end → lines ≡ whole.lines ++ rest → EndsRound limit d answers whole.lines end
-      → Passed d limit answers lines whole behind
+      → Passed d limit answers lines whole later
 
 pub last_limit : (limit : Option ℕ) (answers : ℕ) → is_last limit answers ≡ true → limit ≡ Some answers
 last_limit None answers last = let none_left : ⊥ = cc in absurd none_left
 last_limit (Some most) answers last = ap Some (sym (eqb-true answers most last))
 
-pub ends_behind_wait : (limit : Option ℕ) (d e answers : ℕ) (names : List Waited) (lines : List Line) (end : End) → EndsRound limit d answers lines end
+pub ends_after_wait : (limit : Option ℕ) (d e answers : ℕ) (names : List Waited) (lines : List Line) (end : End) → EndsRound limit d answers lines end
     → EndsRound limit d answers (Waiting e names ∷ lines) end
-ends_behind_wait limit d e answers names lines (Answers count) ends = ends
-ends_behind_wait limit d e answers names lines (Stopped stop last) ends = ends
-ends_behind_wait limit d e answers names lines (NoMore waits) ends = ends
-ends_behind_wait limit d e answers names lines (Rounds last count) ends = ends
+ends_after_wait limit d e answers names lines (Answers count) ends = ends
+ends_after_wait limit d e answers names lines (Stopped stop last) ends = ends
+ends_after_wait limit d e answers names lines (NoMore waits) ends = ends
+ends_after_wait limit d e answers names lines (Rounds last count) ends = ends
 
-pub ends_behind_answer : (limit : Option ℕ) (d e answers : ℕ) (reading : Reading) (lines : List Line) (end : End) → EndsRound limit d (answers + 1) lines end
+pub ends_after_answer : (limit : Option ℕ) (d e answers : ℕ) (reading : Reading) (lines : List Line) (end : End) → EndsRound limit d (answers + 1) lines end
     → EndsRound limit d answers (Answered e reading ∷ lines) end
-ends_behind_answer limit d e answers reading lines (Answers count) ends = (ends.0, omega (arith, ends.1))
-ends_behind_answer limit d e answers reading lines (Stopped stop last) ends = ends
-ends_behind_answer limit d e answers reading lines (NoMore waits) ends = ends
-ends_behind_answer limit d e answers reading lines (Rounds last count) ends = ends
+ends_after_answer limit d e answers reading lines (Answers count) ends = (ends.0, omega (arith, ends.1))
+ends_after_answer limit d e answers reading lines (Stopped stop last) ends = ends
+ends_after_answer limit d e answers reading lines (NoMore waits) ends = ends
+ends_after_answer limit d e answers reading lines (Rounds last count) ends = ends
 
-pub behind_wait : (d : ℕ) (limit : Option ℕ) (answers : ℕ) (names : List Waited) (lines : List Line) (whole : Round) (behind : Tally → Round)
-    → Passed d limit answers lines whole behind → Passed d limit answers (Waiting d names ∷ lines) (with_line (Waiting d names) whole) behind
-behind_wait d limit answers names lines whole behind (passed after is count) = passed after (ap (with_line (Waiting d names)) is) count
-behind_wait d limit answers names lines whole behind (ended end rest is first ends) =
-    ended end rest is (ap (λ (ls : List Line). Waiting d names ∷ ls) first) (ends_behind_wait limit d d answers names whole.lines end ends)
+pub after_wait : (d : ℕ) (limit : Option ℕ) (answers : ℕ) (names : List Waited) (lines : List Line) (whole : Round) (later : Tally → Round)
+    → Passed d limit answers lines whole later → Passed d limit answers (Waiting d names ∷ lines) (with_line (Waiting d names) whole) later
+after_wait d limit answers names lines whole later (passed after is count) = passed after (ap (with_line (Waiting d names)) is) count
+after_wait d limit answers names lines whole later (ended end rest is first ends) =
+    ended end rest is (ap (λ (ls : List Line). Waiting d names ∷ ls) first) (ends_after_wait limit d d answers names whole.lines end ends)
 
-pub behind_answer : (d : ℕ) (limit : Option ℕ) (tally : Tally) (reading : Reading) (lines : List Line) (whole : Round) (behind : Tally → Round) (last : Bool)
-    → is_last limit (tally.answers + 1) ≡ last → Passed d limit (tally.answers + 1) lines whole behind
+pub after_answer : (d : ℕ) (limit : Option ℕ) (tally : Tally) (reading : Reading) (lines : List Line) (whole : Round) (later : Tally → Round) (last : Bool)
+    → is_last limit (tally.answers + 1) ≡ last → Passed d limit (tally.answers + 1) lines whole later
     → Passed d limit tally.answers (Answered d reading ∷ lines)
-    (with_line (Answered d reading) (if last then nothing (one_answer tally) (Some (Answers (tally.answers + 1))) else whole)) behind
-behind_answer d limit tally reading lines whole behind true last before =
+    (with_line (Answered d reading) (if last then nothing (one_answer tally) (Some (Answers (tally.answers + 1))) else whole)) later
+after_answer d limit tally reading lines whole later true last before =
     ended (Answers (tally.answers + 1)) lines refl refl (last_limit limit (tally.answers + 1) last, omega arith)
-behind_answer d limit tally reading lines whole behind false last (passed after is count) =
+after_answer d limit tally reading lines whole later false last (passed after is count) =
     passed after (ap (with_line (Answered d reading)) is) (omega (arith, count))
-behind_answer d limit tally reading lines whole behind false last (ended end rest is first ends) =
-    ended end rest is (ap (λ (ls : List Line). Answered d reading ∷ ls) first) (ends_behind_answer limit d d tally.answers reading whole.lines end ends)
+after_answer d limit tally reading lines whole later false last (ended end rest is first ends) =
+    ended end rest is (ap (λ (ls : List Line). Answered d reading ∷ ls) first) (ends_after_answer limit d d tally.answers reading whole.lines end ends)
 
-pub passed_of : (d : ℕ) (limit : Option ℕ) (tally : Tally) (front back : List Next)
-    → Passed d limit tally.answers (flat_map (lines_of d) front) (round_of d limit tally (front ++ back)) (λ after. round_of d limit after back)
+pub passed_of : (d : ℕ) (limit : Option ℕ) (tally : Tally) (prefix suffix : List Next)
+    → Passed d limit tally.answers (flat_map (lines_of d) prefix) (round_of d limit tally (prefix ++ suffix)) (λ after. round_of d limit after suffix)
 unfolding round_of
-passed_of d limit tally [] back = passed tally refl (omega arith)
-passed_of d limit tally (Go states ∷ front) back = passed_of d limit tally front back
-passed_of d limit tally (Fails ∷ front) back = passed_of d limit tally front back
-passed_of d limit tally (Waits names ∷ front) back =
-    behind_wait d limit tally.answers names (flat_map (lines_of d) front) (round_of d limit (one_wait tally) (front ++ back)) (λ after. round_of d limit after back)
-    (passed_of d limit (one_wait tally) front back)
-passed_of d limit tally (Answer reading ∷ front) back =
-    behind_answer d limit tally reading (flat_map (lines_of d) front) (round_of d limit (one_answer tally) (front ++ back)) (λ after. round_of d limit after back)
-    (is_last limit (tally.answers + 1)) refl (passed_of d limit (one_answer tally) front back)
-passed_of d limit tally (Stops stop ∷ front) back = ended (Stopped stop d) (flat_map (lines_of d) front) refl refl refl
+passed_of d limit tally [] suffix = passed tally refl (omega arith)
+passed_of d limit tally (Go states ∷ prefix) suffix = passed_of d limit tally prefix suffix
+passed_of d limit tally (Fails ∷ prefix) suffix = passed_of d limit tally prefix suffix
+passed_of d limit tally (Waits names ∷ prefix) suffix =
+    after_wait d limit tally.answers names (flat_map (lines_of d) prefix) (round_of d limit (one_wait tally) (prefix ++ suffix)) (λ after. round_of d limit after suffix)
+    (passed_of d limit (one_wait tally) prefix suffix)
+passed_of d limit tally (Answer reading ∷ prefix) suffix =
+    after_answer d limit tally reading (flat_map (lines_of d) prefix) (round_of d limit (one_answer tally) (prefix ++ suffix)) (λ after. round_of d limit after suffix)
+    (is_last limit (tally.answers + 1)) refl (passed_of d limit (one_answer tally) prefix suffix)
+passed_of d limit tally (Stops stop ∷ prefix) suffix = ended (Stopped stop d) (flat_map (lines_of d) prefix) refl refl refl
 
 -- ---- rounds
 
@@ -155,31 +155,31 @@ ended_inside limits d round answers wanted listed line whole end others rest is 
     (subst (λ (ls : List Line). ListsOrEnded limits round wanted line listed (record { lines = ls; end = end })) (sym (append-nil whole.lines))
     (inr (rest, first, ends_by limits d round answers listed whole.lines end same up ends)))
 
-pub regroup_front : (a b c d : List Line) (x : Line) → a ++ ((b ++ x ∷ c) ++ d) ≡ (a ++ b) ++ x ∷ (c ++ d)
-regroup_front a b c d x = ap (λ (ls : List Line). a ++ ls) (append_assoc b (x ∷ c) d) ∙ sym (append_assoc a b (x ∷ (c ++ d)))
+pub regroup_prefix : (a b c d : List Line) (x : Line) → a ++ ((b ++ x ∷ c) ++ d) ≡ (a ++ b) ++ x ∷ (c ++ d)
+regroup_prefix a b c d x = ap (λ (ls : List Line). a ++ ls) (append_assoc b (x ∷ c) d) ∙ sym (append_assoc a b (x ∷ (c ++ d)))
 
 -- the answer is one of this round
-pub lists_here : (limits : SearchLimits) (d : ℕ) (tally : Tally) (back : List Next) (reading : Reading) (listed lines : List Line) (whole : Round) (others : Listing)
-    → tally.answers ≡ answers_in listed → Passed d limits.answers tally.answers lines whole (λ after. round_of d limits.answers after (Answer reading ∷ back))
+pub lists_here : (limits : SearchLimits) (d : ℕ) (tally : Tally) (suffix : List Next) (reading : Reading) (listed lines : List Line) (whole : Round) (others : Listing)
+    → tally.answers ≡ answers_in listed → Passed d limits.answers tally.answers lines whole (λ after. round_of d limits.answers after (Answer reading ∷ suffix))
     → ListsOrEnded limits d (listed ++ lines) (Answered d reading) listed (after_lines whole.lines (unless_ended whole.end others))
 unfolding round_of
-lists_here limits d tally back reading listed lines whole others same (passed after is count) =
-    let behind = round_of d limits.answers after (Answer reading ∷ back) in
+lists_here limits d tally suffix reading listed lines whole others same (passed after is count) =
+    let later = round_of d limits.answers after (Answer reading ∷ suffix) in
     let tail : Round =
-    if is_last limits.answers (after.answers + 1) then nothing (one_answer after) (Some (Answers (after.answers + 1))) else round_of d limits.answers (one_answer after) back in
+    if is_last limits.answers (after.answers + 1) then nothing (one_answer after) (Some (Answers (after.answers + 1))) else round_of d limits.answers (one_answer after) suffix in
     let more = (unless_ended whole.end others).lines in
     inl (
       tail.lines ++ more,
-      ap (λ (r : Round). listed ++ (r.lines ++ more)) is ∙ regroup_front listed lines tail.lines more (Answered d reading),
+      ap (λ (r : Round). listed ++ (r.lines ++ more)) is ∙ regroup_prefix listed lines tail.lines more (Answered d reading),
     )
-lists_here limits d tally back reading listed lines whole others same (ended end rest is first ends) =
+lists_here limits d tally suffix reading listed lines whole others same (ended end rest is first ends) =
     ended_inside limits d d tally.answers (listed ++ lines) listed (Answered d reading) whole end others rest is same (omega arith)
     (ap (λ (ls : List Line). listed ++ ls) first ∙ sym (append_assoc listed whole.lines rest)) ends
 
 -- the answer is one of a later round
-pub lists_behind : (limits : SearchLimits) (round : ℕ) (wanted listed lines : List Line) (line : Line) (others : Listing) → ListsOrEnded limits round wanted line (listed ++ lines) others
+pub lists_after : (limits : SearchLimits) (round : ℕ) (wanted listed lines : List Line) (line : Line) (others : Listing) → ListsOrEnded limits round wanted line (listed ++ lines) others
     → ListsOrEnded limits round wanted line listed (after_lines lines others)
-lists_behind limits round wanted listed lines line others found =
+lists_after limits round wanted listed lines line others found =
     let same : (listed ++ lines) ++ others.lines ≡ listed ++ (lines ++ others.lines) = append_assoc listed lines others.lines in
     subst
     (λ (ls : List Line). ((rest : List Line) × (ls ≡ wanted ++ line ∷ rest)) ⊎ ((rest : List Line) × (wanted ≡ ls ++ rest) × EndsBy limits round ls others.end))
@@ -192,7 +192,7 @@ not_exhausted others tally (state ∷ states) some = refl
 
 pub lists_later : (limits : SearchLimits) (d round : ℕ) (tally : Tally) (wanted listed lines : List Line) (line : Line) (whole : Round) (others : Tally → List State → Listing)
     (following : List State) → tally.answers ≡ answers_in listed → d ≤ round → (following ≡ [] → ⊥)
-    → ((front rest : List Line) → lines ≡ front ++ rest → (more : List Line) × (wanted ≡ (listed ++ front) ++ more))
+    → ((prefix rest : List Line) → lines ≡ prefix ++ rest → (more : List Line) × (wanted ≡ (listed ++ prefix) ++ more))
     → ((after : Tally) → after.answers ≡ answers_in (listed ++ lines) → ListsOrEnded limits round wanted line (listed ++ lines) (others after following))
     → Passed d limits.answers tally.answers lines whole (λ after. nothing after None)
     → ListsOrEnded limits round wanted line listed (after_lines whole.lines (unless_ended whole.end (unless_exhausted others whole.tally following)))
@@ -200,9 +200,9 @@ lists_later limits d round tally wanted listed lines line whole others following
     subst (λ (r : Round). ListsOrEnded limits round wanted line listed (after_lines r.lines (unless_ended r.end (unless_exhausted others r.tally following)))) (sym is)
     (subst (λ (ls : List Line). ListsOrEnded limits round wanted line listed (after_lines ls (unless_exhausted others after following))) (sym (append-nil lines))
     (subst (λ (l : Listing). ListsOrEnded limits round wanted line listed (after_lines lines l)) (sym (not_exhausted others after following some))
-    (lists_behind limits round wanted listed lines line (others after following) (later after (omega (arith, count, same, answers_append listed lines))))))
-lists_later limits d round tally wanted listed lines line whole others following same up some first later (ended end rest is front ends) =
-    let found = first whole.lines rest front in
+    (lists_after limits round wanted listed lines line (others after following) (later after (omega (arith, count, same, answers_append listed lines))))))
+lists_later limits d round tally wanted listed lines line whole others following same up some first later (ended end rest is prefix ends) =
+    let found = first whole.lines rest prefix in
     ended_inside limits d round tally.answers wanted listed line whole end (unless_exhausted others whole.tally following) found.0 is same up found.1 ends
 
 -- ---- all rounds
@@ -220,15 +220,15 @@ module _ (program : Code) (limits : SearchLimits) (start : State) (round : ℕ) 
   Found d listed listing = ListsOrEnded limits round wanted (Answered round reading) listed listing
 
   -- lines that are first ones of those up to a round are first ones of those before a later place
-  pub ended_first : (d : ℕ) (listed front rest : List Line) → d < round → listed ≡ lines_before (events program limits start) d
-      → flat_map (lines_of d) (events program limits start d) ≡ front ++ rest → (more : List Line) × (wanted ≡ (listed ++ front) ++ more)
-  ended_first d listed front rest less is first =
+  pub ended_first : (d : ℕ) (listed prefix rest : List Line) → d < round → listed ≡ lines_before (events program limits start) d
+      → flat_map (lines_of d) (events program limits start d) ≡ prefix ++ rest → (more : List Line) × (wanted ≡ (listed ++ prefix) ++ more)
+  ended_first d listed prefix rest less is first =
       let later = later_lines (events program limits start) (d + 1) round (omega arith) in
       let last = flat_map (lines_of round) (events_of program limits before) in
-      let so_far : lines_before (events program limits start) (d + 1) ≡ listed ++ (front ++ rest) =
+      let so_far : lines_before (events program limits start) (d + 1) ≡ listed ++ (prefix ++ rest) =
       ap (lines_before (events program limits start)) (add-one d) ∙ ap₂ (λ (xs ys : List Line). xs ++ ys) (sym is) first in (
         rest ++ later.0 ++ last,
-        ap (λ (ls : List Line). ls ++ last) (later.1 ∙ ap (λ (ls : List Line). ls ++ later.0) so_far) ∙ regroup listed front rest later.0 last,
+        ap (λ (ls : List Line). ls ++ last) (later.1 ∙ ap (λ (ls : List Line). ls ++ later.0) so_far) ∙ regroup listed prefix rest later.0 last,
       )
 
   pub level_goes_on : (d : ℕ) (following : List State) → d < round → following ≡ level program limits start (d + 1) → following ≡ [] → ⊥
@@ -243,21 +243,21 @@ module _ (program : Code) (limits : SearchLimits) (start : State) (round : ℕ) 
       let event = run limits.stride program limits.step in
       let outcomes = map event states in
       let whole = round_of round limits.answers tally outcomes in
-      let front = events_of program limits before in
-      let back = events_of program limits after in
-      let split : outcomes ≡ front ++ Answer reading ∷ back =
+      let prefix = events_of program limits before in
+      let suffix = events_of program limits after in
+      let split : outcomes ≡ prefix ++ Answer reading ∷ suffix =
       ap (map event) (is ∙ ap (level program limits start) here ∙ level_is) ∙ map_append event before (state ∷ after)
-      ∙ ap (λ (e : Next). front ++ e ∷ back) answers in
+      ∙ ap (λ (e : Next). prefix ++ e ∷ suffix) answers in
       let others_here = unless_exhausted others whole.tally (flat_map go_list outcomes) in
-      let found : ListsOrEnded limits round (listed ++ flat_map (lines_of round) front) (Answered round reading) listed
+      let found : ListsOrEnded limits round (listed ++ flat_map (lines_of round) prefix) (Answered round reading) listed
       (after_lines whole.lines (unless_ended whole.end others_here)) =
-      lists_here limits round tally back reading listed (flat_map (lines_of round) front) whole others_here count
-      (subst (λ (os : List Next). Passed round limits.answers tally.answers (flat_map (lines_of round) front) (round_of round limits.answers tally os)
-      (λ rest. round_of round limits.answers rest (Answer reading ∷ back))) (sym split)
-      (passed_of round limits.answers tally front (Answer reading ∷ back))) in
+      lists_here limits round tally suffix reading listed (flat_map (lines_of round) prefix) whole others_here count
+      (subst (λ (os : List Next). Passed round limits.answers tally.answers (flat_map (lines_of round) prefix) (round_of round limits.answers tally os)
+      (λ rest. round_of round limits.answers rest (Answer reading ∷ suffix))) (sym split)
+      (passed_of round limits.answers tally prefix (Answer reading ∷ suffix))) in
       let listed_is : listed ≡ lines_before (events program limits start) round = so_far ∙ ap (lines_before (events program limits start)) here in
       subst (λ (n : ℕ). Found n listed (list_level others program limits n tally states)) (sym here)
-      (subst (λ (ls : List Line). ListsOrEnded limits round (ls ++ flat_map (lines_of round) front) (Answered round reading) listed (list_level others program limits round tally states))
+      (subst (λ (ls : List Line). ListsOrEnded limits round (ls ++ flat_map (lines_of round) prefix) (Answered round reading) listed (list_level others program limits round tally states))
       listed_is found)
 
   pub level_lists_later : (d : ℕ) (tally : Tally) (states : List State) (listed : List Line) (others : Tally → List State → Listing) → d < round
@@ -276,7 +276,7 @@ module _ (program : Code) (limits : SearchLimits) (start : State) (round : ℕ) 
       let follows : following ≡ level program limits start (d + 1) = following_level event start d states is in
       lists_later limits d round tally wanted listed lines (Answered round reading) (round_of d limits.answers tally outcomes) others following count (omega arith)
       (level_goes_on d following less follows)
-      (λ front rest first. ended_first d listed front rest less so_far (sym lines_are ∙ first))
+      (λ prefix rest first. ended_first d listed prefix rest less so_far (sym lines_are ∙ first))
       (λ next_tally counted.
       subst (λ (ls : List Line). Found (d + 1) (listed ++ ls) (others next_tally following)) (sym lines_are)
       (later next_tally following follows (counted ∙ ap (λ (ls : List Line). answers_in (listed ++ ls)) lines_are)))
@@ -341,6 +341,6 @@ module _ (program : Code) (limits : SearchLimits) (start : State) (round : ℕ) 
   unfolding level_by
   listing_lists =
       elim (rounds_list_answer limits.rounds 0 (record { answers = 0; waits = 0 }) (start ∷ []) [] (omega arith) (omega arith) refl refl refl) [
-        | inl there ↦ inl (record { rest = there.0; behind = there.1 })
+        | inl there ↦ inl (record { rest = there.0; split = there.1 })
         | inr ends ↦ inr (record { rest = ends.0; first = ends.1; end = ends.2 })
       ]

@@ -202,12 +202,12 @@ pub answer_valid : (program : Code) (v : Value) (others : LevelEvent) (ground : 
 answer_valid program v others true is built rest = found_valid program v others (built is) rest
 answer_valid program v others false is built rest = tt
 
-pub go_valid : (program : Code) (front : List State) (others : LevelEvent) → ((state : State) → Among state front → IsValid program state) → LevelEventValid program others
-    → LevelEventValid program (with_states front others)
-go_valid program front (On values states) each rest =
-    (rest.0, λ state m. elim (among_append state front states m) [ inl first ↦ each state first | inr second ↦ rest.1 state second ])
-go_valid program front Blocked each rest = tt
-go_valid program front (Halts stop) each rest = tt
+pub go_valid : (program : Code) (prefix : List State) (others : LevelEvent) → ((state : State) → Among state prefix → IsValid program state) → LevelEventValid program others
+    → LevelEventValid program (with_states prefix others)
+go_valid program prefix (On values states) each rest =
+    (rest.0, λ state m. elim (among_append state prefix states m) [ inl first ↦ each state first | inr second ↦ rest.1 state second ])
+go_valid program prefix Blocked each rest = tt
+go_valid program prefix (Halts stop) each rest = tt
 
 pub outcome_valid : (program : Code) (event : Next) (others : LevelEvent) → EventValid program event → LevelEventValid program others
     → LevelEventValid program (with_outcome event others)

@@ -28,19 +28,19 @@ pub among_at : {A : Type 0} (before after : List A) (x : A) → Among x (before 
 among_at [] after x = inl refl
 among_at (y ∷ before) after x = inr (among_at before after x)
 
-pub in_front : {A : Type 0} (xs ys : List A) (x : A) → Among x xs → Among x (xs ++ ys)
-in_front [] ys x m = absurd m
-in_front (z ∷ xs) ys x m = elim m [ inl same ↦ inl same | inr rest ↦ inr (in_front xs ys x rest) ]
+pub in_prefix : {A : Type 0} (xs ys : List A) (x : A) → Among x xs → Among x (xs ++ ys)
+in_prefix [] ys x m = absurd m
+in_prefix (z ∷ xs) ys x m = elim m [ inl same ↦ inl same | inr rest ↦ inr (in_prefix xs ys x rest) ]
 
-pub behind : {A : Type 0} (xs ys : List A) (x : A) → Among x ys → Among x (xs ++ ys)
-behind [] ys x m = m
-behind (z ∷ xs) ys x m = inr (behind xs ys x m)
+pub among_after : {A : Type 0} (xs ys : List A) (x : A) → Among x ys → Among x (xs ++ ys)
+among_after [] ys x m = m
+among_after (z ∷ xs) ys x m = inr (among_after xs ys x m)
 
 pub among_flat_at : {A B : Type 0} (f : A → List B) (y : B) (x : A) (xs : List A) → Among x xs → Among y (f x) → Among y (flat_map f xs)
 among_flat_at f y x [] m found = absurd m
 among_flat_at f y x (z ∷ xs) m found = elim m [
-  | inl same ↦ in_front (f z) (flat_map f xs) y (subst (λ w. Among y (f w)) (sym same) found)
-  | inr rest ↦ behind (f z) (flat_map f xs) y (among_flat_at f y x xs rest found)
+  | inl same ↦ in_prefix (f z) (flat_map f xs) y (subst (λ w. Among y (f w)) (sym same) found)
+  | inr rest ↦ among_after (f z) (flat_map f xs) y (among_flat_at f y x xs rest found)
 ]
 
 -- ---- a step on a run
@@ -188,7 +188,7 @@ module _ (program : Code) (limits : SearchLimits) (start : State) where
         due.3,
         due.4,
         elim (answer_listed due.0 due.3 state reading due.4 answers) [
-          | inl there ↦ inl (subst (λ (ls : List Line). Among (Answered due.0 reading) ls) (sym there.behind)
+          | inl there ↦ inl (subst (λ (ls : List Line). Among (Answered due.0 reading) ls) (sym there.split)
               (among_at (earlier program limits start due.0 due.3) there.rest (Answered due.0 reading)))
           | inr ends ↦ inr ends
         ],

@@ -8,7 +8,7 @@ use Rattle.cu_calculus.specs.declared.Head.{Head}
 use Rattle.cu_calculus.specs.declared.Mode.{Mode}
 use Rattle.cu_calculus.specs.declared.Head.TheVariants as head
 use Rattle.cu_calculus.specs.declared.builtin.Primitive.TheVariants as prim
-use Rattle.cu_calculus.specs.Code as code
+use Rattle.cu_calculus.specs.Code as flat
 use Rattle.cu_calculus.specs.Code.{Body, Code, Expr, body_of, expr_of}
 use Rattle.cu_machine.specs.declared.Kind.{Kind}
 use Rattle.cu_machine.specs.declared.Kind.TheVariants as kind
@@ -100,15 +100,15 @@ build_variable None = build_alone stuck
 -- node
 abbrev pub kind_of_call : FunId → Option Body → Kind
 kind_of_call f None = kind.Stuck
-kind_of_call f (Some (code.Rule params body)) = kind.Call f
-kind_of_call f (Some (code.External prim.Failed)) = kind.Fail
-kind_of_call f (Some (code.External operation)) = kind.Prim operation
+kind_of_call f (Some (flat.Rule params body)) = kind.Call f
+kind_of_call f (Some (flat.External prim.Failed)) = kind.Fail
+kind_of_call f (Some (flat.External operation)) = kind.Prim operation
 
 -- the kind of a node for a head with all its arguments
 abbrev pub kind_of_whole : Code → Head → Kind
-kind_of_whole program (head.Con c) = kind.Cons c
-kind_of_whole program (head.Fun f) = kind_of_call f (body_of program f)
-kind_of_whole program (head.Set f) = kind.SetCall f
+kind_of_whole code (head.Con c) = kind.Cons c
+kind_of_whole code (head.Fun f) = kind_of_call f (body_of code f)
+kind_of_whole code (head.Set f) = kind.SetCall f
 
 -- what is built for a Let: the bound expression, and then the body, in whose scope the variable
 -- stands for it
@@ -139,33 +139,33 @@ build_case part scope next mode e kept scrutinee =
 -- what is built for one expression, whose parts `part` builds
 abbrev pub build_expr : (Scope → ℕ → ExprId → Built) → Code → Scope → ℕ → ExprId → Option Expr
     → Built
-build_expr part program scope next e None = build_alone stuck
-build_expr part program scope next e (Some (code.Variable x)) = build_variable (place_in scope x)
-build_expr part program scope next e (Some (code.Literal l)) = build_alone (alone (kind.Lit l))
-build_expr part program scope next e (Some (code.Whole h arguments)) =
-    build_node (kind_of_whole program h) (build_parts (part scope) next arguments)
-build_expr part program scope next e (Some (code.Part h arguments)) =
+build_expr part code scope next e None = build_alone stuck
+build_expr part code scope next e (Some (flat.Variable x)) = build_variable (place_in scope x)
+build_expr part code scope next e (Some (flat.Literal l)) = build_alone (alone (kind.Lit l))
+build_expr part code scope next e (Some (flat.Whole h arguments)) =
+    build_node (kind_of_whole code h) (build_parts (part scope) next arguments)
+build_expr part code scope next e (Some (flat.Part h arguments)) =
     build_node (kind.Part h) (build_parts (part scope) next arguments)
-build_expr part program scope next e (Some (code.Apply function argument)) =
+build_expr part code scope next e (Some (flat.Apply function argument)) =
     build_node kind.Apply (build_parts (part scope) next (function ∷ argument ∷ []))
-build_expr part program scope next e (Some (code.Let x bound body)) =
+build_expr part code scope next e (Some (flat.Let x bound body)) =
     build_let part scope next x bound body
-build_expr part program scope next e (Some (code.Free x body)) = build_free part scope next x body
-build_expr part program scope next e (Some (code.Or left right)) =
+build_expr part code scope next e (Some (flat.Free x body)) = build_free part scope next x body
+build_expr part code scope next e (Some (flat.Or left right)) =
     build_node kind.Or (build_parts (part scope) next (left ∷ right ∷ []))
-build_expr part program scope next e (Some (code.Case mode kept scrutinee branches)) =
+build_expr part code scope next e (Some (flat.Case mode kept scrutinee branches)) =
     build_case part scope next mode e kept scrutinee
 
 -- What is built for an expression of the code, from the index `next` on. The first number bounds
 -- how deep expressions nest; as many as the code has suffice.
 unfoldable pub build_within : ℕ → Code → Scope → ℕ → ExprId → Built
-build_within zero program scope next e = build_alone stuck
-build_within (suc depth) program scope next e =
-    build_expr (build_within depth program) program scope next e (expr_of program e)
+build_within zero code scope next e = build_alone stuck
+build_within (suc depth) code scope next e =
+    build_expr (build_within depth code) code scope next e (expr_of code e)
 
 -- what is built for an expression of the code, from the index `next` on
 abbrev pub build : Code → Scope → ℕ → ExprId → Built
-build program scope next e = build_within (length program.expressions) program scope next e
+build code scope next e = build_within (length code.expressions) code scope next e
 
 -- the graph after something was built over the node with this index
 abbrev pub written : Graph → ℕ → Built → Graph
@@ -173,4 +173,4 @@ written graph id built = put (graph ++ built.parts) id (instead built.top)
 
 -- the graph after an expression was built over the node with this index
 abbrev pub write : Code → Scope → Graph → ℕ → ExprId → Graph
-write program scope graph id e = written graph id (build program scope (length graph) e)
+write code scope graph id e = written graph id (build code scope (length graph) e)

@@ -21,11 +21,11 @@ lines_of round (Stops stop) = []
 
 -- what becomes of these states in a round
 abbrev pub events_of : Code → SearchLimits → List State → List Next
-events_of program limits states = map (run limits.stride program limits.step) states
+events_of code limits states = map (run limits.stride code limits.step) states
 
 -- what becomes of the states of a round's level
 abbrev pub events : Code → SearchLimits → State → ℕ → List Next
-events program limits start round = events_of program limits (level program limits start round)
+events code limits start round = events_of code limits (level code limits start round)
 
 -- the lines that the rounds before this one list, where nothing ends the listing
 abbrev pub lines_before : (ℕ → List Next) → ℕ → List Line
@@ -36,18 +36,18 @@ lines_before in_round (suc round) =
 -- the lines that are listed before those of a state of a round's level, which stands after these
 -- states of the level
 abbrev pub earlier : Code → SearchLimits → State → ℕ → List State → List Line
-earlier program limits start round states =
-    lines_before (events program limits start) round
-    ++ flat_map (lines_of round) (events_of program limits states)
+earlier code limits start round states =
+    lines_before (events code limits start) round
+    ++ flat_map (lines_of round) (events_of code limits states)
 
 -- A run reaches the state from one of a round's level, which stands after these states of the
 -- level.
-pub record IsReached (program : Code) (limits : SearchLimits) (start : State) (round : ℕ)
+pub record IsReached (code : Code) (limits : SearchLimits) (start : State) (round : ℕ)
     (before : List State) (state : State) : Type 0 where
   pub from : State
   pub after : List State
-  pub level_is : level program limits start round ≡ before ++ from ∷ after
-  pub reaches : reached limits.stride program limits.step from ≡ state
+  pub level_is : level code limits start round ≡ before ++ from ∷ after
+  pub reaches : reached limits.stride code limits.step from ≡ state
 
 -- how many of these lines are answers
 abbrev pub answers_in : List Line → ℕ
@@ -59,7 +59,7 @@ answers_in (Waiting round names ∷ lines) = answers_in lines
 pub record IsListed (round : ℕ) (lines : List Line) (reading : Reading)
     (listing : Listing) : Type 0 where
   pub rest : List Line
-  pub behind : listing.lines ≡ lines ++ Answered round reading ∷ rest
+  pub split : listing.lines ≡ lines ++ Answered round reading ∷ rest
 
 -- The end comes by the time of a round, where these lines were listed: by the limit on rounds, by
 -- the limit on answers, or by a search that stops.

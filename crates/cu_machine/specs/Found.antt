@@ -16,8 +16,8 @@ use Rattle.cu_machine.specs.Validity.{are_built}
 
 -- what becomes of the states at a depth of the search for all values of a function
 abbrev pub inner_events : Code → Limits → FunId → Values → ℕ → List Next
-inner_events program limits f arguments depth =
-    map (next program limits) (step_level program limits (call_on program f arguments) depth)
+inner_events code limits f arguments depth =
+    map (next code limits) (step_level code limits (call_on code f arguments) depth)
 
 -- whether an event leaves the search going: it is no answer that isn't ground data, no wait and no
 -- stop
@@ -41,12 +41,12 @@ answers_before events (suc depth) =
 
 -- The search of a function on ground data of the program ends at an empty level. All events before
 -- it are quiet, and these are the values that were answered, sorted and without repeats.
-pub record Found (program : Code) (limits : Limits) (f : FunId) (arguments : Values)
+pub record Found (code : Code) (limits : Limits) (f : FunId) (arguments : Values)
     (values : List Value) : Type 0 where
-  pub whole : function_arity program f ≡ Some (count arguments)
+  pub whole : function_arity code f ≡ Some (count arguments)
   -- the arguments are ground data of the program
-  pub built : IsTrue (are_built program arguments)
+  pub built : IsTrue (are_built code arguments)
   pub depth : ℕ
-  pub ended : step_level program limits (call_on program f arguments) depth ≡ []
-  pub quiet : (k : ℕ) → IsTrue (list_all is_quiet (inner_events program limits f arguments k))
-  pub collected : values ≡ sorted (answers_before (inner_events program limits f arguments) depth)
+  pub ended : step_level code limits (call_on code f arguments) depth ≡ []
+  pub quiet : (k : ℕ) → IsTrue (list_all is_quiet (inner_events code limits f arguments k))
+  pub collected : values ≡ sorted (answers_before (inner_events code limits f arguments) depth)

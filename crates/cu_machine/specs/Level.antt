@@ -25,8 +25,8 @@ level_by event start (suc depth) =
 
 -- the states of a round's level, where each round takes a state on by its stride
 abbrev pub level : Code → SearchLimits → State → ℕ → List State
-level program limits start depth = level_by (run limits.stride program limits.step) start depth
+level code limits start depth = level_by (run limits.stride code limits.step) start depth
 
 -- the states at a depth by single steps, as an inner search has them
 abbrev pub step_level : Code → Limits → State → ℕ → List State
-step_level program limits start depth = level_by (next program limits) start depth
+step_level code limits start depth = level_by (next code limits) start depth

@@ -94,8 +94,8 @@ unless_exhausted others tally (state ∷ states) = others tally (state ∷ state
 -- the listing of one level, where `others` lists the level after it
 abbrev pub list_level : (Tally → List State → Listing) → Code → SearchLimits → ℕ → Tally
     → List State → Listing
-list_level others program limits d tally states =
-    let outcomes = map (run limits.stride program limits.step) states in
+list_level others code limits d tally states =
+    let outcomes = map (run limits.stride code limits.step) states in
     let round = round_of d limits.answers tally outcomes
     in after_lines round.lines
     (unless_ended round.end (unless_exhausted others round.tally (flat_map go_list outcomes)))
@@ -104,18 +104,18 @@ list_level others program limits d tally states =
 -- After the last of them the round limit ends the listing; after an earlier one a level that is too
 -- wide does.
 unfoldable pub rounds : ℕ → Code → SearchLimits → ℕ → Tally → List State → Listing
-rounds zero program limits d tally states =
-    list_level (λ after following. only_end (Rounds d (length following))) program limits d tally
+rounds zero code limits d tally states =
+    list_level (λ after following. only_end (Rounds d (length following))) code limits d tally
     states
-rounds (suc left) program limits d tally states =
+rounds (suc left) code limits d tally states =
     list_level
     (λ after following.
     if nat_lt limits.step.width (length following)
     then only_end (Stopped (TooWide (length following)) (d + 1))
-    else rounds left program limits (d + 1) after following)
-    program limits d tally states
+    else rounds left code limits (d + 1) after following)
+    code limits d tally states
 
 -- the listing of a search that begins in this state
 abbrev pub listing : Code → SearchLimits → State → Listing
-listing program limits start =
-    rounds limits.rounds program limits 0 (record { answers = 0; waits = 0 }) (start ∷ [])
+listing code limits start =
+    rounds limits.rounds code limits 0 (record { answers = 0; waits = 0 }) (start ∷ [])

@@ -102,19 +102,19 @@ begun limits graph root goals id inner =
 
 -- what follows a move of the graph, where no search runs in the state
 abbrev pub moved : Code → Limits → ℕ → List ℕ → Graph → ℕ → Move → Next
-moved program limits root goals graph id (Become graphs) =
+moved code limits root goals graph id (Become graphs) =
     unless_one_is_large limits (map (λ after. Branch after root goals Idle) graphs)
-moved program limits root goals graph id (Overflows operation m n) = Stops (Overflow operation m n)
-moved program limits root goals graph id (Collect f arguments) =
-    begun limits graph root goals id (call_on program f arguments)
+moved code limits root goals graph id (Overflows operation m n) = Stops (Overflow operation m n)
+moved code limits root goals graph id (Collect f arguments) =
+    begun limits graph root goals id (call_on code f arguments)
 
 -- what becomes of a state in which no search runs, by what its root needs
 abbrev pub next_by : Code → Limits → Graph → ℕ → List ℕ → Need → Next
-next_by program limits graph root goals Done = answered limits graph root goals
-next_by program limits graph root goals Dead = Fails
-next_by program limits graph root goals (Wait ids) = Waits (named graph goals 1 ids)
-next_by program limits graph root goals (At id) =
-    moved program limits root goals graph id (move program graph id)
+next_by code limits graph root goals Done = answered limits graph root goals
+next_by code limits graph root goals Dead = Fails
+next_by code limits graph root goals (Wait ids) = Waits (named graph goals 1 ids)
+next_by code limits graph root goals (At id) =
+    moved code limits root goals graph id (move code graph id)
 
 -- ---- a running search
 
@@ -134,9 +134,9 @@ with_found v (Halts stop) = Halts stop
 
 -- what became of a level, with the states that follow its first state before the others
 abbrev pub with_states : List State → LevelEvent → LevelEvent
-with_states front (On values states) = On values (front ++ states)
-with_states front Blocked = Blocked
-with_states front (Halts stop) = Halts stop
+with_states prefix (On values states) = On values (prefix ++ states)
+with_states prefix Blocked = Blocked
+with_states prefix (Halts stop) = Halts stop
 
 -- What becomes of a level whose first state has this outcome, and whose other states come to
 -- `others`. The first state from the left that blocks or stops decides.
@@ -151,10 +151,10 @@ with_outcome (Go states) others = with_states states others
 -- the graph in which the call becomes its value: the constructor of the values of set functions, on
 -- the list of the found values, sorted and without repeats
 abbrev pub delivered : Code → Graph → ℕ → List Value → Graph
-delivered program graph id found = elim program.special.values [
+delivered code graph id found = elim code.special.values [
   | Some c ↦ written graph id (push_value (length graph)
       (value.Constructed c
-      (value.MoreValues (listed program.special.nil program.special.cons (sorted found))
+      (value.MoreValues (listed code.special.nil code.special.cons (sorted found))
       value.NoValue)))
   | None ↦ put graph id stuck
 ]
@@ -172,9 +172,9 @@ after_level limits graph root goals id found (On values states) =
 -- level ends the search
 abbrev pub searched : Code → Limits → Graph → ℕ → List ℕ → ℕ → List Value → States → LevelEvent
     → Next
-searched program limits graph root goals id found NoState inner =
-    unless_one_is_large limits (Branch (delivered program graph id found) root goals Idle ∷ [])
-searched program limits graph root goals id found (MoreStates state states) inner =
+searched code limits graph root goals id found NoState inner =
+    unless_one_is_large limits (Branch (delivered code graph id found) root goals Idle ∷ [])
+searched code limits graph root goals id found (MoreStates state states) inner =
     after_level limits graph root goals id found inner
 
 -- ---- all states
@@ -187,15 +187,15 @@ unless_too_large limits graph next = if is_above limits (length graph) then too_
 -- what becomes of a state in one step
 unfoldable mutual
   pub next : Code → Limits → State → Next
-  next program limits (Branch graph root goals Idle) =
+  next code limits (Branch graph root goals Idle) =
       unless_too_large limits graph
-      (next_by program limits graph root goals (need_all program.special.truth graph root))
-  next program limits (Branch graph root goals (Running id found level)) =
+      (next_by code limits graph root goals (need_all code.special.truth graph root))
+  next code limits (Branch graph root goals (Running id found level)) =
       unless_too_large limits graph
-      (searched program limits graph root goals id found level (stepped program limits level))
+      (searched code limits graph root goals id found level (stepped code limits level))
 
   -- what becomes of an inner level, whose states are each stepped once
   pub stepped : Code → Limits → States → LevelEvent
-  stepped program limits NoState = On [] []
-  stepped program limits (MoreStates state states) =
-      with_outcome (next program limits state) (stepped program limits states)
+  stepped code limits NoState = On [] []
+  stepped code limits (MoreStates state states) =
+      with_outcome (next code limits state) (stepped code limits states)

@@ -13,7 +13,7 @@ use Rattle.cu_calculus.specs.declared.builtin.Primitive.{Primitive}
 use Rattle.cu_calculus.specs.declared.builtin.Primitive.TheVariants as prim
 use Rattle.cu_calculus.specs.declared.builtin.Special.{Special}
 use Rattle.cu_int.specs.Integers.{floor_quotient, floor_rest}
-use Rattle.cu_calculus.specs.Code as code
+use Rattle.cu_calculus.specs.Code as flat
 use Rattle.cu_calculus.specs.Code.{Branch, Code, Shallow, arity_of, expr_of, body_of}
 use Rattle.cu_int.specs.Integers.{is_integer}
 use Rattle.cu_calculus.specs.Literal.{is_scalar, same_literal}
@@ -66,10 +66,10 @@ tells special graph id answer = puts graph id (truth_node special answer)
 
 -- the step of a call: the function's right side is built over it, where the parameters stand for
 -- the arguments
-abbrev pub unfolded : Code → Graph → ℕ → List ℕ → Option code.Body → Move
-unfolded program graph id args (Some (code.Rule params body)) =
-    alone_follows (write program (zip params args) graph id body)
-unfolded program graph id args _ = sticks graph id
+abbrev pub unfolded : Code → Graph → ℕ → List ℕ → Option flat.Body → Move
+unfolded code graph id args (Some (flat.Rule params body)) =
+    alone_follows (write code (zip params args) graph id body)
+unfolded code graph id args _ = sticks graph id
 
 -- ---- choices
 
@@ -83,13 +83,13 @@ chosen graph id _ = sticks graph id
 
 -- whether a branch is for this literal
 abbrev pub takes_literal : Lit → Shallow → Bool
-takes_literal l (code.Exactly m) = same_literal l m
-takes_literal l (code.Built c xs) = false
+takes_literal l (flat.Exactly m) = same_literal l m
+takes_literal l (flat.Built c xs) = false
 
 -- whether a branch is for this constructor
 abbrev pub takes_constructor : ConId → Shallow → Bool
-takes_constructor c (code.Exactly l) = false
-takes_constructor c (code.Built d xs) = same_constructor c d
+takes_constructor c (flat.Exactly l) = false
+takes_constructor c (flat.Built d xs) = same_constructor c d
 
 -- the first branch whose pattern passes a test
 abbrev pub branch_for : (Shallow → Bool) → List Branch → Option Branch
@@ -100,15 +100,15 @@ branch_for test (branch ∷ branches) = if test branch.pattern then Some branch
 -- the step into a branch, if there is one: its body is built over the case distinction, where the
 -- pattern's variables stand for the arguments
 abbrev pub takes_branch : Code → Scope → Graph → ℕ → List ℕ → Option Branch → Move
-takes_branch program scope graph id args None = fails graph id
-takes_branch program scope graph id args (Some branch) =
-    alone_follows (write program (scope ++ zip (bound_by branch.pattern) args) graph id branch.body)
+takes_branch code scope graph id args None = fails graph id
+takes_branch code scope graph id args (Some branch) =
+    alone_follows (write code (scope ++ zip (bound_by branch.pattern) args) graph id branch.body)
 
 -- a graph in which a free variable becomes what a pattern asks for: a literal, or a constructor
 -- over new free variables
 abbrev pub bound_to : Graph → ℕ → Shallow → Graph
-bound_to graph v (code.Exactly l) = put graph v (alone (kind.Lit l))
-bound_to graph v (code.Built c xs) =
+bound_to graph v (flat.Exactly l) = put graph v (alone (kind.Lit l))
+bound_to graph v (flat.Built c xs) =
     put (graph ++ free_nodes (length xs)) v
     (record { kind = kind.Cons c; args = numbers (length graph) (length xs) })
 
@@ -119,37 +119,37 @@ narrows graph v branches = Become (map (λ branch. bound_to graph v branch.patte
 -- The step of a case distinction, by the head of its scrutinee. On a free variable the distinction
 -- is a flexible one, since a rigid one waits there.
 abbrev pub distinguished : Code → Scope → Graph → ℕ → List Branch → ℕ → Kind → List ℕ → Move
-distinguished program scope graph id branches v (kind.Lit l) args =
-    takes_branch program scope graph id [] (branch_for (takes_literal l) branches)
-distinguished program scope graph id branches v (kind.Cons c) args =
-    takes_branch program scope graph id args (branch_for (takes_constructor c) branches)
-distinguished program scope graph id branches v (kind.Part h) args = fails graph id
-distinguished program scope graph id branches v kind.Free args = narrows graph v branches
-distinguished program scope graph id branches v _ _ = sticks graph id
+distinguished code scope graph id branches v (kind.Lit l) args =
+    takes_branch code scope graph id [] (branch_for (takes_literal l) branches)
+distinguished code scope graph id branches v (kind.Cons c) args =
+    takes_branch code scope graph id args (branch_for (takes_constructor c) branches)
+distinguished code scope graph id branches v (kind.Part h) args = fails graph id
+distinguished code scope graph id branches v kind.Free args = narrows graph v branches
+distinguished code scope graph id branches v _ _ = sticks graph id
 
 -- the step of a case distinction of the code, over the values that its node keeps
-abbrev pub case_of : Code → Graph → ℕ → ℕ → List ℕ → Option code.Expr → Move
-case_of program graph id scrutinee values (Some (code.Case mode variables e branches)) =
-    distinguished program (zip variables values) graph id branches (head_of graph scrutinee)
+abbrev pub case_of : Code → Graph → ℕ → ℕ → List ℕ → Option flat.Expr → Move
+case_of code graph id scrutinee values (Some (flat.Case mode variables e branches)) =
+    distinguished code (zip variables values) graph id branches (head_of graph scrutinee)
     (head_at graph scrutinee).kind
     (head_at graph scrutinee).args
-case_of program graph id scrutinee values _ = sticks graph id
+case_of code graph id scrutinee values _ = sticks graph id
 
 -- ---- applications
 
 -- what a partial application becomes with these arguments: a partial application still, or a whole
 -- call
 abbrev pub extended : Code → Head → List ℕ → Option ℕ → Node
-extended program h args None = alone kind.Stuck
-extended program h args (Some arity) =
+extended code h args None = alone kind.Stuck
+extended code h args (Some arity) =
     if nat_lt (length args) arity then record { kind = kind.Part h; args = args }
-    else record { kind = kind_of_whole program h; args = args }
+    else record { kind = kind_of_whole code h; args = args }
 
 -- the step of an application, by the head of what is applied: only a partial application is
 abbrev pub applied : Code → Graph → ℕ → ℕ → Kind → List ℕ → Move
-applied program graph id argument (kind.Part h) args =
-    puts graph id (extended program h (args ++ argument ∷ []) (arity_of program h))
-applied program graph id argument _ _ = fails graph id
+applied code graph id argument (kind.Part h) args =
+    puts graph id (extended code h (args ++ argument ∷ []) (arity_of code h))
+applied code graph id argument _ _ = fails graph id
 
 -- ---- numbers and characters
 
@@ -331,18 +331,18 @@ operated special graph id operation args =
 
 -- what becomes of a graph where the node `id`, of this kind and with these arguments, is rewritten
 abbrev pub rewritten : Code → Graph → ℕ → Kind → List ℕ → Move
-rewritten program graph id (kind.Call f) args = unfolded program graph id args (body_of program f)
-rewritten program graph id kind.Or args = chosen graph id args
-rewritten program graph id (kind.Case mode e) (scrutinee ∷ values) =
-    case_of program graph id scrutinee values (expr_of program (record { 0 = e }))
-rewritten program graph id kind.Apply (function ∷ argument ∷ []) =
-    applied program graph id argument (head_at graph function).kind (head_at graph function).args
-rewritten program graph id (kind.Prim operation) args =
-    operated program.special graph id operation args
-rewritten program graph id (kind.SetCall f) args =
+rewritten code graph id (kind.Call f) args = unfolded code graph id args (body_of code f)
+rewritten code graph id kind.Or args = chosen graph id args
+rewritten code graph id (kind.Case mode e) (scrutinee ∷ values) =
+    case_of code graph id scrutinee values (expr_of code (record { 0 = e }))
+rewritten code graph id kind.Apply (function ∷ argument ∷ []) =
+    applied code graph id argument (head_at graph function).kind (head_at graph function).args
+rewritten code graph id (kind.Prim operation) args =
+    operated code.special graph id operation args
+rewritten code graph id (kind.SetCall f) args =
     collects graph id f (values_of (map (spelled graph) args))
-rewritten program graph id _ _ = sticks graph id
+rewritten code graph id _ _ = sticks graph id
 
 -- what becomes of a graph where the node `id` is rewritten
 abbrev pub move : Code → Graph → ℕ → Move
-move program graph id = rewritten program graph id (node_at graph id).kind (node_at graph id).args
+move code graph id = rewritten code graph id (node_at graph id).kind (node_at graph id).args

@@ -13,27 +13,27 @@ only_state _ = None
 
 -- what becomes of a state in one step and at most so many more
 unfoldable pub run_on : ℕ → Code → Limits → State → Next
-run_on zero program limits state = next program limits state
-run_on (suc more) program limits state =
-    elim (only_state (next program limits state)) [
-      | Some after ↦ run_on more program limits after
-      | None ↦ next program limits state
+run_on zero code limits state = next code limits state
+run_on (suc more) code limits state =
+    elim (only_state (next code limits state)) [
+      | Some after ↦ run_on more code limits after
+      | None ↦ next code limits state
     ]
 
 -- what becomes of a state in at most so many steps, one or more
 abbrev pub run : ℕ → Code → Limits → State → Next
-run steps program limits state = run_on (steps - 1) program limits state
+run steps code limits state = run_on (steps - 1) code limits state
 
 -- the state that one reaches in at most so many steps while exactly one state follows
 unfoldable pub reached_on : ℕ → Code → Limits → State → State
-reached_on zero program limits state = state
-reached_on (suc more) program limits state =
-    elim (only_state (next program limits state))
-    [ Some after ↦ reached_on more program limits after | None ↦ state ]
+reached_on zero code limits state = state
+reached_on (suc more) code limits state =
+    elim (only_state (next code limits state))
+    [ Some after ↦ reached_on more code limits after | None ↦ state ]
 
 -- the state that a run of so many steps reaches; its own next step is the run's outcome
 abbrev pub reached : ℕ → Code → Limits → State → State
-reached steps program limits state = reached_on (steps - 1) program limits state
+reached steps code limits state = reached_on (steps - 1) code limits state
 
 -- the answer that a state is read as
 abbrev pub reading_at : State → Reading

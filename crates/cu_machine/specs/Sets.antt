@@ -3,7 +3,7 @@ use Rattle.std.specs.Prelude.{ℕ, Bool, true, false, not, List, IsTrue}
 use Rattle.std.specs.List.{list_all}
 use Rattle.cu_calculus.specs.declared.Head.{Head}
 use Rattle.cu_calculus.specs.declared.Head.TheVariants as head
-use Rattle.cu_calculus.specs.Code as code
+use Rattle.cu_calculus.specs.Code as flat
 use Rattle.cu_calculus.specs.Code.{Code}
 use Rattle.cu_machine.specs.declared.Kind.{Kind}
 use Rattle.cu_machine.specs.declared.Kind.TheVariants as kind
@@ -16,14 +16,14 @@ is_set_head (head.Set f) = true
 is_set_head _ = false
 
 -- whether an expression has a set function at its head
-abbrev pub has_set_head : code.Expr → Bool
-has_set_head (code.Whole h es) = is_set_head h
-has_set_head (code.Part h es) = is_set_head h
+abbrev pub has_set_head : flat.Expr → Bool
+has_set_head (flat.Whole h es) = is_set_head h
+has_set_head (flat.Part h es) = is_set_head h
 has_set_head _ = false
 
 -- whether no expression of the code has a set function at its head
 abbrev pub code_is_without_sets : Code → Bool
-code_is_without_sets program = list_all (λ expr. not (has_set_head expr)) program.expressions
+code_is_without_sets code = list_all (λ expr. not (has_set_head expr)) code.expressions
 
 -- whether a node of this kind is a set function's call or its partial application
 abbrev pub is_set_kind : Kind → Bool

@@ -48,9 +48,9 @@ free_nodes (suc n) = alone kind.Free ∷ free_nodes n
 
 -- the state of a goal with n variables: a free variable for each, and the call of the goal on them
 abbrev pub start_on : Code → FunId → ℕ → State
-start_on program goal variables =
+start_on code goal variables =
     Branch (free_nodes variables ++ record {
-      kind = kind_of_call goal (body_of program goal);
+      kind = kind_of_call goal (body_of code goal);
       args = numbers 0 variables;
     } ∷ [])
     variables (numbers 0 variables) Idle
@@ -58,13 +58,13 @@ start_on program goal variables =
 -- the state in which the search for a goal begins: a free variable for each of its parameters, and
 -- the call of the goal on them
 abbrev pub start_of : Code → FunId → State
-start_of program goal =
-    start_on program goal (elim (function_arity program goal) [ Some n ↦ n | None ↦ 0 ])
+start_of code goal =
+    start_on code goal (elim (function_arity code goal) [ Some n ↦ n | None ↦ 0 ])
 
 -- the state in which an inner search begins: the nodes of the arguments, and the call of the
 -- function on them
 abbrev pub call_on : Code → FunId → Values → State
-call_on program f arguments =
+call_on code f arguments =
     let pushed = push_values 0 arguments in
-    Branch (pushed.nodes ++ record { kind = kind_of_call f (body_of program f); args = pushed.ids }
+    Branch (pushed.nodes ++ record { kind = kind_of_call f (body_of code f); args = pushed.ids }
     ∷ []) (length pushed.nodes) [] Idle

@@ -15,7 +15,7 @@ use Rattle.cu_calculus.specs.declared.Mode.TheVariants.{Flex}
 use Rattle.cu_calculus.specs.declared.builtin.Primitive.{Primitive}
 use Rattle.cu_calculus.specs.declared.builtin.Primitive.TheVariants as prim
 use Rattle.cu_int.specs.Integers.{floor_quotient, floor_rest}
-use Rattle.cu_calculus.specs.Code as code
+use Rattle.cu_calculus.specs.Code as flat
 use Rattle.cu_calculus.specs.Code.{Branch, Code, arity_of, body_of, expr_of}
 use Rattle.cu_int.specs.Integers.{is_integer}
 use Rattle.cu_calculus.specs.Literal.{is_scalar, same_literal}
@@ -44,20 +44,20 @@ failing graph id = put graph id (alone kind.Fail)
 
 -- the graph in which the node `id` becomes True or False
 abbrev pub telling : Code → Graph → ℕ → Bool → Graph
-telling program graph id answer = put graph id (truth_node program.special answer)
+telling code graph id answer = put graph id (truth_node code.special answer)
 
 -- ---- premises
 
 -- The node `id` is a case distinction of this mode over this scrutinee, whose code has these
 -- branches, and this is the scope that it keeps.
-pub record CaseAt (program : Code) (graph : Graph) (id : ℕ) (mode : Mode) (scrutinee : ℕ)
+pub record CaseAt (code : Code) (graph : Graph) (id : ℕ) (mode : Mode) (scrutinee : ℕ)
     (scope : Scope) (branches : List Branch) : Type 0 where
   pub number : ℕ
   pub inner : ExprId
   pub kept : List ℕ
   pub values : List ℕ
   pub node_is : node_at graph id ≡ node (kind.Case mode number) (scrutinee ∷ values)
-  pub code_is : expr_of program (record { 0 = number }) ≡ Some (code.Case mode kept inner branches)
+  pub code_is : expr_of code (record { 0 = number }) ≡ Some (flat.Case mode kept inner branches)
   pub scope_is : scope ≡ zip kept values
 
 -- whether a node of this kind is a partial application
@@ -137,210 +137,210 @@ imitating graph v c n =
 -- ---- rows
 
 -- By a row of the step table the graph `after` follows where the node `id` is rewritten.
-pub data Steps (program : Code) (graph : Graph) (id : ℕ) (after : Graph) : Type 0 where
+pub data Steps (code : Code) (graph : Graph) (id : ℕ) (after : Graph) : Type 0 where
   -- A call becomes the function's right side.
   call : (f : FunId) (args params : List ℕ) (body : ExprId)
       → node_at graph id ≡ node (kind.Call f) args
-      → body_of program f ≡ Some (code.Rule params body)
-      → after ≡ write program (zip params args) graph id body → Steps program graph id after
+      → body_of code f ≡ Some (flat.Rule params body)
+      → after ≡ write code (zip params args) graph id body → Steps code graph id after
   -- A choice becomes its left argument, or its right one.
   left : (one two : ℕ) → node_at graph id ≡ node kind.Or (one ∷ two ∷ [])
-      → after ≡ put graph id (renaming one) → Steps program graph id after
+      → after ≡ put graph id (renaming one) → Steps code graph id after
   right : (one two : ℕ) → node_at graph id ≡ node kind.Or (one ∷ two ∷ [])
-      → after ≡ put graph id (renaming two) → Steps program graph id after
+      → after ≡ put graph id (renaming two) → Steps code graph id after
   -- A case distinction on a literal, a constructor or a partial application becomes the branch that
   -- matches, or fails.
   literal_branch : (mode : Mode) (scrutinee : ℕ) (scope : Scope) (branches : List Branch) (l : Lit)
       (args : List ℕ) (branch : Branch)
-      → CaseAt program graph id mode scrutinee scope branches
+      → CaseAt code graph id mode scrutinee scope branches
       → head_at graph scrutinee ≡ node (kind.Lit l) args
       → branch_for (takes_literal l) branches ≡ Some branch
-      → after ≡ write program (scope ++ zip (bound_by branch.pattern) []) graph id branch.body
-      → Steps program graph id after
+      → after ≡ write code (scope ++ zip (bound_by branch.pattern) []) graph id branch.body
+      → Steps code graph id after
   constructor_branch : (mode : Mode) (scrutinee : ℕ) (scope : Scope) (branches : List Branch)
       (c : ConId) (args : List ℕ) (branch : Branch)
-      → CaseAt program graph id mode scrutinee scope branches
+      → CaseAt code graph id mode scrutinee scope branches
       → head_at graph scrutinee ≡ node (kind.Cons c) args
       → branch_for (takes_constructor c) branches ≡ Some branch
-      → after ≡ write program (scope ++ zip (bound_by branch.pattern) args) graph id branch.body
-      → Steps program graph id after
+      → after ≡ write code (scope ++ zip (bound_by branch.pattern) args) graph id branch.body
+      → Steps code graph id after
   no_literal_branch : (mode : Mode) (scrutinee : ℕ) (scope : Scope) (branches : List Branch)
       (l : Lit) (args : List ℕ)
-      → CaseAt program graph id mode scrutinee scope branches
+      → CaseAt code graph id mode scrutinee scope branches
       → head_at graph scrutinee ≡ node (kind.Lit l) args
       → branch_for (takes_literal l) branches ≡ None
-      → after ≡ failing graph id → Steps program graph id after
+      → after ≡ failing graph id → Steps code graph id after
   no_constructor_branch : (mode : Mode) (scrutinee : ℕ) (scope : Scope) (branches : List Branch)
       (c : ConId) (args : List ℕ)
-      → CaseAt program graph id mode scrutinee scope branches
+      → CaseAt code graph id mode scrutinee scope branches
       → head_at graph scrutinee ≡ node (kind.Cons c) args
       → branch_for (takes_constructor c) branches ≡ None
-      → after ≡ failing graph id → Steps program graph id after
+      → after ≡ failing graph id → Steps code graph id after
   no_partial_branch : (mode : Mode) (scrutinee : ℕ) (scope : Scope) (branches : List Branch)
       (h : Head) (args : List ℕ)
-      → CaseAt program graph id mode scrutinee scope branches
+      → CaseAt code graph id mode scrutinee scope branches
       → head_at graph scrutinee ≡ node (kind.Part h) args → after ≡ failing graph id
-      → Steps program graph id after
+      → Steps code graph id after
   -- The free variable on which a flexible case distinction looks becomes what one of the branches
   -- asks for.
   narrowing : (scrutinee : ℕ) (scope : Scope) (branches : List Branch) (args : List ℕ)
       (branch : Branch)
-      → CaseAt program graph id Flex scrutinee scope branches
+      → CaseAt code graph id Flex scrutinee scope branches
       → head_at graph scrutinee ≡ node kind.Free args → Among branch branches
       → after ≡ bound_to graph (head_of graph scrutinee) branch.pattern
-      → Steps program graph id after
+      → Steps code graph id after
   -- An application of a partial application is partial still, or becomes a whole call; an
   -- application of anything else fails.
   still_partial : (function argument : ℕ) (h : Head) (args : List ℕ) (arity : ℕ)
       → node_at graph id ≡ node kind.Apply (function ∷ argument ∷ [])
-      → head_at graph function ≡ node (kind.Part h) args → arity_of program h ≡ Some arity
+      → head_at graph function ≡ node (kind.Part h) args → arity_of code h ≡ Some arity
       → length (args ++ argument ∷ []) < arity
       → after ≡ put graph id (node (kind.Part h) (args ++ argument ∷ []))
-      → Steps program graph id after
+      → Steps code graph id after
   whole : (function argument : ℕ) (h : Head) (args : List ℕ)
       → node_at graph id ≡ node kind.Apply (function ∷ argument ∷ [])
       → head_at graph function ≡ node (kind.Part h) args
-      → arity_of program h ≡ Some (length (args ++ argument ∷ []))
-      → after ≡ put graph id (node (kind_of_whole program h) (args ++ argument ∷ []))
-      → Steps program graph id after
+      → arity_of code h ≡ Some (length (args ++ argument ∷ []))
+      → after ≡ put graph id (node (kind_of_whole code h) (args ++ argument ∷ []))
+      → Steps code graph id after
   not_applicable : (function argument : ℕ) → node_at graph id
       ≡ node kind.Apply (function ∷ argument ∷ [])
       → IsFalse (is_partial (head_at graph function).kind) → after ≡ failing graph id
-      → Steps program graph id after
+      → Steps code graph id after
   -- An operation on integers becomes its result, if that is an integer of the language, or what a
   -- comparison answers; a division by 0 fails.
   number : (operation : Primitive) (args : List ℕ) (m n result : ℤ)
       → node_at graph id ≡ node (kind.Prim operation) args
       → kinds_of graph args ≡ kind.Lit (Int m) ∷ kind.Lit (Int n) ∷ []
       → number_of operation m n ≡ Some result → IsTrue (is_integer result)
-      → after ≡ put graph id (alone (kind.Lit (Int result))) → Steps program graph id after
+      → after ≡ put graph id (alone (kind.Lit (Int result))) → Steps code graph id after
   test : (operation : Primitive) (args : List ℕ) (m n : ℤ) (answer : Bool)
       → node_at graph id ≡ node (kind.Prim operation) args
       → kinds_of graph args ≡ kind.Lit (Int m) ∷ kind.Lit (Int n) ∷ []
       → test_of operation m n ≡ Some answer
-      → after ≡ telling program graph id answer → Steps program graph id after
+      → after ≡ telling code graph id answer → Steps code graph id after
   division_by_zero : (operation : Primitive) (args : List ℕ) (m n : ℤ)
       → node_at graph id ≡ node (kind.Prim operation) args
       → kinds_of graph args ≡ kind.Lit (Int m) ∷ kind.Lit (Int n) ∷ [] → IsTrue (divides operation)
       → IsTrue (int_eq n (pos 0))
-      → after ≡ failing graph id → Steps program graph id after
+      → after ≡ failing graph id → Steps code graph id after
   -- A character becomes its number, and a number becomes its character or fails.
   code_point : (args : List ℕ) (c : ℕ) → node_at graph id ≡ node (kind.Prim prim.Ord) args
       → kinds_of graph args ≡ kind.Lit (Char c) ∷ []
-      → after ≡ put graph id (alone (kind.Lit (Int (pos c)))) → Steps program graph id after
+      → after ≡ put graph id (alone (kind.Lit (Int (pos c)))) → Steps code graph id after
   character : (args : List ℕ) (c : ℕ) → node_at graph id ≡ node (kind.Prim prim.Chr) args
       → kinds_of graph args ≡ kind.Lit (Int (pos c)) ∷ []
       → IsTrue (is_scalar c) → after ≡ put graph id (alone (kind.Lit (Char c)))
-      → Steps program graph id after
+      → Steps code graph id after
   no_character : (args : List ℕ) (n : ℤ) → node_at graph id ≡ node (kind.Prim prim.Chr) args
       → kinds_of graph args ≡ kind.Lit (Int n) ∷ []
       → ((c : ℕ) → n ≡ pos c → IsFalse (is_scalar c)) → after ≡ failing graph id
-      → Steps program graph id after
+      → Steps code graph id after
   -- An operation on arguments that aren't literals of its types fails.
   no_operands : (operation : Primitive) (args : List ℕ)
       → node_at graph id ≡ node (kind.Prim operation) args → IsTrue (is_on_literals operation)
       → IsFalse (are_operands operation (kinds_of graph args)) → after ≡ failing graph id
-      → Steps program graph id after
+      → Steps code graph id after
   -- `==` compares two literals, a literal and a constructor, or two constructors; with a partial
   -- application it fails.
   compared_literals : (a b : ℕ) (l m : Lit) (us vs : List ℕ)
       → node_at graph id ≡ node (kind.Prim prim.Equal) (a ∷ b ∷ [])
       → head_at graph a ≡ node (kind.Lit l) us → head_at graph b ≡ node (kind.Lit m) vs
-      → after ≡ telling program graph id (same_literal l m)
-      → Steps program graph id after
+      → after ≡ telling code graph id (same_literal l m)
+      → Steps code graph id after
   compared_mixed : (a b : ℕ) → node_at graph id ≡ node (kind.Prim prim.Equal) (a ∷ b ∷ [])
       → IsTrue (are_mixed (head_at graph a).kind (head_at graph b).kind)
-      → after ≡ telling program graph id false → Steps program graph id after
+      → after ≡ telling code graph id false → Steps code graph id after
   compared_unlike : (a b : ℕ) (c d : ConId) (us vs : List ℕ)
       → node_at graph id ≡ node (kind.Prim prim.Equal) (a ∷ b ∷ [])
       → head_at graph a ≡ node (kind.Cons c) us → head_at graph b ≡ node (kind.Cons d) vs
       → IsFalse (same_constructor c d)
-      → after ≡ telling program graph id false → Steps program graph id after
+      → after ≡ telling code graph id false → Steps code graph id after
   compared_alike : (a b : ℕ) (c d : ConId) (us vs : List ℕ)
       → node_at graph id ≡ node (kind.Prim prim.Equal) (a ∷ b ∷ [])
       → head_at graph a ≡ node (kind.Cons c) us → head_at graph b ≡ node (kind.Cons d) vs
       → IsTrue (same_constructor c d)
-      → compared_in_pairs program.special graph id (zip us vs) ≡ alone_follows after
-      → Steps program graph id after
+      → compared_in_pairs code.special graph id (zip us vs) ≡ alone_follows after
+      → Steps code graph id after
   compared_partial : (a b : ℕ) → node_at graph id ≡ node (kind.Prim prim.Equal) (a ∷ b ∷ [])
       → IsTrue (is_partial (head_at graph a).kind || is_partial (head_at graph b).kind)
-      → after ≡ failing graph id → Steps program graph id after
+      → after ≡ failing graph id → Steps code graph id after
   -- `&` becomes True where both sides are True, and fails otherwise.
   both_true : (a b : ℕ) → node_at graph id ≡ node (kind.Prim prim.And) (a ∷ b ∷ [])
-      → IsTrue (is_true program.special (head_at graph a).kind
-      && is_true program.special (head_at graph b).kind) → after ≡ telling program graph id true
-      → Steps program graph id after
+      → IsTrue (is_true code.special (head_at graph a).kind
+      && is_true code.special (head_at graph b).kind) → after ≡ telling code graph id true
+      → Steps code graph id after
   not_both_true : (a b : ℕ) → node_at graph id ≡ node (kind.Prim prim.And) (a ∷ b ∷ [])
-      → IsFalse (is_true program.special (head_at graph a).kind
-      && is_true program.special (head_at graph b).kind) → after ≡ failing graph id
-      → Steps program graph id after
+      → IsFalse (is_true code.special (head_at graph a).kind
+      && is_true code.special (head_at graph b).kind) → after ≡ failing graph id
+      → Steps code graph id after
   -- An equation of a free variable with itself holds; an equation with another one makes it an Ind
   -- of that.
   same_variable : (a b : ℕ) (us vs : List ℕ) → node_at graph id
       ≡ node (kind.Prim prim.Unify) (a ∷ b ∷ []) → head_at graph a ≡ node kind.Free us
       → head_at graph b ≡ node kind.Free vs → head_of graph a ≡ head_of graph b
-      → after ≡ telling program graph id true → Steps program graph id after
+      → after ≡ telling code graph id true → Steps code graph id after
   two_variables : (a b : ℕ) (us vs : List ℕ) → node_at graph id
       ≡ node (kind.Prim prim.Unify) (a ∷ b ∷ []) → head_at graph a ≡ node kind.Free us
       → head_at graph b ≡ node kind.Free vs → head_of graph a ≢ head_of graph b
-      → after ≡ telling program (put graph (head_of graph a) (renaming (head_of graph b))) id true
-      → Steps program graph id after
+      → after ≡ telling code (put graph (head_of graph a) (renaming (head_of graph b))) id true
+      → Steps code graph id after
   -- An equation of a free variable with a literal or a constructor makes the variable that literal
   -- or constructor; with arguments, these are equated with new free variables, and it fails if the
   -- variable is reached from them.
   bound_to_literal : (a b v other : ℕ) (l : Lit) (args : List ℕ)
       → node_at graph id ≡ node (kind.Prim prim.Unify) (a ∷ b ∷ [])
       → FreeBeside graph a b v other (kind.Lit l) args
-      → after ≡ telling program (put graph v (renaming other)) id true
-      → Steps program graph id after
+      → after ≡ telling code (put graph v (renaming other)) id true
+      → Steps code graph id after
   bound_to_constant : (a b v other : ℕ) (c : ConId)
       → node_at graph id ≡ node (kind.Prim prim.Unify) (a ∷ b ∷ [])
       → FreeBeside graph a b v other (kind.Cons c) []
-      → after ≡ telling program (put graph v (renaming other)) id true
-      → Steps program graph id after
+      → after ≡ telling code (put graph v (renaming other)) id true
+      → Steps code graph id after
   occurs : (a b v other : ℕ) (c : ConId) (arg : ℕ) (args : List ℕ)
       → node_at graph id ≡ node (kind.Prim prim.Unify) (a ∷ b ∷ [])
       → FreeBeside graph a b v other (kind.Cons c) (arg ∷ args)
       → IsTrue (occurs_in graph v (arg ∷ args)) → after ≡ failing graph id
-      → Steps program graph id after
+      → Steps code graph id after
   imitation : (a b v other : ℕ) (c : ConId) (arg : ℕ) (args : List ℕ)
       → node_at graph id ≡ node (kind.Prim prim.Unify) (a ∷ b ∷ [])
       → FreeBeside graph a b v other (kind.Cons c) (arg ∷ args)
       → IsFalse (occurs_in graph v (arg ∷ args))
-      → equated_in_pairs program.special (imitating graph v c (length args + 1)) id
+      → equated_in_pairs code.special (imitating graph v c (length args + 1)) id
       (zip (numbers (length graph) (length args + 1)) (arg ∷ args)) ≡ alone_follows after
-      → Steps program graph id after
+      → Steps code graph id after
   -- An equation of two literals holds or fails; one of two like constructors becomes equations of
   -- their arguments; one of unlike constructors, of a literal and a constructor, or with a partial
   -- application fails.
   equal_literals : (a b : ℕ) (l m : Lit) (us vs : List ℕ)
       → node_at graph id ≡ node (kind.Prim prim.Unify) (a ∷ b ∷ [])
       → head_at graph a ≡ node (kind.Lit l) us → head_at graph b ≡ node (kind.Lit m) vs
-      → IsTrue (same_literal l m) → after ≡ telling program graph id true
-      → Steps program graph id after
+      → IsTrue (same_literal l m) → after ≡ telling code graph id true
+      → Steps code graph id after
   unlike_literals : (a b : ℕ) (l m : Lit) (us vs : List ℕ)
       → node_at graph id ≡ node (kind.Prim prim.Unify) (a ∷ b ∷ [])
       → head_at graph a ≡ node (kind.Lit l) us → head_at graph b ≡ node (kind.Lit m) vs
       → IsFalse (same_literal l m) → after ≡ failing graph id
-      → Steps program graph id after
+      → Steps code graph id after
   decomposition : (a b : ℕ) (c d : ConId) (us vs : List ℕ)
       → node_at graph id ≡ node (kind.Prim prim.Unify) (a ∷ b ∷ [])
       → head_at graph a ≡ node (kind.Cons c) us → head_at graph b ≡ node (kind.Cons d) vs
       → IsTrue (same_constructor c d)
-      → equated_in_pairs program.special graph id (zip us vs) ≡ alone_follows after
-      → Steps program graph id after
+      → equated_in_pairs code.special graph id (zip us vs) ≡ alone_follows after
+      → Steps code graph id after
   clash : (a b : ℕ) (c d : ConId) (us vs : List ℕ)
       → node_at graph id ≡ node (kind.Prim prim.Unify) (a ∷ b ∷ [])
       → head_at graph a ≡ node (kind.Cons c) us → head_at graph b ≡ node (kind.Cons d) vs
       → IsFalse (same_constructor c d) → after ≡ failing graph id
-      → Steps program graph id after
+      → Steps code graph id after
   mixed : (a b : ℕ) → node_at graph id ≡ node (kind.Prim prim.Unify) (a ∷ b ∷ [])
       → IsTrue (are_mixed (head_at graph a).kind (head_at graph b).kind)
-      → after ≡ failing graph id → Steps program graph id after
+      → after ≡ failing graph id → Steps code graph id after
   with_partial : (a b : ℕ) → node_at graph id ≡ node (kind.Prim prim.Unify) (a ∷ b ∷ [])
       → IsTrue (is_partial (head_at graph a).kind || is_partial (head_at graph b).kind)
-      → after ≡ failing graph id → Steps program graph id after
+      → after ≡ failing graph id → Steps code graph id after
   -- A set function's call with a partial application in an argument becomes stuck.
   set_of_partial : (f : FunId) (args : List ℕ) → node_at graph id ≡ node (kind.SetCall f) args
       → IsFalse (are_data (values_of (map (spelled graph) args)))
-      → after ≡ put graph id (alone kind.Stuck) → Steps program graph id after
+      → after ≡ put graph id (alone kind.Stuck) → Steps code graph id after

@@ -6,7 +6,7 @@ use Rattle.cu_calculus.specs.declared.Head.TheVariants as head
 use Rattle.cu_calculus.specs.declared.Mode.{Mode}
 use Rattle.cu_calculus.specs.declared.builtin.Primitive.{Primitive}
 use Rattle.cu_calculus.specs.declared.builtin.Primitive.TheVariants as prim
-use Rattle.cu_calculus.specs.Code as code
+use Rattle.cu_calculus.specs.Code as flat
 use Rattle.cu_calculus.specs.Code.{Code, arity_of, body_of, expr_of}
 use Rattle.cu_calculus.specs.Literal.{is_literal}
 use Rattle.cu_calculus.specs.Shape.{takes, takes_more}
@@ -22,8 +22,8 @@ use Rattle.cu_machine.specs.State.{Branch, Idle, MoreStates, NoState, Running, S
 -- ---- nodes
 
 -- whether a function has rules and takes n arguments
-abbrev pub is_call : Option ℕ → Option code.Body → ℕ → Bool
-is_call arity (Some (code.Rule params body)) n = takes arity n
+abbrev pub is_call : Option ℕ → Option flat.Body → ℕ → Bool
+is_call arity (Some (flat.Rule params body)) n = takes arity n
 is_call arity _ n = false
 
 -- whether an operation takes n arguments; `failed` has no node of this kind
@@ -33,28 +33,28 @@ is_operation operation n = nat_eq (external_arity operation) n
 
 -- whether an expression is a case distinction of this mode, whose node has n arguments: a
 -- scrutinee, and a value for each variable that it keeps
-abbrev pub is_case : Mode → Option code.Expr → ℕ → Bool
-is_case mode (Some (code.Case other variables e branches)) n =
+abbrev pub is_case : Mode → Option flat.Expr → ℕ → Bool
+is_case mode (Some (flat.Case other variables e branches)) n =
     same_mode mode other && nat_eq n (suc (length variables))
 is_case mode _ n = false
 
 -- whether a node of this kind has n arguments
 abbrev pub has_arguments : Code → Kind → ℕ → Bool
-has_arguments program (kind.Cons c) n = takes (arity_of program (head.Con c)) n
-has_arguments program (kind.Lit l) n = is_literal l && nat_eq n 0
-has_arguments program (kind.Part h) n = is_allowed program h && takes_more (arity_of program h) n
-has_arguments program kind.Free n = nat_eq n 0
-has_arguments program (kind.Call f) n =
-    is_call (arity_of program (head.Fun f)) (body_of program f) n
-has_arguments program (kind.Prim operation) n = is_operation operation n
-has_arguments program kind.Apply n = nat_eq n 2
-has_arguments program (kind.Case mode e) n = is_case mode (expr_of program (record { 0 = e })) n
-has_arguments program kind.Or n = nat_eq n 2
-has_arguments program kind.Ind n = nat_eq n 1
-has_arguments program (kind.SetCall f) n =
-    is_allowed program (head.Set f) && takes (arity_of program (head.Set f)) n
-has_arguments program kind.Fail n = nat_eq n 0
-has_arguments program kind.Stuck n = nat_eq n 0
+has_arguments code (kind.Cons c) n = takes (arity_of code (head.Con c)) n
+has_arguments code (kind.Lit l) n = is_literal l && nat_eq n 0
+has_arguments code (kind.Part h) n = is_allowed code h && takes_more (arity_of code h) n
+has_arguments code kind.Free n = nat_eq n 0
+has_arguments code (kind.Call f) n =
+    is_call (arity_of code (head.Fun f)) (body_of code f) n
+has_arguments code (kind.Prim operation) n = is_operation operation n
+has_arguments code kind.Apply n = nat_eq n 2
+has_arguments code (kind.Case mode e) n = is_case mode (expr_of code (record { 0 = e })) n
+has_arguments code kind.Or n = nat_eq n 2
+has_arguments code kind.Ind n = nat_eq n 1
+has_arguments code (kind.SetCall f) n =
+    is_allowed code (head.Set f) && takes (arity_of code (head.Set f)) n
+has_arguments code kind.Fail n = nat_eq n 0
+has_arguments code kind.Stuck n = nat_eq n 0
 
 -- whether all of these are indices of nodes, in a graph of n nodes
 abbrev pub are_places : ℕ → List ℕ → Bool
@@ -62,8 +62,8 @@ are_places n ids = list_all (λ id. nat_lt id n) ids
 
 -- Every node of a graph has as many arguments as its kind takes in the program.
 abbrev pub NodesFit : Code → Graph → Type 0
-NodesFit program graph = (id : ℕ) → id < length graph
-    → IsTrue (has_arguments program (node_at graph id).kind (length (node_at graph id).args))
+NodesFit code graph = (id : ℕ) → id < length graph
+    → IsTrue (has_arguments code (node_at graph id).kind (length (node_at graph id).args))
 
 -- The arguments of every node are nodes of the graph.
 abbrev pub ArgumentsThere : Graph → Type 0
@@ -113,17 +113,17 @@ mutual
 -- whether a value is ground data, whose constructors are the code's and have all their arguments
 abbrev mutual
   pub is_built : Code → Value → Bool
-  is_built program value.Bottom = false
-  is_built program (value.Variable x) = false
-  is_built program (value.Literal l) = is_literal l
-  is_built program (value.Constructed c vs) =
-      takes (arity_of program (head.Con c)) (count vs) && are_built program vs
-  is_built program (value.Partial h vs) = false
+  is_built code value.Bottom = false
+  is_built code (value.Variable x) = false
+  is_built code (value.Literal l) = is_literal l
+  is_built code (value.Constructed c vs) =
+      takes (arity_of code (head.Con c)) (count vs) && are_built code vs
+  is_built code (value.Partial h vs) = false
 
   -- whether several values are ground data of the code
   pub are_built : Code → Values → Bool
-  are_built program value.NoValue = true
-  are_built program (value.MoreValues v vs) = is_built program v && are_built program vs
+  are_built code value.NoValue = true
+  are_built code (value.MoreValues v vs) = is_built code v && are_built code vs
 
 -- whether a node of this kind is the call of a set function
 abbrev pub is_set_call : Kind → Bool
@@ -131,35 +131,35 @@ is_set_call (kind.SetCall f) = true
 is_set_call _ = false
 
 -- A graph with a root and goal variables is valid, apart from an inner search.
-pub record IsValidBranch (program : Code) (graph : Graph) (root : ℕ) (goals : List ℕ) : Type 0 where
+pub record IsValidBranch (code : Code) (graph : Graph) (root : ℕ) (goals : List ℕ) : Type 0 where
   pub root_there : root < length graph
   pub goals_there : IsTrue (are_places (length graph) goals)
-  pub nodes : NodesFit program graph
+  pub nodes : NodesFit code graph
   pub arguments : ArgumentsThere graph
   pub acyclic : IsAcyclic graph
   pub goals_plain : AllPlain graph goals
 
 -- An inner search belongs to the call of a set function in the graph, and the values that it found
 -- are ground data.
-pub record IsValidSearch (program : Code) (graph : Graph) (id : ℕ)
+pub record IsValidSearch (code : Code) (graph : Graph) (id : ℕ)
     (found : List Value) : Type 0 where
   pub there : id < length graph
   pub set_call : IsTrue (is_set_call (node_at graph id).kind)
-  pub built : IsTrue (list_all (is_built program) found)
+  pub built : IsTrue (list_all (is_built code) found)
 
 unfoldable mutual
   -- A state is valid, with all states of its inner search.
   pub IsValid : Code → State → Type 0
-  IsValid program (Branch graph root goals search) =
-      IsValidBranch program graph root goals × SearchIsValid program graph search
+  IsValid code (Branch graph root goals search) =
+      IsValidBranch code graph root goals × SearchIsValid code graph search
 
   -- The inner search of a state with this graph is valid, if one runs.
   pub SearchIsValid : Code → Graph → Search → Type 0
-  SearchIsValid program graph Idle = Unit {0}
-  SearchIsValid program graph (Running id found level) =
-      IsValidSearch program graph id found × AllValid program level
+  SearchIsValid code graph Idle = Unit {0}
+  SearchIsValid code graph (Running id found level) =
+      IsValidSearch code graph id found × AllValid code level
 
   -- Several states are valid.
   pub AllValid : Code → States → Type 0
-  AllValid program NoState = Unit {0}
-  AllValid program (MoreStates state states) = IsValid program state × AllValid program states
+  AllValid code NoState = Unit {0}
+  AllValid code (MoreStates state states) = IsValid code state × AllValid code states

@@ -110,33 +110,33 @@ pub fn tables_hold()
 /// this too, of the state that it reaches and of those that follow, and so do the
 /// levels of a search.
 pub fn states_stay_valid()
-    ensures start { (program : Code) (goal : FunId) → IsTrue (is_well_formed program)
-        → IsTrue (is_rule (body_of program goal)) → IsValid program (start_of program goal) }
-    ensures next { (program : Code) (limits : Limits) (before state : State) (states : List State)
-        → IsTrue (is_well_formed program) → IsValid program before
-        → next program limits before ≡ Go states → Among state states → IsValid program state }
-    ensures run { (program : Code) (limits : Limits) (steps : ℕ) (before state : State)
+    ensures start { (code : Code) (goal : FunId) → IsTrue (is_well_formed code)
+        → IsTrue (is_rule (body_of code goal)) → IsValid code (start_of code goal) }
+    ensures next { (code : Code) (limits : Limits) (before state : State) (states : List State)
+        → IsTrue (is_well_formed code) → IsValid code before
+        → next code limits before ≡ Go states → Among state states → IsValid code state }
+    ensures run { (code : Code) (limits : Limits) (steps : ℕ) (before state : State)
         (states : List State)
-        → IsTrue (is_well_formed program) → IsValid program before
-        → run steps program limits before ≡ Go states → Among state states → IsValid program state }
-    ensures reached { (program : Code) (limits : Limits) (steps : ℕ) (state : State)
-        → IsTrue (is_well_formed program) → IsValid program state
-        → IsValid program (reached steps program limits state) }
-    ensures level { (program : Code) (limits : SearchLimits) (start state : State) (depth : ℕ)
-        → IsTrue (is_well_formed program) → IsValid program start
-        → Among state (level program limits start depth) → IsValid program state }
-    ensures step_level { (program : Code) (limits : Limits) (start state : State) (depth : ℕ)
-        → IsTrue (is_well_formed program) → IsValid program start
-        → Among state (step_level program limits start depth) → IsValid program state }
+        → IsTrue (is_well_formed code) → IsValid code before
+        → run steps code limits before ≡ Go states → Among state states → IsValid code state }
+    ensures reached { (code : Code) (limits : Limits) (steps : ℕ) (state : State)
+        → IsTrue (is_well_formed code) → IsValid code state
+        → IsValid code (reached steps code limits state) }
+    ensures level { (code : Code) (limits : SearchLimits) (start state : State) (depth : ℕ)
+        → IsTrue (is_well_formed code) → IsValid code start
+        → Among state (level code limits start depth) → IsValid code state }
+    ensures step_level { (code : Code) (limits : Limits) (start state : State) (depth : ℕ)
+        → IsTrue (is_well_formed code) → IsValid code start
+        → Among state (step_level code limits start depth) → IsValid code state }
 {}
 
 /// Where the code has no set functions, none comes up in a state of its search.
 pub fn states_stay_without_sets()
-    ensures start { (program : Code) (goal : FunId) → IsTrue (is_rule (body_of program goal))
-        → IsWithoutSets (start_of program goal) }
-    ensures next { (program : Code) (limits : Limits) (before state : State) (states : List State)
-        → IsTrue (is_well_formed program) → IsTrue (code_is_without_sets program)
-        → IsValid program before → IsWithoutSets before → next program limits before ≡ Go states
+    ensures start { (code : Code) (goal : FunId) → IsTrue (is_rule (body_of code goal))
+        → IsWithoutSets (start_of code goal) }
+    ensures next { (code : Code) (limits : Limits) (before state : State) (states : List State)
+        → IsTrue (is_well_formed code) → IsTrue (code_is_without_sets code)
+        → IsValid code before → IsWithoutSets before → next code limits before ≡ Go states
         → Among state states → IsWithoutSets state }
 {}
 
@@ -145,34 +145,34 @@ pub fn states_stay_without_sets()
 /// the node each graph that the move gives comes by a row. A rigid case
 /// distinction on a free variable has no row: it waits.
 pub fn rows_are_moves()
-    ensures rows { (program : Code) (graph after : Graph) (id : ℕ) → Steps program graph id after
-        → (graphs : List Graph) × (move program graph id ≡ Become graphs) × Among after graphs }
-    ensures moves { (program : Code) (graph after : Graph) (root id : ℕ) (goals : List ℕ)
+    ensures rows { (code : Code) (graph after : Graph) (id : ℕ) → Steps code graph id after
+        → (graphs : List Graph) × (move code graph id ≡ Become graphs) × Among after graphs }
+    ensures moves { (code : Code) (graph after : Graph) (root id : ℕ) (goals : List ℕ)
         (graphs : List Graph)
-        → IsValid program (Branch graph root goals Idle)
-        → need_all program.special.truth graph root ≡ At id → move program graph id ≡ Become graphs
-        → Among after graphs → Steps program graph id after }
-    ensures rigid { (program : Code) (graph after : Graph) (id number scrutinee : ℕ)
+        → IsValid code (Branch graph root goals Idle)
+        → need_all code.special.truth graph root ≡ At id → move code graph id ≡ Become graphs
+        → Among after graphs → Steps code graph id after }
+    ensures rigid { (code : Code) (graph after : Graph) (id number scrutinee : ℕ)
         (values : List ℕ)
         → node_at graph id ≡ record { kind = Case Rigid number; args = scrutinee ∷ values }
-        → (head_at graph scrutinee).kind ≡ Free → Steps program graph id after → ⊥ }
+        → (head_at graph scrutinee).kind ≡ Free → Steps code graph id after → ⊥ }
 {}
 
 /// A run of one step is that step. A run of more steps goes on with the one
 /// state that follows, and is a single step where there isn't exactly one. So
 /// it is one step of the state that it reaches.
 pub fn runs_are_steps()
-    ensures one { (program : Code) (limits : Limits) (state : State)
-        → run 1 program limits state ≡ next program limits state }
-    ensures alone { (program : Code) (limits : Limits) (steps : ℕ) (state after : State) → 1 < steps
-        → next program limits state ≡ Go (after ∷ [])
-        → run steps program limits state ≡ run (steps - 1) program limits after }
-    ensures otherwise { (program : Code) (limits : Limits) (steps : ℕ) (state : State)
-        → only_state (next program limits state) ≡ None
-        → run steps program limits state ≡ next program limits state }
-    ensures reaches { (program : Code) (limits : Limits) (steps : ℕ) (state : State)
-        → run steps program limits state
-        ≡ next program limits (reached steps program limits state) }
+    ensures one { (code : Code) (limits : Limits) (state : State)
+        → run 1 code limits state ≡ next code limits state }
+    ensures alone { (code : Code) (limits : Limits) (steps : ℕ) (state after : State) → 1 < steps
+        → next code limits state ≡ Go (after ∷ [])
+        → run steps code limits state ≡ run (steps - 1) code limits after }
+    ensures otherwise { (code : Code) (limits : Limits) (steps : ℕ) (state : State)
+        → only_state (next code limits state) ≡ None
+        → run steps code limits state ≡ next code limits state }
+    ensures reaches { (code : Code) (limits : Limits) (steps : ℕ) (state : State)
+        → run steps code limits state
+        ≡ next code limits (reached steps code limits state) }
 {}
 
 /// An answer whose state stands so many single steps from the start is due in
@@ -224,11 +224,11 @@ pub fn coins_are_listed()
 /// itself: constructors of the program with all their arguments, and literals
 /// of the language.
 pub fn finds_are_of_the_program()
-    ensures arguments { (program : Code) (limits : Limits) (f : FunId) (arguments : Values)
+    ensures arguments { (code : Code) (limits : Limits) (f : FunId) (arguments : Values)
         (values : List Value)
-        → Found program limits f arguments values → IsTrue (are_built program arguments) }
-    ensures values { (program : Code) (limits : Limits) (f : FunId) (arguments : Values)
+        → Found code limits f arguments values → IsTrue (are_built code arguments) }
+    ensures values { (code : Code) (limits : Limits) (f : FunId) (arguments : Values)
         (values : List Value)
-        → IsTrue (is_well_formed program) → Found program limits f arguments values
-        → IsTrue (list_all (is_built program) values) }
+        → IsTrue (is_well_formed code) → Found code limits f arguments values
+        → IsTrue (list_all (is_built code) values) }
 {}

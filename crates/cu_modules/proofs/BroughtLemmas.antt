@@ -31,13 +31,13 @@ pub slice_known : (names : List (List ℕ)) (meant : List Entity) (slice items :
 slice_known names meant slice items is are = subst (All (EntityIsKnown names)) (sym is) are.known
 
 -- an import that binds behind its qualifier alone
-pub brought_behind : (names : List (List ℕ)) (bindings : List Binding) (mine : List Entity) (before : List Interface) (i : syntax.Import) (q : NameId) (slice items : List code.Entity) (s : ModuleScope)
+pub brought_after : (names : List (List ℕ)) (bindings : List Binding) (mine : List Entity) (before : List Interface) (i : syntax.Import) (q : NameId) (slice items : List code.Entity) (s : ModuleScope)
     → i.qualified ≡ true → text_of names q ≡ qualifier_of i.alias i.name → slice ≡ items → AreEntities names (imported before i) items
     → IsScope names (bindings ++ map (binding (Some (text_of names q))) (entities_meaning names slice)) s → IsScope names (bindings ++ import_bindings mine before i) s
-brought_behind names bindings mine before i q slice items s qualified text is are has =
-    let behind = map (binding (Some (qualifier_of i.alias i.name))) (imported before i) in
+brought_after names bindings mine before i q slice items s qualified text is are has =
+    let after = map (binding (Some (qualifier_of i.alias i.name))) (imported before i) in
     subst (λ (bs : List Binding). IsScope names (bindings ++ bs) s)
-    (sym (ap (λ b. behind ++ map (binding None) (if b then [] else filter (λ e. not (is_hidden mine e)) (imported before i))) qualified ∙ append-nil behind))
+    (sym (ap (λ b. after ++ map (binding None) (if b then [] else filter (λ e. not (is_hidden mine e)) (imported before i))) qualified ∙ append-nil after))
     (rebound names bindings (Some (text_of names q)) (Some (qualifier_of i.alias i.name)) (imported before i) slice items s (ap Some text) is are has)
 
 -- one that also binds without one
@@ -48,13 +48,13 @@ pub brought_also : (names : List (List ℕ)) (bindings : List Binding) (mine : L
     → ((bs : List Binding) → All (EntityIsKnown names) visible → IsScope names bs s → OnOk result (IsScope names (bs ++ map (binding None) (entities_meaning names visible)) t))
     → OnOk result (IsScope names (bindings ++ import_bindings mine before i) t)
 brought_also names bindings mine before i q slice items visible seen s t result qualified text is are has same unhidden binds =
-    let behind = map (binding (Some (qualifier_of i.alias i.name))) (imported before i) in
+    let after = map (binding (Some (qualifier_of i.alias i.name))) (imported before i) in
     let open' = filter (λ e. not (is_hidden mine e)) (imported before i) in
     let first = rebound names bindings (Some (text_of names q)) (Some (qualifier_of i.alias i.name)) (imported before i) slice items s (ap Some text) is are has in
-    let whole : (bindings ++ behind) ++ map (binding None) (entities_meaning names visible) ≡ bindings ++ import_bindings mine before i =
-    ap (λ es. (bindings ++ behind) ++ map (binding None) es) (ap (entities_meaning names) same ∙ unhidden.are) ∙ append_assoc bindings behind (map (binding None) open')
-    ∙ ap (λ b. bindings ++ (behind ++ map (binding None) (if b then [] else open'))) (sym qualified) in
-    subst (λ (bs : List Binding). OnOk result (IsScope names bs t)) whole (binds (bindings ++ behind) (slice_known names open' visible seen same unhidden) first)
+    let whole : (bindings ++ after) ++ map (binding None) (entities_meaning names visible) ≡ bindings ++ import_bindings mine before i =
+    ap (λ es. (bindings ++ after) ++ map (binding None) es) (ap (entities_meaning names) same ∙ unhidden.are) ∙ append_assoc bindings after (map (binding None) open')
+    ∙ ap (λ b. bindings ++ (after ++ map (binding None) (if b then [] else open'))) (sym qualified) in
+    subst (λ (bs : List Binding). OnOk result (IsScope names bs t)) whole (binds (bindings ++ after) (slice_known names open' visible seen same unhidden) first)
 
 -- ---- imports one after another
 

@@ -20,7 +20,7 @@ use Rattle.cu_prelude.specs.declared.set_functions.TheConstants.{SET_FUNCTIONS}
 use Rattle.cu_syntax.specs.declared.symbol.Symbol.{Symbol}
 use Rattle.cu_syntax.specs.declared.symbol.Symbol.TheVariants as symbol
 use Rattle.cu_syntax.specs.Parsing as parsing
-use Rattle.cu_syntax.specs.Parsing.{Has, ItemRead, ModuleRead, Part, PartRead, PartsRead, front, imports_behind, parts}
+use Rattle.cu_syntax.specs.Parsing.{Has, ItemRead, ModuleRead, Part, PartRead, PartsRead, header_and_block, imports_after, parts}
 use Rattle.cu_syntax.specs.Reading.{Tree, item_as, item_of}
 use Rattle.cu_syntax.specs.Table.{alternative, number, rows}
 use Rattle.cu_syntax.specs.Syntax.{Import, Item, Module}
@@ -90,7 +90,7 @@ parts_read imports ps outcome none (PartsRead.empty _ part others _ whole empty 
 parts_read imports ps outcome none (PartsRead.fault _ part others fault read) = refl
 parts_read imports ps outcome none (PartsRead.item _ part others item items read later) =
     let both = and_parts (not (begins_import part.tokens)) (none_begin others) none in
-    (λ j. part_reads imports part (Ok item) (is_not (begins_import part.tokens) both.0) read j ++ parts_read (imports_behind imports item) others (Ok items) both.1 later j)
+    (λ j. part_reads imports part (Ok item) (is_not (begins_import part.tokens) both.0) read j ++ parts_read (imports_after imports item) others (Ok items) both.1 later j)
 parts_read imports ps outcome none (PartsRead.later_fault _ part others item fault read later) = refl
 
 abbrev module_imports : Result Module parsing.Fault → List Import
@@ -102,7 +102,7 @@ module_reads laid outcome none (ModuleRead.no_block is) = refl
 module_reads laid outcome none (ModuleRead.wrong_header some never) = refl
 module_reads laid outcome none (ModuleRead.wrong_item block found fault is above read) = refl
 module_reads laid outcome none (ModuleRead.right block found items is above read) =
-    parts_read true (parts (front 1 laid).last block) (Ok items) (sym (ap (block_imports_not (front 1 laid).last) is) ∙ none) read
+    parts_read true (parts (header_and_block 1 laid).last block) (Ok items) (sym (ap (block_imports_not (header_and_block 1 laid).last) is) ∙ none) read
 
 abbrev text_imports : Result Module TextFault → List Import
 text_imports (Ok m) = flat_map imports_by m.items

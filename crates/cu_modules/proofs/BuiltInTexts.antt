@@ -15,7 +15,7 @@ use Rattle.cu_peg.specs.declared.class.Class.TheVariants as class
 use Rattle.cu_peg.specs.Classes.{has}
 use Rattle.cu_prelude.specs.declared.prelude.TheConstants.{PRELUDE}
 use Rattle.cu_prelude.specs.declared.set_functions.TheConstants.{SET_FUNCTIONS}
-use Rattle.cu_syntax.specs.Parsing.{Part, Split, after, behind, closes, depth_after, front, opens, part_of, parts, separates, split, with_header, with_token}
+use Rattle.cu_syntax.specs.Parsing.{Part, Split, after, part_after_block, closes, depth_after, header_and_block, opens, part_of, parts, separates, split, with_header, with_token}
 use Rattle.cu_modules.proofs.KeywordLemmas.{NoneImport, begins_word, import_word, lacks, none_import, tokens-none}
 
 -- ---- a text without a line that begins with `import`
@@ -32,7 +32,7 @@ block_imports_not last None = true
 block_imports_not last (Some b) = none_begin (parts last b)
 
 abbrev pub laid_imports_not : List Lexeme → Bool
-laid_imports_not laid = block_imports_not (front 1 laid).last (front 1 laid).block
+laid_imports_not laid = block_imports_not (header_and_block 1 laid).last (header_and_block 1 laid).block
 
 abbrev pub found_imports_not : Result (List Lexeme) ℕ → Bool
 found_imports_not (Ok laid) = laid_imports_not laid
@@ -73,20 +73,20 @@ block-none found none = by (layout_marks true (map lexeme_view.sight found))
 
 -- ---- nor does a part begin with one
 
-front-none : (last : ℕ) (ts : List Lexeme) → NoneImport ts → IfSome (front last ts).block NoneImport
-front-none last [] none = tt
-front-none last (t ∷ ts) none =
+header_and_block-none : (last : ℕ) (ts : List Lexeme) → NoneImport ts → IfSome (header_and_block last ts).block NoneImport
+header_and_block-none last [] none = tt
+header_and_block-none last (t ∷ ts) none =
     let both = and_parts (not (has (class.Keyword keyword.Import) t)) (none_import ts) none in
-    by (opens t.what) both.1 (front-none (after last t) ts both.1)
+    by (opens t.what) both.1 (header_and_block-none (after last t) ts both.1)
   where
-    by : (b : Bool) → NoneImport ts → IfSome (front (after last t) ts).block NoneImport
-        → IfSome (if b then record { header = []; last = after last t; block = Some ts } else with_header t (front (after last t) ts)).block NoneImport
+    by : (b : Bool) → NoneImport ts → IfSome (header_and_block (after last t) ts).block NoneImport
+        → IfSome (if b then record { header = []; last = after last t; block = Some ts } else with_header t (header_and_block (after last t) ts)).block NoneImport
     by true here later = here
     by false here later = later
 
-behind-none : (last : ℕ) (ts : List Lexeme) → NoneImport ts → none_begin (behind last ts) ≡ true
-behind-none last [] none = refl
-behind-none last (t ∷ ts) none = and_from (not (has (class.Keyword keyword.Import) t)) true (and_parts (not (has (class.Keyword keyword.Import) t)) (none_import ts) none).0 refl
+part_after_block-none : (last : ℕ) (ts : List Lexeme) → NoneImport ts → none_begin (part_after_block last ts) ≡ true
+part_after_block-none last [] none = refl
+part_after_block-none last (t ∷ ts) none = and_from (not (has (class.Keyword keyword.Import) t)) true (and_parts (not (has (class.Keyword keyword.Import) t)) (none_import ts) none).0 refl
 
 abbrev SplitNone : Split → Type 0
 SplitNone s = (not (begins_import s.first) ≡ true) × (none_begin s.others ≡ true)
@@ -96,12 +96,12 @@ unfolding split
 split-none depth last [] none = (refl, refl)
 split-none depth last (t ∷ ts) none =
     let both = and_parts (not (has (class.Keyword keyword.Import) t)) (none_import ts) none in
-    by (nat_eq depth 0 && closes t.what) (nat_eq depth 0 && separates t.what) both.0 (behind-none (after last t) ts both.1)
+    by (nat_eq depth 0 && closes t.what) (nat_eq depth 0 && separates t.what) both.0 (part_after_block-none (after last t) ts both.1)
     (split-none 0 (after last t) ts both.1) (split-none (depth_after depth t.what) (after last t) ts both.1)
   where
-    by : (ends parts : Bool) → not (has (class.Keyword keyword.Import) t) ≡ true → none_begin (behind (after last t) ts) ≡ true
+    by : (ends parts : Bool) → not (has (class.Keyword keyword.Import) t) ≡ true → none_begin (part_after_block (after last t) ts) ≡ true
         → SplitNone (split 0 (after last t) ts) → SplitNone (split (depth_after depth t.what) (after last t) ts)
-        → SplitNone (if ends then record { first = []; whole = true; others = behind (after last t) ts }
+        → SplitNone (if ends then record { first = []; whole = true; others = part_after_block (after last t) ts }
         else if parts then (let next = split 0 (after last t) ts in record { first = []; whole = true; others = part_of (after last t) next ∷ next.others })
         else with_token t (split (depth_after depth t.what) (after last t) ts))
     by true parts here end next inside = (refl, end)
@@ -116,7 +116,7 @@ block-imports last (Some b) none =
     and_from (not (begins_import (split 0 last b).first)) (none_begin (split 0 last b).others) s.0 s.1
 
 found-imports : (r : Result (List Lexeme) ℕ) → IfOk r NoneImport → found_imports_not r ≡ true
-found-imports (Ok laid) none = block-imports (front 1 laid).last (front 1 laid).block (front-none 1 laid none)
+found-imports (Ok laid) none = block-imports (header_and_block 1 laid).last (header_and_block 1 laid).block (header_and_block-none 1 laid none)
 found-imports (Err number) none = refl
 
 tokens-imports : (r : Result (List Lexeme) tokens.Fault) → IfOk r NoneImport → tokens_import_not r ≡ true

@@ -146,10 +146,10 @@ values_more : (names : List (List ℕ)) (es : List code.Entity) (i : ℕ) (d : c
     → flat_map value_text (entities_meaning names (take (i + 1) es))
     ≡ flat_map value_text (entities_meaning names (take i es)) ++ (if not b then text_of names (get_or es i d).name ∷ [] else [])
 values_more names es i d b within is =
-    let front = entities_meaning names (take i es) in
+    let prefix = entities_meaning names (take i es) in
     let e = entity_meaning names (get_or es i d) in
-    ap (flat_map value_text) (map_more (entity_meaning names) es i d within) ∙ flat_map-append value_text front (e ∷ []) ∙ ap (λ fs. flat_map value_text front ++ fs) (append-nil (value_text e))
-    ∙ ap (λ b. flat_map value_text front ++ (if b then text_of names (get_or es i d).name ∷ [] else [])) (value_space names (get_or es i d).sort ∙ ap not is)
+    ap (flat_map value_text) (map_more (entity_meaning names) es i d within) ∙ flat_map-append value_text prefix (e ∷ []) ∙ ap (λ fs. flat_map value_text prefix ++ fs) (append-nil (value_text e))
+    ∙ ap (λ b. flat_map value_text prefix ++ (if b then text_of names (get_or es i d).name ∷ [] else [])) (value_space names (get_or es i d).sort ∙ ap not is)
 
 pub type_passed : (names : List (List ℕ)) (es : List code.Entity) (i : ℕ) (d : code.Entity) (s : TextSet) → i < length es → is_type_sort (get_or es i d).sort ≡ true
     → HasTexts names (flat_map value_text (entities_meaning names (take i es))) s → HasTexts names (flat_map value_text (entities_meaning names (take (i + 1) es))) s

@@ -13,12 +13,12 @@ use Rattle.cu_modules.proofs.StandsLemmas.{among_push}
 
 -- ---- imports that are done
 
-done_first : (held : List ℕ → Option (List ℕ)) (path : List (List ℕ)) (before : List Named) (front names : List (List ℕ)) (outcome : Result (List Named) Refusal) → All (λ text. is_there before text ≡ true) front
-    → VisitAll held path before names outcome → VisitAll held path before (front ++ names) outcome
+done_first : (held : List ℕ → Option (List ℕ)) (path : List (List ℕ)) (before : List Named) (prefix names : List (List ℕ)) (outcome : Result (List Named) Refusal) → All (λ text. is_there before text ≡ true) prefix
+    → VisitAll held path before names outcome → VisitAll held path before (prefix ++ names) outcome
 done_first held path before [] names outcome there h = h
-done_first held path before (text ∷ front) names outcome there h =
-    next path before before text (front ++ names) outcome (done path before text (All-head (λ text. is_there before text ≡ true) text front there))
-    (done_first held path before front names outcome (All-tail (λ text. is_there before text ≡ true) text front there) h)
+done_first held path before (text ∷ prefix) names outcome there h =
+    next path before before text (prefix ++ names) outcome (done path before text (All-head (λ text. is_there before text ≡ true) text prefix there))
+    (done_first held path before prefix names outcome (All-tail (λ text. is_there before text ≡ true) text prefix there) h)
 
 all_done : (held : List ℕ → Option (List ℕ)) (path : List (List ℕ)) (before : List Named) (names : List (List ℕ)) → All (λ text. is_there before text ≡ true) names → VisitAll held path before names (Ok before)
 all_done held path before names there =
@@ -52,47 +52,47 @@ finishes_first held base before m outcome begun (inl stops) = subst (λ (o : Res
 finishes_first held base before m outcome begun (inr ends) = subst (λ (o : Result (List Named) Refusal). Visits held base before m.name o) (sym ends.rest) (all_visited held base before ends.after m begun ends.visited)
 
 -- an import that isn't done, behind those that are
-import_refused : (held : List ℕ → Option (List ℕ)) (path : List (List ℕ)) (before : List Named) (all front later : List (List ℕ)) (name : List ℕ) (refusal : Refusal) → all ≡ front ++ name ∷ later
-    → All (λ text. is_there before text ≡ true) front → Visits held path before name (Err refusal) → VisitAll held path before all (Err refusal)
-import_refused held path before all front later name refusal whole there h =
+import_refused : (held : List ℕ → Option (List ℕ)) (path : List (List ℕ)) (before : List Named) (all prefix later : List (List ℕ)) (name : List ℕ) (refusal : Refusal) → all ≡ prefix ++ name ∷ later
+    → All (λ text. is_there before text ≡ true) prefix → Visits held path before name (Err refusal) → VisitAll held path before all (Err refusal)
+import_refused held path before all prefix later name refusal whole there h =
     subst (λ (names : List (List ℕ)). VisitAll held path before names (Err refusal)) (sym whole)
-    (done_first held path before front (name ∷ later) (Err refusal) there (stopped path before name later refusal h))
+    (done_first held path before prefix (name ∷ later) (Err refusal) there (stopped path before name later refusal h))
 
-import_visited : (held : List ℕ → Option (List ℕ)) (path : List (List ℕ)) (before after : List Named) (all front later : List (List ℕ)) (name : List ℕ) (outcome : Result (List Named) Refusal) → all ≡ front ++ name ∷ later
-    → All (λ text. is_there before text ≡ true) front → Visits held path before name (Ok after) → VisitAll held path after later outcome → VisitAll held path before all outcome
-import_visited held path before after all front later name outcome whole there h rest =
+import_visited : (held : List ℕ → Option (List ℕ)) (path : List (List ℕ)) (before after : List Named) (all prefix later : List (List ℕ)) (name : List ℕ) (outcome : Result (List Named) Refusal) → all ≡ prefix ++ name ∷ later
+    → All (λ text. is_there before text ≡ true) prefix → Visits held path before name (Ok after) → VisitAll held path after later outcome → VisitAll held path before all outcome
+import_visited held path before after all prefix later name outcome whole there h rest =
     subst (λ (names : List (List ℕ)). VisitAll held path before names outcome) (sym whole)
-    (done_first held path before front (name ∷ later) outcome there (next path before after name later outcome h rest))
+    (done_first held path before prefix (name ∷ later) outcome there (next path before after name later outcome h rest))
 
-pub finishes_refused : (held : List ℕ → Option (List ℕ)) (base : List (List ℕ)) (before : List Named) (m : Open) (outer : List Open) (front later : List (List ℕ)) (name : List ℕ) (refusal : Refusal) → m.left ≡ front ++ name ∷ later
-    → All (λ text. is_there before text ≡ true) front → Visits held (path_of base outer ++ m.name ∷ []) before name (Err refusal) → Finishes held base (m ∷ outer) before (Err refusal)
-finishes_refused held base before m outer front later name refusal whole there h =
-    inl (record { refusal = refusal; is = refl; refused = import_refused held (path_of base outer ++ m.name ∷ []) before m.left front later name refusal whole there h })
+pub finishes_refused : (held : List ℕ → Option (List ℕ)) (base : List (List ℕ)) (before : List Named) (m : Open) (outer : List Open) (prefix later : List (List ℕ)) (name : List ℕ) (refusal : Refusal) → m.left ≡ prefix ++ name ∷ later
+    → All (λ text. is_there before text ≡ true) prefix → Visits held (path_of base outer ++ m.name ∷ []) before name (Err refusal) → Finishes held base (m ∷ outer) before (Err refusal)
+finishes_refused held base before m outer prefix later name refusal whole there h =
+    inl (record { refusal = refusal; is = refl; refused = import_refused held (path_of base outer ++ m.name ∷ []) before m.left prefix later name refusal whole there h })
 
-pub finishes_inside : (held : List ℕ → Option (List ℕ)) (base : List (List ℕ)) (before : List Named) (inner m : Open) (outer : List Open) (front later : List (List ℕ)) (outcome : Result (List Named) Refusal) → m.left ≡ front ++ inner.name ∷ later
-    → All (λ text. is_there before text ≡ true) front → IsBegun held (path_of base outer ++ m.name ∷ []) before inner
+pub finishes_inside : (held : List ℕ → Option (List ℕ)) (base : List (List ℕ)) (before : List Named) (inner m : Open) (outer : List Open) (prefix later : List (List ℕ)) (outcome : Result (List Named) Refusal) → m.left ≡ prefix ++ inner.name ∷ later
+    → All (λ text. is_there before text ≡ true) prefix → IsBegun held (path_of base outer ++ m.name ∷ []) before inner
     → Finishes held base (inner ∷ record { name = m.name; syntax = m.syntax; left = later } ∷ outer) before outcome → Finishes held base (m ∷ outer) before outcome
-finishes_inside held base before inner m outer front later outcome whole there begun (inl stops) =
+finishes_inside held base before inner m outer prefix later outcome whole there begun (inl stops) =
     let path = path_of base outer ++ m.name ∷ [] in
-    inl (record { refusal = stops.refusal; is = stops.is; refused = import_refused held path before m.left front later inner.name stops.refusal whole there (all_refused held path before inner stops.refusal begun stops.refused) })
-finishes_inside held base before inner m outer front later outcome whole there begun (inr ends) =
-    behind held base before inner m outer front later outcome ends.after whole there (all_visited held (path_of base outer ++ m.name ∷ []) before ends.after inner begun ends.visited) ends.rest
+    inl (record { refusal = stops.refusal; is = stops.is; refused = import_refused held path before m.left prefix later inner.name stops.refusal whole there (all_refused held path before inner stops.refusal begun stops.refused) })
+finishes_inside held base before inner m outer prefix later outcome whole there begun (inr ends) =
+    suffix held base before inner m outer prefix later outcome ends.after whole there (all_visited held (path_of base outer ++ m.name ∷ []) before ends.after inner begun ends.visited) ends.rest
   where
-    behind : (held : List ℕ → Option (List ℕ)) (base : List (List ℕ)) (before : List Named) (inner m : Open) (outer : List Open) (front later : List (List ℕ)) (outcome : Result (List Named) Refusal) (after : List Named) → m.left ≡ front ++ inner.name ∷ later
-        → All (λ text. is_there before text ≡ true) front → Visits held (path_of base outer ++ m.name ∷ []) before inner.name (Ok (after ++ named_of inner ∷ []))
+    suffix : (held : List ℕ → Option (List ℕ)) (base : List (List ℕ)) (before : List Named) (inner m : Open) (outer : List Open) (prefix later : List (List ℕ)) (outcome : Result (List Named) Refusal) (after : List Named) → m.left ≡ prefix ++ inner.name ∷ later
+        → All (λ text. is_there before text ≡ true) prefix → Visits held (path_of base outer ++ m.name ∷ []) before inner.name (Ok (after ++ named_of inner ∷ []))
         → Finishes held base (record { name = m.name; syntax = m.syntax; left = later } ∷ outer) (after ++ named_of inner ∷ []) outcome → Finishes held base (m ∷ outer) before outcome
-    behind held base before inner m outer front later outcome after whole there went (inl stops) =
+    suffix held base before inner m outer prefix later outcome after whole there went (inl stops) =
         let path = path_of base outer ++ m.name ∷ [] in
         inl (record {
           refusal = stops.refusal;
           is = stops.is;
-          refused = import_visited held path before (after ++ named_of inner ∷ []) m.left front later inner.name (Err stops.refusal) whole there went stops.refused;
+          refused = import_visited held path before (after ++ named_of inner ∷ []) m.left prefix later inner.name (Err stops.refusal) whole there went stops.refused;
         })
-    behind held base before inner m outer front later outcome after whole there went (inr ends) =
+    suffix held base before inner m outer prefix later outcome after whole there went (inr ends) =
         let path = path_of base outer ++ m.name ∷ [] in
         inr (record {
           after = ends.after;
-          visited = import_visited held path before (after ++ named_of inner ∷ []) m.left front later inner.name (Ok ends.after) whole there went ends.visited;
+          visited = import_visited held path before (after ++ named_of inner ∷ []) m.left prefix later inner.name (Ok ends.after) whole there went ends.visited;
           rest = ends.rest;
         })
 
@@ -130,30 +130,30 @@ pending_more : (base : List (List ℕ)) (root : List ℕ) (met more : List (List
 pending_more base root met more [] go h = go root h
 pending_more base root met more (m ∷ outer) go h = (
   record {
-    front = h.0.front;
+    prefix = h.0.prefix;
     imports = h.0.imports;
-    there = All-weaker (λ text. is_among met text ≡ true) (λ text. is_among more text ≡ true) go h.0.front h.0.there;
+    there = All-weaker (λ text. is_among met text ≡ true) (λ text. is_among more text ≡ true) go h.0.prefix h.0.there;
     new = h.0.new;
     own = h.0.own;
   },
   pending_more base root (met ++ m.name ∷ []) (more ++ m.name ∷ []) outer (among_kept met more m.name go) h.1,
 )
 
-pub pending_inside : (base : List (List ℕ)) (root : List ℕ) (met : List (List ℕ)) (inner m : Open) (outer : List Open) (front later : List (List ℕ)) → m.left ≡ front ++ inner.name ∷ later → All (λ text. is_among met text ≡ true) front
+pub pending_inside : (base : List (List ℕ)) (root : List ℕ) (met : List (List ℕ)) (inner m : Open) (outer : List Open) (prefix later : List (List ℕ)) → m.left ≡ prefix ++ inner.name ∷ later → All (λ text. is_among met text ≡ true) prefix
     → IsPending (path_of base outer ++ m.name ∷ []) met inner → ArePending base root met (m ∷ outer)
     → ArePending base root met (inner ∷ record { name = m.name; syntax = m.syntax; left = later } ∷ outer)
-pending_inside base root met inner m outer front later whole there pending h =
+pending_inside base root met inner m outer prefix later whole there pending h =
     let more = met ++ inner.name ∷ [] in
-    let done = h.0.front ++ front in (
+    let done = h.0.prefix ++ prefix in (
       pending,
       (
         record {
-          front = done ++ inner.name ∷ [];
+          prefix = done ++ inner.name ∷ [];
           imports =
-              h.0.imports ∙ ap (λ left. h.0.front ++ left) whole ∙ sym (append_assoc h.0.front front (inner.name ∷ later))
+              h.0.imports ∙ ap (λ left. h.0.prefix ++ left) whole ∙ sym (append_assoc h.0.prefix prefix (inner.name ∷ later))
               ∙ sym (append_assoc done (inner.name ∷ []) later);
           there = All-push (λ text. is_among more text ≡ true) done inner.name
-              (All-weaker (λ text. is_among met text ≡ true) (λ text. is_among more text ≡ true) (among_more met inner.name) done (All-append (λ text. is_among met text ≡ true) h.0.front front h.0.there there))
+              (All-weaker (λ text. is_among met text ≡ true) (λ text. is_among more text ≡ true) (among_more met inner.name) done (All-append (λ text. is_among met text ≡ true) h.0.prefix prefix h.0.there there))
               (among_last met inner.name);
           new = h.0.new;
           own = h.0.own;
@@ -165,4 +165,4 @@ pending_inside base root met inner m outer front later whole there pending h =
 -- all imports of a module whose last ones are met
 pub imports_met : (path met : List (List ℕ)) (m : Open) → IsPending path met m → All (λ text. is_among met text ≡ true) m.left → All (λ text. is_among met text ≡ true) (import_names (named_of m))
 imports_met path met m pending there =
-    subst (All (λ text. is_among met text ≡ true)) (sym pending.imports) (All-append (λ text. is_among met text ≡ true) pending.front m.left pending.there there)
+    subst (All (λ text. is_among met text ≡ true)) (sym pending.imports) (All-append (λ text. is_among met text ≡ true) pending.prefix m.left pending.there there)

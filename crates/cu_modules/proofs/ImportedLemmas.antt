@@ -62,10 +62,10 @@ written_alone names m found b says is has =
     let written = flat_map imports_by (module_of names m).syntax.items in
     subst (λ (imports : List syntax.Import). AreImportsOf m.name names imports found) (sym (ap (λ b. if b then written else prelude_import ∷ written) (sym is ∙ says))) has
 
-pub behind_prelude : (names : List (List ℕ)) (m : Module) (found : List Import) (b : Bool) → b ≡ false
+pub after_prelude : (names : List (List ℕ)) (m : Module) (found : List Import) (b : Bool) → b ≡ false
     → b ≡ (bytes_eq (text_of names m.name) prelude_name || list_any (names_module prelude_name) (flat_map imports_by (module_of names m).syntax.items))
     → AreImportsOf m.name names (prelude_import ∷ flat_map imports_by (module_of names m).syntax.items) found → AreImportsOf m.name names (imports_of (module_of names m)) found
-behind_prelude names m found b says is has =
+after_prelude names m found b says is has =
     let written = flat_map imports_by (module_of names m).syntax.items in
     subst (λ (imports : List syntax.Import). AreImportsOf m.name names imports found) (sym (ap (λ b. if b then written else prelude_import ∷ written) (sym is ∙ says))) has
 

@@ -18,7 +18,7 @@ use Rattle.cu_lex.specs.Located.{Located, Position, characters, first_position, 
 use Rattle.cu_lex.specs.Munch.{Cut, Placed, cut_within, longest, pieces_from}
 use Rattle.cu_lex.specs.Pieces.{Piece, blank, character_at, codes_of, is_blank, name_kind, number, number_at, one_character, operator, piece, spelled, stands_before, start, string, string_of, word, word_before, word_kind}
 use Rattle.cu_lex.specs.Pieces.Piece.{Blank, Token, OutOfRange}
-use Rattle.cu_lex.specs.Tokens.{Fault, Lexeme, lexemes, lexemes_of, most_bytes, tokens, with_lexeme}
+use Rattle.cu_lex.specs.Tokens.{Fault, Lexeme, lexemes, lexemes_of, max_text_bytes, tokens, with_lexeme}
 use Rattle.cu_lex.specs.Tokens.Fault.{NotUtf8, SourceTooBig}
 use Rattle.cu_lex.specs.Words.{based_number, begins_with, decimal_number, entry, is_colon, is_con_id, is_operator, is_var_id, keyword_of, keywords, mark_of, qualified_parts, reserved_of}
 use Rattle.cu_lex.proofs.CursorLemmas.{characters-located}
@@ -40,14 +40,14 @@ lacks word (c ∷ text) = not (begins_word word (c ∷ text)) && lacks word text
 abbrev pub import_word : List ℕ
 import_word = codes "import"
 
-lacks-rest : (word front rest : List ℕ) → lacks word (front ++ rest) ≡ true → lacks word rest ≡ true
+lacks-rest : (word prefix rest : List ℕ) → lacks word (prefix ++ rest) ≡ true → lacks word rest ≡ true
 unfolding lacks
 lacks-rest word [] rest is = is
-lacks-rest word (c ∷ front) rest is = lacks-rest word front rest (and_parts (not (begins_word word (c ∷ front ++ rest))) (lacks word (front ++ rest)) is).1
+lacks-rest word (c ∷ prefix) rest is = lacks-rest word prefix rest (and_parts (not (begins_word word (c ∷ prefix ++ rest))) (lacks word (prefix ++ rest)) is).1
 
-lacks-front : (front rest : List ℕ) → front ≡ import_word → lacks import_word (front ++ rest) ≡ true → ⊥
+lacks-prefix : (prefix rest : List ℕ) → prefix ≡ import_word → lacks import_word (prefix ++ rest) ≡ true → ⊥
 unfolding lacks begins_word
-lacks-front front rest same is =
+lacks-prefix prefix rest same is =
     let no : lacks import_word (import_word ++ rest) ≡ true = subst (λ (f : List ℕ). lacks import_word (f ++ rest) ≡ true) same is in
     true≢false (sym no)
 
@@ -122,19 +122,19 @@ word_kind-spells w =
 
 -- ---- pieces
 
-word-spells : (front next : List ℕ) → IfSome (word front next) (SpellsPiece front)
-word-spells front next =
-    then-if (Spells front) (SpellsPiece front) (word_before next) (word_kind front) (word_kind-spells front)
-    (λ kind p. choice-if (λ o. IfSome o (SpellsPiece front)) (stands_before kind next) (Some (Token kind)) None p tt)
+word-spells : (prefix next : List ℕ) → IfSome (word prefix next) (SpellsPiece prefix)
+word-spells prefix next =
+    then-if (Spells prefix) (SpellsPiece prefix) (word_before next) (word_kind prefix) (word_kind-spells prefix)
+    (λ kind p. choice-if (λ o. IfSome o (SpellsPiece prefix)) (stands_before kind next) (Some (Token kind)) None p tt)
 
-blank-spells : (front : List ℕ) → IfSome (blank front) (SpellsPiece front)
-blank-spells front = choice-if (λ o. IfSome o (SpellsPiece front)) (is_blank front) (Some Blank) None tt tt
+blank-spells : (prefix : List ℕ) → IfSome (blank prefix) (SpellsPiece prefix)
+blank-spells prefix = choice-if (λ o. IfSome o (SpellsPiece prefix)) (is_blank prefix) (Some Blank) None tt tt
 
-number-spells : (p : Position) (front next : List ℕ) → IfSome (number p front next) (SpellsPiece front)
-number-spells p front next = map-if (SpellsPiece front) (number_at p) (option_or (decimal_number front next) (based_number front)) (λ n. at n)
+number-spells : (p : Position) (prefix next : List ℕ) → IfSome (number p prefix next) (SpellsPiece prefix)
+number-spells p prefix next = map-if (SpellsPiece prefix) (number_at p) (option_or (decimal_number prefix next) (based_number prefix)) (λ n. at n)
   where
-    at : (n : ℕ) → SpellsPiece front (number_at p n)
-    at n = choice-if (SpellsPiece front) _ (Token (Int (pos n))) (OutOfRange p) tt tt
+    at : (n : ℕ) → SpellsPiece prefix (number_at p n)
+    at n = choice-if (SpellsPiece prefix) _ (Token (Int (pos n))) (OutOfRange p) tt tt
 
 character-spells : (w : List ℕ) (items : List (Placed (Option ℕ))) → IfSome (one_character items) (SpellsPiece w)
 character-spells w [] = tt
@@ -148,15 +148,15 @@ string-spells w items = by (codes_of items)
     by (Ok value) = tt
     by (Err p) = tt
 
-piece-spells : (front rest : List Located) → IfSome (piece front rest) (SpellsPiece (characters front))
+piece-spells : (prefix rest : List Located) → IfSome (piece prefix rest) (SpellsPiece (characters prefix))
 unfolding piece
-piece-spells front rest =
-    let P : Piece → Type 0 = SpellsPiece (characters front) in
-    or-if P _ _ (blank-spells (characters front))
-    (or-if P _ _ (word-spells (characters front) (characters rest))
-    (or-if P _ _ (number-spells (start front) (characters front) (characters rest))
-    (or-if P _ _ (then-if (λ items. Unit {0}) P one_character (items_between (byte "'") front) (any (items_between (byte "'") front)) (λ items p. character-spells (characters front) items))
-    (map-if P string (items_between (byte "\"") front) (string-spells (characters front))))))
+piece-spells prefix rest =
+    let P : Piece → Type 0 = SpellsPiece (characters prefix) in
+    or-if P _ _ (blank-spells (characters prefix))
+    (or-if P _ _ (word-spells (characters prefix) (characters rest))
+    (or-if P _ _ (number-spells (start prefix) (characters prefix) (characters rest))
+    (or-if P _ _ (then-if (λ items. Unit {0}) P one_character (items_between (byte "'") prefix) (any (items_between (byte "'") prefix)) (λ items p. character-spells (characters prefix) items))
+    (map-if P string (items_between (byte "\"") prefix) (string-spells (characters prefix))))))
   where
     any : (o : Option (List (Placed (Option ℕ)))) → IfSome o (λ items. Unit {0})
     any None = tt
@@ -170,16 +170,16 @@ none_import ts = list_all (λ (t : Lexeme). not (has (class.Keyword keyword.Impo
 abbrev pub NoneImport : List Lexeme → Type 0
 NoneImport ts = none_import ts ≡ true
 
-kind-other : (front rest : List ℕ) (kind : Kind) → Spells front kind → lacks import_word (front ++ rest) ≡ true → not (has_kind (class.Keyword keyword.Import) kind) ≡ true
-kind-other front rest (Keyword keyword.Import) spells is = absurd (lacks-front front rest spells is)
-kind-other front rest kind spells is = refl
+kind-other : (prefix rest : List ℕ) (kind : Kind) → Spells prefix kind → lacks import_word (prefix ++ rest) ≡ true → not (has_kind (class.Keyword keyword.Import) kind) ≡ true
+kind-other prefix rest (Keyword keyword.Import) spells is = absurd (lacks-prefix prefix rest spells is)
+kind-other prefix rest kind spells is = refl
 
-one-more : (front rest : List ℕ) (what : Piece) (p : Position) (later : Result (List Lexeme) Fault) → SpellsPiece front what → lacks import_word (front ++ rest) ≡ true
+one-more : (prefix rest : List ℕ) (what : Piece) (p : Position) (later : Result (List Lexeme) Fault) → SpellsPiece prefix what → lacks import_word (prefix ++ rest) ≡ true
     → IfOk later NoneImport → IfOk (with_lexeme what p later) NoneImport
-one-more front rest Blank p later spells is none = none
-one-more front rest (Token kind) p (Ok ts) spells is none = and_from (not (has_kind (class.Keyword keyword.Import) kind)) (none_import ts) (kind-other front rest kind spells is) none
-one-more front rest (Token kind) p (Err fault) spells is none = tt
-one-more front rest (OutOfRange place) p later spells is none = tt
+one-more prefix rest Blank p later spells is none = none
+one-more prefix rest (Token kind) p (Ok ts) spells is none = and_from (not (has_kind (class.Keyword keyword.Import) kind)) (none_import ts) (kind-other prefix rest kind spells is) none
+one-more prefix rest (Token kind) p (Err fault) spells is none = tt
+one-more prefix rest (OutOfRange place) p later spells is none = tt
 
 abbrev CutNone : ℕ → List Located → Type 0
 CutNone n text = IfOk (lexemes_of (cut_within piece n text).pieces (cut_within piece n text).left) NoneImport
@@ -196,12 +196,12 @@ cut-none (suc n) (c ∷ text) is = by (λ rest h. cut-none n rest h) (longest pi
     by more None found = tt
     by more (Some cut) found =
         let law = longest-is piece (c ∷ text) cut found in
-        let whole : lacks import_word (characters (cut.front ++ cut.rest)) ≡ true = subst (λ (t : List Located). lacks import_word (characters t) ≡ true) (sym law.whole) is in
-        let both : lacks import_word (characters cut.front ++ characters cut.rest) ≡ true =
-        subst (λ (w : List ℕ). lacks import_word w ≡ true) (map-append (λ (l : Located). l.char) cut.front cut.rest) whole in
-        let spells : SpellsPiece (characters cut.front) cut.what = subst (λ (o : Option Piece). IfSome o (SpellsPiece (characters cut.front))) law.allowed (piece-spells cut.front cut.rest) in
-        one-more (characters cut.front) (characters cut.rest) cut.what c.at (lexemes_of (cut_within piece n cut.rest).pieces (cut_within piece n cut.rest).left) spells both
-        (more cut.rest (lacks-rest import_word (characters cut.front) (characters cut.rest) both))
+        let whole : lacks import_word (characters (cut.prefix ++ cut.rest)) ≡ true = subst (λ (t : List Located). lacks import_word (characters t) ≡ true) (sym law.whole) is in
+        let both : lacks import_word (characters cut.prefix ++ characters cut.rest) ≡ true =
+        subst (λ (w : List ℕ). lacks import_word w ≡ true) (map-append (λ (l : Located). l.char) cut.prefix cut.rest) whole in
+        let spells : SpellsPiece (characters cut.prefix) cut.what = subst (λ (o : Option Piece). IfSome o (SpellsPiece (characters cut.prefix))) law.allowed (piece-spells cut.prefix cut.rest) in
+        one-more (characters cut.prefix) (characters cut.rest) cut.what c.at (lexemes_of (cut_within piece n cut.rest).pieces (cut_within piece n cut.rest).left) spells both
+        (more cut.rest (lacks-rest import_word (characters cut.prefix) (characters cut.rest) both))
 
 lexemes-none : (cs : List ℕ) → lacks import_word (without_mark cs) ≡ true → IfOk (lexemes (located cs)) NoneImport
 lexemes-none cs is =
@@ -211,5 +211,5 @@ pub tokens-none : (bytes : List ℕ) → lacks import_word (without_mark (chars 
 unfolding tokens
 tokens-none bytes is =
     let P : Result (List Lexeme) Fault → Type 0 = λ r. IfOk r NoneImport in
-    choice-if P (nat_lt most_bytes (length bytes)) (Err SourceTooBig) _ tt
+    choice-if P (nat_lt max_text_bytes (length bytes)) (Err SourceTooBig) _ tt
     (choice-if P (is_utf8 bytes) (lexemes (located (chars bytes))) (Err (NotUtf8 (fault_offset bytes))) (lexemes-none (chars bytes) is) tt)

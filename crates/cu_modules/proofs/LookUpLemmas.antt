@@ -104,7 +104,7 @@ read_alike name text other outcome same (texts.no_syntax laid fault has read) = 
 read_alike name text other outcome same (texts.other_name laid found has read wrong) = texts.other_name laid found (layout_alike text other laid same has) read wrong
 read_alike name text other outcome same (texts.right laid found has read right) = texts.right laid found (layout_alike text other laid same has) read right
 
-too_big : (text : List ℕ) → nat_lt tokens.most_bytes (length text) ≡ true → tokens.tokens text ≡ Err tokens.Fault.SourceTooBig
+too_big : (text : List ℕ) → nat_lt tokens.max_text_bytes (length text) ≡ true → tokens.tokens text ≡ Err tokens.Fault.SourceTooBig
 unfolding tokens.tokens
 too_big text big = rw big refl
 
@@ -115,19 +115,19 @@ at_most : (a b : ℕ) → a < b → a ≤ b
 at_most a b first = omega arith
 
 -- cut behind a limit that is above that of a text
-cut_alike : (limit : ℕ) (text : List ℕ) → tokens.most_bytes < limit → tokens.tokens text ≡ tokens.tokens (take limit text)
+cut_alike : (limit : ℕ) (text : List ℕ) → tokens.max_text_bytes < limit → tokens.tokens text ≡ tokens.tokens (take limit text)
 cut_alike limit text above = by (nat_lt limit (length text)) refl
   where
     by : (b : Bool) → nat_lt limit (length text) ≡ b → tokens.tokens text ≡ tokens.tokens (take limit text)
     by true long =
         let more = ltb-true limit (length text) long in
         let cut = length-take-le limit text (at_most limit (length text) more) in
-        too_big text (lt-ltb tokens.most_bytes (length text) (below tokens.most_bytes limit (length text) above more))
-        ∙ sym (too_big (take limit text) (ap (nat_lt tokens.most_bytes) cut ∙ lt-ltb tokens.most_bytes limit above))
+        too_big text (lt-ltb tokens.max_text_bytes (length text) (below tokens.max_text_bytes limit (length text) above more))
+        ∙ sym (too_big (take limit text) (ap (nat_lt tokens.max_text_bytes) cut ∙ lt-ltb tokens.max_text_bytes limit above))
     by false short = ap tokens.tokens (sym (take_all limit text (ltb-false limit (length text) short)))
 
-pub read_whole : (name text cut : List ℕ) (outcome : Result syntax.Module TextFault) → cut ≡ take io.most_bytes text → IsRead name cut outcome → IsRead name text outcome
-read_whole name text cut outcome is read = read_alike name cut text outcome (cut_alike io.most_bytes text (omega arith) ∙ sym (ap tokens.tokens is)) read
+pub read_whole : (name text cut : List ℕ) (outcome : Result syntax.Module TextFault) → cut ≡ take io.max_fetched_bytes text → IsRead name cut outcome → IsRead name text outcome
+read_whole name text cut outcome is read = read_alike name cut text outcome (cut_alike io.max_fetched_bytes text (omega arith) ∙ sym (ap tokens.tokens is)) read
 
 -- ---- look_up
 
@@ -166,27 +166,27 @@ missing_lacks names id shown o dir count answered at none free is told =
     absent (Some text) f e h = let no : ⊥ = subst (io.Fetches (Some text)) e h in absurd no
 
 -- the front of what is held
-front_of : (text : Option (List ℕ)) (f : Fetched) (bytes : Vec ℕ Global) → f ≡ fetched.Text bytes → io.Fetches text f → (whole : List ℕ) × (text ≡ Some whole) × (bytes.items ≡ take io.most_bytes whole)
-front_of None f bytes e h = let no : ⊥ = subst (io.Fetches None) e h in absurd no
-front_of (Some whole) f bytes e h = (whole, refl, subst (io.Fetches (Some whole)) e h)
+prefix_of : (text : Option (List ℕ)) (f : Fetched) (bytes : Vec ℕ Global) → f ≡ fetched.Text bytes → io.Fetches text f → (whole : List ℕ) × (text ≡ Some whole) × (bytes.items ≡ take io.max_fetched_bytes whole)
+prefix_of None f bytes e h = let no : ⊥ = subst (io.Fetches None) e h in absurd no
+prefix_of (Some whole) f bytes e h = (whole, refl, subst (io.Fetches (Some whole)) e h)
 
 text_found : (held : List ℕ → Option (List ℕ)) (count : ℕ) (name shown read_from : List ℕ) (f : Fetched) (bytes : Vec ℕ Global) (found : syntax.Module) → name ≡ shown → built_in name ≡ None → count ≢ most_modules
     → f ≡ fetched.Text bytes → io.Fetches (held shown) f → read_from ≡ bytes.items → IsRead name read_from (Ok found) → IsFound held count name found
 text_found held count name shown read_from f bytes found same none free is told slice read =
-    let front = front_of (held shown) f bytes is told in
+    let prefix = prefix_of (held shown) f bytes is told in
     record {
       free = inr free;
-      text = front.0;
-      is = fetched_source held name shown (Some front.0) same none front.1;
-      read = read_whole name front.0 read_from (Ok found) (slice ∙ front.2) read;
+      text = prefix.0;
+      is = fetched_source held name shown (Some prefix.0) same none prefix.1;
+      read = read_whole name prefix.0 read_from (Ok found) (slice ∙ prefix.2) read;
     }
 
 text_lacks : (held : List ℕ → Option (List ℕ)) (count : ℕ) (name shown read_from : List ℕ) (f : Fetched) (bytes : Vec ℕ Global) (refusal : Refusal) → name ≡ shown → built_in name ≡ None → count ≢ most_modules
     → f ≡ fetched.Text bytes → io.Fetches (held shown) f → read_from ≡ bytes.items → IsFaultOf name read_from refusal → IsLacking held count name refusal
 text_lacks held count name shown read_from f bytes refusal same none free is told slice fault =
-    let front = front_of (held shown) f bytes is told in
-    unread refusal front.0 (inr free) (fetched_source held name shown (Some front.0) same none front.1)
-    (record { fault = fault.fault; refused = fault.refused; read = read_whole name front.0 read_from (Err fault.fault) (slice ∙ front.2) fault.read })
+    let prefix = prefix_of (held shown) f bytes is told in
+    unread refusal prefix.0 (inr free) (fetched_source held name shown (Some prefix.0) same none prefix.1)
+    (record { fault = fault.fault; refused = fault.refused; read = read_whole name prefix.0 read_from (Err fault.fault) (slice ∙ prefix.2) fault.read })
 
 pub fetched_found : (old new : List (List ℕ)) (id : NameId) (shown read_from : List ℕ) (o : Option Holdings) (dir : List ℕ) (count : ℕ) (f : Fetched) (bytes : Vec ℕ Global) (result : Result Module OrderFault)
     → Extends old new → IsKnown old id → slice_get old id.0 ≡ Some shown → built_in (text_of old id) ≡ None → count ≢ most_modules → f ≡ fetched.Text bytes

@@ -14,7 +14,7 @@ use Rattle.cu_names.specs.Texts.{Extends, interned, text_of}
 use Rattle.cu_modules.specs.declared.fault.OrderFault.{OrderFault}
 use Rattle.cu_modules.specs.declared.modules.Module.{Module}
 use Rattle.cu_uses.specs.Binders.{is_among}
-use Rattle.cu_modules.specs.Ordering.{AllBehind, AllNew, AreOrdered, IsOwn, Tells, module_of, modules_of, texts_of}
+use Rattle.cu_modules.specs.Ordering.{AllAfter, AllNew, AreOrdered, IsOwn, Tells, module_of, modules_of, texts_of}
 use Rattle.cu_modules.specs.declared.visits.Progress.{Progress}
 use Rattle.cu_modules.specs.Reading.{HasModule}
 use Rattle.cu_modules.specs.Scopes.{Named}
@@ -146,8 +146,8 @@ among_same xs ys name text go h = by (is_among xs text) refl (sym (among_push xs
     by true e f = absurd (both_ways (is_among xs text || bytes_eq text name) f (ap (λ b. b || bytes_eq text name) e))
     by false e f = among_push ys name text ∙ (λ j. go e j || bytes_eq text name) ∙ ap (λ b. b || bytes_eq text name) (sym e) ∙ f
 
-among_front : (xs : List (List ℕ)) (name text : List ℕ) → is_among (xs ++ name ∷ []) text ≡ false → is_among xs text ≡ false
-among_front xs name text h = by (is_among xs text) refl (sym (among_push xs name text) ∙ h)
+among_prefix : (xs : List (List ℕ)) (name text : List ℕ) → is_among (xs ++ name ∷ []) text ≡ false → is_among xs text ≡ false
+among_prefix xs name text h = by (is_among xs text) refl (sym (among_push xs name text) ∙ h)
   where
     by : (b : Bool) → is_among xs text ≡ b → (is_among xs text || bytes_eq text name) ≡ false → is_among xs text ≡ false
     by true e f = absurd (both_ways (is_among xs text || bytes_eq text name) f (ap (λ b. b || bytes_eq text name) e))
@@ -160,7 +160,7 @@ new_filtered test before others [] go new = tt
 new_filtered test before others (m ∷ ms) go new =
     by (test m.name) refl
     (new_filtered test (before ++ m.name ∷ []) (others ++ m.name ∷ []) ms (λ text passes. among_same before others m.name text (go text passes)) new.1)
-    (new_filtered test (before ++ m.name ∷ []) others ms (λ text passes h. go text passes (among_front before m.name text h)) new.1)
+    (new_filtered test (before ++ m.name ∷ []) others ms (λ text passes h. go text passes (among_prefix before m.name text h)) new.1)
   where
     by : (b : Bool) → test m.name ≡ b → AllNew (others ++ m.name ∷ []) (filter (λ (m : Named). test m.name) ms) → AllNew others (filter (λ (m : Named). test m.name) ms)
         → AllNew others (if b then m ∷ filter (λ (m : Named). test m.name) ms else filter (λ (m : Named). test m.name) ms)
@@ -194,21 +194,21 @@ all_both : (P Q R : List ℕ → Type 0) → ((n : List ℕ) → P n → Q n →
 all_both P Q R go xs p q = λ k d fits. go (get_or xs k d) (p k d fits) (q k d fits)
 
 -- each name that is asked for stays among those before
-behind_filtered : (test : List ℕ → Bool) (asked : List ℕ → Bool) (before others : List (List ℕ)) (ms : List Named) → ((text : List ℕ) → asked text ≡ true → is_among before text ≡ true → is_among others text ≡ true)
+after_filtered : (test : List ℕ → Bool) (asked : List ℕ → Bool) (before others : List (List ℕ)) (ms : List Named) → ((text : List ℕ) → asked text ≡ true → is_among before text ≡ true → is_among others text ≡ true)
     → All (λ (m : Named). test m.name ≡ true → All (λ name. asked name ≡ true) (import_names m)) ms
     → All (λ (m : Named). test m.name ≡ false → asked m.name ≡ true → is_among others m.name ≡ true) ms
-    → AllBehind before ms → AllBehind others (filter (λ (m : Named). test m.name) ms)
-behind_filtered test asked before others [] go closed there behind = tt
-behind_filtered test asked before others (m ∷ ms) go closed there behind =
+    → AllAfter before ms → AllAfter others (filter (λ (m : Named). test m.name) ms)
+after_filtered test asked before others [] go closed there after = tt
+after_filtered test asked before others (m ∷ ms) go closed there after =
     let closed_here = All-head (λ (m : Named). test m.name ≡ true → All (λ name. asked name ≡ true) (import_names m)) m ms closed in
     let closed_later = All-tail (λ (m : Named). test m.name ≡ true → All (λ name. asked name ≡ true) (import_names m)) m ms closed in
     let there_here = All-head (λ (m : Named). test m.name ≡ false → asked m.name ≡ true → is_among others m.name ≡ true) m ms there in
     let there_later = All-tail (λ (m : Named). test m.name ≡ false → asked m.name ≡ true → is_among others m.name ≡ true) m ms there in
     by (test m.name) refl closed_here there_here
-    (behind_filtered test asked (before ++ m.name ∷ []) (others ++ m.name ∷ []) ms (λ text ask h. taken text (go text ask) (either (is_among before text) (bytes_eq text m.name) (sym (among_push before m.name text) ∙ h))) closed_later
+    (after_filtered test asked (before ++ m.name ∷ []) (others ++ m.name ∷ []) ms (λ text ask h. taken text (go text ask) (either (is_among before text) (bytes_eq text m.name) (sym (among_push before m.name text) ∙ h))) closed_later
     (All-weaker (λ (m : Named). test m.name ≡ false → asked m.name ≡ true → is_among others m.name ≡ true) (λ (n : Named). test n.name ≡ false → asked n.name ≡ true → is_among (others ++ m.name ∷ []) n.name ≡ true)
-    (λ n h e f. among_more others m.name n.name (h e f)) ms there_later) behind.1)
-    (λ e. behind_filtered test asked (before ++ m.name ∷ []) others ms (λ text ask h. left text ask (go text ask) (there_here e) (either (is_among before text) (bytes_eq text m.name) (sym (among_push before m.name text) ∙ h))) closed_later there_later behind.1)
+    (λ n h e f. among_more others m.name n.name (h e f)) ms there_later) after.1)
+    (λ e. after_filtered test asked (before ++ m.name ∷ []) others ms (λ text ask h. left text ask (go text ask) (there_here e) (either (is_among before text) (bytes_eq text m.name) (sym (among_push before m.name text) ∙ h))) closed_later there_later after.1)
   where
     taken : (text : List ℕ) → (is_among before text ≡ true → is_among others text ≡ true) → (is_among before text ≡ true) ⊎ (bytes_eq text m.name ≡ true) → is_among (others ++ m.name ∷ []) text ≡ true
     taken text go (inl h) = among_more others m.name text (go h)
@@ -222,16 +222,16 @@ behind_filtered test asked before others (m ∷ ms) go closed there behind =
         ap (is_among others) e ∙ there (ap asked (sym e) ∙ ask)
 
     by : (b : Bool) → test m.name ≡ b → (test m.name ≡ true → All (λ name. asked name ≡ true) (import_names m)) → (test m.name ≡ false → asked m.name ≡ true → is_among others m.name ≡ true)
-        → AllBehind (others ++ m.name ∷ []) (filter (λ (m : Named). test m.name) ms) → (test m.name ≡ false → AllBehind others (filter (λ (m : Named). test m.name) ms))
-        → AllBehind others (if b then m ∷ filter (λ (m : Named). test m.name) ms else filter (λ (m : Named). test m.name) ms)
+        → AllAfter (others ++ m.name ∷ []) (filter (λ (m : Named). test m.name) ms) → (test m.name ≡ false → AllAfter others (filter (λ (m : Named). test m.name) ms))
+        → AllAfter others (if b then m ∷ filter (λ (m : Named). test m.name) ms else filter (λ (m : Named). test m.name) ms)
     by true e closed there taken left =
-        (all_both (λ name. asked name ≡ true) (λ name. is_among before name ≡ true) (λ name. is_among others name ≡ true) go (import_names m) (closed e) behind.0, taken)
+        (all_both (λ name. asked name ≡ true) (λ name. is_among before name ≡ true) (λ name. is_among others name ≡ true) go (import_names m) (closed e) after.0, taken)
     by false e closed there taken left = left e
 
-behind_joined : (before : List (List ℕ)) (xs ys : List Named) → AllBehind before xs → AllBehind (before ++ called xs) ys → AllBehind before (xs ++ ys)
-behind_joined before [] ys first second = subst (λ (names : List (List ℕ)). AllBehind names ys) (append-nil before) second
-behind_joined before (x ∷ xs) ys first second =
-    (first.0, behind_joined (before ++ x.name ∷ []) xs ys first.1 (subst (λ (names : List (List ℕ)). AllBehind names ys) (sym (append_assoc before (x.name ∷ []) (called xs))) second))
+after_joined : (before : List (List ℕ)) (xs ys : List Named) → AllAfter before xs → AllAfter (before ++ called xs) ys → AllAfter before (xs ++ ys)
+after_joined before [] ys first second = subst (λ (names : List (List ℕ)). AllAfter names ys) (append-nil before) second
+after_joined before (x ∷ xs) ys first second =
+    (first.0, after_joined (before ++ x.name ∷ []) xs ys first.1 (subst (λ (names : List (List ℕ)). AllAfter names ys) (sym (append_assoc before (x.name ∷ []) (called xs))) second))
 
 -- those that are built in are among those that are
 own_there : (ms : List Named) → All (λ (m : Named). not (is_built_in m.name) ≡ false → true ≡ true → is_among (called (filter (λ (m : Named). is_built_in m.name) ms)) m.name ≡ true) ms
@@ -259,10 +259,10 @@ ordered_first ms ordered =
     record {
       differ = new_joined [] own others (new_filtered is_built_in [] [] ms (λ text passes h. h) ordered.differ)
           (new_filtered (λ text. not (is_built_in text)) [] (called own) ms (λ text passes h. not_own ms text passes) ordered.differ);
-      behind = behind_joined [] own others
-          (behind_filtered is_built_in is_built_in [] [] ms (λ text ask h. h)
+      after = after_joined [] own others
+          (after_filtered is_built_in is_built_in [] [] ms (λ text ask h. h)
           (All-weaker IsOwn (λ (m : Named). is_built_in m.name ≡ true → All (λ name. is_built_in name ≡ true) (import_names m)) own_imports ms ordered.own)
-          (λ k d fits e f. absurd (both_ways (is_built_in (get_or ms k d).name) e f)) ordered.behind)
-          (behind_filtered (λ text. not (is_built_in text)) (λ text. true) [] (called own) ms (λ text ask h. absurd (both_ways true (sym h) refl)) (λ k d fits e. λ k d fits. refl) (own_there ms) ordered.behind);
+          (λ k d fits e f. absurd (both_ways (is_built_in (get_or ms k d).name) e f)) ordered.after)
+          (after_filtered (λ text. not (is_built_in text)) (λ text. true) [] (called own) ms (λ text ask h. absurd (both_ways true (sym h) refl)) (λ k d fits e. λ k d fits. refl) (own_there ms) ordered.after);
       own = All-append IsOwn own others (All-filter (λ (m : Named). is_built_in m.name) IsOwn ms ordered.own) (All-filter (λ (m : Named). not (is_built_in m.name)) IsOwn ms ordered.own);
     }

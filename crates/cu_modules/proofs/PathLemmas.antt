@@ -21,8 +21,8 @@ use Rattle.cu_modules.proofs.NameLemmas.{same_name}
 pub bytes_sym : (a b : List ℕ) → bytes_eq a b ≡ bytes_eq b a
 bytes_sym a b =
     let forth = bytes_eq-Decides a b in
-    let back = bytes_eq-Decides b a in
-    same_from_decides (bytes_eq a b) (bytes_eq b a) forth ((λ e. sym (back.0 e), λ e. back.1 (sym e)))
+    let converse = bytes_eq-Decides b a in
+    same_from_decides (bytes_eq a b) (bytes_eq b a) forth ((λ e. sym (converse.0 e), λ e. converse.1 (sym e)))
 
 abbrev pub is_it : NameId → NameId → Bool
 is_it name id = nat_eq id.0 name.0

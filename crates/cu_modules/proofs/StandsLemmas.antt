@@ -19,7 +19,7 @@ use Rattle.cu_modules.specs.declared.modules.Module.{Module}
 use Rattle.cu_modules.specs.declared.visits.Progress.{Progress}
 use Rattle.cu_modules.specs.Imports.{AreImports}
 use Rattle.cu_uses.specs.Binders.{is_among}
-use Rattle.cu_modules.specs.Ordering.{AllBehind, AllNew, AreOrdered, IsOwn, module_of, modules_of, texts_of}
+use Rattle.cu_modules.specs.Ordering.{AllAfter, AllNew, AreOrdered, IsOwn, module_of, modules_of, texts_of}
 use Rattle.cu_modules.specs.BuiltInEntities.{prelude_name, set_functions_name}
 use Rattle.cu_modules.specs.Progress.{Enters, Stands, StandsFor, built_in_met, fetched_with, is_met, one_if}
 use Rattle.cu_modules.specs.Reading.{HasModule, HasPrelude}
@@ -142,16 +142,16 @@ all_new_push : (before : List (List ℕ)) (ms : List Named) (m : Named) → AllN
 all_new_push before [] m new last = (ap (λ names. is_among names m.name) (sym (append-nil before)) ∙ last, tt)
 all_new_push before (n ∷ ms) m new last = (new.0, all_new_push (before ++ n.name ∷ []) ms m new.1 (ap (λ names. is_among names m.name) (append_assoc before (n.name ∷ []) (called ms)) ∙ last))
 
-all_behind_push : (before : List (List ℕ)) (ms : List Named) (m : Named) → AllBehind before ms → All (λ name. is_among (before ++ called ms) name ≡ true) (import_names m) → AllBehind before (ms ++ m ∷ [])
-all_behind_push before [] m behind last = (subst (λ (names : List (List ℕ)). All (λ name. is_among names name ≡ true) (import_names m)) (append-nil before) last, tt)
-all_behind_push before (n ∷ ms) m behind last =
-    (behind.0, all_behind_push (before ++ n.name ∷ []) ms m behind.1 (subst (λ (names : List (List ℕ)). All (λ name. is_among names name ≡ true) (import_names m)) (sym (append_assoc before (n.name ∷ []) (called ms))) last))
+all_after_push : (before : List (List ℕ)) (ms : List Named) (m : Named) → AllAfter before ms → All (λ name. is_among (before ++ called ms) name ≡ true) (import_names m) → AllAfter before (ms ++ m ∷ [])
+all_after_push before [] m after last = (subst (λ (names : List (List ℕ)). All (λ name. is_among names name ≡ true) (import_names m)) (append-nil before) last, tt)
+all_after_push before (n ∷ ms) m after last =
+    (after.0, all_after_push (before ++ n.name ∷ []) ms m after.1 (subst (λ (names : List (List ℕ)). All (λ name. is_among names name ≡ true) (import_names m)) (sym (append_assoc before (n.name ∷ []) (called ms))) last))
 
 -- a module that is new and stands behind all that it imports
 pub ordered_push : (ms : List Named) (m : Named) → AreOrdered ms → is_there ms m.name ≡ false → All (λ name. is_there ms name ≡ true) (import_names m) → IsOwn m → AreOrdered (ms ++ m ∷ [])
 ordered_push ms m ordered new imported own = record {
   differ = all_new_push [] ms m ordered.differ (sym (there_among ms m.name) ∙ new);
-  behind = all_behind_push [] ms m ordered.behind (All-weaker (λ name. is_there ms name ≡ true) (λ name. is_among (called ms) name ≡ true) (λ name h. sym (there_among ms name) ∙ h) (import_names m) imported);
+  after = all_after_push [] ms m ordered.after (All-weaker (λ name. is_there ms name ≡ true) (λ name. is_among (called ms) name ≡ true) (λ name h. sym (there_among ms name) ∙ h) (import_names m) imported);
   own = All-push IsOwn ms m ordered.own own;
 }
 

@@ -59,11 +59,11 @@ at_index P xs i x within at all = subst P (sym at) (all i x within)
 pub told_more : {A B : Type 0} (owner : NameId) (names : List (List ℕ)) (f : B → List Fault) (g : A → B) (xs : List A) (i : ℕ) (x d : A) (a b c : FirstFault) → i < length xs → x ≡ get_or xs i d
     → Told owner names b (f (g x)) c → Told owner names a (flat_map f (map g (take i xs))) b → Told owner names a (flat_map f (map g (take (i + 1) xs))) c
 told_more owner names f g xs i x d a b c within at here done =
-    let front = map g (take i xs) in
-    let more : map g (take (i + 1) xs) ≡ front ++ g x ∷ [] = map_more g xs i d within ∙ ap (λ x. front ++ g x ∷ []) (sym at) in
-    told_as owner names a c (flat_map f (map g (take (i + 1) xs))) (flat_map f front ++ f (g x))
-    (ap (flat_map f) more ∙ flat_map-append f front (g x ∷ []) ∙ ap (λ fs. flat_map f front ++ fs) (append-nil (f (g x))))
-    (told_both owner names a b c (flat_map f front) (f (g x)) done here)
+    let prefix = map g (take i xs) in
+    let more : map g (take (i + 1) xs) ≡ prefix ++ g x ∷ [] = map_more g xs i d within ∙ ap (λ x. prefix ++ g x ∷ []) (sym at) in
+    told_as owner names a c (flat_map f (map g (take (i + 1) xs))) (flat_map f prefix ++ f (g x))
+    (ap (flat_map f) more ∙ flat_map-append f prefix (g x ∷ []) ∙ ap (λ fs. flat_map f prefix ++ fs) (append-nil (f (g x))))
+    (told_both owner names a b c (flat_map f prefix) (f (g x)) done here)
 
 pub told_whole : {A B : Type 0} (owner : NameId) (names : List (List ℕ)) (f : B → List Fault) (g : A → B) (xs : List A) (i : ℕ) (meant : List B) (a b : FirstFault) → length xs ≤ i → map g xs ≡ meant
     → Told owner names a (flat_map f (map g (take i xs))) b → Told owner names a (flat_map f meant) b
@@ -141,11 +141,11 @@ told_several owner names es entities name a b are several told =
 
 -- the constructors that a list names beside a type
 
-pub only_told : (owner : NameId) (names : List (List ℕ)) (es : List Entity) (which : Constructors) (wanted : Vec node.Name Global) (slice : List node.Name) (a b : FirstFault) → which ≡ constructors.Only wanted → slice ≡ wanted.items
+pub only_told : (owner : NameId) (names : List (List ℕ)) (es : List Entity) (which : Constructors) (listed : Vec node.Name Global) (slice : List node.Name) (a b : FirstFault) → which ≡ constructors.Only listed → slice ≡ listed.items
     → ConstructorsAreOf owner names which → (All (NameIsOf owner names) slice → Told owner names a (constructor_faults es (Only (map (name_meaning names) slice))) b)
     → Told owner names a (constructor_faults es (constructors_meaning names which)) b
-only_told owner names es which wanted slice a b is same own told =
-    let owned : ConstructorsAreOf owner names (constructors.Only wanted) = subst (ConstructorsAreOf owner names) is own in
+only_told owner names es which listed slice a b is same own told =
+    let owned : ConstructorsAreOf owner names (constructors.Only listed) = subst (ConstructorsAreOf owner names) is own in
     told_as owner names a b (constructor_faults es (constructors_meaning names which)) (constructor_faults es (Only (map (name_meaning names) slice)))
     (ap (λ (which : Constructors). constructor_faults es (constructors_meaning names which)) is
     ∙ ap (λ (xs : List node.Name). constructor_faults es (Only (map (name_meaning names) xs))) (sym same))

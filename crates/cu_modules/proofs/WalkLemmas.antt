@@ -89,7 +89,7 @@ pending_at : {old new : List (List ℕ)} → Extends old new → (before after :
     → IsNew (texts_of old before.path.items) (modules_of old before.done.items) (text_of old id) → Enters new before after id f.«module» (into_iter_items f.left)
     → IsPending (texts_of old before.path.items) met (open_of new f)
 pending_at {old} {new} grown before after id f met known is_new enters = record {
-  front = [];
+  prefix = [];
   imports = sym enters.imports.are;
   there = All-nil (λ text. is_among met text ≡ true);
   new = ap (is_among (texts_of old before.path.items)) (name_is grown f.«module».name id enters.called known) ∙ is_new.not_met;
@@ -150,8 +150,8 @@ both_map P Q R go (Some a) p q = go a p q
 both_map P Q R go None p q = tt
 
 -- imports that are done, in texts
-there_texts : (names : List (List ℕ)) (done : List Module) (front : List NameId) → All (λ id. is_there (modules_of names done) (text_of names id) ≡ true) front → All (λ text. is_there (modules_of names done) text ≡ true) (texts_of names front)
-there_texts names done front there = All-map (λ text. is_there (modules_of names done) text ≡ true) (text_of names) front there
+there_texts : (names : List (List ℕ)) (done : List Module) (prefix : List NameId) → All (λ id. is_there (modules_of names done) (text_of names id) ≡ true) prefix → All (λ text. is_there (modules_of names done) text ≡ true) (texts_of names prefix)
+there_texts names done prefix there = All-map (λ text. is_there (modules_of names done) text ≡ true) (text_of names) prefix there
 
 there_met : (ms : List Named) (texts : List (List ℕ)) → All (λ text. is_there ms text ≡ true) texts → All (λ text. is_among (called ms) text ≡ true) texts
 there_met ms texts there = All-weaker (λ text. is_there ms text ≡ true) (λ text. is_among (called ms) text ≡ true) (λ text h. sym (there_among ms text) ∙ h) texts there
@@ -160,8 +160,8 @@ met_there : (ms : List Named) (texts : List (List ℕ)) → All (λ text. is_amo
 met_there ms texts met = All-weaker (λ text. is_among (called ms) text ≡ true) (λ text. is_there ms text ≡ true) (λ text h. there_among ms text ∙ h) texts met
 
 -- the import that isn't done, in texts
-whole_texts : (names : List (List ℕ)) (all front later : List NameId) (id : NameId) → all ≡ front ++ id ∷ later → texts_of names all ≡ texts_of names front ++ text_of names id ∷ texts_of names later
-whole_texts names all front later id whole = ap (texts_of names) whole ∙ map-append (text_of names) front (id ∷ later)
+whole_texts : (names : List (List ℕ)) (all prefix later : List NameId) (id : NameId) → all ≡ prefix ++ id ∷ later → texts_of names all ≡ texts_of names prefix ++ text_of names id ∷ texts_of names later
+whole_texts names all prefix later id whole = ap (texts_of names) whole ∙ map-append (text_of names) prefix (id ∷ later)
 
 pub import_known : {old names : List (List ℕ)} (before now : Progress) (f : Frame) (outer frames : List Frame) (root id : NameId) (later : List NameId) (o : Option Holdings) (dir : List ℕ) → frames ≡ f ∷ outer → Going old names before now frames root o dir
     → Skipped names now.done.items (into_iter_items f.left) (id ∷ later) → IsKnown names id
@@ -185,8 +185,8 @@ going_refused {old} {middle} new before now f outer frames root id later o dir f
     (λ (held : Holdings). Tells new (λ refusal. Visits (held.module_at dir) (texts_of middle now.path.items) M (text_of middle id) (Err refusal)) fault)
     (λ (held : Holdings). Tells new (λ refusal. Visits (held.module_at dir) P M0 t (Err refusal)) fault)
     (λ held go told. tells_map new (λ refusal. Visits (held.module_at dir) (texts_of middle now.path.items) M (text_of middle id) (Err refusal)) (λ refusal. Visits (held.module_at dir) P M0 t (Err refusal))
-    (λ refusal visit. go (Err refusal) (finishes_refused (held.module_at dir) P M m (opens_of middle outer) (texts_of middle skipped.front) (texts_of middle later) (text_of middle id) refusal
-    (whole_texts middle (into_iter_items f.left) skipped.front later id skipped.whole) (there_texts middle now.done.items skipped.front skipped.there)
+    (λ refusal visit. go (Err refusal) (finishes_refused (held.module_at dir) P M m (opens_of middle outer) (texts_of middle skipped.prefix) (texts_of middle later) (text_of middle id) refusal
+    (whole_texts middle (into_iter_items f.left) skipped.prefix later id skipped.whole) (there_texts middle now.done.items skipped.prefix skipped.there)
     (subst (λ (path : List (List ℕ)). Visits (held.module_at dir) path M (text_of middle id) (Err refusal)) path visit))) fault told)
     o going.visits told
 
@@ -212,12 +212,12 @@ going_inside {old} {middle} {new} grown before now after f inner outer frames de
     let known = All-head (IsKnown middle) id later left_known in
     let have : All (HasFrame middle) (f' ∷ outer) = All-cons (HasFrame middle) f' outer (record { has = has.has; known = All-tail (IsKnown middle) id later left_known }) (All-tail (HasFrame middle) f outer going.have) in
     let same = name_is grown inner.«module».name id enters.called known in
-    let front = texts_of middle skipped.front in
-    let whole = whole_texts middle (into_iter_items f.left) skipped.front later id skipped.whole ∙ ap (λ name. front ++ name ∷ texts_of middle later) (sym same) in
-    let there = there_texts middle now.done.items skipped.front skipped.there in
+    let prefix = texts_of middle skipped.prefix in
+    let whole = whole_texts middle (into_iter_items f.left) skipped.prefix later id skipped.whole ∙ ap (λ name. prefix ++ name ∷ texts_of middle later) (sym same) in
+    let there = there_texts middle now.done.items skipped.prefix skipped.there in
     let opens : n ∷ opens_of middle (f' ∷ outer) ≡ opens_of new (inner ∷ f' ∷ outer) = ap (λ (ms : List Open). n ∷ ms) (sym (opens_same grown (f' ∷ outer) have)) in
     let ms = done_is grown now after.done.items going.stands enters.done in
-    let pending = pending_inside P t (called M) n m (opens_of middle outer) front (texts_of middle later) whole (there_met M front there)
+    let pending = pending_inside P t (called M) n m (opens_of middle outer) prefix (texts_of middle later) whole (there_met M prefix there)
     (subst (λ (path : List (List ℕ)). IsPending path (called M) n) path (pending_at grown now after id inner (called M) known is_new enters)) going.pending in
     let goes : Going old new before after (inner ∷ f' ∷ outer) root o dir = record {
       extends = extends-trans going.extends grown;
@@ -231,7 +231,7 @@ going_inside {old} {middle} {new} grown before now after f inner outer frames de
           both_map (λ (held : Holdings). (outcome : Result (List Named) Refusal) → Finishes (held.module_at dir) P (opens_of middle (f ∷ outer)) M outcome → Visits (held.module_at dir) P M0 t outcome)
           (λ (held : Holdings). IsFound (held.module_at dir) now.fetched (text_of middle id) (module_meaning new inner.«module».syntax))
           (λ (held : Holdings). (outcome : Result (List Named) Refusal) → Finishes (held.module_at dir) P (opens_of new (inner ∷ f' ∷ outer)) (modules_of new after.done.items) outcome → Visits (held.module_at dir) P M0 t outcome)
-          (λ held go looked outcome h. go outcome (finishes_inside (held.module_at dir) P M n m (opens_of middle outer) front (texts_of middle later) outcome whole there
+          (λ held go looked outcome h. go outcome (finishes_inside (held.module_at dir) P M n m (opens_of middle outer) prefix (texts_of middle later) outcome whole there
           (subst (λ (path : List (List ℕ)). IsBegun (held.module_at dir) path M n) path (begun_at grown (held.module_at dir) now after id inner going.stands known is_new enters looked))
           (subst (λ (ms : List Open). Finishes (held.module_at dir) P ms M outcome) (sym opens) (subst (λ (ms : List Named). Finishes (held.module_at dir) P (opens_of new (inner ∷ f' ∷ outer)) ms outcome) ms h))))
           o going.visits found;
@@ -252,7 +252,7 @@ going_outside {old} {names} before now after f outer frames root count o dir sta
     let going = subst (λ (frames : List Frame). Going old names before now frames root o dir) is whole_going in
     let has = All-head (HasFrame names) f outer going.have in
     let path = popped base now.path.items after.path.items f.«module».name count going.path long rest in
-    let there = subst (All (λ text. is_there M text ≡ true)) (ap (texts_of names) (sym (skipped.whole ∙ append-nil skipped.front))) (there_texts names now.done.items skipped.front skipped.there) in
+    let there = subst (All (λ text. is_there M text ≡ true)) (ap (texts_of names) (sym (skipped.whole ∙ append-nil skipped.prefix))) (there_texts names now.done.items skipped.prefix skipped.there) in
     let imported = met_there M (import_names n) (imports_met (path_of P (opens_of names outer)) (called M) m going.pending.0 (there_met M m.left there)) in
     let not_met = ap (λ path. is_among path m.name) (paths_are going.extends before.path.items outer stands.path_known) ∙ going.pending.0.new in
     let at = stands_at names now.prelude now.prelude now.path.items (base ++ f.«module».name ∷ []) now.done.items now.done.items now.fetched now.fetched refl (sym going.path) refl refl going.stands in

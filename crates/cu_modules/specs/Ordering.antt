@@ -69,10 +69,10 @@ AllNew before (m ∷ modules) = (is_among before m.name ≡ false)
     × AllNew (before ++ m.name ∷ []) modules
 
 -- each module stands after all that it imports
-abbrev pub AllBehind : List (List ℕ) → List Named → Type 0
-AllBehind before [] = Unit {0}
-AllBehind before (m ∷ modules) = All (λ name. is_among before name ≡ true) (import_names m)
-    × AllBehind (before ++ m.name ∷ []) modules
+abbrev pub AllAfter : List (List ℕ) → List Named → Type 0
+AllAfter before [] = Unit {0}
+AllAfter before (m ∷ modules) = All (λ name. is_among before name ≡ true) (import_names m)
+    × AllAfter (before ++ m.name ∷ []) modules
 
 -- A module that is built in is what the built-in text of its name is read as.
 abbrev pub IsOwn : Named → Type 0
@@ -82,5 +82,5 @@ IsOwn m = (text : List ℕ) → built_in m.name ≡ Some text → IsRead m.name 
 -- their own texts.
 pub record AreOrdered (modules : List Named) : Type 0 where
   pub differ : AllNew [] modules
-  pub behind : AllBehind [] modules
+  pub after : AllAfter [] modules
   pub own : All IsOwn modules

@@ -68,14 +68,14 @@ fn is_name_of(name: &Name, entities: &[Entity]) -> bool
 }
 
 /// Tells which names aren't those of any of these entities.
-fn tell_missing(entities: &[Entity], wanted: &[Name], first: &mut FirstFault)
+fn tell_missing(entities: &[Entity], listed: &[Name], first: &mut FirstFault)
     ensures { (owner : NameId) (names : List (List ℕ)) (es : List meant.Entity)
         → AllDiffer names → AreEntities names es entities.now
-        → All (NameIsOf owner names) wanted.now
+        → All (NameIsOf owner names) listed.now
         → Told owner names first.old
-        (constructor_faults es (Only (map (name_meaning names) wanted.now))) first.new }
+        (constructor_faults es (Only (map (name_meaning names) listed.now))) first.new }
 {
-    'wanted: for name in wanted {
+    'listed: for name in listed {
         tell_unless(is_name_of(name, entities), name, first);
     }
 }
@@ -96,6 +96,6 @@ pub(crate) fn tell_constructors(
     match constructors {
         Constructors::None => {}
         Constructors::All => {}
-        Constructors::Only(wanted) => tell_missing(entities, wanted.as_slice(), first),
+        Constructors::Only(listed) => tell_missing(entities, listed.as_slice(), first),
     }
 }

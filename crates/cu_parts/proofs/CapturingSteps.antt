@@ -132,9 +132,9 @@ more_now true first h = let absent : ⊥ = cc in absurd absent
 more_now false first h = refl
 
 -- a slice that was written back as a whole
-front : (xs zs : List Bool) → take (length xs) (xs ++ zs) ≡ xs
-front [] zs = refl
-front (x ∷ xs) zs = ap (λ ys. x ∷ ys) (front xs zs)
+prefix : (xs zs : List Bool) → take (length xs) (xs ++ zs) ≡ xs
+prefix [] zs = refl
+prefix (x ∷ xs) zs = ap (λ ys. x ∷ ys) (prefix xs zs)
 
 pub written : (n : ℕ) (xs ys : List Bool) → n ≡ length xs → take n (xs ++ drop (length xs) ys) ≡ xs
-written n xs ys size = ap (λ k. take k (xs ++ drop (length xs) ys)) size ∙ front xs (drop (length xs) ys)
+written n xs ys size = ap (λ k. take k (xs ++ drop (length xs) ys)) size ∙ prefix xs (drop (length xs) ys)

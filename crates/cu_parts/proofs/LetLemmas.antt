@@ -21,8 +21,8 @@ module _ (counts : LocalHead → Bool) (x : ℕ) (a : LocalTerm) (itself : uses 
   right : (xs ys : List ℕ) (u w : Bool) → Stands x ys w → Stands x (xs ++ ys) (u || w)
   right xs ys u w s = record { bound = held_second x xs ys s.bound; used = or_second u w s.used }
 
-  behind : (h : Bool) (xs : List ℕ) (u : Bool) → Stands x xs u → Stands x xs (h || u)
-  behind h xs u s = record { bound = s.bound; used = or_second h u s.used }
+  later : (h : Bool) (xs : List ℕ) (u : Bool) → Stands x xs u → Stands x xs (h || u)
+  later h xs u s = record { bound = s.bound; used = or_second h u s.used }
 
   -- behind a binder of another variable
   inside : (y : ℕ) (ys xs : List ℕ) (u : Bool) → not (holds y ys) ≡ true → holds x ys ≡ true → Stands x xs u → Stands x xs (not (nat_eq y x) && u)
@@ -38,8 +38,8 @@ module _ (counts : LocalHead → Bool) (x : ℕ) (a : LocalTerm) (itself : uses 
     let_stands : (t : LocalTerm) (k : ℕ) → is_linear (binders t) ≡ true → slice_get (lets t) k ≡ Some (x, a) → Stands x (binders t) (uses counts x t)
     let_stands (local.Variable y) k linear e = let absent : ⊥ = cc in absurd absent
     let_stands (local.Literal l) k linear e = let absent : ⊥ = cc in absurd absent
-    let_stands (local.Whole h ts) k linear e = behind (counts h) (binders_all ts) (any_use counts x ts) (any_stands ts k linear e)
-    let_stands (local.Part h ts) k linear e = behind (counts h) (binders_all ts) (any_use counts x ts) (any_stands ts k linear e)
+    let_stands (local.Whole h ts) k linear e = later (counts h) (binders_all ts) (any_use counts x ts) (any_stands ts k linear e)
+    let_stands (local.Part h ts) k linear e = later (counts h) (binders_all ts) (any_use counts x ts) (any_stands ts k linear e)
     let_stands (local.Apply f b) k linear e = elim (in_either (lets f) (lets b) (x, a) k e) [
       | inl i ↦ left (binders f) (binders b) (uses counts x f) (uses counts x b) (let_stands f i.0 (linear_first (binders f) (binders b) linear) i.1)
       | inr i ↦ right (binders f) (binders b) (uses counts x f) (uses counts x b) (let_stands b i.0 (linear_second (binders f) (binders b) linear) i.1)

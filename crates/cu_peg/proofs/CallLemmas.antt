@@ -133,20 +133,20 @@ module _ (rows : List Row) where
     among_calls (row.Ahead p) q a = subst (RowCalls rows (row.Ahead p)) (sym (only_one p q a)) (w.ahead_part p)
     among_calls (row.NotAhead p) q a = subst (RowCalls rows (row.NotAhead p)) (sym (only_one p q a)) (w.not_ahead_part p)
 
-    behind : (p q : ℕ) (ps : List ℕ) → IsNullable rows p → Among q ps → Among q (p ∷ (if marked nullable p then ps else []))
-    behind p q ps n a = there p (if marked nullable p then ps else []) (subst (λ (b : Bool). Among q (if b then ps else [])) (sym ((tells p).1 n)) a)
+    after : (p q : ℕ) (ps : List ℕ) → IsNullable rows p → Among q ps → Among q (p ∷ (if marked nullable p then ps else []))
+    after p q ps n a = there p (if marked nullable p then ps else []) (subst (λ (b : Bool). Among q (if b then ps else [])) (sym ((tells p).1 n)) a)
 
     -- what is called is among the callees
     calls_among : {e : Row} {q : ℕ} → RowCalls rows e q → Among q (callees nullable e)
     calls_among (w.first_part p ps) = here (if marked nullable p then called nullable ps else [])
-    calls_among (w.later_part p ps q n c) = behind p q (called nullable ps) n (calls_among c)
+    calls_among (w.later_part p ps q n c) = after p q (called nullable ps) n (calls_among c)
     calls_among (w.first_alternative p ps) = here ps
     calls_among (w.later_alternative p ps q c) = there p ps (calls_among c)
     calls_among (w.optional_part p) = here []
     calls_among (w.many_part p) = here []
     calls_among (w.at_least_one_part p) = here []
     calls_among (w.separated_part p s) = here (if marked nullable p then called nullable (s ∷ []) else [])
-    calls_among (w.separator p s n) = behind p s (called nullable (s ∷ [])) n (here (if marked nullable s then called nullable [] else []))
+    calls_among (w.separator p s n) = after p s (called nullable (s ∷ [])) n (here (if marked nullable s then called nullable [] else []))
     calls_among (w.ahead_part p) = here []
     calls_among (w.not_ahead_part p) = here []
 
@@ -248,7 +248,7 @@ module _ (rows : List Row) where
       record InOrder (marks : List Bool) (order : List ℕ) : Type 0 where
         within : All (λ r. r < length rows) order
         has : (q : ℕ) → marked marks q ≡ true → Contains order q
-        behind : (i q : ℕ) → i < length order → Calls rows (get_or order i 0) q → Contains (take i order) q
+        after : (i q : ℕ) → i < length order → Calls rows (get_or order i 0) q → Contains (take i order) q
 
       same_caller : (r : ℕ) (e f : Row) → slice_get rows r ≡ Some e → slice_get rows r ≡ Some f → f ≡ e
       same_caller r e f p q = cc
@@ -264,30 +264,30 @@ module _ (rows : List Row) where
       joins marks order n o j = record {
         within = All-push (λ r. r < length rows) order n o.within (omega (arith, slice_get_within conditions n j.condition j.is, ap length is, length-map rows (calls_by quantifier.All nullable)));
         has = λ q h. has_by q (marked-set marks n q h);
-        behind = λ i q h d. behind_by i q h d (eqb i (length order)) refl;
+        after = λ i q h d. after_by i q h d (eqb i (length order)) refl;
       }
         where
           has_by : (q : ℕ) → (q ≡ n) ⊎ (marked marks q ≡ true) → Contains (order ++ n ∷ []) q
           has_by q (inl e) = subst (Contains (order ++ n ∷ [])) (sym e) (Contains-push order n)
           has_by q (inr h) = Contains-append_left order (n ∷ []) q (o.has q h)
 
-          behind_by : (i q : ℕ) → i < length (order ++ n ∷ []) → Calls rows (get_or (order ++ n ∷ []) i 0) q → (b : Bool) → eqb i (length order) ≡ b
+          after_by : (i q : ℕ) → i < length (order ++ n ∷ []) → Calls rows (get_or (order ++ n ∷ []) i 0) q → (b : Bool) → eqb i (length order) ≡ b
               → Contains (take i (order ++ n ∷ [])) q
-          behind_by i q h d true e =
+          after_by i q h d true e =
               let at_end : length order ≡ i = sym (eqb-true i (length order) e) in
               let called = subst (λ (r : ℕ). Calls rows r q) (get_or_at order n [] 0 i at_end) d in
               subst (λ (xs : List ℕ). Contains xs q) (sym (take_at order (n ∷ []) i at_end)) (callee_has marks order n o j q called)
-          behind_by i q h d false e =
+          after_by i q h d false e =
               let other : i ≢ length order = λ same. true≢false (sym (eq-eqb i (length order) same) ∙ e) in
               let inside : i < length order = omega (arith, other, length-append order (n ∷ [])) in
               let called = subst (λ (r : ℕ). Calls rows r q) (get_or_append_left order (n ∷ []) 0 i inside) d in
-              subst (λ (xs : List ℕ). Contains xs q) (sym (take-append-le i order (n ∷ []) (omega arith))) (o.behind i q inside called)
+              subst (λ (xs : List ℕ). Contains xs q) (sym (take-append-le i order (n ∷ []) (omega arith))) (o.after i q inside called)
 
       in_order : (start marks : List Bool) (order : List ℕ) (n : ℕ) → start ≡ replicate n false → Derived conditions start marks order → InOrder marks order
       in_order start _ _ n e closure.begun = record {
         within = λ k d h. absurd (omega arith);
         has = λ q h. absurd (none_marked n q (subst (λ (ms : List Bool). marked ms q ≡ true) e h));
-        behind = λ i q h d. absurd (omega arith);
+        after = λ i q h d. absurd (omega arith);
       }
       in_order start _ _ n e (closure.joined marks more order longer k d j is_more is_longer) =
           let o = joins marks order k (in_order start marks order n e d) j in
@@ -310,5 +310,5 @@ module _ (rows : List Row) where
           record {
             within = o.within;
             complete = λ r h. o.has r (marked_all marks full closed r (all_founded rows closed good r h) h);
-            behind_calls = o.behind;
+            after_calls = o.after;
           }

@@ -14,7 +14,7 @@ use Rattle.cu_peg.specs.WellFormed as w
 use Rattle.cu_peg.specs.WellFormed.{IsNullable, IsWellFormed, RowCalls, named}
 use Rattle.cu_peg.proofs.FoundedRows.{All-tail, row_calls_within}
 use Rattle.cu_peg.proofs.RowLemmas as parts
-use Rattle.cu_peg.proofs.RowLemmas.{as_many, chosen_of, fails_of_row, many_never_fails, no_more_of, no_part_behind, of_row, parts_of}
+use Rattle.cu_peg.proofs.RowLemmas.{as_many, chosen_of, fails_of_row, many_never_fails, no_more_of, no_part_after, of_row, parts_of}
 use Rattle.cu_peg.proofs.Takes.{Takes, some, none, takes}
 
 min_sum : (top x y : ℕ) → min (min x top + min y top) top ≡ min (x + y) top
@@ -227,34 +227,34 @@ module _ (rows : List Row) (has : Class → ℕ → Bool) (n : ℕ) where
       counted = only_counted end.nodes d.tree d.counted;
     }
 
-    others_right : (r p s left : ℕ) (end : End) (d : EndsAt rows has n p left end) (behind : End) → EndsAt rows has n s end.left behind → (o : Option End)
-        → slice_get rows r ≡ Some (row.SeparatedBy p s) → IsEnd rows has n r behind.left o → RowIsEnd (row.SeparatedBy p s) left (Some (joined end o))
-    others_right r p s left end d behind b None is f =
-        no_other p s left end d (no_part_behind rows has p s (last n end.left) (last n behind.left) b.tree b.matched
-        (fails_of_row rows has r (row.SeparatedBy p s) (last n behind.left) is f))
-    others_right r p s left end d behind b (Some rest) is f =
-        let t = row_is_end r (row.SeparatedBy p s) behind.left (Some rest) is f in
-        let all = parts_of rows has (row.SeparatedBy p s) (last n behind.left) (last n rest.left) t.tree (parts.separated p s) t.matched in
+    others_right : (r p s left : ℕ) (end : End) (d : EndsAt rows has n p left end) (after : End) → EndsAt rows has n s end.left after → (o : Option End)
+        → slice_get rows r ≡ Some (row.SeparatedBy p s) → IsEnd rows has n r after.left o → RowIsEnd (row.SeparatedBy p s) left (Some (joined end o))
+    others_right r p s left end d after b None is f =
+        no_other p s left end d (no_part_after rows has p s (last n end.left) (last n after.left) b.tree b.matched
+        (fails_of_row rows has r (row.SeparatedBy p s) (last n after.left) is f))
+    others_right r p s left end d after b (Some rest) is f =
+        let t = row_is_end r (row.SeparatedBy p s) after.left (Some rest) is f in
+        let all = parts_of rows has (row.SeparatedBy p s) (last n after.left) (last n rest.left) t.tree (parts.separated p s) t.matched in
         record {
           tree = Parts (MoreTrees d.tree all.0);
           within = omega (arith, d.within, b.within, t.within);
-          matched = m.separated p s (last n left) (last n end.left) (last n behind.left) (last n rest.left) d.tree b.tree all.0 d.matched b.matched all.1;
+          matched = m.separated p s (last n left) (last n end.left) (last n after.left) (last n rest.left) d.tree b.tree all.0 d.matched b.matched all.1;
           counted = more_counted end.nodes rest.nodes d.tree all.0 d.counted (t.counted ∙ ap (λ t. capped (size t)) all.2);
         }
 
     separator_right : (r p s left : ℕ) (end : End) (d : EndsAt rows has n p left end) (o : Option End) → slice_get rows r ≡ Some (row.SeparatedBy p s)
-        → IsEnd rows has n s end.left o → ((behind : End) → EndsAt rows has n s end.left behind → Known r behind.left)
-        → RowIsEnd (row.SeparatedBy p s) left (Some (joined end (option_and_then (λ behind. cell r behind.left) o)))
+        → IsEnd rows has n s end.left o → ((after : End) → EndsAt rows has n s end.left after → Known r after.left)
+        → RowIsEnd (row.SeparatedBy p s) left (Some (joined end (option_and_then (λ after. cell r after.left) o)))
     separator_right r p s left end d None is f again = no_other p s left end d (m.part_fails s (p ∷ []) (last n end.left) f)
-    separator_right r p s left end d (Some behind) is b again = others_right r p s left end d behind b (cell r behind.left) is (again behind b)
+    separator_right r p s left end d (Some after) is b again = others_right r p s left end d after b (cell r after.left) is (again after b)
 
     separated_right : (r p s left : ℕ) (o : Option End) → slice_get rows r ≡ Some (row.SeparatedBy p s) → IsEnd rows has n p left o
         → ((end : End) → EndsAt rows has n p left end → Known s end.left)
-        → ((end behind : End) → EndsAt rows has n p left end → EndsAt rows has n s end.left behind → Known r behind.left)
-        → RowIsEnd (row.SeparatedBy p s) left (option_map (λ end. joined end (option_and_then (λ behind. cell r behind.left) (cell s end.left))) o)
+        → ((end after : End) → EndsAt rows has n p left end → EndsAt rows has n s end.left after → Known r after.left)
+        → RowIsEnd (row.SeparatedBy p s) left (option_map (λ end. joined end (option_and_then (λ after. cell r after.left) (cell s end.left))) o)
     separated_right r p s left None is f separator again = m.no_part p s (last n left) f
     separated_right r p s left (Some end) is d separator again =
-        separator_right r p s left end d (cell s end.left) is (separator end d) (λ behind b. again end behind d b)
+        separator_right r p s left end d (cell s end.left) is (separator end d) (λ after b. again end after d b)
 
     -- tokens
     token_right : (c : Class) (left : ℕ) (next : Class → Bool) → left ≤ n → (next c ≡ true → 0 < left) → (0 < left → next c ≡ has c (n - left))
@@ -266,14 +266,14 @@ module _ (rows : List Row) (has : Class → ℕ → Bool) (n : ℕ) where
         by false e = m.no_token c
     token_right c (suc left) next h given same = by (next c) refl
       where
-        back : (suc left) - 1 ≡ left
-        back = omega arith
+        less_one : (suc left) - 1 ≡ left
+        less_one = omega arith
 
         by : (b : Bool) → next c ≡ b → RowIsEnd (row.Token c) (suc left) (if b then Some (alone (suc left - 1)) else None)
         by true e = record {
           tree = Leaf (n - suc left);
           within = omega arith;
-          matched = subst (λ (k : ℕ). RowMatches rows has (row.Token c) (last n (suc left)) (last n k) (Leaf (n - suc left))) (sym back)
+          matched = subst (λ (k : ℕ). RowMatches rows has (row.Token c) (last n (suc left)) (last n k) (Leaf (n - suc left))) (sym less_one)
               (m.token c (n - suc left) (last n left) (sym (same (omega arith)) ∙ e));
           counted = capped_one;
         }
@@ -286,10 +286,10 @@ module _ (rows : List Row) (has : Class → ℕ → Bool) (n : ℕ) where
         by (inl h) = h
         by (inr (e, k)) = absurd (never k)
 
-    shrinks_both : (p s left : ℕ) (end behind : End) → (IsNullable rows p → IsNullable rows s → ⊥) → EndsAt rows has n p left end → EndsAt rows has n s end.left behind → behind.left < left
-    shrinks_both p s left end behind never d b = by (passed p left end d) (passed s end.left behind b)
+    shrinks_both : (p s left : ℕ) (end after : End) → (IsNullable rows p → IsNullable rows s → ⊥) → EndsAt rows has n p left end → EndsAt rows has n s end.left after → after.left < left
+    shrinks_both p s left end after never d b = by (passed p left end d) (passed s end.left after b)
       where
-        by : (end.left < left) ⊎ ((end.left ≡ left) × IsNullable rows p) → (behind.left < end.left) ⊎ ((behind.left ≡ end.left) × IsNullable rows s) → behind.left < left
+        by : (end.left < left) ⊎ ((end.left ≡ left) × IsNullable rows p) → (after.left < end.left) ⊎ ((after.left ≡ end.left) × IsNullable rows s) → after.left < left
         by (inl h) other = omega (arith, b.within)
         by (inr (e, k)) (inl h) = omega arith
         by (inr (e, k)) (inr (f, l)) = absurd (never k l)
@@ -312,7 +312,7 @@ module _ (rows : List Row) (has : Class → ℕ → Bool) (n : ℕ) where
         let never = λ (z : IsNullable rows p) (k : IsNullable rows s). good r (inr (record { repeater = row.SeparatedBy p s; is = is; repeats = w.repeated_separated p s z k })) in
         separated_right r p s left (cell p left) is (here p (w.separated_part p s))
         (λ end d. next_known p s left end d (all 1 0 (omega arith)) before (λ z. here s (w.separator p s z)))
-        (λ end behind d b. before behind.left r (shrinks_both p s left end behind never d b) within)
+        (λ end after d b. before after.left r (shrinks_both p s left end after never d b) within)
     row_right r left (row.Ahead p) next is within all good h given same before here = ahead_right p left (cell p left) (here p (w.ahead_part p))
     row_right r left (row.NotAhead p) next is within all good h given same before here = not_ahead_right p left (cell p left) (here p (w.not_ahead_part p))
 

@@ -56,7 +56,7 @@ module _ (rows : List Row) (order : List ℕ) (grammar : IsGrammar rows order) (
       (cell_right rows (has_at text) n (end_at table) row left e (λ c. has_at text c (n - left)) is (slice_get_within rows row e is)
       (named_within rows grammar.closed row e is) grammar.well_formed place
       (λ c t. not_at_end c t) (λ c some_left. refl) before
-      (λ q c. here q (grammar.ordered.behind_calls i q h (subst (λ (r : ℕ). Calls rows r q) at (record { caller = e; is = is; calls = c })))))
+      (λ q c. here q (grammar.ordered.after_calls i q h (subst (λ (r : ℕ). Calls rows r q) at (record { caller = e; is = is; calls = c })))))
     where
       not_at_end : (c : Class) → has_at text c (n - left) ≡ true → 0 < left
       not_at_end c t = by left refl

@@ -167,6 +167,6 @@ module _ (marks : List Bool) (rows : List Row) where
     ordered = record {
       within = subst (λ n. All (λ r. r < n) order) (sym (length-kept marks rows)) g.ordered.within;
       complete = λ r h. g.ordered.complete r (subst (λ n. r < n) (length-kept marks rows) h);
-      behind_calls = λ i q h c. g.ordered.behind_calls i q h (calls-in (slice_index order i) q c);
+      after_calls = λ i q h c. g.ordered.after_calls i q h (calls-in (slice_index order i) q c);
     };
   }

@@ -33,12 +33,12 @@ module _ {T : Type 0} (rows : List Row) (has : Class → T → Bool) where
   chosen_equal n k t u e = cc
 
   -- a separator with a part behind it, of which each is there
-  both_there : (p s : ℕ) (text behind : List T) → RowFails rows has (row.Sequence (s ∷ p ∷ [])) text → (Fails rows has s text → ⊥)
-      → ((rest : List T) (tree : ParseTree T) → Matches rows has s text rest tree → rest ≡ behind) → (Fails rows has p behind → ⊥) → ⊥
-  both_there p s text behind (m.part_fails _ _ _ f) no_separator here no_part = no_separator f
-  both_there p s text behind (m.rest_fails _ _ _ after tree d (m.part_fails _ _ _ f)) no_separator here no_part =
-      no_part (move_fails p after behind (here after tree d) f)
-  both_there p s text behind (m.rest_fails _ _ _ after tree d (m.rest_fails _ _ _ _ _ _ f)) no_separator here no_part = elim f [ ]
+  both_there : (p s : ℕ) (text suffix : List T) → RowFails rows has (row.Sequence (s ∷ p ∷ [])) text → (Fails rows has s text → ⊥)
+      → ((rest : List T) (tree : ParseTree T) → Matches rows has s text rest tree → rest ≡ suffix) → (Fails rows has p suffix → ⊥) → ⊥
+  both_there p s text suffix (m.part_fails _ _ _ f) no_separator here no_part = no_separator f
+  both_there p s text suffix (m.rest_fails _ _ _ after tree d (m.part_fails _ _ _ f)) no_separator here no_part =
+      no_part (move_fails p after suffix (here after tree d) f)
+  both_there p s text suffix (m.rest_fails _ _ _ after tree d (m.rest_fails _ _ _ _ _ _ f)) no_separator here no_part = elim f [ ]
 
   -- what is separated begins with a part
   begins : (p s : ℕ) (text rest : List T) (tree : ParseTree T) → RowMatches rows has (row.SeparatedBy p s) text rest tree
@@ -82,20 +82,20 @@ module _ {T : Type 0} (rows : List Row) (has : Class → T → Bool) where
         (others.0, parts_equal tree tree' trees trees' one.1 others.1)
     row_once (m.last p s text rest tree d f) (m.last _ _ _ rest' tree' d' f') =
         let one = once d d' in (one.0, ap (λ (t : ParseTree T). Parts (only t)) one.1)
-    row_once (m.last p s text rest tree d f) (m.separated _ _ _ after' behind' rest' tree' separator' trees' d' e' ds') =
+    row_once (m.last p s text rest tree d f) (m.separated _ _ _ after' suffix' rest' tree' separator' trees' d' e' ds') =
         let one = once d d' in
-        let e = move s after' rest behind' separator' (sym one.0) e' in
-        let more = begins p s behind' rest' (Parts trees') ds' in
-        absurd (row_refuted f (m.sequence s (p ∷ []) rest behind' more.0 separator' (only more.1) e
-        (m.sequence p [] behind' more.0 more.0 more.1 NoTree more.2 (m.empty more.0))))
-    row_once (m.separated p s text after behind rest tree separator trees d e ds) (m.last _ _ _ rest' tree' d' f') =
+        let e = move s after' rest suffix' separator' (sym one.0) e' in
+        let more = begins p s suffix' rest' (Parts trees') ds' in
+        absurd (row_refuted f (m.sequence s (p ∷ []) rest suffix' more.0 separator' (only more.1) e
+        (m.sequence p [] suffix' more.0 more.0 more.1 NoTree more.2 (m.empty more.0))))
+    row_once (m.separated p s text after suffix rest tree separator trees d e ds) (m.last _ _ _ rest' tree' d' f') =
         let one = once d d' in
-        absurd (both_there p s after behind (move_row_fails (row.Sequence (s ∷ p ∷ [])) rest' after (sym one.0) f') (λ f. refutes e f)
-        (λ there t d. sym (once e d).0) (λ f. row_refutes ds (m.no_part p s behind f)))
-    row_once (m.separated p s text after behind rest tree separator trees d e ds) (m.separated _ _ _ after' behind' rest' tree' separator' trees' d' e' ds') =
+        absurd (both_there p s after suffix (move_row_fails (row.Sequence (s ∷ p ∷ [])) rest' after (sym one.0) f') (λ f. refutes e f)
+        (λ there t d. sym (once e d).0) (λ f. row_refutes ds (m.no_part p s suffix f)))
+    row_once (m.separated p s text after suffix rest tree separator trees d e ds) (m.separated _ _ _ after' suffix' rest' tree' separator' trees' d' e' ds') =
         let one = once d d' in
-        let between = once e (move s after' after behind' separator' (sym one.0) e') in
-        let others = row_once ds (move_row (row.SeparatedBy p s) behind' behind rest' (Parts trees') (sym between.0) ds') in
+        let between = once e (move s after' after suffix' separator' (sym one.0) e') in
+        let others = row_once ds (move_row (row.SeparatedBy p s) suffix' suffix rest' (Parts trees') (sym between.0) ds') in
         (others.0, parts_equal tree tree' trees trees' one.1 others.1)
     row_once (m.ahead p text rest tree d) (m.ahead _ _ rest' tree' d') = (refl, refl)
     row_once (m.not_ahead p text f) (m.not_ahead _ _ f') = (refl, refl)
@@ -114,7 +114,7 @@ module _ {T : Type 0} (rows : List Row) (has : Class → T → Bool) where
     row_refutes (m.later p ps text rest n tree f d) (m.all_fail _ _ _ f' fs) = row_refutes d fs
     row_refutes (m.at_least_one p text after rest tree trees d ds) (m.not_even_one _ _ f) = refutes d f
     row_refutes (m.last p s text rest tree d f) (m.no_part _ _ _ f') = refutes d f'
-    row_refutes (m.separated p s text after behind rest tree separator trees d e ds) (m.no_part _ _ _ f) = refutes d f
+    row_refutes (m.separated p s text after suffix rest tree separator trees d e ds) (m.no_part _ _ _ f) = refutes d f
     row_refutes (m.ahead p text rest tree d) (m.not_found _ _ f) = refutes d f
     row_refutes (m.not_ahead p text f) (m.found _ _ rest tree d) = refuted f d
     row_refutes (m.empty text) none = elim none [ ]
@@ -137,7 +137,7 @@ module _ {T : Type 0} (rows : List Row) (has : Class → T → Bool) where
     row_refuted (m.all_fail p ps text f fs) (m.later _ _ _ rest n tree f' d) = row_refuted fs d
     row_refuted (m.not_even_one p text f) (m.at_least_one _ _ after rest tree trees d ds) = refuted f d
     row_refuted (m.no_part p s text f) (m.last _ _ _ rest tree d f') = refuted f d
-    row_refuted (m.no_part p s text f) (m.separated _ _ _ after behind rest tree separator trees d e ds) = refuted f d
+    row_refuted (m.no_part p s text f) (m.separated _ _ _ after suffix rest tree separator trees d e ds) = refuted f d
     row_refuted (m.not_found p text f) (m.ahead _ _ rest tree d) = refuted f d
     row_refuted (m.found p text rest tree d) (m.not_ahead _ _ f) = refutes d f
     row_refuted (m.no_token c) none = elim none [ ]

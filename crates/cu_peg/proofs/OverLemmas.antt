@@ -140,7 +140,7 @@ module _ (rows : List Row) (text : List Lexeme) where
     over_row (m.last p s ks rest t d f) xs a =
         let o = over_matches d xs a in
         record { left = o.left; tree = Parts (only o.tree); at = o.at; over = only_over t o.tree o.over; matched = m.last p s xs o.left o.tree o.matched (over_row_fails f o.left o.at) }
-    over_row (m.separated p s ks after behind rest t u ts d g ds) xs a =
+    over_row (m.separated p s ks after suffix rest t u ts d g ds) xs a =
         let o = over_matches d xs a in
         let b = over_matches g o.left o.at in
         let others = parts_over (row.SeparatedBy p s) b.left rest ts (parts.separated p s) (over_row ds b.left b.at) in

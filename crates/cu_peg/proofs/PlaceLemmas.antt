@@ -101,7 +101,7 @@ columns-push certain es kept (a ∷ b ∷ begins) left r =
 pub finished : (certain : List Bool) (ends : List (Option End)) (left begin : ℕ) (old entries : List Entry) (begins begins' : List ℕ) → Rising begins (length old) → Packs certain ends left old entries
     → left ≡ length begins → begin ≡ length old → begins' ≡ begins ++ begin ∷ [] → columns certain entries begins' 0 ≡ columns certain old begins 0 ++ ends ∷ []
 finished certain ends left begin old entries begins begins' r p at is pushed =
-    (λ j. columns certain (p.behind j) (pushed j) 0)
+    (λ j. columns certain (p.joined j) (pushed j) 0)
     ∙ ap (λ n. columns certain (old ++ p.kept) (begins ++ n ∷ []) 0) is
     ∙ columns-push certain old p.kept begins 0 r
     ∙ ap (λ n. columns certain old begins 0 ++ column certain n p.kept ∷ []) (zero-add (length begins) ∙ sym at)
@@ -116,15 +116,15 @@ finished-rising begin old entries begins begins' r h is pushed =
 -- of the first rows
 pub record Kept (certain : List Bool) (ends : List (Option End)) (left i : ℕ) (old entries : List Entry) : Type 0 where
   pub kept : List Entry
-  pub behind : entries ≡ old ++ kept
+  pub joined : entries ≡ old ++ kept
   pub rows : All (λ e. e.row < i) kept
   pub done : (r : ℕ) → r < i → cell certain left kept r ≡ get_or ends r None
 
 pub kept-none : (certain : List Bool) (ends : List (Option End)) (left : ℕ) (old : List Entry) → Kept certain ends left 0 old old
-kept-none certain ends left old = record { kept = []; behind = sym (append-nil old); rows = λ k d h. absurd (omega arith); done = λ r h. absurd (omega arith) }
+kept-none certain ends left old = record { kept = []; joined = sym (append-nil old); rows = λ k d h. absurd (omega arith); done = λ r h. absurd (omega arith) }
 
 pub kept-grows : (certain : List Bool) (ends : List (Option End)) (left i : ℕ) (old entries : List Entry) → Kept certain ends left i old entries → length old ≤ length entries
-kept-grows certain ends left i old entries k = omega (arith, ap length k.behind, length-append old k.kept)
+kept-grows certain ends left i old entries k = omega (arith, ap length k.joined, length-append old k.kept)
 
 row-not : (a i : ℕ) → a < i → (a == i) ≡ false
 row-not a i h = by (a == i) refl
@@ -158,13 +158,13 @@ pub kept-more : (certain : List Bool) (ends : List (Option End)) (left i : ℕ) 
     → KeepsOne certain left i end entries new → Kept certain ends left (i + 1) old new
 kept-more certain ends left i end old entries new k is (inl (same, usual)) = record {
   kept = k.kept;
-  behind = same ∙ k.behind;
+  joined = same ∙ k.joined;
   rows = λ j d h. omega (arith, k.rows j d h);
   done = λ r h. below_or_at i r h (λ x. cell certain left k.kept x ≡ get_or ends x None) (k.done r) (cell-none certain left k.kept i k.rows ∙ sym usual ∙ sym is);
 }
 kept-more certain ends left i end old entries new k is (inr (e, pushed, row, unpacks)) = record {
   kept = k.kept ++ e ∷ [];
-  behind = pushed ∙ ap (λ es. es ++ e ∷ []) k.behind ∙ append_assoc old k.kept (e ∷ []);
+  joined = pushed ∙ ap (λ es. es ++ e ∷ []) k.joined ∙ append_assoc old k.kept (e ∷ []);
   rows = All-append (λ x. x.row < i + 1) k.kept (e ∷ []) (λ j d h. omega (arith, k.rows j d h)) one;
   done = λ r h. below_or_at i r h (λ x. cell certain left (k.kept ++ e ∷ []) x ≡ get_or ends x None) (λ below. cell-other certain left k.kept e r (other r below) ∙ k.done r below)
       (cell-one certain left k.kept e i k.rows row ∙ unpacks ∙ sym is);
@@ -180,7 +180,7 @@ kept-more certain ends left i end old entries new k is (inr (e, pushed, row, unp
 pub kept-all : (certain : List Bool) (ends : List (Option End)) (left i : ℕ) (old entries : List Entry) → Kept certain ends left i old entries → length ends ≤ i → length ends ≡ length certain → Packs certain ends left old entries
 kept-all certain ends left i old entries k h wide = record {
   kept = k.kept;
-  behind = k.behind;
+  joined = k.joined;
   same = ext_get_or None (column certain left k.kept) ends (long ∙ sym wide) (λ r below. cell-at certain left k.kept r (omega (arith, long)) ∙ k.done r (omega (arith, long, wide)));
 }
   where

@@ -224,12 +224,12 @@ module _ (rows : List Row) (has : Class → ℕ → Bool) (n : ℕ) (table : Lis
         within = h;
         under = separated p s 0 k rest t NoTree (moved (row.SeparatedBy p s) text (last n k) rest (Parts (only t)) e (m.last p s text rest t d f));
       }
-  first_open r k is e h (m.separated p s text after behind rest t u ts d g ds) =
+  first_open r k is e h (m.separated p s text after suffix rest t u ts d g ds) =
       record {
         owner = row.SeparatedBy p s;
         is = is;
         within = h;
-        under = separated p s 0 k rest t ts (moved (row.SeparatedBy p s) text (last n k) rest (Parts (MoreTrees t ts)) e (m.separated p s text after behind rest t u ts d g ds));
+        under = separated p s 0 k rest t ts (moved (row.SeparatedBy p s) text (last n k) rest (Parts (MoreTrees t ts)) e (m.separated p s text after suffix rest t u ts d g ds));
       }
   first_open r k is e h (m.ahead p text rest t d) = refl
   first_open r k is e h (m.not_ahead p text f) = refl
@@ -246,7 +246,7 @@ module _ (rows : List Row) (has : Class → ℕ → Bool) (n : ℕ) (table : Lis
     pub are : trees ≡ MoreTrees tree others
     pub rest : List ℕ
     pub matched : Matches rows has part (last n c.left) rest tree
-    pub open_behind : MaybeOpen parts others
+    pub open_after : MaybeOpen parts others
 
   next_is : (c : Cursor) (e : Row) (p : ℕ) (end : End) → part_at e c.part ≡ Some p → cell p c.left ≡ Some end → next_part cell e c ≡ Some (p, next_parts cell e c end.left)
   next_is c e p end h k =
@@ -276,37 +276,37 @@ module _ (rows : List Row) (has : Class → ℕ → Bool) (n : ℕ) (table : Lis
 
   first_there : (p s k : ℕ) (text rest : List ℕ) (trees : ParseTrees ℕ) → text ≡ last n k → k ≤ n → RowMatches rows has (row.SeparatedBy p s) text rest (Parts trees) → is_some (cell p k) ≡ true
   first_there p s k text _ _ e h (m.last _ _ _ rest t d f) = there p k rest t (known_some p k text rest t e h d)
-  first_there p s k text rest _ e h (m.separated _ _ _ after behind _ t u ts d g ds) = there p k after t (known_some p k text after t e h d)
+  first_there p s k text rest _ e h (m.separated _ _ _ after suffix _ t u ts d g ds) = there p k after t (known_some p k text after t e h d)
 
-  abbrev behind_of : (r p s : ℕ) → Option End → Option Cursor
-  behind_of r p s o = option_and_then (λ behind. if is_some (cell p behind.left) then Some (cursor r 0 behind.left) else None) o
+  abbrev after_of : (r p s : ℕ) → Option End → Option Cursor
+  after_of r p s o = option_and_then (λ suffix. if is_some (cell p suffix.left) then Some (cursor r 0 suffix.left) else None) o
 
-  none_behind : (r p s k : ℕ) (text : List ℕ) → text ≡ last n k → k ≤ n → RowFails rows has (row.Sequence (s ∷ p ∷ [])) text → MaybeOpen (behind_of r p s (cell s k)) NoTree
-  none_behind r p s k text e h (m.part_fails _ _ _ f) = subst (λ (o : Option End). MaybeOpen (behind_of r p s o) NoTree) (sym (known_none s k text e h f)) refl
-  none_behind r p s k text e h (m.rest_fails _ _ _ mid u d (m.part_fails _ _ _ f)) =
+  none_after : (r p s k : ℕ) (text : List ℕ) → text ≡ last n k → k ≤ n → RowFails rows has (row.Sequence (s ∷ p ∷ [])) text → MaybeOpen (after_of r p s (cell s k)) NoTree
+  none_after r p s k text e h (m.part_fails _ _ _ f) = subst (λ (o : Option End). MaybeOpen (after_of r p s o) NoTree) (sym (known_none s k text e h f)) refl
+  none_after r p s k text e h (m.rest_fails _ _ _ mid u d (m.part_fails _ _ _ f)) =
       let b = known_some s k text mid u e h d in
-      subst (λ (o : Option End). MaybeOpen (behind_of r p s o) NoTree) (sym b.is)
+      subst (λ (o : Option End). MaybeOpen (after_of r p s o) NoTree) (sym b.is)
       (none_open (is_some (cell p b.end.left)) (cursor r 0 b.end.left) (ap is_some (known_none p b.end.left mid b.left (omega (arith, b.within)) f)))
-  none_behind r p s k text e h (m.rest_fails _ _ _ mid u d (m.rest_fails _ _ _ _ _ _ f)) = elim f [ ]
+  none_after r p s k text e h (m.rest_fails _ _ _ mid u d (m.rest_fails _ _ _ _ _ _ f)) = elim f [ ]
 
-  some_behind : (r p s k : ℕ) (text behind rest : List ℕ) (u t : ParseTree ℕ) (ts : ParseTrees ℕ) → slice_get rows r ≡ Some (row.SeparatedBy p s) → text ≡ last n k → k ≤ n
-      → Matches rows has s text behind u → RowMatches rows has (row.SeparatedBy p s) behind rest (Parts (MoreTrees t ts)) → MaybeOpen (behind_of r p s (cell s k)) (MoreTrees t ts)
-  some_behind r p s k text behind rest u t ts is e h d ds =
-      let b = known_some s k text behind u e h d in
+  some_after : (r p s k : ℕ) (text suffix rest : List ℕ) (u t : ParseTree ℕ) (ts : ParseTrees ℕ) → slice_get rows r ≡ Some (row.SeparatedBy p s) → text ≡ last n k → k ≤ n
+      → Matches rows has s text suffix u → RowMatches rows has (row.SeparatedBy p s) suffix rest (Parts (MoreTrees t ts)) → MaybeOpen (after_of r p s (cell s k)) (MoreTrees t ts)
+  some_after r p s k text suffix rest u t ts is e h d ds =
+      let b = known_some s k text suffix u e h d in
       let near : b.end.left ≤ n = omega (arith, b.within) in
-      subst (λ (o : Option End). MaybeOpen (behind_of r p s o) (MoreTrees t ts)) (sym b.is)
-      (some_open (is_some (cell p b.end.left)) (cursor r 0 b.end.left) (MoreTrees t ts) (first_there p s b.end.left behind rest (MoreTrees t ts) b.left near ds)
+      subst (λ (o : Option End). MaybeOpen (after_of r p s o) (MoreTrees t ts)) (sym b.is)
+      (some_open (is_some (cell p b.end.left)) (cursor r 0 b.end.left) (MoreTrees t ts) (first_there p s b.end.left suffix rest (MoreTrees t ts) b.left near ds)
       (record {
         owner = row.SeparatedBy p s;
         is = is;
         within = near;
-        under = separated p s 0 b.end.left rest t ts (moved (row.SeparatedBy p s) behind (last n b.end.left) rest (Parts (MoreTrees t ts)) b.left ds);
+        under = separated p s 0 b.end.left rest t ts (moved (row.SeparatedBy p s) suffix (last n b.end.left) rest (Parts (MoreTrees t ts)) b.left ds);
       }))
 
   -- what is separated has a part
   separated_more : (p s : ℕ) (text rest : List ℕ) (ts : ParseTrees ℕ) → RowMatches rows has (row.SeparatedBy p s) text rest (Parts ts) → (t : ParseTree ℕ) × (us : ParseTrees ℕ) × (ts ≡ MoreTrees t us)
   separated_more p s text _ _ (m.last _ _ _ rest t d f) = (t, NoTree, refl)
-  separated_more p s text rest _ (m.separated _ _ _ after behind _ t u ts d g ds) = (t, ts, refl)
+  separated_more p s text rest _ (m.separated _ _ _ after suffix _ t u ts d g ds) = (t, ts, refl)
 
   next_of : (c : Cursor) (e : Row) (trees : ParseTrees ℕ) → slice_get rows c.row ≡ Some e → c.left ≤ n → Under e c.part c.left trees → Next c trees
   next_of c _ _ is h (sequence all _ _ _ rest t ts e (m.sequence p ps _ after _ _ _ d ds)) =
@@ -323,7 +323,7 @@ module _ (rows : List Row) (has : Class → ℕ → Bool) (n : ℕ) (table : Lis
         are = refl;
         rest = after;
         matched = d;
-        open_behind = sequence_rest c.row all ps c.part f.end.left after rest ts is place.1 place.2 f.left (omega (arith, f.within)) ds;
+        open_after = sequence_rest c.row all ps c.part f.end.left after rest ts is place.1 place.2 f.left (omega (arith, f.within)) ds;
       }
   next_of c _ _ is h (choice ps _ p _ rest t at d) =
       let f = known_some p c.left (last n c.left) rest t refl h d in
@@ -338,7 +338,7 @@ module _ (rows : List Row) (has : Class → ℕ → Bool) (n : ℕ) (table : Lis
         are = refl;
         rest = rest;
         matched = d;
-        open_behind = refl;
+        open_after = refl;
       }
   next_of c _ _ is h (optional p _ _ rest t d) =
       let f = known_some p c.left (last n c.left) rest t refl h d in
@@ -353,7 +353,7 @@ module _ (rows : List Row) (has : Class → ℕ → Bool) (n : ℕ) (table : Lis
         are = refl;
         rest = rest;
         matched = d;
-        open_behind = refl;
+        open_after = refl;
       }
   next_of c _ _ is h (many p _ _ rest t ts (m.one_more _ _ after _ _ _ d ds)) =
       let f = known_some p c.left (last n c.left) after t refl h d in
@@ -369,7 +369,7 @@ module _ (rows : List Row) (has : Class → ℕ → Bool) (n : ℕ) (table : Lis
         are = refl;
         rest = after;
         matched = d;
-        open_behind = many_rest c.row p f.end.left after rest ts f.left near ds
+        open_after = many_rest c.row p f.end.left after rest ts f.left near ds
             (λ u us more. record { owner = row.Many p; is = is; within = near; under = many p 0 f.end.left rest u us more });
       }
   next_of c _ _ is h (at_least_one p _ _ rest t ts (m.one_more _ _ after _ _ _ d ds)) =
@@ -386,7 +386,7 @@ module _ (rows : List Row) (has : Class → ℕ → Bool) (n : ℕ) (table : Lis
         are = refl;
         rest = after;
         matched = d;
-        open_behind = many_rest c.row p f.end.left after rest ts f.left near ds
+        open_after = many_rest c.row p f.end.left after rest ts f.left near ds
             (λ u us more. record { owner = row.AtLeastOne p; is = is; within = near; under = at_least_one p 0 f.end.left rest u us more });
       }
   next_of c _ _ is h (separated p s _ _ rest t _ (m.last _ _ _ _ _ d fails)) =
@@ -402,11 +402,11 @@ module _ (rows : List Row) (has : Class → ℕ → Bool) (n : ℕ) (table : Lis
         are = refl;
         rest = rest;
         matched = d;
-        open_behind = none_behind c.row p s f.end.left rest f.left (omega (arith, f.within)) fails;
+        open_after = none_after c.row p s f.end.left rest f.left (omega (arith, f.within)) fails;
       }
-  next_of c _ _ is h (separated p s _ _ rest t ts (m.separated _ _ _ after behind _ _ u _ d g ds)) =
+  next_of c _ _ is h (separated p s _ _ rest t ts (m.separated _ _ _ after suffix _ _ u _ d g ds)) =
       let f = known_some p c.left (last n c.left) after t refl h d in
-      let more = separated_more p s behind rest ts ds in
+      let more = separated_more p s suffix rest ts ds in
       record {
         owner = row.SeparatedBy p s;
         owned = is;
@@ -418,10 +418,10 @@ module _ (rows : List Row) (has : Class → ℕ → Bool) (n : ℕ) (table : Lis
         are = refl;
         rest = after;
         matched = d;
-        open_behind =
-            subst (λ (us : ParseTrees ℕ). MaybeOpen (behind_of c.row p s (cell s f.end.left)) us) (sym more.2)
-            (some_behind c.row p s f.end.left after behind rest u more.0 more.1 is f.left (omega (arith, f.within)) g
-            (subst (λ (us : ParseTrees ℕ). RowMatches rows has (row.SeparatedBy p s) behind rest (Parts us)) more.2 ds));
+        open_after =
+            subst (λ (us : ParseTrees ℕ). MaybeOpen (after_of c.row p s (cell s f.end.left)) us) (sym more.2)
+            (some_after c.row p s f.end.left after suffix rest u more.0 more.1 is f.left (omega (arith, f.within)) g
+            (subst (λ (us : ParseTrees ℕ). RowMatches rows has (row.SeparatedBy p s) suffix rest (Parts us)) more.2 ds));
       }
 
   -- what a tree spells begins with its node
@@ -446,7 +446,7 @@ module _ (rows : List Row) (has : Class → ℕ → Bool) (n : ℕ) (table : Lis
   shape k e h (m.one_more p text after rest t ts d ds) = refl
   shape k e h (m.at_least_one p text after rest t ts d ds) = refl
   shape k e h (m.last p s text rest t d f) = refl
-  shape k e h (m.separated p s text after behind rest t u ts d g ds) = refl
+  shape k e h (m.separated p s text after suffix rest t u ts d g ds) = refl
   shape k e h (m.ahead p text rest t d) = refl
   shape k e h (m.not_ahead p text f) = refl
 
@@ -576,7 +576,7 @@ module _ (rows : List Row) (has : Class → ℕ → Bool) (n : ℕ) (table : Lis
         takes = λ e is. matches-some rows has e (last n c.left) next.rest next.tree (of_row rows has next.part e (last n c.left) next.rest next.tree is next.matched);
         more_nodes = omega (arith, counts, size-positive next.tree);
         reads = λ f is. read_more nodes (cs ++ option_to_list next.parts) tree next.tree (join next.others top.others) next.part c.left f next.rest is top.top.within next.matched
-            (pending_push cs next.parts next.others top.others top.below next.open_behind) all (omega (arith, counts));
+            (pending_push cs next.parts next.others top.others top.below next.open_after) all (omega (arith, counts));
       }
 
   -- how many nodes the whole tree has

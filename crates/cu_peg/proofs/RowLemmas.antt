@@ -34,8 +34,8 @@ module _ {T : Type 0} (rows : List Row) (has : Class → T → Bool) where
   parts_of _ _ _ _ (many _) (m.one_more p text after rest tree trees d ds) = (MoreTrees tree trees, m.one_more p text after rest tree trees d ds, refl)
   parts_of _ _ _ _ (at_least_one _) (m.at_least_one p text after rest tree trees d ds) = (MoreTrees tree trees, m.at_least_one p text after rest tree trees d ds, refl)
   parts_of _ _ _ _ (separated _ _) (m.last p s text rest tree d f) = (only tree, m.last p s text rest tree d f, refl)
-  parts_of _ _ _ _ (separated _ _) (m.separated p s text after behind rest tree separator trees d e ds) =
-      (MoreTrees tree trees, m.separated p s text after behind rest tree separator trees d e ds, refl)
+  parts_of _ _ _ _ (separated _ _) (m.separated p s text after suffix rest tree separator trees d e ds) =
+      (MoreTrees tree trees, m.separated p s text after suffix rest tree separator trees d e ds, refl)
 
   -- the alternative of a tree
   pub chosen_of : (ps : List ℕ) (text rest : List T) (tree : ParseTree T) → RowMatches rows has (row.Choice ps) text rest tree
@@ -52,9 +52,9 @@ module _ {T : Type 0} (rows : List Row) (has : Class → T → Bool) where
   no_more_of p text (m.not_even_one _ _ f) = m.no_more p text f
 
   -- a separator with no part behind it
-  pub no_part_behind : (p s : ℕ) (text behind : List T) (separator : ParseTree T) → Matches rows has s text behind separator
-      → RowFails rows has (row.SeparatedBy p s) behind → RowFails rows has (row.Sequence (s ∷ p ∷ [])) text
-  no_part_behind p s text behind separator d (m.no_part _ _ _ f) = m.rest_fails s (p ∷ []) text behind separator d (m.part_fails p [] behind f)
+  pub no_part_after : (p s : ℕ) (text suffix : List T) (separator : ParseTree T) → Matches rows has s text suffix separator
+      → RowFails rows has (row.SeparatedBy p s) suffix → RowFails rows has (row.Sequence (s ∷ p ∷ [])) text
+  no_part_after p s text suffix separator d (m.no_part _ _ _ f) = m.rest_fails s (p ∷ []) text suffix separator d (m.part_fails p [] suffix f)
 
   pub many_never_fails : (p : ℕ) (text : List T) → RowFails rows has (row.Many p) text → ⊥
   many_never_fails p text f = elim f [ ]

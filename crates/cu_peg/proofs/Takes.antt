@@ -44,8 +44,8 @@ module _ {T : Type 0} (rows : List Row) (has : Class → T → Bool) where
     row_takes (m.at_least_one p text after rest tree trees d ds) =
         and_then text after rest (λ (n : IsNullable rows p) (k : RowIsNullable rows (row.Many p)). w.at_least_one p n) (takes d) (row_takes ds)
     row_takes (m.last p s text rest tree d f) = weaken text rest (w.separated p s) (takes d)
-    row_takes (m.separated p s text after behind rest tree separator trees d e ds) =
+    row_takes (m.separated p s text after suffix rest tree separator trees d e ds) =
         and_then text after rest (λ (n : IsNullable rows p) (k : Unit {0}). w.separated p s n) (takes d)
-        (and_then after behind rest (λ (n : IsNullable rows s) (k : RowIsNullable rows (row.SeparatedBy p s)). tt) (takes e) (row_takes ds))
+        (and_then after suffix rest (λ (n : IsNullable rows s) (k : RowIsNullable rows (row.SeparatedBy p s)). tt) (takes e) (row_takes ds))
     row_takes (m.ahead p text rest tree d) = none refl (w.ahead p)
     row_takes (m.not_ahead p text f) = none refl (w.not_ahead p)

@@ -13,7 +13,7 @@ use Rattle.cu_peg.specs.WellFormed as w
 use Rattle.cu_peg.specs.WellFormed.{Calls, IsClosed, IsNullable, IsWellFormed, RowCalls, named}
 use Rattle.cu_peg.proofs.FoundedRows.{All-tail, Founded, founded, all_founded, calls_within, named_within, row_calls_within}
 use Rattle.cu_peg.proofs.RowLemmas as parts
-use Rattle.cu_peg.proofs.RowLemmas.{as_many, chosen_of, fails_of_row, many_never_fails, no_more_of, no_part_behind, of_row, parts_of, taken}
+use Rattle.cu_peg.proofs.RowLemmas.{as_many, chosen_of, fails_of_row, many_never_fails, no_more_of, no_part_after, of_row, parts_of, taken}
 use Rattle.cu_peg.proofs.Takes.{Takes, some, none, takes, and_then}
 
 module _ {T : Type 0} (rows : List Row) (has : Class → T → Bool) where
@@ -112,22 +112,22 @@ module _ {T : Type 0} (rows : List Row) (has : Class → T → Bool) where
       at_least_one_end r p text after tree is d (short after (taken text after never (takes rows has d)) r within)
   at_least_one r p text is within never short (fail f) = failed (m.not_even_one p text f)
 
-  separated_end : (r p s : ℕ) (text after behind : List T) (tree separator : ParseTree T) → slice_get rows r ≡ Some (row.SeparatedBy p s)
-      → Matches rows has p text after tree → Matches rows has s after behind separator → Decided rows has r behind → RowDecided (row.SeparatedBy p s) text
-  separated_end r p s text after behind tree separator is d e (match rest others ds) =
-      let all = parts_of rows has (row.SeparatedBy p s) behind rest others (parts.separated p s) (of_row rows has r (row.SeparatedBy p s) behind rest others is ds) in
-      matched rest (Parts (MoreTrees tree all.0)) (m.separated p s text after behind rest tree separator all.0 d e all.1)
-  separated_end r p s text after behind tree separator is d e (fail f) =
+  separated_end : (r p s : ℕ) (text after suffix : List T) (tree separator : ParseTree T) → slice_get rows r ≡ Some (row.SeparatedBy p s)
+      → Matches rows has p text after tree → Matches rows has s after suffix separator → Decided rows has r suffix → RowDecided (row.SeparatedBy p s) text
+  separated_end r p s text after suffix tree separator is d e (match rest others ds) =
+      let all = parts_of rows has (row.SeparatedBy p s) suffix rest others (parts.separated p s) (of_row rows has r (row.SeparatedBy p s) suffix rest others is ds) in
+      matched rest (Parts (MoreTrees tree all.0)) (m.separated p s text after suffix rest tree separator all.0 d e all.1)
+  separated_end r p s text after suffix tree separator is d e (fail f) =
       matched after (Parts (only tree))
-      (m.last p s text after tree d (no_part_behind rows has p s after behind separator e (fails_of_row rows has r (row.SeparatedBy p s) behind is f)))
+      (m.last p s text after tree d (no_part_after rows has p s after suffix separator e (fails_of_row rows has r (row.SeparatedBy p s) suffix is f)))
 
   separated_then : (r p s : ℕ) (text after : List T) (tree : ParseTree T) → slice_get rows r ≡ Some (row.SeparatedBy p s) → r < length rows
       → (IsNullable rows p → IsNullable rows s → ⊥) → Shorter text → Matches rows has p text after tree → Decided rows has s after
       → RowDecided (row.SeparatedBy p s) text
   unfolding Shorter
-  separated_then r p s text after tree is within never short d (match behind separator e) =
-      let both = and_then text after behind {L = IsNullable rows p × IsNullable rows s} (λ n k. (n, k)) (takes rows has d) (takes rows has e) in
-      separated_end r p s text after behind tree separator is d e (short behind (taken text behind (λ b. never b.0 b.1) both) r within)
+  separated_then r p s text after tree is within never short d (match suffix separator e) =
+      let both = and_then text after suffix {L = IsNullable rows p × IsNullable rows s} (λ n k. (n, k)) (takes rows has d) (takes rows has e) in
+      separated_end r p s text after suffix tree separator is d e (short suffix (taken text suffix (λ b. never b.0 b.1) both) r within)
   separated_then r p s text after tree is within never short d (fail f) =
       matched after (Parts (only tree)) (m.last p s text after tree d (m.part_fails s (p ∷ []) after f))
 

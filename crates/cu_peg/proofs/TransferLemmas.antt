@@ -23,7 +23,7 @@ matches-some rows has _ _ _ _ (m.no_more p text f) = refl
 matches-some rows has _ _ _ _ (m.one_more p text after rest tree trees d more) = refl
 matches-some rows has _ _ _ _ (m.at_least_one p text after rest tree trees d more) = refl
 matches-some rows has _ _ _ _ (m.last p s text rest tree d f) = refl
-matches-some rows has _ _ _ _ (m.separated p s text after behind rest tree separator trees d b more) = refl
+matches-some rows has _ _ _ _ (m.separated p s text after suffix rest tree separator trees d b more) = refl
 matches-some rows has _ _ _ _ (m.ahead p text rest tree d) = refl
 matches-some rows has _ _ _ _ (m.not_ahead p text f) = refl
 
@@ -38,10 +38,10 @@ module _ {T : Type 0} (rows rows' : List Row) (has : Class → T → Bool) (W : 
 
   mutual
     pub matches-over : {r : ℕ} {text rest : List T} {tree : ParseTree T} → Matches rows has r text rest tree → W r → Matches rows' has r text rest tree
-    matches-over (m.matches r e text rest tree is d) wanted = let a = agree r e wanted is in m.matches r e text rest tree a.0 (row-matches-over d a.1)
+    matches-over (m.matches r e text rest tree is d) expected = let a = agree r e expected is in m.matches r e text rest tree a.0 (row-matches-over d a.1)
 
     fails-over : {r : ℕ} {text : List T} → Fails rows has r text → W r → Fails rows' has r text
-    fails-over (m.fails r e text is f) wanted = let a = agree r e wanted is in m.fails r e text a.0 (row-fails-over f a.1)
+    fails-over (m.fails r e text is f) expected = let a = agree r e expected is in m.fails r e text a.0 (row-fails-over f a.1)
 
     row-matches-over : {e : Row} {text rest : List T} {tree : ParseTree T} → RowMatches rows has e text rest tree → All W (named e) → RowMatches rows' has e text rest tree
     row-matches-over (m.token c x rest h) all = m.token c x rest h
@@ -55,8 +55,8 @@ module _ {T : Type 0} (rows rows' : List Row) (has : Class → T → Bool) (W : 
     row-matches-over (m.one_more p text after rest tree trees d more) all = m.one_more p text after rest tree trees (matches-over d (head p [] all)) (row-matches-over more all)
     row-matches-over (m.at_least_one p text after rest tree trees d more) all = m.at_least_one p text after rest tree trees (matches-over d (head p [] all)) (row-matches-over more all)
     row-matches-over (m.last p s text rest tree d f) all = m.last p s text rest tree (matches-over d (head p (s ∷ []) all)) (row-fails-over f (pair s p all))
-    row-matches-over (m.separated p s text after behind rest tree separator trees d b more) all =
-        m.separated p s text after behind rest tree separator trees (matches-over d (head p (s ∷ []) all)) (matches-over b (head s (p ∷ []) (pair s p all))) (row-matches-over more all)
+    row-matches-over (m.separated p s text after suffix rest tree separator trees d b more) all =
+        m.separated p s text after suffix rest tree separator trees (matches-over d (head p (s ∷ []) all)) (matches-over b (head s (p ∷ []) (pair s p all))) (row-matches-over more all)
     row-matches-over (m.ahead p text rest tree d) all = m.ahead p text rest tree (matches-over d (head p [] all))
     row-matches-over (m.not_ahead p text f) all = m.not_ahead p text (fails-over f (head p [] all))
 

@@ -30,7 +30,7 @@ spelling_in _ _ = None
 
 -- whether a name is the one wanted of those that mean something in some places
 abbrev pub is_special : Special → Option Special → Bool
-is_special wanted found = option_map_or (sameb special.the_type wanted) found false
+is_special expected found = option_map_or (sameb special.the_type expected) found false
 
 -- whether a number is one of 0 to 9
 abbrev pub is_digit : ℤ → Bool
@@ -45,15 +45,15 @@ mark_of layout.Separator = mark.Semicolon
 
 -- whether a class has tokens of this kind
 abbrev pub has_kind : Class → Kind → Bool
-has_kind (class.Unqualified wanted) token =
-    option_map_or (λ name. is_none name.qualifier) (spelling_in wanted token) false
-has_kind (class.Name wanted) token = is_some (spelling_in wanted token)
-has_kind (class.Special wanted) (kind.VarId name) = is_special wanted name.special
-has_kind (class.Special wanted) (kind.VarOp name) = is_special wanted name.special
-has_kind (class.Keyword wanted) (kind.Keyword word) = sameb keyword.the_type wanted word
-has_kind (class.Reserved wanted) (kind.Reserved word) = sameb reserved.the_type wanted word
-has_kind (class.Mark wanted) (kind.Mark word) = sameb marks.the_type wanted word
-has_kind (class.Mark wanted) (kind.Layout word) = sameb marks.the_type wanted (mark_of word)
+has_kind (class.Unqualified expected) token =
+    option_map_or (λ name. is_none name.qualifier) (spelling_in expected token) false
+has_kind (class.Name expected) token = is_some (spelling_in expected token)
+has_kind (class.Special expected) (kind.VarId name) = is_special expected name.special
+has_kind (class.Special expected) (kind.VarOp name) = is_special expected name.special
+has_kind (class.Keyword expected) (kind.Keyword word) = sameb keyword.the_type expected word
+has_kind (class.Reserved expected) (kind.Reserved word) = sameb reserved.the_type expected word
+has_kind (class.Mark expected) (kind.Mark word) = sameb marks.the_type expected word
+has_kind (class.Mark expected) (kind.Layout word) = sameb marks.the_type expected (mark_of word)
 has_kind class.Int (kind.Int n) = true
 has_kind class.Digit (kind.Int n) = is_digit n
 has_kind class.Char (kind.Char code) = true

@@ -53,8 +53,8 @@ next_parts cell (row.Many p) c left = if is_some (cell p left) then Some (cursor
 next_parts cell (row.AtLeastOne p) c left = if is_some (cell p left) then Some (cursor c.row 0 left)
     else None
 next_parts cell (row.SeparatedBy p s) c left =
-    option_and_then (λ behind. if is_some (cell p behind.left)
-    then Some (cursor c.row 0 behind.left) else None) (cell s left)
+    option_and_then (λ after. if is_some (cell p after.left)
+    then Some (cursor c.row 0 after.left) else None) (cell s left)
 next_parts cell _ c left = None
 
 -- what the node of a row is, where some of n tokens are left

@@ -97,7 +97,7 @@ row_end next cell (row.AtLeastOne p) r left =
     option_map (λ end. joined end (cell r end.left)) (cell p left)
 row_end next cell (row.SeparatedBy p s) r left =
     option_map
-    (λ end. joined end (option_and_then (λ behind. cell r behind.left) (cell s end.left)))
+    (λ end. joined end (option_and_then (λ after. cell r after.left) (cell s end.left)))
     (cell p left)
 row_end next cell (row.Ahead p) r left = ahead_end left (cell p left)
 row_end next cell (row.NotAhead p) r left = not_ahead_end left (cell p left)

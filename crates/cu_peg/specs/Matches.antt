@@ -56,10 +56,10 @@ mutual
     last : (p s : ℕ) (text rest : List T) (tree : ParseTree T) → Matches rows has p text rest tree
         → RowFails rows has (row.Sequence (s ∷ p ∷ [])) rest
         → RowMatches rows has (row.SeparatedBy p s) text rest (Parts (only tree))
-    separated : (p s : ℕ) (text after behind rest : List T) (tree separator : ParseTree T)
+    separated : (p s : ℕ) (text after next rest : List T) (tree separator : ParseTree T)
         (trees : ParseTrees T) → Matches rows has p text after tree
-        → Matches rows has s after behind separator
-        → RowMatches rows has (row.SeparatedBy p s) behind rest (Parts trees)
+        → Matches rows has s after next separator
+        → RowMatches rows has (row.SeparatedBy p s) next rest (Parts trees)
         → RowMatches rows has (row.SeparatedBy p s) text rest (Parts (MoreTrees tree trees))
     ahead : (p : ℕ) (text rest : List T) (tree : ParseTree T) → Matches rows has p text rest tree
         → RowMatches rows has (row.Ahead p) text text (Parts NoTree)

@@ -7,7 +7,7 @@ use Rattle.cu_peg.specs.WellFormed.{Calls, IsClosed, IsWellFormed}
 pub record IsOrder (rows : List Row) (order : List ℕ) : Type 0 where
   pub within : All (λ r. r < length rows) order
   pub complete : (r : ℕ) → r < length rows → Contains order r
-  pub behind_calls : (i q : ℕ) → i < length order → Calls rows (slice_index order i) q
+  pub after_calls : (i q : ℕ) → i < length order → Calls rows (slice_index order i) q
       → Contains (take i order) q
 
 -- Rows are a grammar: they are closed and well-formed, and the order has each row after those that

@@ -65,7 +65,7 @@ KeepsOne certain left r end old new =
 pub record Packs (certain : List Bool) (ends : List (Option End)) (left : ℕ)
     (old entries : List Entry) : Type 0 where
   pub kept : List Entry
-  pub behind : entries ≡ old ++ kept
+  pub joined : entries ≡ old ++ kept
   pub same : column certain left kept ≡ ends
 
 -- What a table of ends keeps: its places rise, and where no place is being filled, none is

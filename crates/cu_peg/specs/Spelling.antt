@@ -9,16 +9,16 @@ use Rattle.cu_peg.specs.declared.node.Node.{Node}
 use Rattle.cu_peg.specs.Parse.{ParseTree, ParseTrees, Leaf, Parts, Chosen, NoTree, MoreTrees, size, sizes, spelled, spelled_all}
 
 -- the first trees that have this many nodes together (none are left where the nodes spell trees)
-abbrev pub front : ℕ → ParseTrees ℕ → ParseTrees ℕ
-front zero trees = NoTree
-front (suc n) NoTree = NoTree
-front (suc n) (MoreTrees tree trees) = MoreTrees tree (front (suc n - size tree) trees)
+abbrev pub prefix : ℕ → ParseTrees ℕ → ParseTrees ℕ
+prefix zero trees = NoTree
+prefix (suc n) NoTree = NoTree
+prefix (suc n) (MoreTrees tree trees) = MoreTrees tree (prefix (suc n - size tree) trees)
 
 -- the trees after the first ones that have this many nodes together
-abbrev pub back : ℕ → ParseTrees ℕ → ParseTrees ℕ
-back zero trees = trees
-back (suc n) NoTree = NoTree
-back (suc n) (MoreTrees tree trees) = back (suc n - size tree) trees
+abbrev pub suffix : ℕ → ParseTrees ℕ → ParseTrees ℕ
+suffix zero trees = trees
+suffix (suc n) NoTree = NoTree
+suffix (suc n) (MoreTrees tree trees) = suffix (suc n - size tree) trees
 
 -- a list of trees whose first is made the n-th alternative of a choice
 abbrev pub choose : ℕ → ParseTrees ℕ → ParseTrees ℕ
@@ -26,14 +26,14 @@ choose n NoTree = NoTree
 choose n (MoreTrees tree trees) = MoreTrees (Chosen n tree) trees
 
 -- the trees that a node and the trees after it make
-abbrev pub behind : Form → ℕ → ParseTrees ℕ → ParseTrees ℕ
-behind (form.Leaf n) count trees = MoreTrees (Leaf n) trees
-behind form.Parts count trees = MoreTrees (Parts (front (count - 1) trees)) (back (count - 1) trees)
-behind (form.Chosen n) count trees = choose n trees
+abbrev pub put : Form → ℕ → ParseTrees ℕ → ParseTrees ℕ
+put (form.Leaf n) count trees = MoreTrees (Leaf n) trees
+put form.Parts count trees = MoreTrees (Parts (prefix (count - 1) trees)) (suffix (count - 1) trees)
+put (form.Chosen n) count trees = choose n trees
 
 abbrev pub read_all : List Node → ParseTrees ℕ
 read_all [] = NoTree
-read_all (node ∷ nodes) = behind node.form node.size (read_all nodes)
+read_all (node ∷ nodes) = put node.form node.size (read_all nodes)
 
 abbrev pub first_of : ParseTrees ℕ → ParseTree ℕ
 first_of NoTree = Parts NoTree
@@ -54,19 +54,19 @@ size-positive (Leaf n) = omega arith
 size-positive (Parts trees) = omega arith
 size-positive (Chosen n tree) = omega arith
 
-front-join : (trees others : ParseTrees ℕ) (n : ℕ) → n ≡ sizes trees
-    → front n (join trees others) ≡ trees
-front-join NoTree others n e = rw e refl
-front-join (MoreTrees tree trees) others zero e = absurd (omega (arith, size-positive tree))
-front-join (MoreTrees tree trees) others (suc n) e =
-    ap (MoreTrees tree) (front-join trees others (suc n - size tree) (omega arith))
+prefix-join : (trees others : ParseTrees ℕ) (n : ℕ) → n ≡ sizes trees
+    → prefix n (join trees others) ≡ trees
+prefix-join NoTree others n e = rw e refl
+prefix-join (MoreTrees tree trees) others zero e = absurd (omega (arith, size-positive tree))
+prefix-join (MoreTrees tree trees) others (suc n) e =
+    ap (MoreTrees tree) (prefix-join trees others (suc n - size tree) (omega arith))
 
-back-join : (trees others : ParseTrees ℕ) (n : ℕ) → n ≡ sizes trees
-    → back n (join trees others) ≡ others
-back-join NoTree others n e = rw e refl
-back-join (MoreTrees tree trees) others zero e = absurd (omega (arith, size-positive tree))
-back-join (MoreTrees tree trees) others (suc n) e =
-    back-join trees others (suc n - size tree) (omega arith)
+suffix-join : (trees others : ParseTrees ℕ) (n : ℕ) → n ≡ sizes trees
+    → suffix n (join trees others) ≡ others
+suffix-join NoTree others n e = rw e refl
+suffix-join (MoreTrees tree trees) others zero e = absurd (omega (arith, size-positive tree))
+suffix-join (MoreTrees tree trees) others (suc n) e =
+    suffix-join trees others (suc n - size tree) (omega arith)
 
 mutual
   -- reading what a tree spells gives the tree
@@ -79,8 +79,8 @@ mutual
       rw (
         read_all-spelled_all trees nodes,
         ← long,
-        front-join trees rest (sizes trees) refl,
-        back-join trees rest (sizes trees) refl,
+        prefix-join trees rest (sizes trees) refl,
+        suffix-join trees rest (sizes trees) refl,
       ) refl
   read_all-spelled (Chosen n tree) nodes = rw (read_all-spelled tree nodes) refl
 

@@ -85,14 +85,14 @@ fn callees(alloc: Global, row: &Row, nullable: &[bool]) -> Result<RowNumbers, Al
 fn called(alloc: Global, parts: &[u32], nullable: &[bool]) -> Result<Vec<u32>, AllocError>
     ensures { IfOk result (λ found. found.items ≡ called nullable.now parts.now) }
 {
-    let mut front = Vec::new(alloc);
+    let mut prefix = Vec::new(alloc);
     for part in parts {
-        front.push(*part)?;
+        prefix.push(*part)?;
         if !is_marked(nullable, *part as usize) {
-            return Ok(front);
+            return Ok(prefix);
         }
     }
-    Ok(front)
+    Ok(prefix)
 }
 
 /// The first row that may match without end, if there is one.

@@ -51,17 +51,17 @@ impl Class {
         ensures { (names : List (List ℕ)) → result ≡ has_kind self (kind_of names token.now.kind) }
     {
         match (self, &token.kind) {
-            (Class::Unqualified(wanted), kind) => match name_of(wanted, kind) {
+            (Class::Unqualified(expected), kind) => match name_of(expected, kind) {
                 Some(name) => name.qualifier.is_none(),
                 None => false,
             },
-            (Class::Name(wanted), kind) => name_of(wanted, kind).is_some(),
-            (Class::Special(wanted), TokenKind::VarId(name)) => is_special(wanted, name),
-            (Class::Special(wanted), TokenKind::VarOp(name)) => is_special(wanted, name),
-            (Class::Keyword(wanted), TokenKind::Keyword(word)) => wanted == *word,
-            (Class::Reserved(wanted), TokenKind::Reserved(word)) => wanted == *word,
-            (Class::Mark(wanted), TokenKind::Mark(mark)) => wanted == *mark,
-            (Class::Mark(wanted), TokenKind::Layout(mark)) => wanted == mark_of(*mark),
+            (Class::Name(expected), kind) => name_of(expected, kind).is_some(),
+            (Class::Special(expected), TokenKind::VarId(name)) => is_special(expected, name),
+            (Class::Special(expected), TokenKind::VarOp(name)) => is_special(expected, name),
+            (Class::Keyword(expected), TokenKind::Keyword(word)) => expected == *word,
+            (Class::Reserved(expected), TokenKind::Reserved(word)) => expected == *word,
+            (Class::Mark(expected), TokenKind::Mark(mark)) => expected == *mark,
+            (Class::Mark(expected), TokenKind::Layout(mark)) => expected == mark_of(*mark),
             (Class::Int, TokenKind::Int(_)) => true,
             (Class::Digit, TokenKind::Int(n)) => 0 <= *n && *n < 10,
             (Class::Char, TokenKind::Char(_)) => true,
@@ -72,11 +72,11 @@ impl Class {
 }
 
 /// The name that a token is, if it is one of this kind.
-fn name_of(wanted: NameKind, kind: &TokenKind) -> Option<Name>
+fn name_of(expected: NameKind, kind: &TokenKind) -> Option<Name>
     ensures { (names : List (List ℕ)) → option_map (spelling_of names) result
-        ≡ spelling_in wanted (kind_of names kind.now) }
+        ≡ spelling_in expected (kind_of names kind.now) }
 {
-    match (wanted, kind) {
+    match (expected, kind) {
         (NameKind::VarId, TokenKind::VarId(name)) => Some(*name),
         (NameKind::ConId, TokenKind::ConId(name)) => Some(*name),
         (NameKind::VarOp, TokenKind::VarOp(name)) => Some(*name),
@@ -85,11 +85,11 @@ fn name_of(wanted: NameKind, kind: &TokenKind) -> Option<Name>
     }
 }
 
-fn is_special(wanted: Special, name: &Name) -> bool
-    ensures { result ≡ is_special wanted name.now.special }
+fn is_special(expected: Special, name: &Name) -> bool
+    ensures { result ≡ is_special expected name.now.special }
 {
     match name.special {
-        Some(special) => wanted == special,
+        Some(special) => expected == special,
         None => false,
     }
 }

@@ -51,7 +51,7 @@ pub fn row_end(
         }
         Row::SeparatedBy(part, separator) => {
             let end = table.end(*part as usize, left)?;
-            Some(joined(end, behind(*separator, number, table, end.left)))
+            Some(joined(end, after(*separator, number, table, end.left)))
         }
         Row::Ahead(part) => match table.end(*part as usize, left) {
             Some(_) => Some(alone(left)),
@@ -92,7 +92,7 @@ fn joined(end: End, others: Option<End>) -> End
 }
 
 /// The end of a row that follows a separator.
-fn behind(separator: u32, number: usize, table: &Table, left: usize) -> Option<End>
+fn after(separator: u32, number: usize, table: &Table, left: usize) -> Option<End>
     ensures { result ≡ option_and_then (λ between. end_at table.now.columns number between.left)
         (end_at table.now.columns separator left) }
 {

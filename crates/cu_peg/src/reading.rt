@@ -112,8 +112,8 @@ fn next_parts(row: &Row, parts: Cursor, table: &Table, left: usize) -> Option<Cu
         Row::Many(part) => again(parts.row, *part, table, left),
         Row::AtLeastOne(part) => again(parts.row, *part, table, left),
         Row::SeparatedBy(part, separator) => {
-            let behind = table.end(*separator as usize, left)?;
-            again(parts.row, *part, table, behind.left)
+            let after = table.end(*separator as usize, left)?;
+            again(parts.row, *part, table, after.left)
         }
         _ => None,
     }

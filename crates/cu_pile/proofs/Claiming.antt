@@ -16,7 +16,7 @@ use Rattle.std.proofs.Math.Nat.{mod-eq_of_lt}
 use Rattle.std.proofs.Common.{lt-ltb, le-ltb}
 use Rattle.atomic_table.specs.Table.{State, put_back, rest, Valid, carried_after, Final, Seen}
 
-no_end : (front : List ℕ) (n : ℕ) → [] ≡ front ++ n ∷ [] → ⊥
+no_end : (prefix : List ℕ) (n : ℕ) → [] ≡ prefix ++ n ∷ [] → ⊥
 no_end [] n e = cc
 no_end (x ∷ xs) n e = cc
 
@@ -255,22 +255,22 @@ module _ {I : Type 0} where
           → (w : SeatView I) × (a : Act (Option I)) × Valid s.homes me.1 a
           × IsClaimed items all (stepped s 0 ((get_or s.words 0 0 + 1) % 2 ^ 64) id me.1 w a)
           × Draws (step slots 0 1 0 none) me (get_or s.words 0 0) (w, carried_after me.1 a)
-      draws_at (Some x) e = let word : ℕ = get_or s.words 0 0 in let back = put_back s.homes me.1 in (
+      draws_at (Some x) e = let word : ℕ = get_or s.words 0 0 in let returned = put_back s.homes me.1 in (
         with_number me.0 word,
         chain gives (takes word (Some x)),
         (tt, returned_full items s.views word all id s.homes me.0 rule.1 at live me.1 held word x (omega arith) e),
-        ruled (set s.views id (with_number me.0 word)) (set back word none) (draws_to items s.views word all id s.homes me.0 rule.1 at live (set back word none) known unpast
-            (length-set back word none ∙ returned_length items s.views word all id s.homes me.0 rule.1 at live me.1)
-            (λ i y le f. set_else back word i none (λ same. omega arith) ∙ returned_full items s.views word all id s.homes me.0 rule.1 at live me.1 held i y (omega arith) f)
-            (λ i f. ⊎_elim (λ (t : (i ≡ word) × (none ≡ none)). inl t.0) (λ (t : (i ≢ word) × (get_elem? back i ≡ some none)). inr (returned_out items s.views word all id s.homes me.0 rule.1 at live me.1 held i t.1))
-            (at_set back word i none none f))),
+        ruled (set s.views id (with_number me.0 word)) (set returned word none) (draws_to items s.views word all id s.homes me.0 rule.1 at live (set returned word none) known unpast
+            (length-set returned word none ∙ returned_length items s.views word all id s.homes me.0 rule.1 at live me.1)
+            (λ i y le f. set_else returned word i none (λ same. omega arith) ∙ returned_full items s.views word all id s.homes me.0 rule.1 at live me.1 held i y (omega arith) f)
+            (λ i f. ⊎_elim (λ (t : (i ≡ word) × (none ≡ none)). inl t.0) (λ (t : (i ≢ word) × (get_elem? returned i ≡ some none)). inr (returned_out items s.views word all id s.homes me.0 rule.1 at live me.1 held i t.1))
+            (at_set returned word i none none f))),
         (refl, ap (λ r. (word, Some x) ∷ r) rest_nil ∙ sym (ap (slot_of word) (ap (λ (l : List I). slice_get l word) known ∙ e)), λ m f. drawn_below items s.views word all id s.homes me.0 rule.1 at live m f),
       )
-      draws_at None e = let word : ℕ = get_or s.words 0 0 in let back = put_back s.homes me.1 in let past = slice_get_past items word e in (
+      draws_at None e = let word : ℕ = get_or s.words 0 0 in let returned = put_back s.homes me.1 in let past = slice_get_past items word e in (
         with_number me.0 word,
         gives,
         tt,
-        ruled (set s.views id (with_number me.0 word)) back (draws_to items s.views word all id s.homes me.0 rule.1 at live back known unpast
+        ruled (set s.views id (with_number me.0 word)) returned (draws_to items s.views word all id s.homes me.0 rule.1 at live returned known unpast
             (returned_length items s.views word all id s.homes me.0 rule.1 at live me.1)
             (λ i y le f. returned_full items s.views word all id s.homes me.0 rule.1 at live me.1 held i y (omega arith) f)
             (λ i f. inr (returned_out items s.views word all id s.homes me.0 rule.1 at live me.1 held i f))),

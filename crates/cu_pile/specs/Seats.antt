@@ -33,7 +33,7 @@ number_past count (m ∷ ms) = (if nat_lt m count then 0 else 1) + number_past c
 
 -- The list ends with this number.
 abbrev pub EndsWith : List ℕ → ℕ → Type 0
-EndsWith drawn n = (front : List ℕ) × (drawn ≡ front ++ n ∷ [])
+EndsWith drawn n = (prefix : List ℕ) × (drawn ≡ prefix ++ n ∷ [])
 
 module _ {I : Type 0} where
   -- the sum of f over all seats that are not spent

@@ -61,8 +61,8 @@ pub states-follow : {S : Type 0} (content : S → Graph) (outcomes : List (Outco
 states-follow content [] = refl
 states-follow content (outcome ∷ outcomes) =
     map-append (state_of content) (branches_of outcome) (flat_map branches_of outcomes)
-    ∙ ap (λ (front : List State). front ++ map (state_of content) (flat_map branches_of outcomes)) (states-of_one content outcome)
-    ∙ ap (λ (behind : List State). go_list (next_of content outcome) ++ behind) (states-follow content outcomes)
+    ∙ ap (λ (prefix : List State). prefix ++ map (state_of content) (flat_map branches_of outcomes)) (states-of_one content outcome)
+    ∙ ap (λ (suffix : List State). go_list (next_of content outcome) ++ suffix) (states-follow content outcomes)
 
 -- what holds of the branches of each outcome holds of those that follow all
 pub all-follow : {S : Type 0} (P : Branch S → Type 0) (outcomes : List (Outcome S)) → All (λ outcome. All P (branches_of outcome)) outcomes

@@ -19,8 +19,8 @@ use Rattle.cu_search.specs.declared.search.Round.{Round}
 use Rattle.cu_search.specs.Rounds.{Writes}
 use Rattle.cu_search.specs.Lines.{Notation, end_text, line_text, lines_bytes, listing_bytes}
 use Rattle.cu_search.specs.Standing.{IsGoing, Standing, end_after, end_at, left_of, level_after, next_of, round_at}
-use Rattle.cu_search.specs.Written.{Adds, AddsFront}
-use Rattle.cu_search.proofs.WrittenLemmas.{Adds-append, Continues, begins, continues, front, part_front}
+use Rattle.cu_search.specs.Written.{Adds, AddsPrefix}
+use Rattle.cu_search.proofs.WrittenLemmas.{Adds-append, Continues, begins, continues, prefix, part_prefix}
 
 module _ (code : Code) (limits : SearchLimits) (d : ℕ) where
   -- what is listed of the level after round d, where so many rounds may follow
@@ -99,12 +99,12 @@ bytes-ends s end within some =
     ∙ ap (λ bytes. lines_bytes s.notation (round_at s).lines ++ bytes) (bytes-only_end s.notation end)
 
 -- a prefix of the round's lines is a prefix of what is left
-pub lines-front : (s : Standing) (a b : Option (List ℕ)) → s.round ≤ s.limits.rounds → AddsFront a b (lines_bytes s.notation (round_at s).lines)
-    → AddsFront a b (listing_bytes s.notation (left_of s))
-lines-front s a b within h =
+pub lines-prefix : (s : Standing) (a b : Option (List ℕ)) → s.round ≤ s.limits.rounds → AddsPrefix a b (lines_bytes s.notation (round_at s).lines)
+    → AddsPrefix a b (listing_bytes s.notation (left_of s))
+lines-prefix s a b within h =
     let rest = unless_ended (end_at s) (left_of (next_of s)) in
     let is = ap (listing_bytes s.notation) (left-is s within) ∙ bytes-after_lines s.notation (round_at s).lines rest in
-    subst (AddsFront a b) (sym is) (part_front a b (lines_bytes s.notation (round_at s).lines) (listing_bytes s.notation rest) h)
+    subst (AddsPrefix a b) (sym is) (part_prefix a b (lines_bytes s.notation (round_at s).lines) (listing_bytes s.notation rest) h)
 
 -- the lines and the line of the end were written, or a prefix of the latter
 pub end-written : (s : Standing) (end : End) (a b c : Option (List ℕ)) → s.round ≤ s.limits.rounds → end_at s ≡ Some end
@@ -112,12 +112,12 @@ pub end-written : (s : Standing) (end : End) (a b c : Option (List ℕ)) → s.r
 end-written s end a b c within some h k =
     subst (Adds a c) (sym (bytes-ends s end within some)) (Adds-append a b c (lines_bytes s.notation (round_at s).lines) (end_text end) h k)
 
-pub end-front : (s : Standing) (end : End) (a b c : Option (List ℕ)) → s.round ≤ s.limits.rounds → end_at s ≡ Some end
-    → Adds a b (lines_bytes s.notation (round_at s).lines) → AddsFront b c (end_text end) → AddsFront a c (listing_bytes s.notation (left_of s))
-end-front s end a b c within some h k =
+pub end-prefix : (s : Standing) (end : End) (a b c : Option (List ℕ)) → s.round ≤ s.limits.rounds → end_at s ≡ Some end
+    → Adds a b (lines_bytes s.notation (round_at s).lines) → AddsPrefix b c (end_text end) → AddsPrefix a c (listing_bytes s.notation (left_of s))
+end-prefix s end a b c within some h k =
     let lines = lines_bytes s.notation (round_at s).lines in
     let begun = continues a a b (lines ++ end_text end) lines (end_text end) (begins a (lines ++ end_text end)) h in
-    subst (AddsFront a c) (sym (bytes-ends s end within some)) (front a b c (lines ++ end_text end) (end_text end) begun k)
+    subst (AddsPrefix a c) (sym (bytes-ends s end within some)) (prefix a b c (lines ++ end_text end) (end_text end) begun k)
 
 -- What is left of what a search had to list, where what was before it was written.
 pub record ListingLeft (before now : Option (List ℕ)) (first s : Standing) : Type 0 where
@@ -219,6 +219,6 @@ module _ {s : Standing} {a b : Option (List ℕ)} {tally : Tally} {level : List 
       }
 
 -- what was written where a round broke off
-pub writes-err : (r : Result Round SearchFault) (s : Standing) (a b : Option (List ℕ)) → IsErr r → AddsFront a b (listing_bytes s.notation (left_of s)) → Writes r s a b
-writes-err (Ok round) s a b failed front = let no : ⊥ = cc in absurd no
-writes-err (Err fault) s a b failed front = front
+pub writes-err : (r : Result Round SearchFault) (s : Standing) (a b : Option (List ℕ)) → IsErr r → AddsPrefix a b (listing_bytes s.notation (left_of s)) → Writes r s a b
+writes-err (Ok round) s a b failed prefix = let no : ⊥ = cc in absurd no
+writes-err (Err fault) s a b failed prefix = prefix

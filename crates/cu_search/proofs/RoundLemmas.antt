@@ -8,8 +8,8 @@ use Rattle.cu_machine.specs.declared.End.TheVariants.{Answers}
 use Rattle.cu_machine.specs.Listing.{Answered, Line, Round, Tally, is_last, nothing, one_answer, round_of, with_line}
 use Rattle.cu_machine.specs.Next.{Next, Answer, Fails, Go, Stops, Waits}
 use Rattle.cu_search.specs.Lines.{Notation, line_text, lines_bytes}
-use Rattle.cu_search.specs.Written.{Adds, AddsFront}
-use Rattle.cu_search.proofs.WrittenLemmas.{Adds-nothing, Continues, continues, ends, front, front_part}
+use Rattle.cu_search.specs.Written.{Adds, AddsPrefix}
+use Rattle.cu_search.proofs.WrittenLemmas.{Adds-nothing, Continues, continues, ends, prefix, prefix_part}
 
 -- a round, and what follows it where it doesn't end the listing
 abbrev pub then_round : Round → (Tally → Round) → Round
@@ -41,8 +41,8 @@ unfolding round_of
 round_of-nil d limit tally = refl
 
 -- a prefix of a line, as that of a list of one line
-pub one_line_front : (notation : Notation) (a b : Option (List ℕ)) (line : Line) → AddsFront a b (line_text notation line) → AddsFront a b (lines_bytes notation (line ∷ []))
-one_line_front notation a b line h = subst (AddsFront a b) (sym (append-nil (line_text notation line))) h
+pub one_line_prefix : (notation : Notation) (a b : Option (List ℕ)) (line : Line) → AddsPrefix a b (line_text notation line) → AddsPrefix a b (lines_bytes notation (line ∷ []))
+one_line_prefix notation a b line h = subst (AddsPrefix a b) (sym (append-nil (line_text notation line))) h
 
 pub lines_bytes-append : (notation : Notation) (xs ys : List Line) → lines_bytes notation (xs ++ ys) ≡ lines_bytes notation xs ++ lines_bytes notation ys
 lines_bytes-append notation [] ys = refl
@@ -99,15 +99,15 @@ module _ (notation : Notation) where
       }
 
   -- a prefix of a part was written
-  round_front : (a b c : Option (List ℕ)) (whole part : Round) (others : Tally → Round) (end : Option End) → part.end ≡ end
-      → RoundLeft a b whole (then_round part others) → AddsFront b c (bytes_of part.lines) → AddsFront a c (bytes_of whole.lines)
-  round_front a b c whole part others None is h k =
+  round_prefix : (a b c : Option (List ℕ)) (whole part : Round) (others : Tally → Round) (end : Option End) → part.end ≡ end
+      → RoundLeft a b whole (then_round part others) → AddsPrefix b c (bytes_of part.lines) → AddsPrefix a c (bytes_of whole.lines)
+  round_prefix a b c whole part others None is h k =
       let rest = others part.tally in
       let bytes : bytes_of (then_round part others).lines ≡ bytes_of part.lines ++ bytes_of rest.lines =
       ap (λ round. bytes_of round.lines) (then_round-None part others is) ∙ lines_bytes-append notation part.lines rest.lines in
-      front_part a b c (bytes_of whole.lines) (bytes_of part.lines) (bytes_of rest.lines) (subst (Continues a b (bytes_of whole.lines)) bytes h.written) k
-  round_front a b c whole part others (Some end) is h k =
-      front a b c (bytes_of whole.lines) (bytes_of part.lines)
+      prefix_part a b c (bytes_of whole.lines) (bytes_of part.lines) (bytes_of rest.lines) (subst (Continues a b (bytes_of whole.lines)) bytes h.written) k
+  round_prefix a b c whole part others (Some end) is h k =
+      prefix a b c (bytes_of whole.lines) (bytes_of part.lines)
       (subst (λ round. Continues a b (bytes_of whole.lines) (bytes_of round.lines)) (then_round-Some part others end is) h.written) k
 
   -- the outcomes of the elements of a list from a place on
@@ -140,10 +140,10 @@ module _ (notation : Notation) where
         let g = round_ends a b c whole (one_round tally x) (λ next. rest_round next xs (i + 1)) end (subst (RoundLeft a b whole) (rest_round-cons tally xs i x below is) h) k (sym e)
         in record { written = g.written; tally_is = t ∙ g.tally_is; end_is = e ∙ g.end_is }
 
-    pub outcome_front : (a b c : Option (List ℕ)) (whole : Round) (tally : Tally) (xs : List X) (i : ℕ) (x : X) → i < length xs → x ≡ get_or xs i x
-        → RoundLeft a b whole (rest_round tally xs i) → AddsFront b c (bytes_of (one_round tally x).lines) → AddsFront a c (bytes_of whole.lines)
-    outcome_front a b c whole tally xs i x below is h k =
-        round_front a b c whole (one_round tally x) (λ next. rest_round next xs (i + 1)) (one_round tally x).end refl (subst (RoundLeft a b whole) (rest_round-cons tally xs i x below is) h) k
+    pub outcome_prefix : (a b c : Option (List ℕ)) (whole : Round) (tally : Tally) (xs : List X) (i : ℕ) (x : X) → i < length xs → x ≡ get_or xs i x
+        → RoundLeft a b whole (rest_round tally xs i) → AddsPrefix b c (bytes_of (one_round tally x).lines) → AddsPrefix a c (bytes_of whole.lines)
+    outcome_prefix a b c whole tally xs i x below is h k =
+        round_prefix a b c whole (one_round tally x) (λ next. rest_round next xs (i + 1)) (one_round tally x).end refl (subst (RoundLeft a b whole) (rest_round-cons tally xs i x below is) h) k
 
     pub outcomes_listed : (a b : Option (List ℕ)) (whole : Round) (tally : Tally) (xs : List X) (i : ℕ) → length xs ≤ i
         → RoundLeft a b whole (rest_round tally xs i) → RoundListed a b whole tally None

@@ -6,7 +6,7 @@ use Rattle.cu_search.specs.declared.search.Round.{Round}
 use Rattle.cu_search.specs.declared.search.Round.TheVariants.{Ended, Going}
 use Rattle.cu_search.specs.Lines.{lines_bytes, listing_bytes}
 use Rattle.cu_search.specs.Standing.{IsGoing, Standing, end_at, left_of, next_of, round_at}
-use Rattle.cu_search.specs.Written.{Adds, AddsFront}
+use Rattle.cu_search.specs.Written.{Adds, AddsPrefix}
 
 -- The round leaves the new search. Where the search goes on, it stands before the next round, and
 -- the lines of this round with what is left of the listing then are what was left before. It ends
@@ -28,4 +28,4 @@ Writes (Ok Going) old before after =
 Writes (Ok (Ended end)) old before after =
     Adds before after (listing_bytes old.notation (left_of old))
 Writes (Err fault) old before after =
-    AddsFront before after (listing_bytes old.notation (left_of old))
+    AddsPrefix before after (listing_bytes old.notation (left_of old))

@@ -10,8 +10,8 @@ abbrev pub Adds : Option (List ℕ) → Option (List ℕ) → List ℕ → Type 
 Adds before after bytes = after ≡ option_map (λ told. told ++ bytes) before
 
 -- The sink took a prefix of these bytes beside what it had taken before.
-abbrev pub AddsFront : Option (List ℕ) → Option (List ℕ) → List ℕ → Type 0
-AddsFront before after bytes = (n : ℕ) × (n ≤ length bytes) × Adds before after (take n bytes)
+abbrev pub AddsPrefix : Option (List ℕ) → Option (List ℕ) → List ℕ → Type 0
+AddsPrefix before after bytes = (n : ℕ) × (n ≤ length bytes) × Adds before after (take n bytes)
 
 -- The output's count of faults rose where the output failed. Otherwise it stands, also where memory
 -- ran out.

@@ -5,7 +5,7 @@ ghost use Rattle.cu_machine.specs.Listing.{Answered, Waiting, is_last, one_answe
 ghost use Rattle.cu_step.specs.Outcome.{next_of, reading_of};
 ghost use Rattle.cu_search.specs.Lines.{line_text, lines_bytes};
 ghost use Rattle.cu_search.specs.Stands.{notation_of};
-ghost use Rattle.cu_search.specs.Written.{Adds, AddsFront, HasCause};
+ghost use Rattle.cu_search.specs.Written.{Adds, AddsPrefix, HasCause};
 
 use crate::fault::SearchFault;
 use crate::lines::{answer_line, wait_line};
@@ -46,7 +46,7 @@ pub(crate) fn list_outcomes<S: Store, K: Sink>(
         (lines_bytes (notation_of turn.now.wording)
         (round_of turn.now.round turn.now.limit tally.old
         (map (next_of S.content) outcomes.now)).lines)) }
-    ensures front { OnErr result (AddsFront (K.written sink.old) (K.written sink.new)
+    ensures prefix { OnErr result (AddsPrefix (K.written sink.old) (K.written sink.new)
         (lines_bytes (notation_of turn.now.wording)
         (round_of turn.now.round turn.now.limit tally.old
         (map (next_of S.content) outcomes.now)).lines)) }
@@ -80,7 +80,7 @@ fn list_outcome<S: Store, K: Sink>(
         (lines_bytes (notation_of turn.now.wording)
         (round_of turn.now.round turn.now.limit tally.old
         (next_of S.content outcome.now ∷ [])).lines)) }
-    ensures front { OnErr result (AddsFront (K.written sink.old) (K.written sink.new)
+    ensures prefix { OnErr result (AddsPrefix (K.written sink.old) (K.written sink.new)
         (lines_bytes (notation_of turn.now.wording)
         (round_of turn.now.round turn.now.limit tally.old
         (next_of S.content outcome.now ∷ [])).lines)) }
@@ -111,7 +111,7 @@ fn list_answer<K: Sink>(
     ensures whole { OnOk result (Adds (K.written sink.old) (K.written sink.new)
         (line_text (notation_of turn.now.wording)
         (Answered turn.now.round (reading_of reading.now)))) }
-    ensures front { OnErr result (AddsFront (K.written sink.old) (K.written sink.new)
+    ensures prefix { OnErr result (AddsPrefix (K.written sink.old) (K.written sink.new)
         (line_text (notation_of turn.now.wording)
         (Answered turn.now.round (reading_of reading.now)))) }
     ensures cause { HasCause result (K.fault_count sink.old) (K.fault_count sink.new) }
@@ -145,7 +145,7 @@ fn list_wait<K: Sink>(
     ensures tally { OnOk result (tally.new ≡ one_wait tally.old) }
     ensures whole { OnOk result (Adds (K.written sink.old) (K.written sink.new)
         (line_text (notation_of turn.now.wording) (Waiting turn.now.round names.now))) }
-    ensures front { OnErr result (AddsFront (K.written sink.old) (K.written sink.new)
+    ensures prefix { OnErr result (AddsPrefix (K.written sink.old) (K.written sink.new)
         (line_text (notation_of turn.now.wording) (Waiting turn.now.round names.now))) }
     ensures cause { HasCause result (K.fault_count sink.old) (K.fault_count sink.new) }
 {

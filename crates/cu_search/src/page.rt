@@ -2,7 +2,7 @@
 ghost use Rattle.std.specs.Prelude.{◌≡◌, ◌++◌, [], OnErr, OnOk, decimal};
 ghost use Rattle.cu_values.specs.Display.{display};
 ghost use Rattle.cu_search.specs.Stands.{notation_of};
-ghost use Rattle.cu_search.specs.Written.{Adds, AddsFront, HasCause};
+ghost use Rattle.cu_search.specs.Written.{Adds, AddsPrefix, HasCause};
 
 use crate::fault::SearchFault;
 use crate::wording::Wording;
@@ -67,8 +67,8 @@ impl Page {
     pub(crate) fn write<K: Sink>(&self, sink: &mut K) -> Result<(), SearchFault>
         ensures whole { OnOk result
             (Adds (K.written sink.old) (K.written sink.new) self.now.line.items) }
-        ensures front { OnErr result
-            (AddsFront (K.written sink.old) (K.written sink.new) self.now.line.items) }
+        ensures prefix { OnErr result
+            (AddsPrefix (K.written sink.old) (K.written sink.new) self.now.line.items) }
         ensures cause { HasCause result (K.fault_count sink.old) (K.fault_count sink.new) }
     {
         match sink.put(self.line.as_slice()) {

@@ -5,7 +5,7 @@ ghost use Rattle.cu_search.specs.Lines.{end_text, listing_bytes};
 ghost use Rattle.cu_search.specs.Rounds.{Leaves, Writes};
 ghost use Rattle.cu_search.specs.Standing.{IsGoing, end_after, left_of, opened, widest};
 ghost use Rattle.cu_search.specs.Stands.{notation_of, standing_of};
-ghost use Rattle.cu_search.specs.Written.{Adds, AddsFront, HasCause};
+ghost use Rattle.cu_search.specs.Written.{Adds, AddsPrefix, HasCause};
 
 use crate::fault::SearchFault;
 use crate::level::{Steps, next_level, step_level};
@@ -167,7 +167,7 @@ impl<'p, S: Store + Send + Sync> Search<'p, S> {
         ensures whole { OnOk result (Adds (K.written sink.old) (K.written sink.new)
             (listing_bytes (standing_of S.content self.old).notation
             (left_of (standing_of S.content self.old)))) }
-        ensures front { OnErr result (AddsFront (K.written sink.old) (K.written sink.new)
+        ensures prefix { OnErr result (AddsPrefix (K.written sink.old) (K.written sink.new)
             (listing_bytes (standing_of S.content self.old).notation
             (left_of (standing_of S.content self.old)))) }
         ensures cause { HasCause result (K.fault_count sink.old) (K.fault_count sink.new) }
@@ -202,8 +202,8 @@ pub(crate) fn ending(limits: &SearchLimits, round: u64, waits: u64, count: u64) 
 /// Writes the last line of a listing with this end.
 fn write_end<K: Sink>(page: &mut Page, end: End, sink: &mut K) -> Result<(), SearchFault>
     ensures whole { OnOk result (Adds (K.written sink.old) (K.written sink.new) (end_text end)) }
-    ensures front { OnErr result
-        (AddsFront (K.written sink.old) (K.written sink.new) (end_text end)) }
+    ensures prefix { OnErr result
+        (AddsPrefix (K.written sink.old) (K.written sink.new) (end_text end)) }
     ensures cause { HasCause result (K.fault_count sink.old) (K.fault_count sink.new) }
 {
     end_line(page, end)?;
@@ -213,8 +213,8 @@ fn write_end<K: Sink>(page: &mut Page, end: End, sink: &mut K) -> Result<(), Sea
 /// Writes a listing that has no other line than the last one, with this end.
 pub fn write_last_line<K: Sink>(alloc: Global, end: End, sink: &mut K) -> Result<(), SearchFault>
     ensures whole { OnOk result (Adds (K.written sink.old) (K.written sink.new) (end_text end)) }
-    ensures front { OnErr result
-        (AddsFront (K.written sink.old) (K.written sink.new) (end_text end)) }
+    ensures prefix { OnErr result
+        (AddsPrefix (K.written sink.old) (K.written sink.new) (end_text end)) }
     ensures cause { HasCause result (K.fault_count sink.old) (K.fault_count sink.new) }
 {
     let mut page = Page::with_room(alloc)?;

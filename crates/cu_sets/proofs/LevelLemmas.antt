@@ -31,17 +31,17 @@ before_found a v (On values states) = ap (λ (vs : List Value). On vs (a.states 
 before_found a v Blocked = refl
 before_found a v (Halts stop) = refl
 
-before_states : (a : Level) (front : List State) (others : LevelEvent) → before a (with_states front others) ≡ before (record { values = a.values; states = a.states ++ front }) others
-before_states a front (On values states) = ap (On (a.values ++ values)) (sym (append_assoc a.states front states))
-before_states a front Blocked = refl
-before_states a front (Halts stop) = refl
+before_states : (a : Level) (prefix : List State) (others : LevelEvent) → before a (with_states prefix others) ≡ before (record { values = a.values; states = a.states ++ prefix }) others
+before_states a prefix (On values states) = ap (On (a.values ++ values)) (sym (append_assoc a.states prefix states))
+before_states a prefix Blocked = refl
+before_states a prefix (Halts stop) = refl
 
 module _ (a b : Level) (event : Next) where
-  pub adds_states : (front : List State) → event ≡ Go front → b.values ≡ a.values → b.states ≡ a.states ++ front → (others : LevelEvent)
+  pub adds_states : (prefix : List State) → event ≡ Go prefix → b.values ≡ a.values → b.states ≡ a.states ++ prefix → (others : LevelEvent)
       → before a (with_outcome event others) ≡ before b others
-  adds_states front is same longer others =
-      ap (λ (e : Next). before a (with_outcome e others)) is ∙ before_states a front others
-      ∙ sym (same_level b (record { values = a.values; states = a.states ++ front }) others same longer)
+  adds_states prefix is same longer others =
+      ap (λ (e : Next). before a (with_outcome e others)) is ∙ before_states a prefix others
+      ∙ sym (same_level b (record { values = a.values; states = a.states ++ prefix }) others same longer)
 
   pub adds_found : (reading : Reading) → event ≡ Answer reading → is_ground reading.value ≡ true → b.values ≡ a.values ++ reading.value ∷ [] → b.states ≡ a.states → (others : LevelEvent)
       → before a (with_outcome event others) ≡ before b others
@@ -94,28 +94,28 @@ module _ {B : Type 0} (state : B → State) (program : Code) (limits : Limits) w
       empty_before Blocked = refl
       empty_before (Halts stop) = refl
 
-  first_stepped : (a : Level) (branch : B) (behind all : List B) (event : Next) → Steps a (branch ∷ behind) all → event ≡ next program limits (state branch)
-      → before a (with_outcome event (stepped program limits (states_of (map state behind)))) ≡ stepped program limits (states_of (map state all))
+  first_stepped : (a : Level) (branch : B) (later all : List B) (event : Next) → Steps a (branch ∷ later) all → event ≡ next program limits (state branch)
+      → before a (with_outcome event (stepped program limits (states_of (map state later)))) ≡ stepped program limits (states_of (map state all))
   unfolding next stepped
-  first_stepped a branch behind all event steps is =
-      ap (λ (e : Next). before a (with_outcome e (stepped program limits (states_of (map state behind))))) is ∙ steps.event
+  first_stepped a branch later all event steps is =
+      ap (λ (e : Next). before a (with_outcome e (stepped program limits (states_of (map state later))))) is ∙ steps.event
 
-  pub steps_on : (a b : Level) (branch : B) (left behind all : List B) (event : Next) → left ≡ branch ∷ behind → Steps a left all → event ≡ next program limits (state branch)
-      → ((others : LevelEvent) → before a (with_outcome event others) ≡ before b others) → Steps b behind all
-  steps_on a b branch left behind all event is before_it becomes adds =
-      let steps : Steps a (branch ∷ behind) all = subst (λ (bs : List B). Steps a bs all) is before_it in
+  pub steps_on : (a b : Level) (branch : B) (left later all : List B) (event : Next) → left ≡ branch ∷ later → Steps a left all → event ≡ next program limits (state branch)
+      → ((others : LevelEvent) → before a (with_outcome event others) ≡ before b others) → Steps b later all
+  steps_on a b branch left later all event is before_it becomes adds =
+      let steps : Steps a (branch ∷ later) all = subst (λ (bs : List B). Steps a bs all) is before_it in
       record {
-        event = sym (adds (stepped program limits (states_of (map state behind)))) ∙ first_stepped a branch behind all event steps becomes;
+        event = sym (adds (stepped program limits (states_of (map state later)))) ∙ first_stepped a branch later all event steps becomes;
         valid = λ k d below. steps.valid (suc k) d (omega arith);
         within = λ k d below. steps.within (suc k) d (omega arith);
       }
 
-  pub steps_end : (a : Level) (branch : B) (left behind all : List B) (event : Next) (e : Ending) → left ≡ branch ∷ behind → Steps a left all → event ≡ next program limits (state branch)
+  pub steps_end : (a : Level) (branch : B) (left later all : List B) (event : Next) (e : Ending) → left ≡ branch ∷ later → Steps a left all → event ≡ next program limits (state branch)
       → ((others : LevelEvent) → with_outcome event others ≡ ended e) → ended e ≡ stepped program limits (states_of (map state all))
-  steps_end a branch left behind all event e is before_it becomes ends =
-      let steps : Steps a (branch ∷ behind) all = subst (λ (bs : List B). Steps a bs all) is before_it in
-      sym (before_ended a e) ∙ ap (before a) (sym (ends (stepped program limits (states_of (map state behind)))))
-      ∙ first_stepped a branch behind all event steps becomes
+  steps_end a branch left later all event e is before_it becomes ends =
+      let steps : Steps a (branch ∷ later) all = subst (λ (bs : List B). Steps a bs all) is before_it in
+      sym (before_ended a e) ∙ ap (before a) (sym (ends (stepped program limits (states_of (map state later)))))
+      ∙ first_stepped a branch later all event steps becomes
 
   pub steps_all : (a : Level) (left all : List B) → left ≡ [] → Steps a left all → On a.values a.states ≡ stepped program limits (states_of (map state all))
   unfolding next stepped
@@ -123,12 +123,12 @@ module _ {B : Type 0} (state : B → State) (program : Code) (limits : Limits) w
       let steps : Steps a [] all = subst (λ (bs : List B). Steps a bs all) none before_it in
       both_lists _ _ _ _ (sym (append-nil a.values)) (sym (append-nil a.states)) ∙ steps.event
 
-  pub first_valid : (a : Level) (branch : B) (left behind all : List B) → left ≡ branch ∷ behind → Steps a left all → IsValid program (state branch)
-  first_valid a branch left behind all is before_it =
+  pub first_valid : (a : Level) (branch : B) (left later all : List B) → left ≡ branch ∷ later → Steps a left all → IsValid program (state branch)
+  first_valid a branch left later all is before_it =
       (subst (λ (bs : List B). Steps a bs all) is before_it).valid 0 branch (omega arith)
 
-  pub first_within : (a : Level) (branch : B) (left behind all : List B) → left ≡ branch ∷ behind → Steps a left all → nesting (state branch) ≤ deepest (states_of (map state all))
-  first_within a branch left behind all is before_it =
+  pub first_within : (a : Level) (branch : B) (left later all : List B) → left ≡ branch ∷ later → Steps a left all → nesting (state branch) ≤ deepest (states_of (map state all))
+  first_within a branch left later all is before_it =
       (subst (λ (bs : List B). Steps a bs all) is before_it).within 0 branch (omega arith)
 
   one_more_valid : (branch : B) (rest : List B) → IsValid program (state branch) → All (λ one. IsValid program (state one)) rest → All (λ one. IsValid program (state one)) (branch ∷ rest)

@@ -24,7 +24,7 @@ use Rattle.cu_translation.specs.Numbering.{all_binders, all_functions, all_place
 use Rattle.cu_translation.specs.Sites.{Node, Site}
 use Rattle.cu_uses.specs.Binders.{pattern_variables}
 use Rattle.cu_uses.specs.Inside.Gathered.{Adds, names_meaning, pattern_binds}
-use Rattle.cu_uses.proofs.FoundLemmas.{front, nothing_left}
+use Rattle.cu_uses.proofs.FoundLemmas.{prefix, nothing_left}
 use Rattle.cu_locals.specs.Places.{pattern_places, patterns_place, positions_meaning}
 use Rattle.cu_locals.specs.Text.{Text}
 use Rattle.cu_sites.specs.declared.sites.Node as nodes
@@ -53,16 +53,16 @@ pub lists_one : (a b : List Position) (x : Position) (y : located.Position) → 
 lists_one a b x y pushed is = record { lists = ap positions_meaning pushed ∙ map-append position_meaning a (x ∷ []) ∙ ap (λ z. positions_meaning a ++ z ∷ []) is }
 
 -- what is left to count gives all
-pub counts_front : {X : Type 0} (F : List X → List Binder) (f : X → List Binder) → ((x : X) (xs : List X) → F (x ∷ xs) ≡ f x ++ F xs)
+pub counts_prefix : {X : Type 0} (F : List X → List Binder) (f : X → List Binder) → ((x : X) (xs : List X) → F (x ∷ xs) ≡ f x ++ F xs)
     → (xs : List X) (i : ℕ) (x : X) (a b c : List code.Binder) → x ≡ get_or xs i x → i < length xs → Counts a (f x) b → Counts b (F (drop (i + 1) xs)) c → Counts a (F (drop i xs)) c
-counts_front F f cons xs i x a b c is within here behind = subst (λ ys. Counts a ys c) (front F f cons xs i x is within) (counts_both here behind)
+counts_prefix F f cons xs i x a b c is within here suffix = subst (λ ys. Counts a ys c) (prefix F f cons xs i x is within) (counts_both here suffix)
 
 pub counts_end : {X : Type 0} (F : List X → List Binder) → F [] ≡ [] → (xs : List X) (i : ℕ) (a : List code.Binder) → length xs ≤ i → Counts a (F (drop i xs)) a
 counts_end F empty xs i a past = subst (λ ys. Counts a ys a) (sym (nothing_left F empty xs i past)) (counts_none a)
 
-pub lists_front : {X : Type 0} (F : List X → List located.Position) (f : X → List located.Position) → ((x : X) (xs : List X) → F (x ∷ xs) ≡ f x ++ F xs)
+pub lists_prefix : {X : Type 0} (F : List X → List located.Position) (f : X → List located.Position) → ((x : X) (xs : List X) → F (x ∷ xs) ≡ f x ++ F xs)
     → (xs : List X) (i : ℕ) (x : X) (a b c : List Position) → x ≡ get_or xs i x → i < length xs → Lists a (f x) b → Lists b (F (drop (i + 1) xs)) c → Lists a (F (drop i xs)) c
-lists_front F f cons xs i x a b c is within here behind = subst (λ ys. Lists a ys c) (front F f cons xs i x is within) (lists_both here behind)
+lists_prefix F f cons xs i x a b c is within here suffix = subst (λ ys. Lists a ys c) (prefix F f cons xs i x is within) (lists_both here suffix)
 
 pub lists_end : {X : Type 0} (F : List X → List located.Position) → F [] ≡ [] → (xs : List X) (i : ℕ) (a : List Position) → length xs ≤ i → Lists a (F (drop i xs)) a
 lists_end F empty xs i a past = subst (λ ys. Lists a ys a) (sym (nothing_left F empty xs i past)) (lists_none a)
@@ -97,16 +97,16 @@ nodes_past t es bs (y ∷ xs) (n ∷ ns) zero past are = absurd (omega (arith, p
 nodes_past t es bs (y ∷ xs) (n ∷ ns) (suc i) past are = nodes_past t es bs xs ns i (omega (arith, past)) are.1
 
 -- what is left to count of nodes gives all
-pub binders_front : (t : Text) (es : List ScopeEntry) (bs : List (Vec Declaration Global)) (xs : List nodes.Node) (ns : List Node) (i : ℕ) (x : nodes.Node) (a b c : List code.Binder) → (at : NodeAt t es bs x i ns)
+pub binders_prefix : (t : Text) (es : List ScopeEntry) (bs : List (Vec Declaration Global)) (xs : List nodes.Node) (ns : List Node) (i : ℕ) (x : nodes.Node) (a b c : List code.Binder) → (at : NodeAt t es bs x i ns)
     → Counts a (binders_of at.n) b → Counts b (all_binders (drop (i + 1) ns)) c → Counts a (all_binders (drop i ns)) c
-binders_front t es bs xs ns i x a b c at here behind = subst (λ zs. Counts a (all_binders zs) c) (sym at.split) (counts_both here behind)
+binders_prefix t es bs xs ns i x a b c at here after = subst (λ zs. Counts a (all_binders zs) c) (sym at.split) (counts_both here after)
 
 pub binders_end : (t : Text) (es : List ScopeEntry) (bs : List (Vec Declaration Global)) (xs : List nodes.Node) (ns : List Node) (i : ℕ) (a : List code.Binder) → length xs ≤ i → AreNodes t es bs xs ns → Counts a (all_binders (drop i ns)) a
 binders_end t es bs xs ns i a past are = subst (λ zs. Counts a (all_binders zs) a) (sym (nodes_past t es bs xs ns i past are)) (counts_none a)
 
-pub functions_front : (t : Text) (es : List ScopeEntry) (bs : List (Vec Declaration Global)) (xs : List nodes.Node) (ns : List Node) (i : ℕ) (x : nodes.Node) (a b c : List Position) → (at : NodeAt t es bs x i ns)
+pub functions_prefix : (t : Text) (es : List ScopeEntry) (bs : List (Vec Declaration Global)) (xs : List nodes.Node) (ns : List Node) (i : ℕ) (x : nodes.Node) (a b c : List Position) → (at : NodeAt t es bs x i ns)
     → Lists a (functions_of at.n) b → Lists b (all_functions (drop (i + 1) ns)) c → Lists a (all_functions (drop i ns)) c
-functions_front t es bs xs ns i x a b c at here behind = subst (λ zs. Lists a (all_functions zs) c) (sym at.split) (lists_both here behind)
+functions_prefix t es bs xs ns i x a b c at here after = subst (λ zs. Lists a (all_functions zs) c) (sym at.split) (lists_both here after)
 
 pub functions_end : (t : Text) (es : List ScopeEntry) (bs : List (Vec Declaration Global)) (xs : List nodes.Node) (ns : List Node) (i : ℕ) (a : List Position) → length xs ≤ i → AreNodes t es bs xs ns → Lists a (all_functions (drop i ns)) a
 functions_end t es bs xs ns i a past are = subst (λ zs. Lists a (all_functions zs) a) (sym (nodes_past t es bs xs ns i past are)) (lists_none a)
@@ -118,16 +118,16 @@ here_is xs i d within = sym (get_or_from_slice_get xs i (get_or xs i d) (get_or 
 
 pub counts_next : {X : Type 0} (F : List X → List Binder) (f : X → List Binder) → ((x : X) (xs : List X) → F (x ∷ xs) ≡ f x ++ F xs) → (xs : List X) (i : ℕ) (d : X) (a b c : List code.Binder) → i < length xs
     → Counts a (f (get_or xs i d)) b → Counts b (F (drop (i + 1) xs)) c → Counts a (F (drop i xs)) c
-counts_next F f cons xs i d a b c within here behind = counts_front F f cons xs i (get_or xs i d) a b c (here_is xs i d within) within here behind
+counts_next F f cons xs i d a b c within here after = counts_prefix F f cons xs i (get_or xs i d) a b c (here_is xs i d within) within here after
 
 pub counts_pushed : {X : Type 0} (F : List X → List Binder) (f : X → Binder) → ((x : X) (xs : List X) → F (x ∷ xs) ≡ f x ∷ F xs) → (xs : List X) (i : ℕ) (d : X) (e : code.Binder) (a b c : List code.Binder) → i < length xs
     → b ≡ a ++ e ∷ [] → binder_meaning e ≡ f (get_or xs i d) → Counts b (F (drop (i + 1) xs)) c → Counts a (F (drop i xs)) c
-counts_pushed F f cons xs i d e a b c within pushed is behind = counts_next F (λ x. f x ∷ []) cons xs i d a b c within (counts_one a b e (f (get_or xs i d)) pushed is) behind
+counts_pushed F f cons xs i d e a b c within pushed is after = counts_next F (λ x. f x ∷ []) cons xs i d a b c within (counts_one a b e (f (get_or xs i d)) pushed is) after
 
 pub lists_pushed : {X : Type 0} (F : List X → List located.Position) (f : X → located.Position) → ((x : X) (xs : List X) → F (x ∷ xs) ≡ f x ∷ F xs) → (xs : List X) (i : ℕ) (d : X) (e : Position) (a b c : List Position) → i < length xs
     → b ≡ a ++ e ∷ [] → position_meaning e ≡ f (get_or xs i d) → Lists b (F (drop (i + 1) xs)) c → Lists a (F (drop i xs)) c
-lists_pushed F f cons xs i d e a b c within pushed is behind =
-    lists_front F (λ x. f x ∷ []) cons xs i (get_or xs i d) a b c (here_is xs i d within) within (lists_one a b e (f (get_or xs i d)) pushed is) behind
+lists_pushed F f cons xs i d e a b c within pushed is after =
+    lists_prefix F (λ x. f x ∷ []) cons xs i (get_or xs i d) a b c (here_is xs i d within) within (lists_one a b e (f (get_or xs i d)) pushed is) after
 
 -- ---- patterns
 

@@ -29,8 +29,8 @@ left_as F f cons xs i x d is low = sym (ap F (drop_more xs i d low ∙ ap (λ y.
 pub gains_left : {X : Type 0} (F : List X → List Pair) (f : X → List Pair) → ((x : X) (xs : List X) → F (x ∷ xs) ≡ f x ++ F xs)
     → (xs : List X) (i : ℕ) (x d : X) (a b c : Relation) → x ≡ get_or xs i d → i < length xs
     → Gains (f x) a b → Gains (F (drop (i + 1) xs)) b c → Gains (F (drop i xs)) a c
-gains_left F f cons xs i x d a b c is low here behind =
-    subst (λ ys. Gains ys a c) (left_as F f cons xs i x d is low) (gains_both (f x) (F (drop (i + 1) xs)) a b c here behind)
+gains_left F f cons xs i x d a b c is low here after =
+    subst (λ ys. Gains ys a c) (left_as F f cons xs i x d is low) (gains_both (f x) (F (drop (i + 1) xs)) a b c here after)
 
 -- ---- needs
 
@@ -55,8 +55,8 @@ needs_left binders functions c v ls = flat_map (need_pairs binders functions c v
 pub needs_next : (binders : List Binder) (functions : List located.Position) (c : Relation) (v : Binder) (ls : List locals_found.Local) (i : ℕ) (l d : locals_found.Local)
     (r s t : Relation) → l ≡ get_or ls i d → i < length ls → Gains (need_pairs binders functions c v (local_meaning l)) r s
     → Gains (needs_left binders functions c v (drop (i + 1) ls)) s t → Gains (needs_left binders functions c v (drop i ls)) r t
-needs_next binders functions c v ls i l d r s t is low here behind =
-    gains_left (needs_left binders functions c v) (λ k. need_pairs binders functions c v (local_meaning k)) (λ k ks. refl) ls i l d r s t is low here behind
+needs_next binders functions c v ls i l d r s t is low here after =
+    gains_left (needs_left binders functions c v) (λ k. need_pairs binders functions c v (local_meaning k)) (λ k ks. refl) ls i l d r s t is low here after
 
 pub needs_end : (binders : List Binder) (functions : List located.Position) (c : Relation) (v : Binder) (ls : List locals_found.Local) (i : ℕ) (r : Relation)
     → length ls ≤ i → Gains (needs_left binders functions c v (drop i ls)) r r

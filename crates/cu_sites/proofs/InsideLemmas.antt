@@ -118,12 +118,12 @@ first_left p depth us i u is low = ap (deep_left p depth) (drop_more us i u low 
 pub deep_take : (p : Local → Bool) (depth : ℕ) (us : List usages_found.Usage) (i : ℕ) (u : usages_found.Usage) (ls : List locals_found.Local)
     (a b c : List locals_found.Local) → u ≡ get_or us i u → i < length us → nat_eq u.depth depth ≡ true → ls ≡ u.used.items → Finds a (outer_left p ls) b
     → Finds b (deep_left p depth (drop (i + 1) us)) c → Finds a (deep_left p depth (drop i us)) c
-deep_take p depth us i u ls a b c is low e at here behind =
+deep_take p depth us i u ls a b c is low e at here after =
     finds_as a c (deep_left p depth (drop i us)) (outer_left p ls ++ deep_left p depth (drop (i + 1) us))
     (first_left p depth us i u is low
     ∙ ap (λ vs. filter p (flat_map used_in_one vs)) (filter_yes (has_depth depth) (usage_meaning u) (usages_meaning (drop (i + 1) us)) e)
     ∙ filter-append p (locals_meaning u.used.items) (flat_map used_in_one (filter (has_depth depth) (usages_meaning (drop (i + 1) us))))
-    ∙ ap (λ xs. outer_left p xs ++ deep_left p depth (drop (i + 1) us)) (sym at)) (finds_both here behind)
+    ∙ ap (λ xs. outer_left p xs ++ deep_left p depth (drop (i + 1) us)) (sym at)) (finds_both here after)
 
 pub deep_end : (p : Local → Bool) (depth : ℕ) (us : List usages_found.Usage) (i : ℕ) (a : List locals_found.Local) → length us ≤ i
     → Finds a (deep_left p depth (drop i us)) a
@@ -162,13 +162,13 @@ pub selections_next : (names : List (List ℕ)) (p : Pattern) (xs : List code_na
     (whole at : places_found.Position) → x ≡ get_or xs i e → i < length xs → b ≡ a ++ d ∷ [] → d.variable ≡ binder.At at → position_meaning at ≡ position_of x.place
     → d.used.items ≡ local.Variable (binder.Whole whole) ∷ [] → position_meaning whole ≡ pattern_position p
     → Defines b (selected_left names p (drop (i + 1) xs)) c → Defines a (selected_left names p (drop i xs)) c
-selections_next names p xs i x e d a b c whole at is low pushed variable here used there behind =
+selections_next names p xs i x e d a b c whole at is low pushed variable here used there after =
     defines_as a c (selected_left names p (drop i xs)) (selected (Whole (pattern_position p)) (name_meaning names x) ∷ selected_left names p (drop (i + 1) xs))
     (ap (selected_left names p) (drop_more xs i e low ∙ ap (λ y. y ∷ drop (i + 1) xs) (sym is)))
     (defines_both
     (defines_one a b d (selected (Whole (pattern_position p)) (name_meaning names x)) pushed
     (definition_is d (At (position_of x.place)) (LocalVariable (Whole (pattern_position p)) ∷ []) (ap binder_meaning variable ∙ ap At here)
-    (ap locals_meaning used ∙ ap (λ q. LocalVariable (Whole q) ∷ []) there))) behind)
+    (ap locals_meaning used ∙ ap (λ q. LocalVariable (Whole q) ∷ []) there))) after)
 
 pub selections_end : (names : List (List ℕ)) (p : Pattern) (xs : List code_name.Name) (i : ℕ) (a : List found.Definition) → length xs ≤ i
     → Defines a (selected_left names p (drop i xs)) a
@@ -231,14 +231,14 @@ pub bound_found : (t : Text) (es : List ScopeEntry) (bs : List (Vec Declaration 
     → locals_meaning d.used.items ≡ used_among node.spot.depth us → d.variable ≡ binder.Whole at
     → position_meaning at ≡ pattern_position (pattern_meaning t.names p) → m ≡ a ++ d ∷ [] → Defines m (selections (pattern_meaning t.names p)) b
     → Defines a (definitions_of n) b
-bound_found t es bs node n others p right at us d a m b is it inner used variable here pushed behind =
+bound_found t es bs node n others p right at us d a m b is it inner used variable here pushed after =
     let meant = subst (λ (s : sites_found.Site). IsSite t bs s n.site) it is.site in
     let whole = Whole (pattern_position (pattern_meaning t.names p)) in
     definitions_as n.spot n.site (Bound (pattern_meaning t.names p) (right_meaning t.names right)) a b meant.0
     (defines_both
     (defines_one a m d (definition whole (used_in n.spot (right_nodes n.spot (right_meaning t.names right)))) pushed
     (definition_is d whole (used_in n.spot (right_nodes n.spot (right_meaning t.names right))) (ap binder_meaning variable ∙ ap Whole here)
-    (used_here n node.spot.depth us (locals_meaning d.used.items) used inner is.spot.depth ∙ ap (λ s. used_in n.spot (inside_at n.spot s)) meant.0))) behind)
+    (used_here n node.spot.depth us (locals_meaning d.used.items) used inner is.spot.depth ∙ ap (λ s. used_in n.spot (inside_at n.spot s)) meant.0))) after)
 
 -- the pattern of a site is of the text's module
 pub bound_owned : (t : Text) (bs : List (Vec Declaration Global)) (s : sites_found.Site) (m : Site) (p : patterns_found.Pattern) (right : RightSide) → IsSite t bs s m
@@ -254,12 +254,12 @@ pub inside_usages : (t : Text) (es : List ScopeEntry) (bs : List (Vec Declaratio
 inside_usages t es bs node n i ns us some is all e =
     ap usages_meaning e ∙ sym (take-map usage_meaning node.extent (drop (i + 1) us)) ∙ ap (take node.extent) (sym (drop-map usage_meaning (i + 1) us) ∙ ap (drop (i + 1)) all ∙ drop-map usage_of (i + 1) ns)
     ∙ ap₂ (λ k xs. take k (map usage_of xs)) is.extent is.followed
-    ∙ take-map usage_of (length (inside n)) (inside n ++ is.rest) ∙ ap (map usage_of) (take_front (inside n) is.rest)
+    ∙ take-map usage_of (length (inside n)) (inside n ++ is.rest) ∙ ap (map usage_of) (take_prefix (inside n) is.rest)
   where
-    take_front : {X : Type 0} (xs ys : List X) → take (length xs) (xs ++ ys) ≡ xs
-    take_front [] [] = refl
-    take_front [] (y ∷ ys) = refl
-    take_front (x ∷ xs) ys = ap (λ zs. x ∷ zs) (take_front xs ys)
+    take_prefix : {X : Type 0} (xs ys : List X) → take (length xs) (xs ++ ys) ≡ xs
+    take_prefix [] [] = refl
+    take_prefix [] (y ∷ ys) = refl
+    take_prefix (x ∷ xs) ys = ap (λ zs. x ∷ zs) (take_prefix xs ys)
 
 pub definitions_next : (t : Text) (es : List ScopeEntry) (bs : List (Vec Declaration Global)) (xs : List nodes_found.Node) (ns : List Node) (i : ℕ) (x : nodes_found.Node)
     (ds es' : List found.Definition) → x ≡ get_or xs i x → i < length xs → AreNodes t es bs xs ns

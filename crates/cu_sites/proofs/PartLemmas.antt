@@ -137,12 +137,12 @@ comprehension_is t e v at element qs meaning is of all =
 
 pub generator_written : {A E : Type 0} (r : Result A E) (t : Text) (a b c d : Sites) (step : Step) (spot : Spot) (element : syntax.Expression) (others : syntax.Qualifiers) (v : Qualifier) (place : Place) (p : Pattern) (list : Expression)
     (copy : Vec Pattern Global) → v ≡ qualifier.Generator place p list → IsStep t a step spot element others v → PlaceIsOf t.owner place → PatternIsOf t.owner t.names p → copy.items ≡ p ∷ []
-    → Pushes step.before (site.Generated place p step.whole step.number) a b → Pushes step.behind (site.Matched copy) b c
+    → Pushes step.before (site.Generated place p step.whole step.number) a b → Pushes step.after (site.Matched copy) b c
     → (IsAt t c step.before spot → OnOk r (Writes t c (expression_has t.names spot list) d)) → OnOk r (Writes t a (qualifier_has t.names spot element others v) d)
 generator_written r t a b c d step spot element others v place p list copy is at placed of copied first second further =
-    let there = subst (λ q. IsAt t a step.behind (past (qualifier_of t.names q) spot)) is at.behind_it in
+    let there = subst (λ q. IsAt t a step.after (past (qualifier_of t.names q) spot)) is at.after_it in
     let one = generated_site t a b step place p spot element others v first at placed of in
-    let two = one_written t b c step.behind copy p (past (qualifier_of t.names (qualifier.Generator place p list)) spot) second copied (at_pushed first there) of in
+    let two = one_written t b c step.after copy p (past (qualifier_of t.names (qualifier.Generator place p list)) spot) second copied (at_pushed first there) of in
     on_ok r (λ last. qualifier_writes t spot element others v (qualifier.Generator place p list) a d is (writes_both one (writes_both two last)))
     (further (at_pushed second (at_pushed first at.before)))
 

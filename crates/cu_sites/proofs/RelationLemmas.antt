@@ -273,10 +273,10 @@ pub place_in : (xs : List ℕ) (j : ℕ) → is_in xs j ≡ true → (i : ℕ) �
 place_in [] j e = let no : ⊥ = cc in absurd no
 place_in (x ∷ xs) j e = first_place x xs j (or_cases (nat_eq j x) (is_in xs j) e) (place_in xs j)
 
-front_kept : (xs ys : List ℕ) (i : ℕ) → i < length xs → slice_get (xs ++ ys) i ≡ slice_get xs i
-front_kept [] ys i low = absurd (omega (arith, low))
-front_kept (x ∷ xs) ys zero low = refl
-front_kept (x ∷ xs) ys (suc i) low = front_kept xs ys i (omega (arith, low))
+prefix_kept : (xs ys : List ℕ) (i : ℕ) → i < length xs → slice_get (xs ++ ys) i ≡ slice_get xs i
+prefix_kept [] ys i low = absurd (omega (arith, low))
+prefix_kept (x ∷ xs) ys zero low = refl
+prefix_kept (x ∷ xs) ys (suc i) low = prefix_kept xs ys i (omega (arith, low))
 
 is_false : (b : Bool) → not b ≡ true → b ≡ false
 is_false true e = let no : ⊥ = cc in absurd no
@@ -327,7 +327,7 @@ walks_on r seeds shut done j w v h at m = record {
     before i low = before_or_not i done low
 
     same_there : (i n : ℕ) → i < length w.found.keys → slice_get v.found.keys i ≡ Some n → slice_get w.found.keys i ≡ Some n
-    same_there i n low e = sym (ap (λ xs. slice_get xs i) m.grows ∙ front_kept w.found.keys m.added i low) ∙ e
+    same_there i n low e = sym (ap (λ xs. slice_get xs i) m.grows ∙ prefix_kept w.found.keys m.added i low) ∙ e
 
     gone : (i n k : ℕ) → relates r n k ≡ true → is_in shut k ≡ false → (i < done) ⊎ (i ≡ done) → slice_get v.found.keys i ≡ Some n → is_in v.found.keys k ≡ true
     gone i n k f g (inl low) e = kept k (h.gone i n k low (same_there i n (omega (arith, low, size)) e) f g)

@@ -19,7 +19,7 @@ use Rattle.cu_syntax.specs.Declarations.{declaration_meaning, declaration_node}
 use Rattle.cu_syntax.specs.Items.{item_node}
 use Rattle.cu_syntax.specs.Owners.{NameIsOf}
 use Rattle.cu_translation.specs.Rules as meant
-use Rattle.cu_translation.specs.Rules.{Group, Rule, groups_behind, leading, rule_in, rule_in_item}
+use Rattle.cu_translation.specs.Rules.{Group, Rule, groups_after, leading, rule_in, rule_in_item}
 use Rattle.cu_sites.specs.declared.grouping.Grouping.{Grouping}
 use Rattle.cu_sites.specs.declared.rules.Group as groups
 use Rattle.cu_sites.specs.declared.rules.Rule as rules
@@ -31,8 +31,8 @@ use Rattle.cu_locals.proofs.BegunLemmas.{dropped}
 bytes_turned : (x y : List ℕ) → bytes_eq x y ≡ bytes_eq y x
 bytes_turned x y =
     let there = bytes_eq-Decides x y in
-    let back = bytes_eq-Decides y x in
-    same_from_decides (bytes_eq x y) (bytes_eq y x) there (λ e. sym (back.0 e), λ e. back.1 (sym e))
+    let converse = bytes_eq-Decides y x in
+    same_from_decides (bytes_eq x y) (bytes_eq y x) there (λ e. sym (converse.0 e), λ e. converse.1 (sym e))
 
 pub is_true : (b : Bool) → not b ≡ false → b ≡ true
 is_true true e = refl
@@ -62,13 +62,13 @@ item_found t i v n found meaning is rule = record {
 
 ends : (done : List Group) (g : Group) (rest : List (Option Rule)) → grouped (done ++ g ∷ []) None rest ≡ grouped done (Some g) (None ∷ rest)
 ends done g rest =
-    append_assoc done (g ∷ []) (groups_behind None rest)
-    ∙ ap (λ os. done ++ record { first = g.first; others = os } ∷ groups_behind None rest) (sym (append-nil g.others))
+    append_assoc done (g ∷ []) (groups_after None rest)
+    ∙ ap (λ os. done ++ record { first = g.first; others = os } ∷ groups_after None rest) (sym (append-nil g.others))
 
 goes : (done : List Group) (g : Group) (r : Rule) (rest : List (Option Rule)) → bytes_eq g.first.name.text r.name.text ≡ true
     → grouped done (Some (record { first = g.first; others = g.others ++ r ∷ [] })) rest ≡ grouped done (Some g) (Some r ∷ rest)
 goes done g r rest same =
-    rw same (ap (λ os. done ++ record { first = g.first; others = os } ∷ groups_behind (Some (begun_at g.first)) rest) (append_assoc g.others (r ∷ []) (leading g.first.name.text rest)))
+    rw same (ap (λ os. done ++ record { first = g.first; others = os } ∷ groups_after (Some (begun_at g.first)) rest) (append_assoc g.others (r ∷ []) (leading g.first.name.text rest)))
 
 starts : (done : List Group) (r : Rule) (rest : List (Option Rule)) → grouped done (Some (record { first = r; others = [] })) rest ≡ grouped done None (Some r ∷ rest)
 starts done r rest = refl
@@ -76,8 +76,8 @@ starts done r rest = refl
 other : (done : List Group) (g : Group) (r : Rule) (rest : List (Option Rule)) → bytes_eq g.first.name.text r.name.text ≡ false
     → grouped (done ++ g ∷ []) (Some (record { first = r; others = [] })) rest ≡ grouped done (Some g) (Some r ∷ rest)
 other done g r rest differs =
-    rw differs (append_assoc done (g ∷ []) (record { first = r; others = leading r.name.text rest } ∷ groups_behind (Some (begun_at r)) rest)
-    ∙ ap (λ os. done ++ record { first = g.first; others = os } ∷ (record { first = r; others = leading r.name.text rest } ∷ groups_behind (Some (begun_at r)) rest)) (sym (append-nil g.others)))
+    rw differs (append_assoc done (g ∷ []) (record { first = r; others = leading r.name.text rest } ∷ groups_after (Some (begun_at r)) rest)
+    ∙ ap (λ os. done ++ record { first = g.first; others = os } ∷ (record { first = r; others = leading r.name.text rest } ∷ groups_after (Some (begun_at r)) rest)) (sym (append-nil g.others)))
 
 pub reads_end_some : (t : Text) (a b : Grouping) (g : groups.Group) → a.last ≡ Some g → b.last ≡ None → b.done.items ≡ a.done.items ++ g ∷ [] → Reads t a None b
 reads_end_some t a b g last now pushed = record {

@@ -309,8 +309,8 @@ reached_start t a names found around scope are is = record {
   joins = refl;
 }
 
-fronts : (t : Text) (rest : Scope) (xs : List entries.Entry) (x : entries.Entry) → AreEntries t rest (xs ++ x ∷ []) → (front : Scope) × AreEntries t front xs × (rest ≡ front ++ entry_meaning t.names x ∷ []) × EntryIsKnown t x
-fronts t rest xs x are = (
+prefixes : (t : Text) (rest : Scope) (xs : List entries.Entry) (x : entries.Entry) → AreEntries t rest (xs ++ x ∷ []) → (prefix : Scope) × AreEntries t prefix xs × (rest ≡ prefix ++ entry_meaning t.names x ∷ []) × EntryIsKnown t x
+prefixes t rest xs x are = (
   entries_meaning t.names xs,
   record { meaning = refl; known = (All-pop (EntryIsKnown t) (xs ++ x ∷ []) xs (Some x) refl are.known).0 },
   sym are.meaning ∙ map-append (entry_meaning t.names) xs (x ∷ []),
@@ -320,7 +320,7 @@ fronts t rest xs x are = (
 pub reached_more : (t : Text) (a b c : Sites) (whole : Scope) (names less : List entries.Entry) (e : entries.Entry) (number next : ℕ) → names ≡ less ++ e ∷ [] → Reached t a whole names number b
     → ((scope : Scope) → EntryIsKnown t e → IsScope t b.entries.items number scope → Opens t b (entry_meaning t.names e ∷ scope) next c) → Reached t a whole less next c
 reached_more t a b c whole names less e number next popped before opens =
-    let split = fronts t before.rest less e (subst (AreEntries t before.rest) popped before.are) in
+    let split = prefixes t before.rest less e (subst (AreEntries t before.rest) popped before.are) in
     let more = opens before.reached split.3 before.opens.opened in
     record {
       rest = split.0;

@@ -128,9 +128,9 @@ finds_as a b xs ys e f = subst (λ zs. Finds a zs b) (sym e) f
 pub operators_next : (names : List (List ℕ)) (scope : Scope) (items : List OperatorItem) (i : ℕ) (x d : OperatorItem) (a b c : List code.Local) → x ≡ get_or items i d
     → i < length items → Finds a (use_of scope (name_meaning names x.operator)) b → Finds b (operators_mean names scope (drop (i + 1) items)) c
     → Finds a (operators_mean names scope (drop i items)) c
-operators_next names scope items i x d a b c is low here behind =
+operators_next names scope items i x d a b c is low here after =
     finds_as a c (operators_mean names scope (drop i items)) (use_of scope (name_meaning names x.operator) ++ operators_mean names scope (drop (i + 1) items))
-    (ap (operators_mean names scope) (drop_more items i d low ∙ ap (λ y. y ∷ drop (i + 1) items) (sym is))) (finds_both here behind)
+    (ap (operators_mean names scope) (drop_more items i d low ∙ ap (λ y. y ∷ drop (i + 1) items) (sym is))) (finds_both here after)
 
 pub operators_end : (names : List (List ℕ)) (scope : Scope) (items : List OperatorItem) (i : ℕ) (a : List code.Local) → length items ≤ i
     → Finds a (operators_mean names scope (drop i items)) a

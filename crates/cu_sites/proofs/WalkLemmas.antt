@@ -36,7 +36,7 @@ use Rattle.std.specs.declared.alloc.Global.{Global}
 use Rattle.std.specs.declared.vec.Vec.{Vec}
 use Rattle.cu_translation.specs.Sites.{Bound, Defined, Function, Use, Generated, Matched, Node, Operation, Spot, all_nodes, declaration_nodes, in_block, in_function, node, nodes_on, past, rest_nodes, right_nodes}
 use Rattle.cu_uses.specs.Inside.Gathered.{pattern_binds, patterns_bind}
-use Rattle.cu_uses.proofs.FoundLemmas.{front, nothing_left}
+use Rattle.cu_uses.proofs.FoundLemmas.{prefix, nothing_left}
 use Rattle.cu_locals.specs.declared.begun.Begun as begun
 use Rattle.cu_sites.specs.declared.rules.Group as groups
 use Rattle.cu_sites.specs.declared.rules.Rule as rules
@@ -44,7 +44,7 @@ use Rattle.cu_sites.specs.declared.sites.Site.TheVariants as site
 use Rattle.cu_sites.specs.declared.walk.BlockSpot.{BlockSpot}
 use Rattle.cu_sites.specs.declared.sites.Sites.{Sites}
 use Rattle.cu_sites.specs.declared.sites.Spot as spots
-use Rattle.cu_sites.specs.Meaning.{GroupIsOf, behind, group_meaning, qualifiers_in, rule_meaning}
+use Rattle.cu_sites.specs.Meaning.{GroupIsOf, qualifiers_after, group_meaning, qualifiers_in, rule_meaning}
 use Rattle.cu_locals.specs.Text.{Text}
 use Rattle.cu_locals.specs.BegunFound.{IsBefore, begun_meaning}
 use Rattle.cu_sites.specs.Inside.Entering.{Enters, IsAt, Pushes, Writes, Written}
@@ -117,11 +117,11 @@ applied_to_nothing names spot arguments e none = ap (λ xs. nodes_on (map (expre
 
 -- ---- loops
 
-written_front : {X : Type 0} (P : X → Type 0) (F : List X → List Node) (f : X → List Node) → ((x : X) (xs : List X) → F (x ∷ xs) ≡ f x ++ F xs)
+written_prefix : {X : Type 0} (P : X → Type 0) (F : List X → List Node) (f : X → List Node) → ((x : X) (xs : List X) → F (x ∷ xs) ≡ f x ++ F xs)
     → (t : Text) (whole : List Node) (xs : List X) (i : ℕ) (x : X) (a b c : Sites) → x ≡ get_or xs i x → i < length xs → All P xs
     → Written t a (F (drop i xs)) whole b → (P x → Writes t b (f x) c) → Written t a (F (drop (i + 1) xs)) whole c
-written_front P F f cons t whole xs i x a b c is within all before here =
-    written_more (F (drop (i + 1) xs)) (front F f cons xs i x is within) before (here (subst P (sym is) (All-get_or P xs i x within all)))
+written_prefix P F f cons t whole xs i x a b c is within all before here =
+    written_more (F (drop (i + 1) xs)) (prefix F f cons xs i x is within) before (here (subst P (sym is) (All-get_or P xs i x within all)))
 
 written_all : {X : Type 0} (F : List X → List Node) → F [] ≡ [] → (t : Text) (whole : List Node) (xs : List X) (i : ℕ) (a b : Sites) → length xs ≤ i → Written t a (F (drop i xs)) whole b → Writes t a whole b
 written_all F empty t whole xs i a b past before = written_end (nothing_left F empty xs i past) before
@@ -134,9 +134,9 @@ expressions_nil : (names : List (List ℕ)) (spot : Spot) → expressions_have n
 unfolding expressions_have
 expressions_nil names spot = refl
 
-pub expressions_front : (P : Expression → Type 0) (t : Text) (spot : Spot) (whole : List Node) (xs : List Expression) (i : ℕ) (x : Expression) (a b c : Sites) → x ≡ get_or xs i x → i < length xs → All P xs
+pub expressions_prefix : (P : Expression → Type 0) (t : Text) (spot : Spot) (whole : List Node) (xs : List Expression) (i : ℕ) (x : Expression) (a b c : Sites) → x ≡ get_or xs i x → i < length xs → All P xs
     → Written t a (expressions_have t.names spot (drop i xs)) whole b → (P x → Writes t b (expression_has t.names spot x) c) → Written t a (expressions_have t.names spot (drop (i + 1) xs)) whole c
-expressions_front P t spot = written_front P (expressions_have t.names spot) (expression_has t.names spot) (expressions_cons t.names spot) t
+expressions_prefix P t spot = written_prefix P (expressions_have t.names spot) (expression_has t.names spot) (expressions_cons t.names spot) t
 
 pub expressions_end : (t : Text) (spot : Spot) (whole : List Node) (xs : List Expression) (i : ℕ) (a b : Sites) → length xs ≤ i → Written t a (expressions_have t.names spot (drop i xs)) whole b → Writes t a whole b
 expressions_end t spot = written_all (expressions_have t.names spot) (expressions_nil t.names spot) t
@@ -152,9 +152,9 @@ operands_nil : (names : List (List ℕ)) (spot : Spot) → operands_have names s
 unfolding operands_have
 operands_nil names spot = refl
 
-pub operands_front : (P : OperatorItem → Type 0) (t : Text) (spot : Spot) (whole : List Node) (xs : List OperatorItem) (i : ℕ) (x : OperatorItem) (a b c : Sites) → x ≡ get_or xs i x → i < length xs → All P xs
+pub operands_prefix : (P : OperatorItem → Type 0) (t : Text) (spot : Spot) (whole : List Node) (xs : List OperatorItem) (i : ℕ) (x : OperatorItem) (a b c : Sites) → x ≡ get_or xs i x → i < length xs → All P xs
     → Written t a (operands_have t.names spot (drop i xs)) whole b → (P x → Writes t b (expression_has t.names spot x.operand) c) → Written t a (operands_have t.names spot (drop (i + 1) xs)) whole c
-operands_front P t spot = written_front P (operands_have t.names spot) (operand_has t.names spot) (operands_cons t.names spot) t
+operands_prefix P t spot = written_prefix P (operands_have t.names spot) (operand_has t.names spot) (operands_cons t.names spot) t
 
 pub operands_end : (t : Text) (spot : Spot) (whole : List Node) (xs : List OperatorItem) (i : ℕ) (a b : Sites) → length xs ≤ i → Written t a (operands_have t.names spot (drop i xs)) whole b → Writes t a whole b
 operands_end t spot = written_all (operands_have t.names spot) (operands_nil t.names spot) t
@@ -167,9 +167,9 @@ alternatives_nil : (names : List (List ℕ)) (spot : Spot) → alternatives_have
 unfolding alternatives_have
 alternatives_nil names spot = refl
 
-pub alternatives_front : (P : Alternative → Type 0) (t : Text) (spot : Spot) (whole : List Node) (xs : List Alternative) (i : ℕ) (x : Alternative) (a b c : Sites) → x ≡ get_or xs i x → i < length xs → All P xs
+pub alternatives_prefix : (P : Alternative → Type 0) (t : Text) (spot : Spot) (whole : List Node) (xs : List Alternative) (i : ℕ) (x : Alternative) (a b c : Sites) → x ≡ get_or xs i x → i < length xs → All P xs
     → Written t a (alternatives_have t.names spot (drop i xs)) whole b → (P x → Writes t b (alternative_has t.names spot x) c) → Written t a (alternatives_have t.names spot (drop (i + 1) xs)) whole c
-alternatives_front P t spot = written_front P (alternatives_have t.names spot) (alternative_has t.names spot) (alternatives_cons t.names spot) t
+alternatives_prefix P t spot = written_prefix P (alternatives_have t.names spot) (alternative_has t.names spot) (alternatives_cons t.names spot) t
 
 pub alternatives_end : (t : Text) (spot : Spot) (whole : List Node) (xs : List Alternative) (i : ℕ) (a b : Sites) → length xs ≤ i → Written t a (alternatives_have t.names spot (drop i xs)) whole b → Writes t a whole b
 alternatives_end t spot = written_all (alternatives_have t.names spot) (alternatives_nil t.names spot) t
@@ -185,10 +185,10 @@ guards_nil : (names : List (List ℕ)) (spot : Spot) → guards_have names spot 
 unfolding guards_have
 guards_nil names spot = refl
 
-pub guards_front : (P : Guard → Type 0) (t : Text) (spot : Spot) (whole : List Node) (xs : List Guard) (i : ℕ) (x : Guard) (a b c : Sites) → x ≡ get_or xs i x → i < length xs → All P xs
+pub guards_prefix : (P : Guard → Type 0) (t : Text) (spot : Spot) (whole : List Node) (xs : List Guard) (i : ℕ) (x : Guard) (a b c : Sites) → x ≡ get_or xs i x → i < length xs → All P xs
     → Written t a (guards_have t.names spot (drop i xs)) whole b → (P x → Writes t b (expression_has t.names spot x.condition ++ expression_has t.names spot x.expression) c)
     → Written t a (guards_have t.names spot (drop (i + 1) xs)) whole c
-guards_front P t spot = written_front P (guards_have t.names spot) (guard_has t.names spot) (guards_cons t.names spot) t
+guards_prefix P t spot = written_prefix P (guards_have t.names spot) (guard_has t.names spot) (guards_cons t.names spot) t
 
 pub guards_end : (t : Text) (spot : Spot) (whole : List Node) (xs : List Guard) (i : ℕ) (a b : Sites) → length xs ≤ i → Written t a (guards_have t.names spot (drop i xs)) whole b → Writes t a whole b
 guards_end t spot = written_all (guards_have t.names spot) (guards_nil t.names spot) t
@@ -244,11 +244,11 @@ pub record AtDeclaration (t : Text) (before : Sites) (spot : Spot) (block : synt
 pub declarations_start : (t : Text) (a : Sites) (spot : Spot) (block : syntax.Declarations) (ds : List Declaration) → AtDeclaration t a spot block ds 0 None a
 declarations_start t a spot block ds = record { begun = None; is_before = record { meaning = refl; known = tt }; written = written_start t a (declarations_have t.names spot block None ds) }
 
-pub declarations_front : (t : Text) (spot : Spot) (block : syntax.Declarations) (ds others : List Declaration) (i : ℕ) (d : Declaration) (found next : Option begun.Begun) (a b c : Sites) → d ≡ get_or ds i d → i < length ds
+pub declarations_prefix : (t : Text) (spot : Spot) (block : syntax.Declarations) (ds others : List Declaration) (i : ℕ) (d : Declaration) (found next : Option begun.Begun) (a b c : Sites) → d ≡ get_or ds i d → i < length ds
     → others ≡ drop (i + 1) ds → AtDeclaration t a spot block ds i found b
     → Walks t b (declaration_has t.names spot block (begun_meaning t found) others d) (begun_in (begun_meaning t found) (declaration_meaning t.names d)) next c
     → AtDeclaration t a spot block ds (i + 1) next c
-declarations_front t spot block ds others i d found next a b c is within follow before walked =
+declarations_prefix t spot block ds others i d found next a b c is within follow before walked =
     let same = before.is_before.meaning in
     record {
       begun = begun_in before.begun (declaration_meaning t.names d);
@@ -361,11 +361,11 @@ pub record AtQualifier (t : Text) (before : Sites) (element : syntax.Expression)
 pub qualifiers_start : (t : Text) (a : Sites) (spot : Spot) (element : syntax.Expression) (qs : List Qualifier) (at : spots.Spot) → IsAt t a at spot → AtQualifier t a element (qualifiers_have t.names spot element qs) qs 0 at a
 qualifiers_start t a spot element qs at is = record { reached = spot; at = is; written = written_start t a (qualifiers_have t.names spot element qs) }
 
-pub qualifiers_front : (t : Text) (element : syntax.Expression) (whole : List Node) (qs : List Qualifier) (i : ℕ) (q : Qualifier) (at next : spots.Spot) (a b m c : Sites) → q ≡ get_or qs i q → i < length qs → AtQualifier t a element whole qs i at b
+pub qualifiers_prefix : (t : Text) (element : syntax.Expression) (whole : List Node) (qs : List Qualifier) (i : ℕ) (q : Qualifier) (at next : spots.Spot) (a b m c : Sites) → q ≡ get_or qs i q → i < length qs → AtQualifier t a element whole qs i at b
     → ((spot : Spot) → IsAt t b at spot → Enters t b (past (qualifier_of t.names q) spot) next m)
     → ((spot : Spot) → IsAt t m at spot → IsAt t m next (past (qualifier_of t.names q) spot) → Writes t m (qualifier_has t.names spot element (qualifiers_of t.names (drop (i + 1) qs)) q) c)
     → AtQualifier t a element whole qs (i + 1) next c
-qualifiers_front t element whole qs i q at next a b m c is within before enters writes =
+qualifiers_prefix t element whole qs i q at next a b m c is within before enters writes =
     let entered = enters before.reached before.at in
     let here = writes before.reached (at_after entered.writes before.at) entered.at in
     record {
@@ -378,14 +378,14 @@ qualifiers_front t element whole qs i q at next a b m c is within before enters 
 pub qualifiers_end : (t : Text) (element : syntax.Expression) (whole : List Node) (qs : List Qualifier) (i : ℕ) (at : spots.Spot) (a b : Sites) → length qs ≤ i → AtQualifier t a element whole qs i at b → Writes t a whole b
 qualifiers_end t element whole qs i at a b past before = written_end (nothing_left (qualifiers_have t.names before.reached element) (qualifiers_nil t.names before.reached element) qs i past) before.written
 
-behind_first : (names : List (List ℕ)) (n : ℕ) (qs : List Qualifier) → behind n (qualifiers_meaning names qs) ≡ qualifiers_meaning names (drop n qs)
-behind_first names zero qs = refl
-behind_first names (suc n) [] = refl
-behind_first names (suc n) (q ∷ qs) = behind_first names n qs
+after_first : (names : List (List ℕ)) (n : ℕ) (qs : List Qualifier) → qualifiers_after n (qualifiers_meaning names qs) ≡ qualifiers_meaning names (drop n qs)
+after_first names zero qs = refl
+after_first names (suc n) [] = refl
+after_first names (suc n) (q ∷ qs) = after_first names n qs
 
-pub follow_is : (t : Text) (whole : Expression) (element : syntax.Expression) (qs : List Qualifier) (n : ℕ) → IsComprehension t whole element qs → behind n (qualifiers_in (expression_meaning t.names whole)) ≡ qualifiers_of t.names (drop n qs)
+pub follow_is : (t : Text) (whole : Expression) (element : syntax.Expression) (qs : List Qualifier) (n : ℕ) → IsComprehension t whole element qs → qualifiers_after n (qualifiers_in (expression_meaning t.names whole)) ≡ qualifiers_of t.names (drop n qs)
 unfolding qualifiers_of
-follow_is t whole element qs n is = ap (behind n) is.has ∙ behind_first t.names n qs
+follow_is t whole element qs n is = ap (qualifiers_after n) is.has ∙ after_first t.names n qs
 
 -- a qualifier, by what it is
 abbrev pub qualifier_node_has : List (List ℕ) → Spot → syntax.Expression → syntax.Qualifiers → Qualifier → List Node

@@ -92,10 +92,10 @@ pub record IsSpot (t : Text) (entries : List ScopeEntry) (found : spots.Spot) (s
 -- ---- sites
 
 -- the qualifiers of a comprehension after the first n
-abbrev pub behind : ℕ → syntax.Qualifiers → syntax.Qualifiers
-behind zero qs = qs
-behind (suc n) syntax.NoQualifier = syntax.NoQualifier
-behind (suc n) (syntax.MoreQualifiers q qs) = behind n qs
+abbrev pub qualifiers_after : ℕ → syntax.Qualifiers → syntax.Qualifiers
+qualifiers_after zero qs = qs
+qualifiers_after (suc n) syntax.NoQualifier = syntax.NoQualifier
+qualifiers_after (suc n) (syntax.MoreQualifiers q qs) = qualifiers_after n qs
 
 abbrev pub qualifiers_in : syntax.Expression → syntax.Qualifiers
 qualifiers_in (syntax.Comprehension at element qualifiers) = qualifiers
@@ -129,7 +129,7 @@ IsSite t blocks (site.Lambda at ps body) s =
     ExpressionIsOf t.owner t.names body
 IsSite t blocks (site.Generated at p whole number) s =
     (s ≡ Generated (position_of at) (pattern_meaning t.names p)
-    (behind number (qualifiers_in (expression_meaning t.names whole)))
+    (qualifiers_after number (qualifiers_in (expression_meaning t.names whole)))
     (element_in (expression_meaning t.names whole))) ×
     PlaceIsOf t.owner at × PatternIsOf t.owner t.names p × ExpressionIsOf t.owner t.names whole
 IsSite t blocks (site.Function number g) s = IsFunction t blocks number g s

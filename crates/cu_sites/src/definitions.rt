@@ -150,7 +150,7 @@ fn push_definitions(
 }
 
 /// So many usages, from this one on.
-fn behind(usages: &[Usage], at: usize, count: usize) -> &[Usage]
+fn after(usages: &[Usage], at: usize, count: usize) -> &[Usage]
     ensures { result.now ≡ take count (drop at usages.now) }
 {
     let start = at.min(usages.len());
@@ -171,7 +171,7 @@ pub(crate) fn definitions(
 {
     let mut found = Vec::new(alloc);
     for (place, node) in sites.nodes.iter().enumerate() {
-        let inside = behind(usages, place + 1, node.extent);
+        let inside = after(usages, place + 1, node.extent);
         push_definitions(alloc, &mut found, node, inside)?;
     }
     Ok(found)

@@ -41,7 +41,7 @@ struct BlockSpot {
 #[derive(Clone, Copy)]
 struct Step<'t> {
     before: Spot,
-    behind: Spot,
+    after: Spot,
     whole: Expression<'t>,
     number: usize,
 }
@@ -331,15 +331,15 @@ impl<'t> Sites<'t> {
     {
         let mut before = at;
         for (i, q) in qualifiers.iter().enumerate() {
-            let behind = self.past(alloc, before, q)?;
+            let after = self.past(alloc, before, q)?;
             let step = Step {
                 before,
-                behind,
+                after,
                 whole,
                 number: i + 1,
             };
             self.qualifier(alloc, step, q)?;
-            before = behind;
+            before = after;
         }
         Ok(())
     }
@@ -366,13 +366,13 @@ impl<'t> Sites<'t> {
                     step.before,
                     Site::Generated(*place, *p, step.whole, step.number),
                 )?;
-                self.push(step.behind, Site::Matched(matched))?;
+                self.push(step.after, Site::Matched(matched))?;
                 self.expression(alloc, step.before, *list)
             }
             Qualifier::Declarations(_, ds) => {
                 let block = self.note_block(alloc, ds.as_slice())?;
                 let inner = BlockSpot {
-                    at: step.behind,
+                    at: step.after,
                     block,
                 };
                 self.declarations(alloc, inner, ds.as_slice())

@@ -131,12 +131,12 @@ fit_push truth graph so_far [] frame n fit last = (last, tt)
 fit_push truth graph so_far (x ∷ []) frame n fit last = (fit.0, fit_push truth graph so_far [] frame n fit.1 last)
 fit_push truth graph so_far (x ∷ y ∷ frames) frame n fit last = (fit.0, fit_push truth graph so_far (y ∷ frames) frame n fit.1 last)
 
-pub fit_front : (truth : ConId) (graph : Graph) (so_far : Need) (frames : List Frame) (frame : Frame) (n : Need)
+pub fit_prefix : (truth : ConId) (graph : Graph) (so_far : Need) (frames : List Frame) (frame : Frame) (n : Need)
     → AllFit truth graph so_far (frames ++ frame ∷ []) n → AllFit truth graph so_far frames (marked_need (is_inside frame.ask) truth graph frame.node)
 unfolding AllFit
-fit_front truth graph so_far [] frame n fit = tt
-fit_front truth graph so_far (x ∷ []) frame n fit = (fit.0, tt)
-fit_front truth graph so_far (x ∷ y ∷ frames) frame n fit = (fit.0, fit_front truth graph so_far (y ∷ frames) frame n fit.1)
+fit_prefix truth graph so_far [] frame n fit = tt
+fit_prefix truth graph so_far (x ∷ []) frame n fit = (fit.0, tt)
+fit_prefix truth graph so_far (x ∷ y ∷ frames) frame n fit = (fit.0, fit_prefix truth graph so_far (y ∷ frames) frame n fit.1)
 
 pub fit_last : (truth : ConId) (graph : Graph) (so_far : Need) (frames : List Frame) (frame : Frame) (n : Need)
     → AllFit truth graph so_far (frames ++ frame ∷ []) n → FrameFits truth graph so_far frame n

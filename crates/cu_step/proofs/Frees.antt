@@ -29,8 +29,8 @@ pub ruleset frees = (free_more, number_more, length_frees)
 pub push_more : (graph store after : Graph) (places longer : List ℕ) (k place : ℕ) → places ≡ numbers (length graph) k → store ≡ graph ++ free_nodes k
     → place ≡ length store → after ≡ store ++ alone kind.Free ∷ [] → longer ≡ places ++ place ∷ []
     → (longer ≡ numbers (length graph) (k + 1)) × (after ≡ graph ++ free_nodes (k + 1))
-push_more graph store after places longer k place numbered front at back more =
-    let there : length store ≡ length graph + k = ap length front ∙ (length-append graph (free_nodes k) ∙ ap (λ (n : ℕ). length graph + n) (length_frees k)) in (
+push_more graph store after places longer k place numbered prefix at suffix more =
+    let there : length store ≡ length graph + k = ap length prefix ∙ (length-append graph (free_nodes k) ∙ ap (λ (n : ℕ). length graph + n) (length_frees k)) in (
       rw (more, numbered, number_more (length graph) k, at, there) refl,
-      rw (back, front, free_more k, append_assoc) refl,
+      rw (suffix, prefix, free_more k, append_assoc) refl,
     )

@@ -16,9 +16,9 @@ pub joins_suc : (joint : Kind) (graph store after : Graph) (left more place next
     → next ≡ length store → after ≡ store ++ record { kind = joint; args = left ∷ place ∷ [] } ∷ []
     → (after ≡ graph ++ pushed (joined_from_right joint (length graph) left (suc more)))
     × (next ≡ place_of (length graph) (joined_from_right joint (length graph) left (suc more)))
-joins_suc joint graph store after left more place next front at there back = (
-  rw (back, front, at, append_assoc) refl,
-  there ∙ (ap length front ∙ length-append graph (pushed (joined_from_right joint (length graph) (left + 1) more))),
+joins_suc joint graph store after left more place next prefix at there suffix = (
+  rw (suffix, prefix, at, append_assoc) refl,
+  there ∙ (ap length prefix ∙ length-append graph (pushed (joined_from_right joint (length graph) (left + 1) more))),
 )
 
 pub joins_more : (joint : Kind) (graph store after : Graph) (last left place next : ℕ) → 0 < left → left ≤ last
@@ -27,13 +27,13 @@ pub joins_more : (joint : Kind) (graph store after : Graph) (last left place nex
     → next ≡ length store → after ≡ store ++ record { kind = joint; args = (left - 1) ∷ place ∷ [] } ∷ []
     → (after ≡ graph ++ pushed (joined_from_right joint (length graph) (left - 1) (last - (left - 1))))
     × (next ≡ place_of (length graph) (joined_from_right joint (length graph) (left - 1) (last - (left - 1))))
-joins_more joint graph store after last left place next some within front at there back =
+joins_more joint graph store after last left place next some within prefix at there suffix =
     let one : left ≡ left - 1 + 1 = omega arith in
     let more : last - (left - 1) ≡ suc (last - left) = omega arith in
     let made =
     joins_suc joint graph store after (left - 1) (last - left) place next
-    (front ∙ ap (λ (n : ℕ). graph ++ pushed (joined_from_right joint (length graph) n (last - left))) one)
-    (at ∙ ap (λ (n : ℕ). place_of (length graph) (joined_from_right joint (length graph) n (last - left))) one) there back in (
+    (prefix ∙ ap (λ (n : ℕ). graph ++ pushed (joined_from_right joint (length graph) n (last - left))) one)
+    (at ∙ ap (λ (n : ℕ). place_of (length graph) (joined_from_right joint (length graph) n (last - left))) one) there suffix in (
       made.0 ∙ ap (λ (n : ℕ). graph ++ pushed (joined_from_right joint (length graph) (left - 1) n)) (sym more),
       made.1 ∙ ap (λ (n : ℕ). place_of (length graph) (joined_from_right joint (length graph) (left - 1) n)) (sym more),
     )

@@ -12,9 +12,9 @@ use Rattle.cu_step.specs.declared.need.Frame.{Frame}
 use Rattle.cu_step.specs.declared.need.Mark.{Mark}
 use Rattle.cu_step.specs.declared.need.Mark.TheVariants as mark
 use Rattle.cu_step.specs.Walk.{AllFit, Fits, Found, FrameFits, Goes, Marked, MarkFits, Seen, Waited, again_cost, also, asked, cost, entered, entered_as, frame_cost, fresh, inside_need, is_inside, is_open, left, left_answer, left_need, left_there, looked_at, mark_at, marked_need, needed_by, needed_outside, outcome, regards, so_far, then_needed, waited, whole_need, with_frame, with_mark}
-use Rattle.cu_step.proofs.Frames.{cost_append, cost_flagged, fit_front, fit_last, fit_push, open_append, outcome_at, outside_append}
+use Rattle.cu_step.proofs.Frames.{cost_append, cost_flagged, fit_prefix, fit_last, fit_push, open_append, outcome_at, outside_append}
 use Rattle.cu_step.proofs.Needs.{before_done}
-use Rattle.cu_step.proofs.Marks.{mark_shut, path_front, path_push, set_cases, stuck_told}
+use Rattle.cu_step.proofs.Marks.{mark_shut, path_prefix, path_push, set_cases, stuck_told}
 use Rattle.cu_step.proofs.Walks.{by_fresh, cost_seen, fresh_fits, met_known, waits_outcome}
 
 -- ---- what was seen of all arguments
@@ -82,8 +82,8 @@ waits_left truth graph f frame fits known = record {
       (λ same is. subst (λ (x : ℕ). Waited (so_far f) (inside_need graph x)) (eqb-true frame.node id same)
       (subst (λ (b : Bool). Waited (so_far f) (marked_need b truth graph frame.node)) is known)) (fits.inside id below);
   none = fits.none;
-  fit = fit_front truth graph (so_far f) f.frames frame Done fits.fit;
-  path = (path_front graph f.frames frame fits.path).0;
+  fit = fit_prefix truth graph (so_far f) f.frames frame Done fits.fit;
+  path = (path_prefix graph f.frames frame fits.path).0;
 }
 
 waits_known : (truth : ConId) (graph : Graph) (told_so_far : Need) (frame : Frame) (waits : Bool) (earlier : Need) → frame.waits ≡ waits → waits ≡ true
@@ -149,8 +149,8 @@ there_left truth graph f frame true is fits below there =
           (λ differs. left_mark (so_far f) true f.frames frame (mark_at f.inside id) (inside_need graph id) id
           (λ same regarded. (let no : ⊥ = cc in absurd no)) (fits.inside id here));
       none = fits.none;
-      fit = subst (λ (n : Need). AllFit truth graph (so_far f) f.frames n) (ap (λ c. marked_need c truth graph frame.node) is ∙ there) (fit_front truth graph (so_far f) f.frames frame Done fits.fit);
-      path = (path_front graph f.frames frame fits.path).0;
+      fit = subst (λ (n : Need). AllFit truth graph (so_far f) f.frames n) (ap (λ c. marked_need c truth graph frame.node) is ∙ there) (fit_prefix truth graph (so_far f) f.frames frame Done fits.fit);
+      path = (path_prefix graph f.frames frame fits.path).0;
     }
 there_left truth graph f frame false is fits below there =
     record {
@@ -161,8 +161,8 @@ there_left truth graph f frame false is fits below there =
       inside = λ id here. left_mark (so_far f) true f.frames frame (mark_at f.inside id) (inside_need graph id) id
           (λ same regarded. (let no : ⊥ = cc in absurd no)) (fits.inside id here);
       none = fits.none;
-      fit = subst (λ (n : Need). AllFit truth graph (so_far f) f.frames n) (ap (λ c. marked_need c truth graph frame.node) is ∙ there) (fit_front truth graph (so_far f) f.frames frame Done fits.fit);
-      path = (path_front graph f.frames frame fits.path).0;
+      fit = subst (λ (n : Need). AllFit truth graph (so_far f) f.frames n) (ap (λ c. marked_need c truth graph frame.node) is ∙ there) (fit_prefix truth graph (so_far f) f.frames frame Done fits.fit);
+      path = (path_prefix graph f.frames frame fits.path).0;
     }
 
 cost_there : (graph : Graph) (f : Found) (frame : Frame) (b : Bool) → cost graph (with_mark f b frame.node mark.There) < cost graph (with_frame f frame)
@@ -228,7 +228,7 @@ goes_again truth graph f frame fits last waits is then =
     let inside : is_inside frame.ask ≡ false = ap is_inside is in
     let needs : marked_need false truth graph frame.node ≡ entered truth graph frame.node ask.Ground =
     ap (λ b. marked_need b truth graph frame.node) (sym inside) ∙ none_waits truth graph (so_far f) frame here last waits ∙ then in
-    let path = path_front graph f.frames frame fits.path in
+    let path = path_prefix graph f.frames frame fits.path in
     record {
       fits = record {
         whole = λ id below. mark_shut (so_far f) (is_open false id (f.frames ++ frame ∷ [])) (is_open false id (f.frames ++ fresh frame.node ask.Ground ∷ [])) (mark_at f.whole id)
@@ -237,7 +237,7 @@ goes_again truth graph f frame fits last waits is then =
             (inside_need graph id) (λ shut. sym (again_open true id f.frames frame is) ∙ shut) (fits.inside id below);
         none = fits.none;
         fit = fit_push truth graph (so_far f) f.frames (fresh frame.node ask.Ground) Done
-            (subst (λ (b : Bool). AllFit truth graph (so_far f) f.frames (marked_need b truth graph frame.node)) inside (fit_front truth graph (so_far f) f.frames frame Done fits.fit))
+            (subst (λ (b : Bool). AllFit truth graph (so_far f) f.frames (marked_need b truth graph frame.node)) inside (fit_prefix truth graph (so_far f) f.frames frame Done fits.fit))
             (fresh_fits truth graph (so_far f) frame.node ask.Ground here.there needs);
         path = path_push graph f.frames (fresh frame.node ask.Ground) path.0 path.1;
       };

@@ -85,17 +85,17 @@ unfolding IsPath IsAbove IsBelow
 path_push graph [] frame path below = (tt, tt)
 path_push graph (x ∷ frames) frame path below = (above_push graph x.node frames frame path.0 below.0, path_push graph frames frame path.1 below.1)
 
-pub above_front : (graph : Graph) (id : ℕ) (frames : List Frame) (frame : Frame) → IsAbove graph id (frames ++ frame ∷ []) → IsAbove graph id frames × (height graph frame.node < height graph id)
+pub above_prefix : (graph : Graph) (id : ℕ) (frames : List Frame) (frame : Frame) → IsAbove graph id (frames ++ frame ∷ []) → IsAbove graph id frames × (height graph frame.node < height graph id)
 unfolding IsAbove
-above_front graph id [] frame above = (tt, above.0)
-above_front graph id (x ∷ frames) frame above = let rest = above_front graph id frames frame above.1 in ((above.0, rest.0), rest.1)
+above_prefix graph id [] frame above = (tt, above.0)
+above_prefix graph id (x ∷ frames) frame above = let rest = above_prefix graph id frames frame above.1 in ((above.0, rest.0), rest.1)
 
-pub path_front : (graph : Graph) (frames : List Frame) (frame : Frame) → IsPath graph (frames ++ frame ∷ []) → IsPath graph frames × IsBelow graph frame.node frames
+pub path_prefix : (graph : Graph) (frames : List Frame) (frame : Frame) → IsPath graph (frames ++ frame ∷ []) → IsPath graph frames × IsBelow graph frame.node frames
 unfolding IsPath IsAbove IsBelow
-path_front graph [] frame path = (tt, tt)
-path_front graph (x ∷ frames) frame path =
-    let rest = path_front graph frames frame path.1 in
-    let above = above_front graph x.node frames frame path.0 in
+path_prefix graph [] frame path = (tt, tt)
+path_prefix graph (x ∷ frames) frame path =
+    let rest = path_prefix graph frames frame path.1 in
+    let above = above_prefix graph x.node frames frame path.0 in
     ((above.0, rest.0), (above.1, rest.1))
 
 pub below_lower : (graph : Graph) (id other : ℕ) (frames : List Frame) → height graph id ≤ height graph other → IsBelow graph other frames → IsBelow graph id frames

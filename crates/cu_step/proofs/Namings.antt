@@ -61,7 +61,7 @@ pub named_goal : (graph : Graph) (goals : List ℕ) (next : ℕ) (ids : List ℕ
     → more ++ named graph goals next (drop (i + 1) ids) ≡ whole
 named_goal graph goals next ids i k names more whole within was is added =
     ap (λ j. more ++ named graph goals next (drop j ids)) (add-one i)
-    ∙ ap (λ front. front ++ named graph goals next (drop (suc i) ids)) added
+    ∙ ap (λ prefix. prefix ++ named graph goals next (drop (suc i) ids)) added
     ∙ named_on graph goals next ids i names whole (named graph goals next (drop (suc i) ids)) (Named k) within was (ap (named_by graph goals next (drop (suc i) ids)) is)
 
 pub named_other : (graph : Graph) (goals : List ℕ) (next : ℕ) (ids : List ℕ) (i after : ℕ) (names more whole : List Waited) → i < length ids
@@ -70,5 +70,5 @@ pub named_other : (graph : Graph) (goals : List ℕ) (next : ℕ) (ids : List �
 named_other graph goals next ids i after names more whole within was is added then =
     ap (λ n. more ++ named graph goals n (drop (i + 1) ids)) then
     ∙ ap (λ j. more ++ named graph goals (next + 1) (drop j ids)) (add-one i)
-    ∙ ap (λ front. front ++ named graph goals (next + 1) (drop (suc i) ids)) added
+    ∙ ap (λ prefix. prefix ++ named graph goals (next + 1) (drop (suc i) ids)) added
     ∙ named_on graph goals next ids i names whole (named graph goals (next + 1) (drop (suc i) ids)) (Other next) within was (ap (named_by graph goals next (drop (suc i) ids)) is)

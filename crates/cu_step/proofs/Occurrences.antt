@@ -53,13 +53,13 @@ any_follows p q (x ∷ xs) follows so =
     (λ here. or_one (q x) (list_any q xs) (follows x here))
     (λ there. or_other (q x) (list_any q xs) (any_follows p q xs follows there))
 
-any_front : {A : Type 0} (p : A → Bool) (xs ys : List A) → list_any p xs ≡ true → list_any p (xs ++ ys) ≡ true
-any_front p xs ys so = list_any-append p xs ys ∙ or_one (list_any p xs) (list_any p ys) so
+any_prefix : {A : Type 0} (p : A → Bool) (xs ys : List A) → list_any p xs ≡ true → list_any p (xs ++ ys) ≡ true
+any_prefix p xs ys so = list_any-append p xs ys ∙ or_one (list_any p xs) (list_any p ys) so
 
 -- the last of a list, or those before it
 any_last : {A : Type 0} {C : Type 0} (p : A → Bool) (xs : List A) (x : A) → list_any p (xs ++ x ∷ []) ≡ true → (list_any p xs ≡ true → C) → (p x ≡ true → C) → C
-any_last p xs x so front last =
-    or_split (list_any p xs) (p x || false) (sym (list_any-append p xs (x ∷ [])) ∙ so) front
+any_last p xs x so prefix last =
+    or_split (list_any p xs) (p x || false) (sym (list_any-append p xs (x ∷ [])) ∙ so) prefix
     (λ here. last (sym (or_nothing (p x)) ∙ here))
 
 any_reverse : (p : ℕ → Bool) (xs : List ℕ) → list_any p (reverse xs) ≡ list_any p xs
@@ -148,7 +148,7 @@ looks_on graph v ids seen after rest more id arguments acyclic looks taken marke
       lower = λ other is so. (
           let before : seen_at seen other ≡ true → lower_reaches graph v (height graph other) (rest ++ more) ≡ true = λ was.
           any_last (λ x. reaches graph v x && ltb (height graph x) (height graph other)) rest id (looks.lower other was so)
-          (λ front. any_front (λ x. reaches graph v x && ltb (height graph x) (height graph other)) rest more front)
+          (λ prefix. any_prefix (λ x. reaches graph v x && ltb (height graph x) (height graph other)) rest more prefix)
           (λ here.
           let under : height graph id < height graph other =
           ltb-true (height graph id) (height graph other) (right_true (reaches graph v id) (ltb (height graph id) (height graph other)) here) in
@@ -277,7 +277,7 @@ looks_past graph v ids seen pending rest id arguments acyclic was before other o
       found = λ so.
           any_last (λ x. reaches graph v x && ltb (height graph x) (height graph head)) rest id
           (looks.lower head (only_seen (reaches graph v) v head (node_at graph head).kind (node_at graph head).args (seen_at seen head) other on so) so)
-          (λ front. any_front (λ x. reaches graph v x && ltb (height graph x) (height graph head)) rest [] front)
+          (λ prefix. any_prefix (λ x. reaches graph v x && ltb (height graph x) (height graph head)) rest [] prefix)
           (λ here.
           let under : height graph id < height graph head = ltb-true (height graph id) (height graph head) (right_true (reaches graph v id) (ltb (height graph id) (height graph head)) here) in
           let no_higher : height graph head ≤ height graph id = lower.1 in

@@ -74,9 +74,9 @@ finish_whole : (graph : Graph) (ids : List ℕ) (k : Kind) (n : ℕ) (parts : Bu
     ≡ given_to (graph ++ pushed (build_node k parts)) ids (place_of (length graph) (build_node k parts)) others
 unfolding finish
 finish_whole graph ids k n parts others long =
-    let front : length (ids ++ parts.ids) - n ≡ length ids = (let e = length-append ids parts.ids in omega arith) in
-    let own : drop (length (ids ++ parts.ids) - n) (ids ++ parts.ids) ≡ parts.ids = ap (λ (i : ℕ). drop i (ids ++ parts.ids)) front ∙ drop-append_seam ids parts.ids in
-    let left : take (length (ids ++ parts.ids) - n) (ids ++ parts.ids) ≡ ids = ap (λ (i : ℕ). take i (ids ++ parts.ids)) front ∙ take-append_seam ids parts.ids in
+    let prefix : length (ids ++ parts.ids) - n ≡ length ids = (let e = length-append ids parts.ids in omega arith) in
+    let own : drop (length (ids ++ parts.ids) - n) (ids ++ parts.ids) ≡ parts.ids = ap (λ (i : ℕ). drop i (ids ++ parts.ids)) prefix ∙ drop-append_seam ids parts.ids in
+    let left : take (length (ids ++ parts.ids) - n) (ids ++ parts.ids) ≡ ids = ap (λ (i : ℕ). take i (ids ++ parts.ids)) prefix ∙ take-append_seam ids parts.ids in
     rw (own, left, length-append graph parts.nodes, append_assoc graph parts.nodes (record { kind = k; args = parts.ids } ∷ [])) refl
 
 leaf_fed : (graph : Graph) (ids : List ℕ) (node : Node) (others : List Unfinished)
@@ -91,14 +91,14 @@ more_to_come graph ids id k n more others =
     given_on graph ids id (record { kind = k; count = n; missing = more + 1 + 1 }) others (lt-ltb 1 (more + 1 + 1) (omega arith))
     ∙ ap (λ (m : ℕ). work graph (ids ++ id ∷ []) (record { kind = k; count = n; missing = m } ∷ others)) (omega arith)
 
-further : (graph : Graph) (ids : List ℕ) (k : Kind) (n : ℕ) (others : List Unfinished) (front : List Node) (id : ℕ) (vs : Values)
-    → finish (graph ++ front ++ (push_values (length (graph ++ front)) vs).nodes) ((ids ++ id ∷ []) ++ (push_values (length (graph ++ front)) vs).ids) k n others
-    ≡ finish (graph ++ (front ++ (push_values (length graph + length front) vs).nodes)) (ids ++ id ∷ (push_values (length graph + length front) vs).ids) k n others
-further graph ids k n others front id vs =
-    let rest = push_values (length graph + length front) vs in
-    ap (λ (next : ℕ). finish (graph ++ front ++ (push_values next vs).nodes) ((ids ++ id ∷ []) ++ (push_values next vs).ids) k n others) (length-append graph front)
-    ∙ ap (λ (g : Graph). finish g ((ids ++ id ∷ []) ++ rest.ids) k n others) (append_assoc graph front rest.nodes)
-    ∙ ap (λ (is : List ℕ). finish (graph ++ (front ++ rest.nodes)) is k n others) (append_assoc ids (id ∷ []) rest.ids)
+further : (graph : Graph) (ids : List ℕ) (k : Kind) (n : ℕ) (others : List Unfinished) (prefix : List Node) (id : ℕ) (vs : Values)
+    → finish (graph ++ prefix ++ (push_values (length (graph ++ prefix)) vs).nodes) ((ids ++ id ∷ []) ++ (push_values (length (graph ++ prefix)) vs).ids) k n others
+    ≡ finish (graph ++ (prefix ++ (push_values (length graph + length prefix) vs).nodes)) (ids ++ id ∷ (push_values (length graph + length prefix) vs).ids) k n others
+further graph ids k n others prefix id vs =
+    let rest = push_values (length graph + length prefix) vs in
+    ap (λ (next : ℕ). finish (graph ++ prefix ++ (push_values next vs).nodes) ((ids ++ id ∷ []) ++ (push_values next vs).ids) k n others) (length-append graph prefix)
+    ∙ ap (λ (g : Graph). finish g ((ids ++ id ∷ []) ++ rest.ids) k n others) (append_assoc graph prefix rest.nodes)
+    ∙ ap (λ (is : List ℕ). finish (graph ++ (prefix ++ rest.nodes)) is k n others) (append_assoc ids (id ∷ []) rest.ids)
 
 -- a node, where its arguments push theirs
 whole_fed : (k : Kind) (vs : Values) (graph : Graph) (ids : List ℕ) (others : List Unfinished)

@@ -13,7 +13,7 @@ use Rattle.cu_machine.specs.Next.{read, spelled_all}
 use Rattle.cu_machine.specs.Places.{holds, joined}
 use Rattle.cu_machine.specs.Spell.{all_cells, all_renumbered, all_variables_in, cells, cells_of_all, ordinal, renumbered, spelled, spelled_at, variables_in, variables_of_all}
 use Rattle.cu_machine.specs.Validity.{ArgumentsThere, IsAcyclic, are_places}
-use Rattle.cu_machine.proofs.FirstLaws.{at_front, holds_before, holds_joined, joined_assoc, or_true}
+use Rattle.cu_machine.proofs.FirstLaws.{at_prefix, holds_before, holds_joined, joined_assoc, or_true}
 use Rattle.cu_machine.proofs.Fuel.{left_true, right_true}
 use Rattle.cu_machine.proofs.Tables.{spelled_table}
 use Rattle.cu_step.specs.Reading.{cell_at, parts_at, with_head}
@@ -104,7 +104,7 @@ met_head met part id kind.Free args = sym (none_joined (joined met (id ∷ [])))
 met_head met part id _ args = refl
 
 holds_last : (xs : List ℕ) (id : ℕ) → holds (joined xs (id ∷ [])) id ≡ true
-holds_last xs id = holds_joined xs (id ∷ []) id ∙ ap (λ b. holds xs id || b) (at_front id []) ∙ or_true (holds xs id)
+holds_last xs id = holds_joined xs (id ∷ []) id ∙ ap (λ b. holds xs id || b) (at_prefix id []) ∙ or_true (holds xs id)
 
 -- a head's cell is the one that it has in the end
 cell_later : (met : List ℕ) (id : ℕ) (k : Kind) (n : ℕ) (more : List ℕ)
@@ -277,13 +277,13 @@ one_read written v is = ap spelling.read is ∙ ap spelling.first (read_all_one 
 
 -- ---- all of them
 
-behind : (a b : List ℕ) (x : ℕ) → holds b x ≡ true → holds (joined a b) x ≡ true
-behind a b x held = holds_joined a b x ∙ ap (λ c. holds a x || c) held ∙ or_true (holds a x)
+holds_after : (a b : List ℕ) (x : ℕ) → holds b x ≡ true → holds (joined a b) x ≡ true
+holds_after a b x held = holds_joined a b x ∙ ap (λ c. holds a x || c) held ∙ or_true (holds a x)
 
 mutual
   renumbered_same : (f g : ℕ → ℕ) (v : Value) → ((x : ℕ) → holds (variables_in v) x ≡ true → f x ≡ g x) → renumbered f v ≡ renumbered g v
   renumbered_same f g value.Bottom same = refl
-  renumbered_same f g (value.Variable x) same = ap value.Variable (same x (at_front x []))
+  renumbered_same f g (value.Variable x) same = ap value.Variable (same x (at_prefix x []))
   renumbered_same f g (value.Literal l) same = refl
   renumbered_same f g (value.Constructed c vs) same = ap (value.Constructed c) (all_renumbered_same f g vs same)
   renumbered_same f g (value.Partial h vs) same = ap (value.Partial h) (all_renumbered_same f g vs same)
@@ -292,13 +292,13 @@ mutual
   all_renumbered_same f g value.NoValue same = refl
   all_renumbered_same f g (value.MoreValues v vs) same =
       ap (λ u. value.MoreValues u (all_renumbered f vs)) (renumbered_same f g v (λ x held. same x (holds_before (variables_in v) (all_variables_in vs) x held)))
-      ∙ ap (value.MoreValues (renumbered g v)) (all_renumbered_same f g vs (λ x held. same x (behind (variables_in v) (all_variables_in vs) x held)))
+      ∙ ap (value.MoreValues (renumbered g v)) (all_renumbered_same f g vs (λ x held. same x (holds_after (variables_in v) (all_variables_in vs) x held)))
 
 map_same : (f g : ℕ → ℕ) (vs : List Value) → ((x : ℕ) → holds (variables_of_all vs) x ≡ true → f x ≡ g x) → map (renumbered f) vs ≡ map (renumbered g) vs
 map_same f g [] same = refl
 map_same f g (v ∷ vs) same =
     ap (λ u. u ∷ map (renumbered f) vs) (renumbered_same f g v (λ x held. same x (holds_before (variables_in v) (variables_of_all vs) x held)))
-    ∙ ap (λ us. renumbered g v ∷ us) (map_same f g vs (λ x held. same x (behind (variables_in v) (variables_of_all vs) x held)))
+    ∙ ap (λ us. renumbered g v ∷ us) (map_same f g vs (λ x held. same x (holds_after (variables_in v) (variables_of_all vs) x held)))
 
 -- variables that are met later change no number
 numbers_stay : (xs more : List ℕ) (x : ℕ) → holds xs x ≡ true → ordinal (joined xs more) x ≡ ordinal xs x

@@ -8,7 +8,7 @@ last_first all rest x is = ap reverse is ∙ reverse-append rest (x ∷ [])
 
 -- what was added in reverse comes first
 pub added_first : {A : Type 0} (all rest xs : List A) → all ≡ rest ++ reverse xs → reverse all ≡ xs ++ reverse rest
-added_first all rest xs is = ap reverse is ∙ reverse-append rest (reverse xs) ∙ ap (λ front. front ++ reverse rest) (reverse-reverse xs)
+added_first all rest xs is = ap reverse is ∙ reverse-append rest (reverse xs) ∙ ap (λ prefix. prefix ++ reverse rest) (reverse-reverse xs)
 
 -- where nothing was left to take
 pub none_taken : {A : Type 0} (olds news : List A) (count : ℕ) → count ≡ 0 → news ≡ take (count - 1) olds → olds ≡ news ++ [] → olds ≡ []

@@ -169,10 +169,10 @@ drop_next xs i x below is =
 -- ---- the search
 
 -- the state in which a search begins
-pub begun_state : {B : Type 0} (f : B → State) (graph : Graph) (root : ℕ) (goals : List ℕ) (id : ℕ) (found : List Value) (front level : List B) (inner : B) (state : State)
-    → found ≡ [] → front ≡ [] → level ≡ front ++ inner ∷ [] → state ≡ Branch graph root goals (Running id found (states_of (map f level)))
+pub begun_state : {B : Type 0} (f : B → State) (graph : Graph) (root : ℕ) (goals : List ℕ) (id : ℕ) (found : List Value) (prefix level : List B) (inner : B) (state : State)
+    → found ≡ [] → prefix ≡ [] → level ≡ prefix ++ inner ∷ [] → state ≡ Branch graph root goals (Running id found (states_of (map f level)))
     → state ≡ Branch graph root goals (Running id [] (MoreStates (f inner) NoState))
-begun_state f graph root goals id found front level inner state none nothing alone_there is =
+begun_state f graph root goals id found prefix level inner state none nothing alone_there is =
     is ∙ ap (λ (vs : List Value). Branch graph root goals (Running id vs (states_of (map f level)))) none
     ∙ ap (λ bs. Branch graph root goals (Running id [] (states_of (map f bs)))) (alone_there ∙ ap (λ bs. bs ++ inner ∷ []) nothing)
 

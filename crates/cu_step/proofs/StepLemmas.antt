@@ -149,6 +149,6 @@ pub start_is : (program : Code) (goal : FunId) (empty middle after : Graph) (goa
     → Some n ≡ function_arity program goal → empty ≡ [] → goals ≡ numbers (length empty) n → middle ≡ empty ++ free_nodes n
     → root ≡ length middle → k ≡ kind_of_call goal (body_of program goal) → after ≡ middle ++ record { kind = k; args = goals } ∷ []
     → Branch after root goals Idle ≡ start_of program goal
-start_is program goal empty middle after goals n root k arity nothing numbered front there kinds back =
-    let long : length middle ≡ n = ap length front ∙ (ap (λ (g : Graph). length (g ++ free_nodes n)) nothing ∙ length_frees n) in
-    rw (← arity, back, there, long, front, numbered, kinds, nothing) refl
+start_is program goal empty middle after goals n root k arity nothing numbered prefix there kinds suffix =
+    let long : length middle ≡ n = ap length prefix ∙ (ap (λ (g : Graph). length (g ++ free_nodes n)) nothing ∙ length_frees n) in
+    rw (← arity, suffix, there, long, prefix, numbered, kinds, nothing) refl

@@ -12,9 +12,9 @@ use Rattle.cu_step.specs.declared.need.Look.TheVariants as look
 use Rattle.cu_step.specs.declared.need.Mark.{Mark}
 use Rattle.cu_step.specs.declared.need.Mark.TheVariants as mark
 use Rattle.cu_step.specs.Walk.{Fits, Found, FrameFits, IsBelow, IsPath, LookFits, MarkFits, also, asked, at_once, cost, entered, entered_at, frame_cost, height, inside_need, is_inside, is_open, look_need, looked_at, mark_at, mark_of, marked_need, met, needed_by, needed_outside, outcome, so_far, then_needed, waited, whole_need, with_frame}
-use Rattle.cu_step.proofs.Frames.{cost_append, fit_front, fit_last, fit_push, open_append, outcome_at, outcome_dead, outside_append}
+use Rattle.cu_step.proofs.Frames.{cost_append, fit_prefix, fit_last, fit_push, open_append, outcome_at, outcome_dead, outside_append}
 use Rattle.cu_step.proofs.Needs.{before_done, first_append}
-use Rattle.cu_step.proofs.Marks.{below_lower, below_push, below_shut, mark_shut, path_front, path_push}
+use Rattle.cu_step.proofs.Marks.{below_lower, below_push, below_shut, mark_shut, path_prefix, path_push}
 use Rattle.cu_step.proofs.Walks.{Met, met_enter, met_free, met_known, met_stuck}
 
 -- ---- a look is met
@@ -125,8 +125,8 @@ next_argument truth graph f frame fits within =
           (inside_need graph id) (λ shut. sym (same true id) ∙ shut) (fits.inside id below);
       none = fits.none;
       fit = fit_push truth graph (so_far f) f.frames (further frame) (asked truth graph frame.ask frame.node (get_or (looked_at graph frame.node) frame.next 0))
-          (fit_front truth graph (so_far f) f.frames frame Done fits.fit) (next_fits truth graph (so_far f) frame (fit_last truth graph (so_far f) f.frames frame Done fits.fit) within);
-      path = (let path = path_front graph f.frames frame fits.path in path_push graph f.frames (further frame) path.0 path.1);
+          (fit_prefix truth graph (so_far f) f.frames frame Done fits.fit) (next_fits truth graph (so_far f) frame (fit_last truth graph (so_far f) f.frames frame Done fits.fit) within);
+      path = (let path = path_prefix graph f.frames frame fits.path in path_push graph f.frames (further frame) path.0 path.1);
     }
 
 pub next_outcome : (truth : ConId) (graph : Graph) (f : Found) (frame : Frame) → frame.next < length (looked_at graph frame.node)
@@ -151,4 +151,4 @@ next_cost graph f frame within =
 pub next_lower : (graph : Graph) (f : Found) (frame : Frame) (top : ℕ) → IsPath graph (f.frames ++ frame ∷ []) → top < height graph frame.node
     → (id : ℕ) → height graph id ≤ top → IsBelow graph id (f.frames ++ further frame ∷ [])
 next_lower graph f frame top path less id low =
-    below_push graph id f.frames (further frame) (below_lower graph id frame.node f.frames (omega arith) (path_front graph f.frames frame path).1) (omega arith)
+    below_push graph id f.frames (further frame) (below_lower graph id frame.node f.frames (omega arith) (path_prefix graph f.frames frame path).1) (omega arith)

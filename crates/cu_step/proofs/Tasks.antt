@@ -20,15 +20,15 @@ use Rattle.cu_step.proofs.Builds.{build_fixed, parts_nest, weight_fixed}
 
 -- ---- ends of lists
 
-front_of : {A : Type 0} (xs ys : List A) (n : ℕ) → length ys ≡ n → take (length (xs ++ ys) - n) (xs ++ ys) ≡ xs
-front_of xs ys n same = ap (λ k. take k (xs ++ ys)) (let all = length-append xs ys in omega arith) ∙ taken xs ys
+prefix_of : {A : Type 0} (xs ys : List A) (n : ℕ) → length ys ≡ n → take (length (xs ++ ys) - n) (xs ++ ys) ≡ xs
+prefix_of xs ys n same = ap (λ k. take k (xs ++ ys)) (let all = length-append xs ys in omega arith) ∙ taken xs ys
   where
     taken : {A : Type 0} (xs ys : List A) → take (length xs) (xs ++ ys) ≡ xs
     taken [] ys = refl
     taken (x ∷ xs) ys = ap (λ rest. x ∷ rest) (taken xs ys)
 
-back_of : {A : Type 0} (xs ys : List A) (n : ℕ) → length ys ≡ n → drop (length (xs ++ ys) - n) (xs ++ ys) ≡ ys
-back_of xs ys n same = ap (λ k. drop k (xs ++ ys)) (let all = length-append xs ys in omega arith) ∙ dropped xs ys
+suffix_of : {A : Type 0} (xs ys : List A) (n : ℕ) → length ys ≡ n → drop (length (xs ++ ys) - n) (xs ++ ys) ≡ ys
+suffix_of xs ys n same = ap (λ k. drop k (xs ++ ys)) (let all = length-append xs ys in omega arith) ∙ dropped xs ys
   where
     dropped : {A : Type 0} (xs ys : List A) → drop (length xs) (xs ++ ys) ≡ ys
     dropped [] ys = refl
@@ -96,8 +96,8 @@ finish_settled : (program : Code) (t : Target) (s : State) (k : Kind) (n : ℕ) 
 unfolding done made
 finish_settled program t s k n parts same =
     ap (λ ids. with_node t (record s { graph = s.graph ++ parts.nodes; ids = ids }) (record { kind = k; args = drop (length (s.ids ++ parts.ids) - n) (s.ids ++ parts.ids) }))
-    (front_of s.ids parts.ids n same)
-    ∙ ap (λ args. with_node t (record s { graph = s.graph ++ parts.nodes }) (record { kind = k; args = args })) (back_of s.ids parts.ids n same)
+    (prefix_of s.ids parts.ids n same)
+    ∙ ap (λ args. with_node t (record s { graph = s.graph ++ parts.nodes }) (record { kind = k; args = args })) (suffix_of s.ids parts.ids n same)
     ∙ go t
   where
     go : (t : Target) → with_node t (record s { graph = s.graph ++ parts.nodes }) (record { kind = k; args = parts.ids }) ≡ settled t s (build_node k parts)
@@ -143,12 +143,12 @@ body_settled program target.Argument s nodes bound built =
     let place : length (s.graph ++ nodes) + length built.parts ≡ length s.graph + length (nodes ++ built.parts) =
     (let all = length-append s.graph nodes in let more = length-append nodes built.parts in omega arith) in
     ap (λ scope. record s { graph = (s.graph ++ nodes) ++ pushed built; ids = s.ids ++ place_of (length (s.graph ++ nodes)) built ∷ []; scope = scope })
-    (front_of s.scope (bound ∷ []) 1 refl)
+    (prefix_of s.scope (bound ∷ []) 1 refl)
     ∙ ap (λ graph. record s { graph = graph; ids = s.ids ++ place_of (length (s.graph ++ nodes)) built ∷ [] })
     (append_assoc s.graph nodes (pushed built) ∙ ap (λ rest. s.graph ++ rest) (sym (append_assoc nodes built.parts _)))
     ∙ ap (λ next. record s { graph = s.graph ++ pushed (after nodes built); ids = s.ids ++ top_id next built.top ∷ [] }) place
 body_settled program target.Root s nodes bound built =
-    ap (λ scope. record s { graph = put ((s.graph ++ nodes) ++ built.parts) s.root (instead built.top); scope = scope }) (front_of s.scope (bound ∷ []) 1 refl)
+    ap (λ scope. record s { graph = put ((s.graph ++ nodes) ++ built.parts) s.root (instead built.top); scope = scope }) (prefix_of s.scope (bound ∷ []) 1 refl)
     ∙ ap (λ graph. record s { graph = put graph s.root (instead built.top) }) (append_assoc s.graph nodes built.parts)
 
 bind_made : (program : Code) (s : State) (x place : ℕ) (nodes : List Node)
@@ -156,7 +156,7 @@ bind_made : (program : Code) (s : State) (x place : ℕ) (nodes : List Node)
 unfolding done made
 bind_made program s x place nodes =
     ap (bound_last x (record s { graph = s.graph ++ nodes; ids = s.ids ++ place ∷ [] })) (last_of s.ids place)
-    ∙ ap (λ ids. record s { graph = s.graph ++ nodes; ids = ids; scope = s.scope ++ (x, place) ∷ [] }) (front_of s.ids (place ∷ []) 1 refl)
+    ∙ ap (λ ids. record s { graph = s.graph ++ nodes; ids = ids; scope = s.scope ++ (x, place) ∷ [] }) (prefix_of s.ids (place ∷ []) 1 refl)
 
 let_done : (program : Code) (t : Target) (s : State) (x : ℕ) (bound body : ExprId)
     → (first : Built) → first ≡ build_within (length program.expressions) program s.scope (length s.graph) bound

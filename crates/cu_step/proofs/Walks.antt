@@ -159,8 +159,8 @@ entered_open inside id a frames is =
     or_right true y p = refl
     or_right false y p = p
 
-pub front_shut : (inside : Bool) (id : ℕ) (frames : List Frame) (frame : Frame) → is_open inside id (frames ++ frame ∷ []) ≡ false → is_open inside id frames ≡ false
-front_shut inside id frames frame shut = or_left (is_open inside id frames) (nat_eq frame.node id && regards inside frame.ask) (sym (open_append inside id frames frame) ∙ shut)
+pub prefix_shut : (inside : Bool) (id : ℕ) (frames : List Frame) (frame : Frame) → is_open inside id (frames ++ frame ∷ []) ≡ false → is_open inside id frames ≡ false
+prefix_shut inside id frames frame shut = or_left (is_open inside id frames) (nat_eq frame.node id && regards inside frame.ask) (sym (open_append inside id frames frame) ∙ shut)
 
 pub mark_open : (told_so_far : Need) (is : Bool) (n : Need) → is ≡ true → MarkFits told_so_far is mark.Waits n
 mark_open told_so_far is n opened = λ shut. (let no : ⊥ = cc in absurd no)
@@ -174,12 +174,12 @@ entered_marks told_so_far inside frames id a marks n regarded other fits =
     (λ same. mark_open told_so_far (is_open inside other (frames ++ fresh id a ∷ [])) (n other)
     (subst (λ (x : ℕ). is_open inside x (frames ++ fresh id a ∷ []) ≡ true) (eqb-true id other same) (entered_open inside id a frames regarded)))
     (λ differs. mark_shut told_so_far (is_open inside other frames) (is_open inside other (frames ++ fresh id a ∷ [])) (mark_at marks other) (n other)
-    (front_shut inside other frames (fresh id a)) fits)
+    (prefix_shut inside other frames (fresh id a)) fits)
 
 pub other_marks : (told_so_far : Need) (inside : Bool) (frames : List Frame) (frame : Frame) (m : Mark) (n : Need) (other : ℕ)
     → MarkFits told_so_far (is_open inside other frames) m n → MarkFits told_so_far (is_open inside other (frames ++ frame ∷ [])) m n
 other_marks told_so_far inside frames frame m n other fits =
-    mark_shut told_so_far (is_open inside other frames) (is_open inside other (frames ++ frame ∷ [])) m n (front_shut inside other frames frame) fits
+    mark_shut told_so_far (is_open inside other frames) (is_open inside other (frames ++ frame ∷ [])) m n (prefix_shut inside other frames frame) fits
 
 pub regards_inside : (a : Ask) → is_inside a ≡ true → regards true a ≡ true
 regards_inside a is = is

@@ -25,7 +25,7 @@ use Rattle.cu_syntax.specs.declared.text.Header as headers
 use Rattle.cu_syntax.specs.declared.text.Item as texts
 use Rattle.cu_syntax.specs.Answer.{header_meaning, item_meaning, items_meaning}
 use Rattle.cu_syntax.specs.Owners.{HeaderIsOf, ItemIsOf}
-use Rattle.cu_syntax.specs.Parsing.{Fault, Front, HasNone, HeaderRead, ItemRead, ModuleRead, Part, PartRead, PartsRead, Split, after, behind, closes, depth_after, front, is_written, opens, part_of, parts, separates, split, with_header, with_token}
+use Rattle.cu_syntax.specs.Parsing.{Fault, HeaderAndBlock, HasNone, HeaderRead, ItemRead, ModuleRead, Part, PartRead, PartsRead, Split, after, part_after_block, closes, depth_after, header_and_block, is_written, opens, part_of, parts, separates, split, with_header, with_token}
 use Rattle.cu_syntax.specs.Syntax.{Header, Item, Module}
 use Rattle.cu_syntax.specs.Table.{number, rows}
 use Rattle.cu_syntax.proofs.Beginnings.{fails_at, fails_sound, no_empty_import, no_empty_item}
@@ -69,17 +69,17 @@ none_of s (x ∷ text) f e h = let k = layout_kind x.what h.0 in none_begins s (
 
 -- headers
 
-abbrev FrontLayout : Front → Type 0
-FrontLayout f = AllLayout f.header × ((block : List Lexeme) → f.block ≡ Some block → AllLayout block)
+abbrev IsLaidOut : HeaderAndBlock → Type 0
+IsLaidOut f = AllLayout f.header × ((block : List Lexeme) → f.block ≡ Some block → AllLayout block)
 
-front_step : (b : Bool) (last : ℕ) (x : Lexeme) (text : List Lexeme) (more : Front) → is_written x.what ≡ false → AllLayout text → FrontLayout more
-    → FrontLayout (if b then (record { header = []; last = last; block = Some text }) else with_header x more)
-front_step true last x text more w h m = (tt, λ block e. let same : text ≡ block = cc in subst AllLayout same h)
-front_step false last x text more w h m = ((w, m.0), m.1)
+header_and_block_step : (b : Bool) (last : ℕ) (x : Lexeme) (text : List Lexeme) (more : HeaderAndBlock) → is_written x.what ≡ false → AllLayout text → IsLaidOut more
+    → IsLaidOut (if b then (record { header = []; last = last; block = Some text }) else with_header x more)
+header_and_block_step true last x text more w h m = (tt, λ block e. let same : text ≡ block = cc in subst AllLayout same h)
+header_and_block_step false last x text more w h m = ((w, m.0), m.1)
 
-front_layout : (last : ℕ) (text : List Lexeme) → AllLayout text → FrontLayout (front last text)
-front_layout last [] h = (tt, λ block e. let no : ⊥ = cc in absurd no)
-front_layout last (x ∷ text) h = front_step (opens x.what) (after last x) x text (front (after last x) text) h.0 h.1 (front_layout (after last x) text h.1)
+header_and_block_layout : (last : ℕ) (text : List Lexeme) → AllLayout text → IsLaidOut (header_and_block last text)
+header_and_block_layout last [] h = (tt, λ block e. let no : ⊥ = cc in absurd no)
+header_and_block_layout last (x ∷ text) h = header_and_block_step (opens x.what) (after last x) x text (header_and_block (after last x) text) h.0 h.1 (header_and_block_layout (after last x) text h.1)
 
 no_header : (text : List Lexeme) (found : Option Header) → AllLayout text → HeaderRead text found → found ≡ None
 no_header text found h HeaderRead.no_header = refl
@@ -97,13 +97,13 @@ PartsLayout (p ∷ parts) = AllLayout p.tokens × PartsLayout parts
 abbrev SplitLayout : Split → Type 0
 SplitLayout s = AllLayout s.first × PartsLayout s.others
 
-behind_layout : (last : ℕ) (text : List Lexeme) → AllLayout text → PartsLayout (behind last text)
-behind_layout last [] h = tt
-behind_layout last (x ∷ text) h = (h, tt)
+after_layout : (last : ℕ) (text : List Lexeme) → AllLayout text → PartsLayout (part_after_block last text)
+after_layout last [] h = tt
+after_layout last (x ∷ text) h = (h, tt)
 
 split_step : (a b : Bool) (x : Lexeme) (text : List Lexeme) (last : ℕ) (next more : Split) → is_written x.what ≡ false → AllLayout text → SplitLayout next → SplitLayout more
-    → SplitLayout (if a then (record { first = []; whole = true; others = behind last text }) else if b then (record { first = []; whole = true; others = part_of last next ∷ next.others }) else with_token x more)
-split_step true b x text last next more w h n m = (tt, behind_layout last text h)
+    → SplitLayout (if a then (record { first = []; whole = true; others = part_after_block last text }) else if b then (record { first = []; whole = true; others = part_of last next ∷ next.others }) else with_token x more)
+split_step true b x text last next more w h n m = (tt, after_layout last text h)
 split_step false true x text last next more w h n m = (tt, n)
 split_step false false x text last next more w h n m = ((w, m.0), m.1)
 
@@ -148,10 +148,10 @@ empty_module text outcome m h (ModuleRead.no_block b) e = let no : ⊥ = cc in a
 empty_module text outcome m h (ModuleRead.wrong_header some none) e = let no : ⊥ = cc in absurd no
 empty_module text outcome m h (ModuleRead.wrong_item block found fault b header items) e = let no : ⊥ = cc in absurd no
 empty_module text outcome m h (ModuleRead.right block found items b header read) e =
-    let f = front_layout 1 text h in
+    let f = header_and_block_layout 1 text h in
     let inside : AllLayout block = f.1 block b in
-    subst IsEmpty (same_value outcome refl e) (is_empty found items (no_header (front 1 text).header found f.0 header)
-    (no_items true (parts (front 1 text).last block) (Ok items) items (split_layout 0 (front 1 text).last block inside) read refl))
+    subst IsEmpty (same_value outcome refl e) (is_empty found items (no_header (header_and_block 1 text).header found f.0 header)
+    (no_items true (parts (header_and_block 1 text).last block) (Ok items) items (split_layout 0 (header_and_block 1 text).last block inside) read refl))
 
 -- tokens of the lexer's
 

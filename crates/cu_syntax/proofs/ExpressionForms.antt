@@ -165,16 +165,16 @@ pub exp_with : (tree : Tree) (further : Trees) → fits symbol.Exp tree ≡ true
 exp_with tree further h e =
     ap expression_of (exp_is tree h) ∙ ap (λ t. expression_of (Parts (MoreTrees (part_of tree 0) (MoreTrees (part_of tree 1) (MoreTrees t NoTree))))) e
 
-place_behind : (a b c : Option Lexeme) → (b ≡ None → ⊥)
+place_after : (a b c : Option Lexeme) → (b ≡ None → ⊥)
     → elim (or_else a (or_else b c)) [ Some x ↦ x.at | None ↦ first_position ] ≡ unwrap_or (option_map (λ (x : Lexeme). x.at) a) (elim b [ Some x ↦ x.at | None ↦ first_position ])
-place_behind (Some x) b c some = refl
-place_behind None (Some x) c some = refl
-place_behind None None c some = absurd (some refl)
+place_after (Some x) b c some = refl
+place_after None (Some x) c some = refl
+place_after None None c some = absurd (some refl)
 
 pub exp_place : (tree : Tree) → fits symbol.Exp tree ≡ true → place tree ≡ unwrap_or (minus_of (part_of tree 0)) (place (part_of tree 1))
 exp_place tree h =
     let some : first_token (part_of tree 1) ≡ None → ⊥ = token_there symbol.Operand (part_of tree 1) refl (part_fits symbol.Exp exp_parts tree 1 symbol.Operand refl h refl) in
-    ap place (exp_is tree h) ∙ place_behind (first_token (part_of tree 0)) (first_token (part_of tree 1)) (or_else (first_token (part_of tree 2)) None) some
+    ap place (exp_is tree h) ∙ place_after (first_token (part_of tree 0)) (first_token (part_of tree 1)) (or_else (first_token (part_of tree 2)) None) some
 
 -- one operand without a minus or an operator
 pub lone_operand_is : (s : Symbol) (tree minus operand further : Tree) → s ≡ symbol.Exp → fits s tree ≡ true → minus ≡ part_of tree 0 → minus ≡ Parts NoTree → operand ≡ part_of tree 1

@@ -17,7 +17,7 @@ use Rattle.cu_syntax.specs.Reading.{Tree, Trees}
 use Rattle.cu_syntax.specs.Subtrees.{Takes, all_over, inner_of, is_choice, is_leaf, leaf_of, nth_tree, optional_part, others_of, over, part_of, parts_in, sequence}
 use Rattle.cu_syntax.specs.Table.{Ahead, AtLeastOne, Choice, Many, NotAhead, Optional, Rule, SeparatedBy, Sequence, Token as TokenOf, alternative, rule_of}
 use Rattle.cu_syntax.proofs.SymbolLemmas.{alternative_is}
-use Rattle.cu_syntax.proofs.NodeLemmas.{begin, behind_trees, form_of, length-spelled, length-spelled_all, one_behind, reads, reads_all, size_behind, sizes_in, some_parts, spells, whole}
+use Rattle.cu_syntax.proofs.NodeLemmas.{begin, after_trees, form_of, length-spelled, length-spelled_all, one_after, reads, reads_all, size_after, sizes_in, some_parts, spells, whole}
 use Rattle.cu_syntax.proofs.ShapeLemmas.{never}
 
 -- leaves
@@ -97,7 +97,7 @@ choice_is s text (Chosen n tree) c h =
 pub record HasParts (r : Rule) (text : List Lexeme) (tree : ParseTree ℕ) : Type 0 where
   pub is : over text tree ≡ Parts (all_over text (parts_in tree))
   pub have : have_parts r (all_over text (parts_in tree)) ≡ true
-  pub behind : drop 1 (spelled tree) ≡ spelled_all (parts_in tree)
+  pub after : drop 1 (spelled tree) ≡ spelled_all (parts_in tree)
 
 other_is_no_token : (r : Rule) (x : Lexeme) → is_leaf r ≡ false → is_token r x ≡ true → ⊥
 other_is_no_token (TokenOf c) x l h = true≢false l
@@ -110,12 +110,12 @@ other_has_no_alternative _ n c h = true≢false (sym h)
 leaf_has_nothing : (s : Symbol) (text : List Lexeme) (n : ℕ) (o : Option Lexeme) → slice_get text n ≡ o → is_leaf (rule_of s) ≡ false
     → fits s (leaf_of o) ≡ true → HasParts (rule_of s) text (Leaf n)
 leaf_has_nothing s text n (Some x) e l h = absurd (other_is_no_token (rule_of s) x l h)
-leaf_has_nothing s text n None e l h = record { is = ap leaf_of e; have = h; behind = refl }
+leaf_has_nothing s text n None e l h = record { is = ap leaf_of e; have = h; after = refl }
 
 parts_are : (s : Symbol) (text : List Lexeme) (tree : ParseTree ℕ) → is_leaf (rule_of s) ≡ false → is_choice (rule_of s) ≡ false → fits s (over text tree) ≡ true
     → HasParts (rule_of s) text tree
 parts_are s text (Leaf n) l c h = leaf_has_nothing s text n (slice_get text n) refl l h
-parts_are s text (Parts trees) l c h = record { is = refl; have = h; behind = refl }
+parts_are s text (Parts trees) l c h = record { is = refl; have = h; after = refl }
 parts_are s text (Chosen n tree) l c h =
     absurd (other_has_no_alternative (rule_of s) n c (and_parts (has_alternative (rule_of s) n) (fits (alternative s n) (over text tree)) h).0)
 
@@ -141,7 +141,7 @@ sequence_is (NotAhead q) n p e = absurd cc
 pub record HasPart (text : List Lexeme) (trees : ParseTrees ℕ) (n : ℕ) (p : Symbol) : Type 0 where
   pub tree : ParseTree ℕ
   pub others : ParseTrees ℕ
-  pub is : behind_trees n trees ≡ MoreTrees tree others
+  pub is : after_trees n trees ≡ MoreTrees tree others
   pub fit : fits p (over text tree) ≡ true
   pub nth : nth_tree (all_over text trees) n ≡ over text tree
 
@@ -169,7 +169,7 @@ earlier xs n k x e le = let within = slice_get_within xs n x e in (get_or xs k x
 pub record PartLeft (s : Symbol) (text : List Lexeme) (nodes left : List Node) (k : ℕ) (p : Symbol) : Type 0 where
   pub tree : ParseTree ℕ
   pub others : ParseTrees ℕ
-  pub is : behind_trees k (parts_in (read nodes)) ≡ MoreTrees tree others
+  pub is : after_trees k (parts_in (read nodes)) ≡ MoreTrees tree others
   pub reads : read_all left ≡ MoreTrees tree others
   pub some : ¬ (left ≡ [])
   pub spelled : spelled_all (read_all left) ≡ left
@@ -183,24 +183,24 @@ some_left left trees others tree is l none =
     let no : ⊥ = cc in no
 
 pub part_left : (s : Symbol) (text : List Lexeme) (nodes left : List Node) (k : ℕ) (p : Symbol) → slice_get (sequence (rule_of s)) k ≡ Some p
-    → spelled (read nodes) ≡ nodes → fits s (over text (read nodes)) ≡ true → left ≡ spelled_all (behind_trees k (parts_in (read nodes)))
+    → spelled (read nodes) ≡ nodes → fits s (over text (read nodes)) ≡ true → left ≡ spelled_all (after_trees k (parts_in (read nodes)))
     → PartLeft s text nodes left k p
 part_left s text nodes left k p e n f l =
     let parts = sequence (rule_of s) in
     let is = sequence_is (rule_of s) k p e in
     let h = parts_by s (Sequence parts) text (read nodes) is refl refl f in
     let m = part_at parts text (parts_in (read nodes)) k p h.have e in
-    let back : read_all left ≡ behind_trees k (parts_in (read nodes)) = ap read_all l ∙ reads_all (behind_trees k (parts_in (read nodes))) in
+    let restored : read_all left ≡ after_trees k (parts_in (read nodes)) = ap read_all l ∙ reads_all (after_trees k (parts_in (read nodes))) in
     record {
       tree = m.tree;
       others = m.others;
       is = m.is;
-      reads = back ∙ m.is;
-      some = some_left left (behind_trees k (parts_in (read nodes))) m.others m.tree m.is l;
-      spelled = ap spelled_all back ∙ sym l;
+      reads = restored ∙ m.is;
+      some = some_left left (after_trees k (parts_in (read nodes))) m.others m.tree m.is l;
+      spelled = ap spelled_all restored ∙ sym l;
       fit = m.fit;
       part = ap (λ (tree : Tree). part_of tree k) h.is ∙ m.nth;
-      smaller = omega (arith, size_behind k (parts_in (read nodes)) m.others m.tree m.is, sizes_in (read nodes), length-spelled (read nodes), ap (λ (xs : List Node). length xs) n);
+      smaller = omega (arith, size_after k (parts_in (read nodes)) m.others m.tree m.is, sizes_in (read nodes), length-spelled (read nodes), ap (λ (xs : List Node). length xs) n);
     }
 
 -- That part is a tree of its own.
@@ -211,25 +211,25 @@ pub record PartFound (s : Symbol) (text : List Lexeme) (nodes found : List Node)
   pub smaller : length found < length nodes
 
 pub part_found : (s : Symbol) (text : List Lexeme) (nodes left found : List Node) (k : ℕ) (p : Symbol) → slice_get (sequence (rule_of s)) k ≡ Some p
-    → spelled (read nodes) ≡ nodes → fits s (over text (read nodes)) ≡ true → left ≡ spelled_all (behind_trees k (parts_in (read nodes)))
+    → spelled (read nodes) ≡ nodes → fits s (over text (read nodes)) ≡ true → left ≡ spelled_all (after_trees k (parts_in (read nodes)))
     → found ≡ spelled (first_of (read_all left)) → PartFound s text nodes found k p
 part_found s text nodes left found k p e n f l b =
     let m = part_left s text nodes left k p e n f l in
     let one : found ≡ spelled m.tree = b ∙ ap (λ trees. spelled (first_of trees)) m.reads in
-    let back = reads found m.tree one in
+    let restored = reads found m.tree one in
     record {
       spelled = spells found m.tree one;
-      fit = ap (λ tree. fits p (over text tree)) back ∙ m.fit;
-      part = ap (over text) back ∙ sym m.part;
+      fit = ap (λ tree. fits p (over text tree)) restored ∙ m.fit;
+      part = ap (over text) restored ∙ sym m.part;
       smaller = omega (arith, m.smaller, length-spelled m.tree, ap (λ (xs : List Node). length xs) one);
     }
 
 pub next_left : (s : Symbol) (text : List Lexeme) (nodes left others : List Node) (k : ℕ) (p : Symbol) → slice_get (sequence (rule_of s)) k ≡ Some p
-    → spelled (read nodes) ≡ nodes → fits s (over text (read nodes)) ≡ true → left ≡ spelled_all (behind_trees k (parts_in (read nodes)))
-    → others ≡ spelled_all (others_of (read_all left)) → others ≡ spelled_all (behind_trees (k + 1) (parts_in (read nodes)))
+    → spelled (read nodes) ≡ nodes → fits s (over text (read nodes)) ≡ true → left ≡ spelled_all (after_trees k (parts_in (read nodes)))
+    → others ≡ spelled_all (others_of (read_all left)) → others ≡ spelled_all (after_trees (k + 1) (parts_in (read nodes)))
 next_left s text nodes left others k p e n f l b =
     let m = part_left s text nodes left k p e n f l in
-    b ∙ ap (λ trees. spelled_all (others_of trees)) m.reads ∙ ap spelled_all (sym (one_behind k (parts_in (read nodes)) m.others m.tree m.is))
+    b ∙ ap (λ trees. spelled_all (others_of trees)) m.reads ∙ ap spelled_all (sym (one_after k (parts_in (read nodes)) m.others m.tree m.is))
 
 -- what is optional
 
@@ -259,11 +259,11 @@ pub one_tree : (text : List Lexeme) (nodes left : List Node) (p : Symbol) (tree 
     → parts_in (read nodes) ≡ MoreTrees tree NoTree → over text (read nodes) ≡ Parts (all_over text (parts_in (read nodes))) → fits p (over text tree) ≡ true → OneTree text nodes left p
 one_tree text nodes left p tree n l t o f =
     let one : left ≡ spelled tree = l ∙ ap spelled_all t ∙ append-nil (spelled tree) in
-    let back = reads left tree one in
+    let restored = reads left tree one in
     record {
       spelled = spells left tree one;
-      fit = ap (λ tree. fits p (over text tree)) back ∙ f;
-      is = o ∙ ap (λ trees. Parts (all_over text trees)) t ∙ ap (λ tree. Parts (only (over text tree))) (sym back);
+      fit = ap (λ tree. fits p (over text tree)) restored ∙ f;
+      is = o ∙ ap (λ trees. Parts (all_over text trees)) t ∙ ap (λ tree. Parts (only (over text tree))) (sym restored);
       smaller = smaller_left nodes left n l;
     }
 
@@ -346,10 +346,10 @@ alternative_found s parts text nodes left n d r e f is l =
     let symbol : alternative s n ≡ get_or parts n d = alternative_is s parts n r ∙ ap (λ o. unwrap_or o s) (slice_get-get_or parts n d within) in
     let spell : nodes ≡ spelled (Chosen n inner) = sym e ∙ ap spelled is in
     let one : left ≡ spelled inner = l ∙ ap (drop 1) spell in
-    let back = reads left inner one in
+    let restored = reads left inner one in
     record {
       spelled = spells left inner one;
-      fit = ap₂ (λ p tree. fits p (over text tree)) (sym symbol) back ∙ (and_parts (has_alternative (rule_of s) n) (fits (alternative s n) (over text inner)) g).1;
-      takes = record { number = n; is = ap (over text) is ∙ ap (λ tree. Chosen n (over text tree)) (sym back); symbol = symbol };
+      fit = ap₂ (λ p tree. fits p (over text tree)) (sym symbol) restored ∙ (and_parts (has_alternative (rule_of s) n) (fits (alternative s n) (over text inner)) g).1;
+      takes = record { number = n; is = ap (over text) is ∙ ap (λ tree. Chosen n (over text tree)) (sym restored); symbol = symbol };
       smaller = omega (arith, ap (λ (xs : List Node). length xs) one, length-spelled inner, ap (λ (xs : List Node). length xs) spell);
     }

@@ -125,10 +125,10 @@ module _ (table : List Row) (at : (s : Symbol) → slice_get table (number s) �
     fit_row (SeparatedBy q t) _ _ _ _ eq (RowMatches.last p s text rest tree m f) =
         let part : p ≡ number q = cc in
         and_from (fits q tree) true (fits_in q p text rest tree part m) refl
-    fit_row (SeparatedBy q t) _ _ _ _ eq (RowMatches.separated p s text after behind rest tree separator trees m k ms) =
+    fit_row (SeparatedBy q t) _ _ _ _ eq (RowMatches.separated p s text after suffix rest tree separator trees m k ms) =
         let part : p ≡ number q = cc in
         and_from (fits q tree) (have_parts (Many q) trees) (fits_in q p text after tree part m)
-        (separated_many q t trees (fit_row (SeparatedBy q t) (row.SeparatedBy p s) behind rest (Parts trees) eq ms))
+        (separated_many q t trees (fit_row (SeparatedBy q t) (row.SeparatedBy p s) suffix rest (Parts trees) eq ms))
     fit_row (Ahead q) _ _ _ _ eq (RowMatches.ahead p text rest tree m) = refl
     fit_row (NotAhead q) _ _ _ _ eq (RowMatches.not_ahead p text f) = refl
     fit_row r e text rest tree eq d = absurd (heads e (row_of r) eq)

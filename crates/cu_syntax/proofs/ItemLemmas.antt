@@ -404,9 +404,9 @@ pub free_step : (names : List (List ℕ)) (whole : List syntax.Name) (done after
     → ((rest : Trees) → free_names (MoreTrees (tree_of names part) rest) ≡ map (name_meaning names) declared ++ free_names rest) → after ≡ done ++ declared
     → map (name_meaning names) after ++ free_names (trees_from (map (tree_of names) later)) ≡ whole
 free_step names whole done after declared left later part e l one a =
-    let behind = free_names (trees_from (map (tree_of names) later)) in
-    ap (λ xs. map (name_meaning names) xs ++ behind) a ∙ ap (λ xs. xs ++ behind) (map-append (name_meaning names) done declared)
-    ∙ append_assoc (map (name_meaning names) done) (map (name_meaning names) declared) behind
+    let suffix = free_names (trees_from (map (tree_of names) later)) in
+    ap (λ xs. map (name_meaning names) xs ++ suffix) a ∙ ap (λ xs. xs ++ suffix) (map-append (name_meaning names) done declared)
+    ∙ append_assoc (map (name_meaning names) done) (map (name_meaning names) declared) suffix
     ∙ sym (ap (λ xs. map (name_meaning names) done ++ xs) (ap (λ xs. free_names (trees_from (map (tree_of names) xs))) l ∙ one (trees_from (map (tree_of names) later)))) ∙ e
 
 pub free_done : (names : List (List ℕ)) (whole : List syntax.Name) (done : List Name) (left : List Subtree)

@@ -99,15 +99,15 @@ token_at_mapped f tokens (form.Leaf n) = slice_get-map f tokens n
 token_at_mapped f tokens form.Parts = refl
 token_at_mapped f tokens (form.Chosen n) = refl
 
-leaf_behind : (text : List Lexeme) (nodes : List Node) (i : ℕ) (d : Node) → i < length nodes
+leaf_after : (text : List Lexeme) (nodes : List Node) (i : ℕ) (d : Node) → i < length nodes
     → first_leaf text (drop i nodes) ≡ or_else (token_at text (get_or nodes i d).form) (first_leaf text (drop (suc i) nodes))
-leaf_behind text nodes i d within = ap (first_leaf text) (drop-cons nodes i d within)
+leaf_after text nodes i d within = ap (first_leaf text) (drop-cons nodes i d within)
 
 pub leaf_here : (f : Token → Lexeme) (tokens : List Token) (nodes : List Node) (i : ℕ) (d : Node) (found : Option (Bor Token)) (token : Bor Token) (first : Option Lexeme)
     → i < length nodes → first ≡ first_leaf (map f tokens) (drop i nodes) → option_copied found ≡ token_at tokens (get_or nodes i d).form → found ≡ Some token
     → first ≡ Some (f token.now)
 leaf_here f tokens nodes i d found token first within e o is =
-    e ∙ leaf_behind (map f tokens) nodes i d within
+    e ∙ leaf_after (map f tokens) nodes i d within
     ∙ ap (λ t. or_else t (first_leaf (map f tokens) (drop (suc i) nodes))) (token_at_mapped f tokens (get_or nodes i d).form ∙ ap (option_map f) (sym o ∙ ap option_copied is))
 
 pub leaf_later : (f : Token → Lexeme) (tokens : List Token) (nodes : List Node) (i : ℕ) (d : Node) (found : Option (Bor Token)) (first : Option Lexeme)
@@ -115,6 +115,6 @@ pub leaf_later : (f : Token → Lexeme) (tokens : List Token) (nodes : List Node
     → first ≡ first_leaf (map f tokens) (drop (i + 1) nodes)
 leaf_later f tokens nodes i d found first within e o is =
     let next : suc i ≡ i + 1 = omega arith in
-    e ∙ leaf_behind (map f tokens) nodes i d within
+    e ∙ leaf_after (map f tokens) nodes i d within
     ∙ ap (λ t. or_else t (first_leaf (map f tokens) (drop (suc i) nodes))) (token_at_mapped f tokens (get_or nodes i d).form ∙ ap (option_map f) (sym o ∙ ap option_copied is))
     ∙ ap (λ k. first_leaf (map f tokens) (drop k nodes)) next

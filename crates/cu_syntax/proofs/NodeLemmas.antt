@@ -39,8 +39,8 @@ first_size (Chosen n tree) nodes others d e = rw e refl
 pub record Begin (nodes : List Node) (tree : ParseTree ℕ) (others : List Node) : Type 0 where
   pub first : (d : Node) → (slice_index_or nodes 0 d).form ≡ form_of tree
   pub number : (d : Node) → (slice_index_or nodes 0 d).size ≡ size tree
-  pub front : take (size tree) nodes ≡ spelled tree
-  pub behind : drop (size tree) nodes ≡ others
+  pub prefix : take (size tree) nodes ≡ spelled tree
+  pub suffix : drop (size tree) nodes ≡ others
   pub long : size tree ≤ length nodes
   pub some : 1 ≤ size tree
 
@@ -48,8 +48,8 @@ pub begin : (nodes : List Node) (tree : ParseTree ℕ) (others : List Node) → 
 begin nodes tree others e = record {
   first = λ d. first_form tree nodes others d e;
   number = λ d. first_size tree nodes others d e;
-  front = ap₂ (λ n xs. take n xs) (sym (length-spelled tree)) e ∙ take-append_seam (spelled tree) others;
-  behind = ap₂ (λ n xs. drop n xs) (sym (length-spelled tree)) e ∙ drop-append_seam (spelled tree) others;
+  prefix = ap₂ (λ n xs. take n xs) (sym (length-spelled tree)) e ∙ take-append_seam (spelled tree) others;
+  suffix = ap₂ (λ n xs. drop n xs) (sym (length-spelled tree)) e ∙ drop-append_seam (spelled tree) others;
   long = omega (arith, ap (λ (xs : List Node). length xs) e, length-append (spelled tree) others, length-spelled tree);
   some = size-positive tree;
 }
@@ -69,26 +69,26 @@ reads_all NoTree = refl
 reads_all (MoreTrees tree trees) = read_all-spelled tree (spelled_all trees) ∙ ap (MoreTrees tree) (reads_all trees)
 
 -- the trees behind so many
-abbrev pub behind_trees : ℕ → ParseTrees ℕ → ParseTrees ℕ
-behind_trees zero trees = trees
-behind_trees (suc n) NoTree = NoTree
-behind_trees (suc n) (MoreTrees tree trees) = behind_trees n trees
+abbrev pub after_trees : ℕ → ParseTrees ℕ → ParseTrees ℕ
+after_trees zero trees = trees
+after_trees (suc n) NoTree = NoTree
+after_trees (suc n) (MoreTrees tree trees) = after_trees n trees
 
-pub next_behind : (n : ℕ) (trees others : ParseTrees ℕ) (tree : ParseTree ℕ) → behind_trees n trees ≡ MoreTrees tree others → behind_trees (suc n) trees ≡ others
-next_behind zero trees others tree e = rw e refl
-next_behind (suc n) NoTree others tree e = absurd cc
-next_behind (suc n) (MoreTrees first trees) others tree e = next_behind n trees others tree e
+pub next_after : (n : ℕ) (trees others : ParseTrees ℕ) (tree : ParseTree ℕ) → after_trees n trees ≡ MoreTrees tree others → after_trees (suc n) trees ≡ others
+next_after zero trees others tree e = rw e refl
+next_after (suc n) NoTree others tree e = absurd cc
+next_after (suc n) (MoreTrees first trees) others tree e = next_after n trees others tree e
 
-pub one_behind : (n : ℕ) (trees others : ParseTrees ℕ) (tree : ParseTree ℕ) → behind_trees n trees ≡ MoreTrees tree others → behind_trees (n + 1) trees ≡ others
-one_behind n trees others tree e = let next : n + 1 ≡ suc n = omega arith in rw next (next_behind n trees others tree e)
+pub one_after : (n : ℕ) (trees others : ParseTrees ℕ) (tree : ParseTree ℕ) → after_trees n trees ≡ MoreTrees tree others → after_trees (n + 1) trees ≡ others
+one_after n trees others tree e = let next : n + 1 ≡ suc n = omega arith in rw next (next_after n trees others tree e)
 
-pub size_behind : (n : ℕ) (trees others : ParseTrees ℕ) (tree : ParseTree ℕ) → behind_trees n trees ≡ MoreTrees tree others → size tree ≤ sizes trees
-size_behind zero NoTree others tree e = absurd cc
-size_behind zero (MoreTrees first trees) others tree e =
+pub size_after : (n : ℕ) (trees others : ParseTrees ℕ) (tree : ParseTree ℕ) → after_trees n trees ≡ MoreTrees tree others → size tree ≤ sizes trees
+size_after zero NoTree others tree e = absurd cc
+size_after zero (MoreTrees first trees) others tree e =
     let same : first ≡ tree = cc in
     omega (arith, ap size same)
-size_behind (suc n) NoTree others tree e = absurd cc
-size_behind (suc n) (MoreTrees first trees) others tree e = omega (arith, size_behind n trees others tree e)
+size_after (suc n) NoTree others tree e = absurd cc
+size_after (suc n) (MoreTrees first trees) others tree e = omega (arith, size_after n trees others tree e)
 
 pub some_parts : (trees : ParseTrees ℕ) → spelled_all trees ≡ [] → trees ≡ NoTree
 some_parts NoTree e = refl

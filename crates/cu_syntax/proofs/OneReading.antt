@@ -7,7 +7,7 @@ use Rattle.cu_peg.specs.Parse.{ParseTree}
 use Rattle.cu_peg.proofs.OneTree.{once}
 use Rattle.cu_syntax.specs.declared.symbol.Symbol.{Symbol}
 use Rattle.cu_syntax.specs.declared.symbol.Symbol.TheVariants as symbol
-use Rattle.cu_syntax.specs.Parsing.{Fault, GoalRead, Has, HasNone, HeaderRead, ItemRead, ModuleRead, Part, PartRead, PartsRead, front, imports_behind, is_long, parts}
+use Rattle.cu_syntax.specs.Parsing.{Fault, GoalRead, Has, HasNone, HeaderRead, ItemRead, ModuleRead, Part, PartRead, PartsRead, header_and_block, imports_after, is_long, parts}
 use Rattle.cu_syntax.specs.Reading.{goal_of, header_of, import_of, item_of}
 use Rattle.cu_syntax.specs.Syntax.{Goal, Header, ImportItem, Item, Module}
 use Rattle.cu_syntax.specs.Table.{rows}
@@ -93,26 +93,26 @@ parts_once _ _ _ _ (PartsRead.item imports part others item items q r) (PartsRea
     absurd (no_fault item fault (part_once imports part (Ok item) (Err fault) q p))
 parts_once _ _ _ _ (PartsRead.item imports part others item items q r) (PartsRead.item _ _ _ another more p s) =
     let same = same_item item another (part_once imports part (Ok item) (Ok another) q p) in
-    let rest = parts_once (imports_behind imports item) others (Ok items) (Ok more) r
-    (subst (λ (i : Item). PartsRead (imports_behind imports i) others (Ok more)) (sym same) s) in
+    let rest = parts_once (imports_after imports item) others (Ok items) (Ok more) r
+    (subst (λ (i : Item). PartsRead (imports_after imports i) others (Ok more)) (sym same) s) in
     items_alike item another items more same rest
 parts_once _ _ _ _ (PartsRead.item imports part others item items q r) (PartsRead.later_fault _ _ _ another fault p s) =
     let same = same_item item another (part_once imports part (Ok item) (Ok another) q p) in
-    let rest = parts_once (imports_behind imports item) others (Ok items) (Err fault) r
-    (subst (λ (i : Item). PartsRead (imports_behind imports i) others (Err fault)) (sym same) s) in
+    let rest = parts_once (imports_after imports item) others (Ok items) (Err fault) r
+    (subst (λ (i : Item). PartsRead (imports_after imports i) others (Err fault)) (sym same) s) in
     let never : ⊥ = cc in absurd never
 parts_once _ _ _ _ (PartsRead.later_fault imports part others item fault q r) (PartsRead.empty _ _ _ other v e p) = absurd (not_empty imports part (Ok item) v e q)
 parts_once _ _ _ _ (PartsRead.later_fault imports part others item fault q r) (PartsRead.fault _ _ _ another p) =
     absurd (no_fault item another (part_once imports part (Ok item) (Err another) q p))
 parts_once _ _ _ _ (PartsRead.later_fault imports part others item fault q r) (PartsRead.item _ _ _ another items p s) =
     let same = same_item item another (part_once imports part (Ok item) (Ok another) q p) in
-    let rest = parts_once (imports_behind imports item) others (Err fault) (Ok items) r
-    (subst (λ (i : Item). PartsRead (imports_behind imports i) others (Ok items)) (sym same) s) in
+    let rest = parts_once (imports_after imports item) others (Err fault) (Ok items) r
+    (subst (λ (i : Item). PartsRead (imports_after imports i) others (Ok items)) (sym same) s) in
     let never : ⊥ = cc in absurd never
 parts_once _ _ _ _ (PartsRead.later_fault imports part others item fault q r) (PartsRead.later_fault _ _ _ another other p s) =
     let same = same_item item another (part_once imports part (Ok item) (Ok another) q p) in
-    parts_once (imports_behind imports item) others (Err fault) (Err other) r
-    (subst (λ (i : Item). PartsRead (imports_behind imports i) others (Err other)) (sym same) s)
+    parts_once (imports_after imports item) others (Err fault) (Err other) r
+    (subst (λ (i : Item). PartsRead (imports_after imports i) others (Err other)) (sym same) s)
 
 header_once : (tokens : List Lexeme) (found other : Option Header) → HeaderRead tokens found → HeaderRead tokens other → found ≡ other
 header_once _ _ _ HeaderRead.no_header HeaderRead.no_header = refl
@@ -151,25 +151,25 @@ items_same items other e = cc
 pub module_once : (tokens : List Lexeme) (outcome other : Result Module Fault) → ModuleRead tokens outcome → ModuleRead tokens other → outcome ≡ other
 module_once tokens _ _ (ModuleRead.no_block b) (ModuleRead.no_block c) = refl
 module_once tokens _ _ (ModuleRead.no_block b) (ModuleRead.wrong_header s n) = refl
-module_once tokens _ _ (ModuleRead.no_block b) (ModuleRead.wrong_item block found fault c h r) = absurd (no_such_block (front 1 tokens).block block b c)
-module_once tokens _ _ (ModuleRead.no_block b) (ModuleRead.right block found items c h r) = absurd (no_such_block (front 1 tokens).block block b c)
+module_once tokens _ _ (ModuleRead.no_block b) (ModuleRead.wrong_item block found fault c h r) = absurd (no_such_block (header_and_block 1 tokens).block block b c)
+module_once tokens _ _ (ModuleRead.no_block b) (ModuleRead.right block found items c h r) = absurd (no_such_block (header_and_block 1 tokens).block block b c)
 module_once tokens _ _ (ModuleRead.wrong_header s n) (ModuleRead.no_block c) = refl
 module_once tokens _ _ (ModuleRead.wrong_header s n) (ModuleRead.wrong_header t m) = refl
-module_once tokens _ _ (ModuleRead.wrong_header s n) (ModuleRead.wrong_item block found fault c h r) = absurd (no_wrong_header (front 1 tokens).header found s n h)
-module_once tokens _ _ (ModuleRead.wrong_header s n) (ModuleRead.right block found items c h r) = absurd (no_wrong_header (front 1 tokens).header found s n h)
-module_once tokens _ _ (ModuleRead.wrong_item block found fault b h r) (ModuleRead.no_block c) = absurd (no_such_block (front 1 tokens).block block c b)
-module_once tokens _ _ (ModuleRead.wrong_item block found fault b h r) (ModuleRead.wrong_header s n) = absurd (no_wrong_header (front 1 tokens).header found s n h)
+module_once tokens _ _ (ModuleRead.wrong_header s n) (ModuleRead.wrong_item block found fault c h r) = absurd (no_wrong_header (header_and_block 1 tokens).header found s n h)
+module_once tokens _ _ (ModuleRead.wrong_header s n) (ModuleRead.right block found items c h r) = absurd (no_wrong_header (header_and_block 1 tokens).header found s n h)
+module_once tokens _ _ (ModuleRead.wrong_item block found fault b h r) (ModuleRead.no_block c) = absurd (no_such_block (header_and_block 1 tokens).block block c b)
+module_once tokens _ _ (ModuleRead.wrong_item block found fault b h r) (ModuleRead.wrong_header s n) = absurd (no_wrong_header (header_and_block 1 tokens).header found s n h)
 module_once tokens _ _ (ModuleRead.wrong_item block found fault b h r) (ModuleRead.wrong_item another header other c k q) =
-    faults_alike fault other (blocks_once (front 1 tokens).last (front 1 tokens).block block another (Err fault) (Err other) b c r q)
+    faults_alike fault other (blocks_once (header_and_block 1 tokens).last (header_and_block 1 tokens).block block another (Err fault) (Err other) b c r q)
 module_once tokens _ _ (ModuleRead.wrong_item block found fault b h r) (ModuleRead.right another header items c k q) =
-    absurd (never_both items fault (blocks_once (front 1 tokens).last (front 1 tokens).block another block (Ok items) (Err fault) c b q r))
-module_once tokens _ _ (ModuleRead.right block found items b h r) (ModuleRead.no_block c) = absurd (no_such_block (front 1 tokens).block block c b)
-module_once tokens _ _ (ModuleRead.right block found items b h r) (ModuleRead.wrong_header s n) = absurd (no_wrong_header (front 1 tokens).header found s n h)
+    absurd (never_both items fault (blocks_once (header_and_block 1 tokens).last (header_and_block 1 tokens).block another block (Ok items) (Err fault) c b q r))
+module_once tokens _ _ (ModuleRead.right block found items b h r) (ModuleRead.no_block c) = absurd (no_such_block (header_and_block 1 tokens).block block c b)
+module_once tokens _ _ (ModuleRead.right block found items b h r) (ModuleRead.wrong_header s n) = absurd (no_wrong_header (header_and_block 1 tokens).header found s n h)
 module_once tokens _ _ (ModuleRead.right block found items b h r) (ModuleRead.wrong_item another header fault c k q) =
-    absurd (never_both items fault (blocks_once (front 1 tokens).last (front 1 tokens).block block another (Ok items) (Err fault) b c r q))
+    absurd (never_both items fault (blocks_once (header_and_block 1 tokens).last (header_and_block 1 tokens).block block another (Ok items) (Err fault) b c r q))
 module_once tokens _ _ (ModuleRead.right block found items b h r) (ModuleRead.right another header more c k q) =
-    ap₂ (λ f xs. Ok (module_of f xs)) (header_once (front 1 tokens).header found header h k)
-    (items_same items more (blocks_once (front 1 tokens).last (front 1 tokens).block block another (Ok items) (Ok more) b c r q))
+    ap₂ (λ f xs. Ok (module_of f xs)) (header_once (header_and_block 1 tokens).header found header h k)
+    (items_same items more (blocks_once (header_and_block 1 tokens).last (header_and_block 1 tokens).block block another (Ok items) (Ok more) b c r q))
 
 pub goal_once : (tokens : List Lexeme) (outcome other : Result Goal Fault) → GoalRead tokens outcome → GoalRead tokens other → outcome ≡ other
 goal_once tokens _ _ (GoalRead.too_long h) (GoalRead.too_long k) = refl

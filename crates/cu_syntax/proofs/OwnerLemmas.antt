@@ -76,5 +76,5 @@ pub same_found : {X : Type 0} (P : X → Type 0) (found whole : Option X) → fo
 same_found {X = X} P found whole e h = subst (λ (o : Option X). IfSome o P) (sym e) h
 
 -- what stands behind a place
-pub all_behind : {X : Type 0} (P : X → Type 0) (xs later : List X) (n : ℕ) → later ≡ drop n xs → All P xs → All P later
-all_behind P xs later n e h = subst (All P) (sym e) (All-drop P n xs h)
+pub all_after : {X : Type 0} (P : X → Type 0) (xs later : List X) (n : ℕ) → later ≡ drop n xs → All P xs → All P later
+all_after P xs later n e h = subst (All P) (sym e) (All-drop P n xs h)

@@ -22,14 +22,14 @@ use Rattle.cu_syntax.specs.declared.text.Parsed.{Parsed}
 use Rattle.cu_syntax.specs.Answer.{Adds, FoundPart, IsNoItem, Tells, item_meaning, item_read, items_meaning, part_with, tree_of}
 use Rattle.cu_syntax.specs.Fits.{fits}
 use Rattle.cu_syntax.specs.ItemSymbols.{is_import, is_item}
-use Rattle.cu_syntax.specs.Parsing.{Fault, GoalRead, Has, HasNone, HeaderRead, ItemRead, Part, PartRead, PartsRead, Syntax, TooLong, behind, first_line, imports_behind, is_long, parts}
+use Rattle.cu_syntax.specs.Parsing.{Fault, GoalRead, Has, HasNone, HeaderRead, ItemRead, Part, PartRead, PartsRead, Syntax, TooLong, part_after_block, first_line, imports_after, is_long, parts}
 use Rattle.cu_syntax.specs.Reading.{Tree, header_of, item_as, item_of}
 use Rattle.cu_syntax.specs.Scanning.{part_end}
 use Rattle.cu_syntax.specs.Subtrees.{over}
 use Rattle.cu_syntax.specs.Syntax.{Item}
 use Rattle.cu_syntax.specs.Table.{alternative, number, rows}
 use Rattle.cu_syntax.proofs.FitsLaw.{fits_match, over_is}
-use Rattle.cu_syntax.proofs.SplitLemmas.{behind_part, lexemes, parts_close, parts_separator}
+use Rattle.cu_syntax.proofs.SplitLemmas.{after_part, lexemes, parts_close, parts_separator}
 
 pub no_tokens : (names : List (List ℕ)) (tokens : List Token) → tokens ≡ [] → map (lexeme_of names) tokens ≡ []
 no_tokens names tokens e = ap (map (lexeme_of names)) e
@@ -68,36 +68,36 @@ tells_more P Q (answer.Syntax line) go h = go (Syntax line) h
 tells_more P Q (answer.TooLong line) go h = go (TooLong line) h
 tells_more P Q answer.NoMemory go h = h
 
-pub behind_block : (imports : Bool) (last : ℕ) (tokens : List Lexeme) (fault : Fault) → ¬ (tokens ≡ []) → PartRead imports (part_with false last tokens) (Err fault)
-    → PartsRead imports (behind last tokens) (Err fault)
-behind_block imports last [] fault s h = absurd (s refl)
-behind_block imports last (t ∷ tokens) fault s h = PartsRead.fault imports (part_with false last (t ∷ tokens)) [] fault h
+pub after_block : (imports : Bool) (last : ℕ) (tokens : List Lexeme) (fault : Fault) → ¬ (tokens ≡ []) → PartRead imports (part_with false last tokens) (Err fault)
+    → PartsRead imports (part_after_block last tokens) (Err fault)
+after_block imports last [] fault s h = absurd (s refl)
+after_block imports last (t ∷ tokens) fault s h = PartsRead.fault imports (part_with false last (t ∷ tokens)) [] fault h
 
 -- Items that were found, and then what the parts behind are read as
 
-abbrev pub behind_items : List Item → Result (List Item) Fault → Result (List Item) Fault
-behind_items done (Ok items) = Ok (done ++ items)
-behind_items done (Err fault) = Err fault
+abbrev pub after_items : List Item → Result (List Item) Fault → Result (List Item) Fault
+after_items done (Ok items) = Ok (done ++ items)
+after_items done (Err fault) = Err fault
 
 abbrev pub Reads : Bool → List Part → List Item → List Part → Type 0
-Reads imports all done left = (outcome : Result (List Item) Fault) → PartsRead imports left outcome → PartsRead true all (behind_items done outcome)
+Reads imports all done left = (outcome : Result (List Item) Fault) → PartsRead imports left outcome → PartsRead true all (after_items done outcome)
 
 one_item : (names : List (List ℕ)) (before : List text.Item) (found : text.Item) (items : List Item)
     → items_meaning names before ++ item_meaning names found ∷ items ≡ items_meaning names (before ++ found ∷ []) ++ items
 one_item names [] found items = refl
 one_item names (x ∷ before) found items = ap (λ xs. item_meaning names x ∷ xs) (one_item names before found items)
 
-abbrev outcome_behind : Item → Result (List Item) Fault → Result (List Item) Fault
-outcome_behind item (Ok items) = Ok (item ∷ items)
-outcome_behind item (Err fault) = Err fault
+abbrev outcome_after : Item → Result (List Item) Fault → Result (List Item) Fault
+outcome_after item (Ok items) = Ok (item ∷ items)
+outcome_after item (Err fault) = Err fault
 
 then_parts : (imports : Bool) (part : Part) (others : List Part) (item : Item) (outcome : Result (List Item) Fault) → PartRead imports part (Ok item)
-    → PartsRead (imports_behind imports item) others outcome → PartsRead imports (part ∷ others) (outcome_behind item outcome)
+    → PartsRead (imports_after imports item) others outcome → PartsRead imports (part ∷ others) (outcome_after item outcome)
 then_parts imports part others item (Ok items) h k = PartsRead.item imports part others item items h k
 then_parts imports part others item (Err fault) h k = PartsRead.later_fault imports part others item fault h k
 
 joined : (names : List (List ℕ)) (before : List text.Item) (found : text.Item) (outcome : Result (List Item) Fault)
-    → behind_items (items_meaning names before) (outcome_behind (item_meaning names found) outcome) ≡ behind_items (items_meaning names (before ++ found ∷ [])) outcome
+    → after_items (items_meaning names before) (outcome_after (item_meaning names found) outcome) ≡ after_items (items_meaning names (before ++ found ∷ [])) outcome
 joined names before found (Ok items) = ap Ok (one_item names before found items)
 joined names before found (Err fault) = refl
 
@@ -106,43 +106,43 @@ pub one_part : (names : List (List ℕ)) (imports next : Bool) (all : List Part)
     → part.whole ≡ true → FoundPart names imports part found → Adds names imports before after found next
     → Reads imports all (items_meaning names before) (part ∷ others) → Reads next all (items_meaning names after) others
 one_part names imports next all part others before after None w f a k = λ outcome r.
-    subst (λ (xs : List text.Item). PartsRead true all (behind_items (items_meaning names xs) outcome)) (sym a.0)
+    subst (λ (xs : List text.Item). PartsRead true all (after_items (items_meaning names xs) outcome)) (sym a.0)
     (k outcome (PartsRead.empty imports part others outcome w f (subst (λ (b : Bool). PartsRead b others outcome) a.1 r)))
 one_part names imports next all part others before after (Some found) w f a k = λ outcome r.
-    subst (λ (xs : List text.Item). PartsRead true all (behind_items (items_meaning names xs) outcome)) (sym a.0)
+    subst (λ (xs : List text.Item). PartsRead true all (after_items (items_meaning names xs) outcome)) (sym a.0)
     (subst (PartsRead true all) (joined names before found outcome)
-    (k (outcome_behind (item_meaning names found) outcome)
+    (k (outcome_after (item_meaning names found) outcome)
     (then_parts imports part others (item_meaning names found) outcome f (subst (λ (b : Bool). PartsRead b others outcome) a.1 r))))
 
 -- a part that ends at a semicolon was read
 pub separated : (names : List (List ℕ)) (imports next : Bool) (all : List Part) (last line n : ℕ) (left rest : List Token) (before after : List text.Item) (found : Option text.Item)
     → part_end 0 (lexemes names left) ≡ end.Separator n → FoundPart names imports (part_with true last (lexemes names (take n left))) found
-    → Adds names imports before after found next → line ≡ behind_part names last n left → rest ≡ drop (n + 1) left
+    → Adds names imports before after found next → line ≡ after_part names last n left → rest ≡ drop (n + 1) left
     → Reads imports all (items_meaning names before) (parts last (lexemes names left)) → Reads next all (items_meaning names after) (parts line (lexemes names rest))
 separated names imports next all last line n left rest before after found e f a l d k =
     subst (λ (m : ℕ). Reads next all (items_meaning names after) (parts m (lexemes names rest))) (sym l)
-    (subst (λ (ts : List Token). Reads next all (items_meaning names after) (parts (behind_part names last n left) (lexemes names ts))) (sym d)
-    (one_part names imports next all (part_with true last (lexemes names (take n left))) (parts (behind_part names last n left) (lexemes names (drop (n + 1) left))) before after found refl f a
+    (subst (λ (ts : List Token). Reads next all (items_meaning names after) (parts (after_part names last n left) (lexemes names ts))) (sym d)
+    (one_part names imports next all (part_with true last (lexemes names (take n left))) (parts (after_part names last n left) (lexemes names (drop (n + 1) left))) before after found refl f a
     (subst (Reads imports all (items_meaning names before)) (parts_separator names last n left e) k)))
 
 -- the last part of a block was read
 pub closed : (names : List (List ℕ)) (imports next : Bool) (all : List Part) (last line n : ℕ) (left rest : List Token) (before after : List text.Item) (found : Option text.Item)
     → part_end 0 (lexemes names left) ≡ end.Close n → FoundPart names imports (part_with true last (lexemes names (take n left))) found
-    → Adds names imports before after found next → line ≡ behind_part names last n left → rest ≡ drop (n + 1) left
+    → Adds names imports before after found next → line ≡ after_part names last n left → rest ≡ drop (n + 1) left
     → Reads imports all (items_meaning names before) (parts last (lexemes names left))
-    → Reads next all (items_meaning names after) (behind line (lexemes names rest))
+    → Reads next all (items_meaning names after) (part_after_block line (lexemes names rest))
 closed names imports next all last line n left rest before after found e f a l d k =
-    subst (λ (m : ℕ). Reads next all (items_meaning names after) (behind m (lexemes names rest))) (sym l)
-    (subst (λ (ts : List Token). Reads next all (items_meaning names after) (behind (behind_part names last n left) (lexemes names ts))) (sym d)
-    (one_part names imports next all (part_with true last (lexemes names (take n left))) (behind (behind_part names last n left) (lexemes names (drop (n + 1) left))) before after found refl f a
+    subst (λ (m : ℕ). Reads next all (items_meaning names after) (part_after_block m (lexemes names rest))) (sym l)
+    (subst (λ (ts : List Token). Reads next all (items_meaning names after) (part_after_block (after_part names last n left) (lexemes names ts))) (sym d)
+    (one_part names imports next all (part_with true last (lexemes names (take n left))) (part_after_block (after_part names last n left) (lexemes names (drop (n + 1) left))) before after found refl f a
     (subst (Reads imports all (items_meaning names before)) (parts_close names last n left e) k)))
 
 -- nothing stands behind the block
-pub all_items : (next : Bool) (all : List Part) (done : List Item) (line : ℕ) (tokens : List Lexeme) → tokens ≡ [] → Reads next all done (behind line tokens)
+pub all_items : (next : Bool) (all : List Part) (done : List Item) (line : ℕ) (tokens : List Lexeme) → tokens ≡ [] → Reads next all done (part_after_block line tokens)
     → PartsRead true all (Ok done)
 all_items next all done line tokens e k =
     subst (λ (xs : List Item). PartsRead true all (Ok xs)) (append-nil done)
-    (k (Ok []) (subst (λ (ts : List Lexeme). PartsRead next (behind line ts) (Ok [])) (sym e) (PartsRead.no_part next)))
+    (k (Ok []) (subst (λ (ts : List Lexeme). PartsRead next (part_after_block line ts) (Ok [])) (sym e) (PartsRead.no_part next)))
 
 -- the fault of what is left is that of all
 pub fault_left : (imports : Bool) (all left : List Part) (done : List Item) (answered : ParseFault) → Reads imports all done left
@@ -200,13 +200,13 @@ import_asked imports tokens (Ok None) h = λ e. h
 import_asked imports tokens (Err error) h = h
 
 -- at the start
-at_start : (all : List Part) (outcome : Result (List Item) Fault) → PartsRead true all outcome → PartsRead true all (behind_items [] outcome)
+at_start : (all : List Part) (outcome : Result (List Item) Fault) → PartsRead true all outcome → PartsRead true all (after_items [] outcome)
 at_start all (Ok items) r = r
 at_start all (Err fault) r = r
 
 pub first_reads : (names : List (List ℕ)) (all : List Part) (items : List text.Item) → items ≡ [] → Reads true all (items_meaning names items) all
 first_reads names all items e = λ outcome r.
-    subst (λ (xs : List text.Item). PartsRead true all (behind_items (items_meaning names xs) outcome)) (sym e) (at_start all outcome r)
+    subst (λ (xs : List text.Item). PartsRead true all (after_items (items_meaning names xs) outcome)) (sym e) (at_start all outcome r)
 
 -- Goals
 
@@ -228,13 +228,13 @@ pub declaration_read : (names : List (List ℕ)) (imports : Bool) (tokens : List
 declaration_read names imports tokens found s h =
     subst (λ (t : Symbol). ItemRead imports tokens (item_read t (tree_of names found))) (sym s) (ItemRead.declaration (tree_of names found) h)
 
-no_import_as : (imports : Bool) (s : Symbol) (tree : Tree) → imports_behind imports (item_as s tree) ≡ false
+no_import_as : (imports : Bool) (s : Symbol) (tree : Tree) → imports_after imports (item_as s tree) ≡ false
 no_import_as imports symbol.FixityDecl (Parts (MoreTrees word (MoreTrees level (MoreTrees names NoTree)))) = refl
 no_import_as imports symbol.DataDecl (Parts (MoreTrees word (MoreTrees name (MoreTrees parameters (MoreTrees constructors NoTree))))) = refl
 no_import_as imports symbol.SynonymDecl (Parts (MoreTrees word (MoreTrees name (MoreTrees parameters (MoreTrees equals (MoreTrees term NoTree)))))) = refl
 no_import_as imports s tree = refl
 
-no_import : (imports : Bool) (tree : Tree) → imports_behind imports (item_of tree) ≡ false
+no_import : (imports : Bool) (tree : Tree) → imports_after imports (item_of tree) ≡ false
 no_import imports (Chosen n tree) = no_import_as imports (alternative symbol.Item n) tree
 no_import imports (Leaf x) = refl
 no_import imports (Parts trees) = refl
@@ -248,10 +248,10 @@ and_false true = refl
 and_false false = refl
 
 -- whether an import may stand behind an item
-pub behind_item : (imports : Bool) (s : Symbol) (tree : Tree) → is_item s ≡ true → (imports && is_import s) ≡ imports_behind imports (item_read s tree)
-behind_item imports symbol.ImportDecl tree h = and_true imports
-behind_item imports symbol.Item tree h = and_false imports ∙ sym (no_import imports tree)
-behind_item imports s tree h = absurd (true≢false (sym h))
+pub after_item : (imports : Bool) (s : Symbol) (tree : Tree) → is_item s ≡ true → (imports && is_import s) ≡ imports_after imports (item_read s tree)
+after_item imports symbol.ImportDecl tree h = and_true imports
+after_item imports symbol.Item tree h = and_false imports ∙ sym (no_import imports tree)
+after_item imports s tree h = absurd (true≢false (sym h))
 
 -- the tree that matching gives
 

@@ -11,7 +11,7 @@ use Rattle.cu_lex.specs.Located.{Located, Position, first_position, located, loc
 use Rattle.cu_lex.specs.Munch.{Classes, Cut, Pieces, Placed, cut_all, cut_within, longest, pieces_from}
 use Rattle.cu_lex.specs.Pieces.{Piece, piece}
 use Rattle.cu_lex.specs.Pieces.Piece.{Blank, Token, OutOfRange}
-use Rattle.cu_lex.specs.Tokens.{Fault, Lexeme, lexemes, lexemes_of, most_bytes, tokens, with_lexeme}
+use Rattle.cu_lex.specs.Tokens.{Fault, Lexeme, lexemes, lexemes_of, max_text_bytes, tokens, with_lexeme}
 use Rattle.cu_lex.specs.Tokens.Fault.{NotUtf8, SourceTooBig}
 use Rattle.cu_lex.proofs.MunchLemmas.{longest-is}
 use Rattle.cu_syntax.specs.Law.{IsBefore, Rise}
@@ -36,32 +36,32 @@ after_before : (c : ℕ) (p : Position) → IsBefore p (position_after c p)
 after_before c p = moves_on (c == byte "\n") (c == byte "\t") p
 
 -- what is left of a text behind a front of it
-record Behind (p : Position) (rest : List Located) : Type 0 where
+record RightBody (p : Position) (rest : List Located) : Type 0 where
   at : Position
   chars : List ℕ
   is : rest ≡ located_from at chars
   later : IsBefore p at
 
-behind : (p : Position) (cs : List ℕ) (l : Located) (front rest : List Located) → l ∷ front ++ rest ≡ located_from p cs → Behind p rest
+suffix : (p : Position) (cs : List ℕ) (l : Located) (prefix rest : List Located) → l ∷ prefix ++ rest ≡ located_from p cs → RightBody p rest
 unfolding located_from
-behind p [] l front rest e = let no : ⊥ = cc in absurd no
-behind p (c ∷ cs) l [] rest e = record { at = position_after c p; chars = cs; is = cc; later = after_before c p }
-behind p (c ∷ cs) l (m ∷ front) rest e =
-    let left : m ∷ front ++ rest ≡ located_from (position_after c p) cs = cc in
-    let b = behind (position_after c p) cs m front rest left in
+suffix p [] l prefix rest e = let no : ⊥ = cc in absurd no
+suffix p (c ∷ cs) l [] rest e = record { at = position_after c p; chars = cs; is = cc; later = after_before c p }
+suffix p (c ∷ cs) l (m ∷ prefix) rest e =
+    let left : m ∷ prefix ++ rest ≡ located_from (position_after c p) cs = cc in
+    let b = suffix (position_after c p) cs m prefix rest left in
     record { at = b.at; chars = b.chars; is = b.is; later = before_before p (position_after c p) b.at (after_before c p) b.later }
 
-rest_behind : (p : Position) (cs : List ℕ) (front rest : List Located) → 0 < length front → front ++ rest ≡ located_from p cs → Behind p rest
-rest_behind p cs [] rest some e = absurd (omega (arith, some))
-rest_behind p cs (l ∷ front) rest some e = behind p cs l front rest e
+rest_after : (p : Position) (cs : List ℕ) (prefix rest : List Located) → 0 < length prefix → prefix ++ rest ≡ located_from p cs → RightBody p rest
+rest_after p cs [] rest some e = absurd (omega (arith, some))
+rest_after p cs (l ∷ prefix) rest some e = suffix p cs l prefix rest e
 
 -- pieces
 
 abbrev StandsFrom : {X : Type 0} → Position → Placed X → Type 0
 StandsFrom p x = (p ≡ x.at) ⊎ IsBefore p x.at
 
-abbrev StandsBehind : {X : Type 0} → Position → Placed X → Type 0
-StandsBehind p x = IsBefore p x.at
+abbrev StandsAfter : {X : Type 0} → Position → Placed X → Type 0
+StandsAfter p x = IsBefore p x.at
 
 record Rising {X : Type 0} (p : Position) (xs : List (Placed X)) : Type 0 where
   from : All (StandsFrom p) xs
@@ -70,22 +70,22 @@ record Rising {X : Type 0} (p : Position) (xs : List (Placed X)) : Type 0 where
 nothing : {X : Type 0} (p : Position) → Rising {X = X} p []
 nothing {X} p = record { from = All-nil (StandsFrom {X = X} p); rise = tt }
 
-from_behind : (p q r : Position) → IsBefore p q → (q ≡ r) ⊎ IsBefore q r → IsBefore p r
-from_behind p q r h (inl e) = subst (IsBefore p) e h
-from_behind p q r h (inr b) = before_before p q r h b
+from_after : (p q r : Position) → IsBefore p q → (q ≡ r) ⊎ IsBefore q r → IsBefore p r
+from_after p q r h (inl e) = subst (IsBefore p) e h
+from_after p q r h (inr b) = before_before p q r h b
 
-all_behind : {X : Type 0} (p q : Position) (xs : List (Placed X)) → IsBefore p q → All (StandsFrom q) xs → All (StandsBehind p) xs
-all_behind p q [] h from = All-nil (StandsBehind p)
-all_behind p q (x ∷ xs) h from =
-    All-cons (StandsBehind p) x xs (from_behind p q x.at h (All-head (StandsFrom q) x xs from)) (all_behind p q xs h (All-tail (StandsFrom q) x xs from))
+all_after : {X : Type 0} (p q : Position) (xs : List (Placed X)) → IsBefore p q → All (StandsFrom q) xs → All (StandsAfter p) xs
+all_after p q [] h from = All-nil (StandsAfter p)
+all_after p q (x ∷ xs) h from =
+    All-cons (StandsAfter p) x xs (from_after p q x.at h (All-head (StandsFrom q) x xs from)) (all_after p q xs h (All-tail (StandsFrom q) x xs from))
 
-all_from : {X : Type 0} (p : Position) (xs : List (Placed X)) → All (StandsBehind p) xs → All (StandsFrom p) xs
+all_from : {X : Type 0} (p : Position) (xs : List (Placed X)) → All (StandsAfter p) xs → All (StandsFrom p) xs
 all_from p [] h = All-nil (StandsFrom p)
-all_from p (x ∷ xs) h = All-cons (StandsFrom p) x xs (inr (All-head (StandsBehind p) x xs h)) (all_from p xs (All-tail (StandsBehind p) x xs h))
+all_from p (x ∷ xs) h = All-cons (StandsFrom p) x xs (inr (All-head (StandsAfter p) x xs h)) (all_from p xs (All-tail (StandsAfter p) x xs h))
 
 one_more : {X : Type 0} (p q : Position) (what : X) (xs : List (Placed X)) → IsBefore p q → Rising q xs → Rising p (record { what = what; at = p } ∷ xs)
 one_more p q what xs h more =
-    let later = all_behind p q xs h more.from in
+    let later = all_after p q xs h more.from in
     record { from = All-cons (StandsFrom p) (record { what = what; at = p }) xs (inl refl) (all_from p xs later); rise = (later, more.rise) }
 
 abbrev first_of : ℕ → Position → Located
@@ -97,7 +97,7 @@ piece_rises : {X : Type 0} (classes : Classes X) (further : List Located → Pie
 piece_rises classes further p c cs None e rises = nothing p
 piece_rises classes further p c cs (Some cut) e rises =
     let is = longest-is classes (located_from p (c ∷ cs)) cut e in
-    let b = rest_behind p (c ∷ cs) cut.front cut.rest is.some is.whole in
+    let b = rest_after p (c ∷ cs) cut.prefix cut.rest is.some is.whole in
     one_more p b.at cut.what (further cut.rest).pieces b.later (subst (λ t. Rising b.at (further t).pieces) (sym b.is) (rises b.at b.chars))
 
 pieces_rise : {X : Type 0} (classes : Classes X) (n : ℕ) (p : Position) (cs : List ℕ) → Rising p (cut_within classes n (located_from p cs)).pieces
@@ -127,7 +127,7 @@ kept P [] (c ∷ left) found h e = let no : ⊥ = cc in absurd no
 kept P (p ∷ pieces) left found h e =
     kept_one P p.what p.at (lexemes_of pieces left) found (All-head (λ x. P x.at) p pieces h) (λ more is. kept P pieces left more (All-tail (λ x. P x.at) p pieces h) is) e
 
-rise_one : (what : Piece) (at : Position) (r : Result (List Lexeme) Fault) (found : List Lexeme) → ((more : List Lexeme) → r ≡ Ok more → All (StandsBehind at) more)
+rise_one : (what : Piece) (at : Position) (r : Result (List Lexeme) Fault) (found : List Lexeme) → ((more : List Lexeme) → r ≡ Ok more → All (StandsAfter at) more)
     → ((more : List Lexeme) → r ≡ Ok more → Rise more) → with_lexeme what at r ≡ Ok found → Rise found
 rise_one Blank at r found later rise e = rise found e
 rise_one (Token kind) at (Ok more) found later rise e =
@@ -157,4 +157,4 @@ within false false read offset found e = let no : ⊥ = cc in absurd no
 pub places_rise : (bytes : List ℕ) (found : List Lexeme) → tokens bytes ≡ Ok found → Rise found
 unfolding tokens
 places_rise bytes found e =
-    text_rises (chars bytes) found (within (nat_lt most_bytes (length bytes)) (is_utf8 bytes) (lexemes (located (chars bytes))) (fault_offset bytes) found e)
+    text_rises (chars bytes) found (within (nat_lt max_text_bytes (length bytes)) (is_utf8 bytes) (lexemes (located (chars bytes))) (fault_offset bytes) found e)

@@ -68,7 +68,7 @@ repeated_have (NotAhead q) p trees e h = absurd cc
 pub record Repeats (s p : Symbol) (text : List Lexeme) (nodes left : List Node) : Type 0 where
   pub is : over text (read nodes) ≡ Parts (all_over text (parts_in (read nodes)))
   pub have : have_parts (Many p) (all_over text (parts_in (read nodes))) ≡ true
-  pub back : read_all left ≡ parts_in (read nodes)
+  pub restored : read_all left ≡ parts_in (read nodes)
   pub spelled : spelled_all (read_all left) ≡ left
   pub smaller : length left < length nodes
 
@@ -77,12 +77,12 @@ pub repeats : (s p : Symbol) (text : List Lexeme) (nodes left : List Node) → r
 repeats s p text nodes left e n f l =
     let r = part_repeated (rule_of s) p e in
     let h = parts_by s (rule_of s) text (read nodes) refl (repeated_no_leaf (rule_of s) r) (repeated_no_choice (rule_of s) r) f in
-    let back = ap read_all l ∙ reads_all (parts_in (read nodes)) in
+    let restored = ap read_all l ∙ reads_all (parts_in (read nodes)) in
     record {
       is = h.is;
       have = repeated_have (rule_of s) p (all_over text (parts_in (read nodes))) e h.have;
-      back = back;
-      spelled = ap spelled_all back ∙ sym l;
+      restored = restored;
+      spelled = ap spelled_all restored ∙ sym l;
       smaller = smaller_left nodes left n l;
     }
 
@@ -104,7 +104,7 @@ pub single_found : (s p : Symbol) (text : List Lexeme) (nodes left others : List
     → OneTree text nodes left p
 single_found s p text nodes left others e n f l some b none =
     let h = repeats s p text nodes left e n f l in
-    single_in text nodes left others p (parts_in (read nodes)) refl n l h.is h.have some (b ∙ ap (λ trees. spelled_all (others_of trees)) h.back) none
+    single_in text nodes left others p (parts_in (read nodes)) refl n l h.is h.have some (b ∙ ap (λ trees. spelled_all (others_of trees)) h.restored) none
 
 several_in : (text : List Lexeme) (others : List Node) (trees : ParseTrees ℕ) → others ≡ spelled_all (others_of trees) → ¬ (others ≡ []) → is_single (Parts (all_over text trees)) ≡ false
 several_in text others NoTree b some = refl
@@ -116,7 +116,7 @@ pub several : (s p : Symbol) (text : List Lexeme) (nodes left others : List Node
     → is_single (over text (read nodes)) ≡ false
 several s p text nodes left others e n f l b some =
     let h = repeats s p text nodes left e n f l in
-    ap is_single h.is ∙ several_in text others (parts_in (read nodes)) (b ∙ ap (λ trees. spelled_all (others_of trees)) h.back) some
+    ap is_single h.is ∙ several_in text others (parts_in (read nodes)) (b ∙ ap (λ trees. spelled_all (others_of trees)) h.restored) some
 
 -- whether there is a part
 
@@ -177,9 +177,9 @@ count_step (MoreTrees tree trees) some = refl
 pub some_trees : (left : List Node) → ¬ (left ≡ []) → spelled_all (read_all left) ≡ left → read_all left ≡ NoTree → ⊥
 some_trees left some e none = some (sym e ∙ ap spelled_all none)
 
-pub count_behind : (left others : List Node) → ¬ (left ≡ []) → spelled_all (read_all left) ≡ left → others ≡ spelled_all (others_of (read_all left))
+pub count_after : (left others : List Node) → ¬ (left ≡ []) → spelled_all (read_all left) ≡ left → others ≡ spelled_all (others_of (read_all left))
     → count_trees (read_all left) ≡ count_trees (read_all others) + 1
-count_behind left others some e b =
+count_after left others some e b =
     count_step (read_all left) (some_trees left some e) ∙ ap (λ trees. count_trees trees + 1) (sym (ap read_all b ∙ reads_all (others_of (read_all left))))
 
 -- trees before others
@@ -204,7 +204,7 @@ pub collects_none : (s p : Symbol) (text : List Lexeme) (nodes left : List Node)
     → fits s (over text (read nodes)) ≡ true → left ≡ spelled_all (parts_in (read nodes)) → Collects p text (over text (read nodes)) [] left
 collects_none s p text nodes left e n f l =
     let h = repeats s p text nodes left e n f l in
-    record { have = ap (λ trees. have_parts (Many p) (all_over text trees)) h.back ∙ h.have; is = h.is ∙ ap (λ trees. Parts (all_over text trees)) (sym h.back) }
+    record { have = ap (λ trees. have_parts (Many p) (all_over text trees)) h.restored ∙ h.have; is = h.is ∙ ap (λ trees. Parts (all_over text trees)) (sym h.restored) }
 
 -- The first tree of what is left, and what is left behind it.
 pub record Collected (p : Symbol) (text : List Lexeme) (tree : Tree) (found : List Tree) (first others : List Node) : Type 0 where
@@ -217,15 +217,15 @@ collected_in : (p : Symbol) (text : List Lexeme) (tree : Tree) (found : List Tre
     → have_parts (Many p) (all_over text trees) ≡ true → tree ≡ Parts (joined found (all_over text trees)) → Collected p text tree found first others
 collected_in p text tree found left first others NoTree r some f b h t = absurd (some refl)
 collected_in p text tree found left first others (MoreTrees x trees) r some f b h t =
-    let back = reads first x f in
-    let behind : read_all others ≡ trees = ap read_all b ∙ reads_all trees in
+    let restored = reads first x f in
+    let after : read_all others ≡ trees = ap read_all b ∙ reads_all trees in
     let both = and_parts (fits p (over text x)) (have_parts (Many p) (all_over text trees)) h in
     record {
       spelled = spells first x f;
-      fit = ap (λ t. fits p (over text t)) back ∙ both.0;
+      fit = ap (λ t. fits p (over text t)) restored ∙ both.0;
       next = record {
-        have = ap (λ ts. have_parts (Many p) (all_over text ts)) behind ∙ both.1;
-        is = t ∙ ap Parts (sym (joined_push found (over text x) (all_over text trees)) ∙ ap₂ (λ y ys. joined (found ++ over text y ∷ []) (all_over text ys)) (sym back) (sym behind));
+        have = ap (λ ts. have_parts (Many p) (all_over text ts)) after ∙ both.1;
+        is = t ∙ ap Parts (sym (joined_push found (over text x) (all_over text trees)) ∙ ap₂ (λ y ys. joined (found ++ over text y ∷ []) (all_over text ys)) (sym restored) (sym after));
       };
     }
 

@@ -37,29 +37,29 @@ abbrev pub all_of : {X Y : Type 0} → (X → List Y) → List X → List Y
 all_of g [] = []
 all_of g (x ∷ xs) = g x ++ all_of g xs
 
-get_front : {Y : Type 0} (ys zs : List Y) (n : ℕ) (y : Y) → slice_get (ys ++ zs) n ≡ Some y → n < length ys → slice_get ys n ≡ Some y
-get_front [] zs n y e within = absurd (omega (arith, within))
-get_front (x ∷ ys) zs zero y e within = e
-get_front (x ∷ ys) zs (suc n) y e within = get_front ys zs n y e (omega (arith, within))
+get_prefix : {Y : Type 0} (ys zs : List Y) (n : ℕ) (y : Y) → slice_get (ys ++ zs) n ≡ Some y → n < length ys → slice_get ys n ≡ Some y
+get_prefix [] zs n y e within = absurd (omega (arith, within))
+get_prefix (x ∷ ys) zs zero y e within = e
+get_prefix (x ∷ ys) zs (suc n) y e within = get_prefix ys zs n y e (omega (arith, within))
 
-get_behind : {Y : Type 0} (ys zs : List Y) (n : ℕ) (y : Y) → slice_get (ys ++ zs) n ≡ Some y → length ys ≤ n → slice_get zs (n - length ys) ≡ Some y
-get_behind [] zs n y e past = let same : n ≡ n - 0 = omega arith in subst (λ k. slice_get zs k ≡ Some y) same e
-get_behind (x ∷ ys) zs zero y e past = absurd (omega (arith, past))
-get_behind (x ∷ ys) zs (suc n) y e past =
+get_suffix : {Y : Type 0} (ys zs : List Y) (n : ℕ) (y : Y) → slice_get (ys ++ zs) n ≡ Some y → length ys ≤ n → slice_get zs (n - length ys) ≡ Some y
+get_suffix [] zs n y e past = let same : n ≡ n - 0 = omega arith in subst (λ k. slice_get zs k ≡ Some y) same e
+get_suffix (x ∷ ys) zs zero y e past = absurd (omega (arith, past))
+get_suffix (x ∷ ys) zs (suc n) y e past =
     let same : n - length ys ≡ suc n - suc (length ys) = omega arith in
-    subst (λ k. slice_get zs k ≡ Some y) same (get_behind ys zs n y e (omega (arith, past)))
+    subst (λ k. slice_get zs k ≡ Some y) same (get_suffix ys zs n y e (omega (arith, past)))
 
 pub group_has : {X Y : Type 0} (g : X → List Y) (xs : List X) (i n : ℕ) (d : X) (y : Y) → i < length xs → slice_get (all_of g (drop i xs)) n ≡ Some y → n < length (g (get_or xs i d))
     → slice_get (g (get_or xs i d)) n ≡ Some y
 group_has g xs i n d y within e h =
-    get_front (g (get_or xs i d)) (all_of g (drop (suc i) xs)) n y (sym (ap (λ zs. slice_get (all_of g zs) n) (drop-cons xs i d within)) ∙ e) h
+    get_prefix (g (get_or xs i d)) (all_of g (drop (suc i) xs)) n y (sym (ap (λ zs. slice_get (all_of g zs) n) (drop-cons xs i d within)) ∙ e) h
 
 pub next_group : {X Y : Type 0} (g : X → List Y) (xs : List X) (i n : ℕ) (d : X) (y : Y) → i < length xs → slice_get (all_of g (drop i xs)) n ≡ Some y → length (g (get_or xs i d)) ≤ n
     → slice_get (all_of g (drop (i + 1) xs)) (n - length (g (get_or xs i d))) ≡ Some y
 next_group g xs i n d y within e h =
     let next : suc i ≡ i + 1 = omega arith in
     subst (λ k. slice_get (all_of g (drop k xs)) (n - length (g (get_or xs i d))) ≡ Some y) next
-    (get_behind (g (get_or xs i d)) (all_of g (drop (suc i) xs)) n y (sym (ap (λ zs. slice_get (all_of g zs) n) (drop-cons xs i d within)) ∙ e) h)
+    (get_suffix (g (get_or xs i d)) (all_of g (drop (suc i) xs)) n y (sym (ap (λ zs. slice_get (all_of g zs) n) (drop-cons xs i d within)) ∙ e) h)
 
 pub all_groups : (a b c d e f g h i : List declared.Rule) (s : Symbol) → map rule_meaning a ≡ map rule_of tokens → map rule_meaning b ≡ map rule_of names
     → map rule_meaning c ≡ map rule_of headers → map rule_meaning d ≡ map rule_of declarations → map rule_meaning e ≡ map rule_of types → map rule_meaning f ≡ map rule_of blocks

@@ -12,7 +12,7 @@ use Rattle.cu_syntax.specs.declared.text.Header as headers
 use Rattle.cu_syntax.specs.declared.text.Item as text
 use Rattle.cu_syntax.specs.declared.text.Module as texts
 use Rattle.cu_syntax.specs.declared.text.Parsed.{Parsed}
-use Rattle.cu_syntax.specs.Parsing.{Fault, HasNone, HeaderRead, ItemRead, Part, PartRead, Syntax, TooLong, imports_behind}
+use Rattle.cu_syntax.specs.Parsing.{Fault, HasNone, HeaderRead, ItemRead, Part, PartRead, Syntax, TooLong, imports_after}
 use Rattle.cu_syntax.specs.Reading.{Tree, goal_of, header_of, import_of, item_of}
 use Rattle.cu_syntax.specs.Subtrees.{over}
 use Rattle.cu_syntax.specs.Syntax.{Goal, Header, ImportItem, Item, Module}
@@ -73,10 +73,10 @@ FoundPart names imports part (Some found) = PartRead imports part (Ok (item_mean
 abbrev pub IsNoItem : Bool → List Lexeme → Type 0
 IsNoItem imports tokens = (item : Item) → ¬ (ItemRead imports tokens item)
 
--- What was found, if anything, was added to the items, and `behind` says whether an import may
+-- What was found, if anything, was added to the items, and `later` says whether an import may
 -- follow it.
 abbrev pub Adds : List (List ℕ) → Bool → List text.Item → List text.Item → Option text.Item → Bool
     → Type 0
-Adds names imports before after None behind = (after ≡ before) × (behind ≡ imports)
-Adds names imports before after (Some found) behind =
-    (after ≡ before ++ found ∷ []) × (behind ≡ imports_behind imports (item_meaning names found))
+Adds names imports before after None later = (after ≡ before) × (later ≡ imports)
+Adds names imports before after (Some found) later =
+    (after ≡ before ++ found ∷ []) × (later ≡ imports_after imports (item_meaning names found))

@@ -36,11 +36,11 @@ right_meaning names r =
     right_side r.body.symbol (tree_of names r.body) (where_block (tree_of names r.local))
 
 -- what follows the equals sign or the arrow: an expression or guards, without the place
-pub data Behind : Type 0 where
-  One : syntax.Expression → Behind
-  Guards : syntax.Guards → Behind
+pub data RightBody : Type 0 where
+  One : syntax.Expression → RightBody
+  Guards : syntax.Guards → RightBody
 
-abbrev pub right_of : Position → Behind → syntax.Declarations → syntax.RightSide
+abbrev pub right_of : Position → RightBody → syntax.Declarations → syntax.RightSide
 right_of at (One e) local = syntax.Plain at e local
 right_of at (Guards guards) local = syntax.Guarded at guards local
 
@@ -57,7 +57,7 @@ abbrev pub guards_in : Tree → syntax.Guards
 guards_in (Parts trees) = guards_of trees
 guards_in _ = syntax.NoGuard
 
-abbrev pub body_meaning : List (List ℕ) → Body → Behind
+abbrev pub body_meaning : List (List ℕ) → Body → RightBody
 body_meaning names (body.Plain e) = One (expression_meaning names e)
 body_meaning names (body.Guarded guards) = Guards (guards_meaning names guards.items)
 

@@ -101,10 +101,10 @@ part_of before s = record { before = before; tokens = s.first; whole = s.whole }
 
 -- the part that tokens after the block make, where no item may stand; none where there are no
 -- tokens
-abbrev pub behind : ℕ → List Lexeme → List Part
-behind last [] = []
-behind last (token ∷ tokens) = (record { before = last; tokens = token ∷ tokens; whole = false })
-    ∷ []
+abbrev pub part_after_block : ℕ → List Lexeme → List Part
+part_after_block last [] = []
+part_after_block last (token ∷ tokens) =
+    record { before = last; tokens = token ∷ tokens; whole = false } ∷ []
 
 abbrev pub with_token : Lexeme → Split → Split
 with_token token s = record { first = token ∷ s.first; whole = s.whole; others = s.others }
@@ -119,7 +119,7 @@ unfoldable pub split : ℕ → ℕ → List Lexeme → Split
 split depth last [] = record { first = []; whole = false; others = [] }
 split depth last (token ∷ tokens) =
     if nat_eq depth 0 && closes token.what
-    then record { first = []; whole = true; others = behind (after last token) tokens }
+    then record { first = []; whole = true; others = part_after_block (after last token) tokens }
     else if nat_eq depth 0 && separates token.what then
     (let next = split 0 (after last token) tokens in record {
       first = [];
@@ -134,20 +134,20 @@ parts last tokens = let s = split 0 last tokens in part_of last s ∷ s.others
 
 -- what stands before the block of a module (the tokens of its header, and the line of the last
 -- token of the text), and the block's tokens, if there is a brace
-pub record Front : Type 0 where
+pub record HeaderAndBlock : Type 0 where
   pub header : List Lexeme
   pub last : ℕ
   pub block : Option (List Lexeme)
 
-abbrev pub with_header : Lexeme → Front → Front
-with_header token front =
-    record { header = token ∷ front.header; last = front.last; block = front.block }
+abbrev pub with_header : Lexeme → HeaderAndBlock → HeaderAndBlock
+with_header token rest =
+    record { header = token ∷ rest.header; last = rest.last; block = rest.block }
 
-abbrev pub front : ℕ → List Lexeme → Front
-front last [] = record { header = []; last = last; block = None }
-front last (token ∷ tokens) =
+abbrev pub header_and_block : ℕ → List Lexeme → HeaderAndBlock
+header_and_block last [] = record { header = []; last = last; block = None }
+header_and_block last (token ∷ tokens) =
     if opens token.what then record { header = []; last = after last token; block = Some tokens }
-    else with_header token (front (after last token) tokens)
+    else with_header token (header_and_block (after last token) tokens)
 
 -- What the tokens of an item are read as. Imports stand before all other items.
 pub data ItemRead (imports : Bool) (tokens : List Lexeme) : Item → Type 0 where
@@ -169,9 +169,9 @@ pub data PartRead (imports : Bool) (part : Part) : Result Item Fault → Type 0 
       → ItemRead imports part.tokens found → PartRead imports part (Ok found)
 
 -- whether an import may follow an item, where one may stand before it
-abbrev pub imports_behind : Bool → Item → Bool
-imports_behind imports (ImportItem found) = imports
-imports_behind imports _ = false
+abbrev pub imports_after : Bool → Item → Bool
+imports_after imports (ImportItem found) = imports
+imports_after imports _ = false
 
 -- What parts are read as: the items of all that aren't empty, or the first fault.
 pub data PartsRead : Bool → List Part → Result (List Item) Fault → Type 0 where
@@ -183,11 +183,11 @@ pub data PartsRead : Bool → List Part → Result (List Item) Fault → Type 0 
       → PartRead imports part (Err fault) → PartsRead imports (part ∷ others) (Err fault)
   item : (imports : Bool) (part : Part) (others : List Part) (item : Item) (items : List Item)
       → PartRead imports part (Ok item)
-      → PartsRead (imports_behind imports item) others (Ok items)
+      → PartsRead (imports_after imports item) others (Ok items)
       → PartsRead imports (part ∷ others) (Ok (item ∷ items))
   later_fault : (imports : Bool) (part : Part) (others : List Part) (item : Item) (fault : Fault)
       → PartRead imports part (Ok item)
-      → PartsRead (imports_behind imports item) others (Err fault)
+      → PartsRead (imports_after imports item) others (Err fault)
       → PartsRead imports (part ∷ others) (Err fault)
 
 -- what the tokens before a module's block are read as: a header, or none
@@ -198,18 +198,19 @@ pub data HeaderRead : List Lexeme → Option Header → Type 0 where
 
 -- what the tokens of a module are read as: the module, or its fault
 pub data ModuleRead (tokens : List Lexeme) : Result Module Fault → Type 0 where
-  no_block : (front 1 tokens).block ≡ None → ModuleRead tokens (Err (Syntax 1))
-  wrong_header : ¬ ((front 1 tokens).header ≡ []) → HasNone symbol.Header (front 1 tokens).header
+  no_block : (header_and_block 1 tokens).block ≡ None → ModuleRead tokens (Err (Syntax 1))
+  wrong_header : ¬ ((header_and_block 1 tokens).header ≡ [])
+      → HasNone symbol.Header (header_and_block 1 tokens).header
       → ModuleRead tokens (Err (Syntax 1))
   wrong_item : (block : List Lexeme) (found : Option Header) (fault : Fault)
-      → (front 1 tokens).block ≡ Some block
-      → HeaderRead (front 1 tokens).header found
-      → PartsRead true (parts (front 1 tokens).last block) (Err fault)
+      → (header_and_block 1 tokens).block ≡ Some block
+      → HeaderRead (header_and_block 1 tokens).header found
+      → PartsRead true (parts (header_and_block 1 tokens).last block) (Err fault)
       → ModuleRead tokens (Err fault)
   right : (block : List Lexeme) (found : Option Header) (items : List Item)
-      → (front 1 tokens).block ≡ Some block
-      → HeaderRead (front 1 tokens).header found
-      → PartsRead true (parts (front 1 tokens).last block) (Ok items)
+      → (header_and_block 1 tokens).block ≡ Some block
+      → HeaderRead (header_and_block 1 tokens).header found
+      → PartsRead true (parts (header_and_block 1 tokens).last block) (Ok items)
       → ModuleRead tokens (Ok (record { header = found; items = items }))
 
 -- what the tokens of a goal are read as: the goal, or its fault

@@ -60,7 +60,7 @@ spelling _ = record { text = []; qualifier = None; base = []; special = None }
 abbrev pub name_token : Tree → Lexeme
 name_token (Leaf x) = x
 name_token (Chosen n tree) = name_token tree
-name_token (Parts (MoreTrees before (MoreTrees tree behind))) = name_token tree
+name_token (Parts (MoreTrees before (MoreTrees tree after))) = name_token tree
 name_token _ = record { what = kind.Int (pos 0); at = first_position }
 
 abbrev pub name_of : Tree → Name

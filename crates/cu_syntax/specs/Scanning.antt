@@ -4,7 +4,7 @@ use Rattle.std.specs.Option.{option_map}
 use Rattle.cu_lex.specs.Tokens.{Lexeme}
 use Rattle.cu_syntax.specs.declared.scanning.PartEnd.{PartEnd}
 use Rattle.cu_syntax.specs.declared.scanning.PartEnd.TheVariants as end
-use Rattle.cu_syntax.specs.Parsing.{Front, Split, after, behind, closes, depth_after, opens, parts, separates}
+use Rattle.cu_syntax.specs.Parsing.{HeaderAndBlock, Split, after, part_after_block, closes, depth_after, opens, parts, separates}
 
 -- the line of the last token of the text among these, or the line before where there is none
 abbrev pub last_line : ℕ → List Lexeme → ℕ
@@ -18,14 +18,15 @@ first_open (token ∷ tokens) = if opens token.what then Some 0
     else option_map suc (first_open tokens)
 
 -- what stands before a module's block and the block's tokens, where the first brace has this number
-abbrev pub front_to : ℕ → List Lexeme → Option ℕ → Front
-front_to last tokens (Some n) =
+abbrev pub header_and_block_to : ℕ → List Lexeme → Option ℕ → HeaderAndBlock
+header_and_block_to last tokens (Some n) =
     record {
       header = take n tokens;
       last = last_line last (take (n + 1) tokens);
       block = Some (drop (n + 1) tokens);
     }
-front_to last tokens None = record { header = tokens; last = last_line last tokens; block = None }
+header_and_block_to last tokens None =
+    record { header = tokens; last = last_line last tokens; block = None }
 
 -- the end of a part with so many tokens before it
 abbrev pub later : ℕ → PartEnd → PartEnd
@@ -53,7 +54,7 @@ split_to last tokens (end.Close n) =
     record {
       first = take n tokens;
       whole = true;
-      others = behind (last_line last (take (n + 1) tokens)) (drop (n + 1) tokens);
+      others = part_after_block (last_line last (take (n + 1) tokens)) (drop (n + 1) tokens);
     }
 split_to last tokens end.Missing = record { first = tokens; whole = false; others = [] }
 
@@ -64,5 +65,5 @@ is_within (end.Close n) count = n < count
 is_within end.Missing count = Unit {0}
 
 -- the room that is left after something of a length, if there is room for it
-abbrev pub room_behind : ℕ → ℕ → Option ℕ
-room_behind room length = if nat_lt room length then None else Some (room - length)
+abbrev pub room_after : ℕ → ℕ → Option ℕ
+room_after room length = if nat_lt room length then None else Some (room - length)

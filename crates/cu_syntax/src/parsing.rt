@@ -6,14 +6,14 @@ ghost use Rattle.cu_lex.specs.Reading.{IsTokenOf, lexeme_of};
 ghost use Rattle.cu_names.specs.declared.names.NameId.{NameId};
 ghost use Rattle.cu_syntax.specs.Answer.{Adds, FoundHeader, FoundPart, IsNoItem, NoHeader, Tells, goal_meaning, item_meaning, items_meaning, module_meaning, part_with, tree_of};
 ghost use Rattle.cu_syntax.specs.Owners.{GoalIsOf, HeaderIsOf, ItemIsOf, ModuleIsOf, ParsedIsOf};
-ghost use Rattle.cu_syntax.specs.Parsing.{GoalRead, Has, HasNone, ItemRead, ModuleRead, PartRead, PartsRead, behind, parts};
+ghost use Rattle.cu_syntax.specs.Parsing.{GoalRead, Has, HasNone, ItemRead, ModuleRead, PartRead, PartsRead, part_after_block, parts};
 ghost use Rattle.cu_syntax.specs.Table.{number, rows};
 ghost use Rattle.cu_syntax.specs.declared.symbol.Symbol.TheVariants as symbol;
 
 use crate::fault::ParseFault;
 use crate::rows::{grammar, number};
 use crate::scanning::{
-    PartEnd, first_line, first_open, is_long, line_behind, part_end, tokens_behind,
+    PartEnd, first_line, first_open, is_long, line_through, part_end, tokens_after,
 };
 use crate::symbol::Symbol;
 use crate::text::{GoalText, Header, Item, Module, Parsed};
@@ -70,8 +70,8 @@ pub fn parse_module(alloc: Global, tokens: &[Token]) -> Result<Module, ParseFaul
     };
     let grammar = grammar(alloc)?;
     let header = read_header(alloc, &grammar, &tokens[..opening])?;
-    let last = line_behind(1, tokens, opening);
-    let items = read_parts(alloc, &grammar, last, tokens_behind(tokens, opening))?;
+    let last = line_through(1, tokens, opening);
+    let items = read_parts(alloc, &grammar, last, tokens_after(tokens, opening))?;
     Ok(Module { header, items })
 }
 
@@ -127,14 +127,14 @@ fn read_parts(
             PartEnd::Separator(length) => {
                 let found = read_part(alloc, grammar, imports, last, &left[..length])?;
                 imports = add_item(&mut items, imports, found)?;
-                last = line_behind(last, left, length);
-                left = tokens_behind(left, length);
+                last = line_through(last, left, length);
+                left = tokens_after(left, length);
                 continue;
             }
             PartEnd::Close(length) => {
                 let found = read_part(alloc, grammar, imports, last, &left[..length])?;
                 add_item(&mut items, imports, found)?;
-                nothing_behind(line_behind(last, left, length), tokens_behind(left, length))?;
+                nothing_after(line_through(last, left, length), tokens_after(left, length))?;
                 return Ok(items);
             }
             PartEnd::Missing => return Err(misplaced(last, left)),
@@ -161,12 +161,12 @@ fn add_item(items: &mut Vec<Item>, imports: bool, found: Option<Item>) -> Result
 }
 
 /// Tells a fault, unless no token follows the block.
-fn nothing_behind(last: u32, tokens: &[Token]) -> Result<(), ParseFault>
+fn nothing_after(last: u32, tokens: &[Token]) -> Result<(), ParseFault>
     ensures nothing { OnOk result (tokens.now ≡ []) }
     ensures fault { (names : List (List ℕ)) (imports : Bool)
         → IfErr result
-        (Tells (λ fault. PartsRead imports (behind last (map (lexeme_of names) tokens.now))
-        (Err fault))) }
+        (Tells (λ fault. PartsRead imports
+        (part_after_block last (map (lexeme_of names) tokens.now)) (Err fault))) }
 {
     if tokens.is_empty() {
         return Ok(());

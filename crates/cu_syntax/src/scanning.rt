@@ -2,7 +2,7 @@
 ghost use Rattle.std.specs.Prelude.{◌≡◌, ◌<◌, ◌≤◌, ◌+◌, ◌-◌, ◌^◌, ◌&&◌, ℕ, IfSome, List, drop, length, map, nat_eq, nat_lt, take};
 ghost use Rattle.cu_lex.specs.Reading.{kind_of, lexeme_of};
 ghost use Rattle.cu_syntax.specs.Parsing.{after, closes, depth_after, first_line, is_long, is_written, item_length, opens, separates, token_length};
-ghost use Rattle.cu_syntax.specs.Scanning.{first_open, is_within, last_line, part_end, room_behind};
+ghost use Rattle.cu_syntax.specs.Scanning.{first_open, is_within, last_line, part_end, room_after};
 
 use cu_lex::{LayoutMark, Mark, Token, TokenKind};
 
@@ -71,7 +71,7 @@ pub(crate) fn first_line(before: u32, tokens: &[Token]) -> u32
 }
 
 /// The tokens after the one of this number.
-pub(crate) fn tokens_behind(tokens: &[Token], number: usize) -> &[Token]
+pub(crate) fn tokens_after(tokens: &[Token], number: usize) -> &[Token]
     requires { number < length tokens.now }
     ensures { result.now ≡ drop (number + 1) tokens.now }
 {
@@ -80,7 +80,7 @@ pub(crate) fn tokens_behind(tokens: &[Token], number: usize) -> &[Token]
 
 /// The line of the last token of the text up to the one of this number, or the
 /// line before.
-pub(crate) fn line_behind(before: u32, tokens: &[Token], number: usize) -> u32
+pub(crate) fn line_through(before: u32, tokens: &[Token], number: usize) -> u32
     requires { number < length tokens.now }
     ensures { (names : List (List ℕ)) → result
         ≡ last_line before (map (lexeme_of names) (take (number + 1) tokens.now)) }
@@ -124,7 +124,7 @@ fn is_longer(tokens: &[Token], limit: usize) -> bool
 {
     let mut room = limit;
     for token in tokens {
-        match room_behind(room, &token.kind) {
+        match room_after(room, &token.kind) {
             Some(left) => room = left,
             None => return true,
         }
@@ -133,9 +133,9 @@ fn is_longer(tokens: &[Token], limit: usize) -> bool
 }
 
 /// The room that is left after a token, if there is room for it.
-fn room_behind(room: usize, kind: &TokenKind) -> Option<usize>
+fn room_after(room: usize, kind: &TokenKind) -> Option<usize>
     ensures { (names : List (List ℕ)) → result
-        ≡ room_behind room (token_length (kind_of names kind.now)) }
+        ≡ room_after room (token_length (kind_of names kind.now)) }
 {
     let characters = match kind {
         TokenKind::String(characters) => characters.len(),

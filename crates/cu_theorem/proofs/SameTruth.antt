@@ -26,10 +26,10 @@ pub record AreAlike (one other : Program) (levels : List ℕ) : Type 0 where
   pub of_one : TrueAreOf one levels
   pub of_other : TrueAreOf other levels
   pub there : Keeps one other
-  pub back : Keeps other one
+  pub converse : Keeps other one
 
 turned : (one other : Program) (levels : List ℕ) → AreAlike one other levels → AreAlike other one levels
-turned one other levels alike = record { of_one = alike.of_other; of_other = alike.of_one; there = alike.back; back = alike.there }
+turned one other levels alike = record { of_one = alike.of_other; of_other = alike.of_one; there = alike.converse; converse = alike.there }
 
 -- what is true of the one program at a level is true of the other
 abbrev Carries : Program → Program → List ℕ → ℕ → Type 0
@@ -55,7 +55,7 @@ exact_too one other levels level alike to from claim exact =
           let found = exact.each k v e in
           (found.0, found.1, to found.1 found.2, alike.there found.1 f vs v (alike.of_one level found.1 found.2) found.3);
       every = λ claims v true ground concluded.
-          exact.every claims v (from claims true) ground (alike.back claims f vs v (alike.of_other level claims true) concluded);
+          exact.every claims v (from claims true) ground (alike.converse claims f vs v (alike.of_other level claims true) concluded);
     }
 
 next_too : (one other : Program) (levels : List ℕ) (level : ℕ) → AreAlike one other levels → Carries one other levels level → Carries other one levels level

@@ -6,7 +6,7 @@ use Rattle.cu_calculus.specs.Program.{Program}
 use Rattle.cu_calculus.specs.Shape.{are_ground, is_ground}
 use Rattle.cu_calculus.specs.Value.{Value, Values, values_of}
 use Rattle.cu_flat.specs.Layout.{laid_out}
-use Rattle.cu_front.specs.Compiling.{Compiles, Held}
+use Rattle.cu_front.specs.Compiling.{Compiles, Folder}
 use Rattle.cu_kernel.specs.Kernel.{Goal, Kernel, program_of}
 use Rattle.cu_laws.specs.Instance.{Covered, IsExhausted}
 use Rattle.cu_machine.specs.Among.{Among}
@@ -51,7 +51,8 @@ SolutionsAreCovered program flat goal limits = (arguments : Values) (v : Value)
 -- Whatever program a goal in a module comes to, each answer that is listed is a solution; and where
 -- the listing ends with no more, and no branch waits, each ground solution is an instance of an
 -- answer that is listed.
-pub record ListsSolutions (held : Held) (root text : List ℕ) (limits : SearchLimits) : Type 0 where
+pub record ListsSolutions (held : Folder) (root text : List ℕ)
+    (limits : SearchLimits) : Type 0 where
   pub answers_are_sound : (names : List (List ℕ)) (program : Kernel) (flat : Program) (goal : Goal)
       → Compiles held root text names program flat → program.goal ≡ Some goal
       → AnswersAreSolutions program flat goal limits

@@ -1,7 +1,7 @@
 //! Laws of what is listed of goals in modules.
 ghost use Rattle.std.specs.Prelude.{◌≡◌, List, Some, ℕ};
 ghost use Rattle.cu_calculus.specs.Program.{Program};
-ghost use Rattle.cu_front.specs.Compiling.{Held};
+ghost use Rattle.cu_front.specs.Compiling.{Folder};
 ghost use Rattle.cu_front.specs.Programs.{IsLowered};
 ghost use Rattle.cu_kernel.specs.Kernel.{Goal, Kernel};
 ghost use Rattle.cu_laws.specs.Instance.{IsExhausted};
@@ -57,7 +57,7 @@ pub fn exhausted_listings_cover_solutions()
 /// modules and the goal. No other answer is listed; and where the listing ends
 /// with no more, and no branch waits, no ground solution is missed.
 pub fn solutions_are_listed()
-    ensures { (held : Held) (root text : List ℕ) (limits : SearchLimits)
+    ensures { (held : Folder) (root text : List ℕ) (limits : SearchLimits)
         → ListsSolutions held root text limits }
 {
     answers_are_derived();

@@ -89,10 +89,10 @@ lists_more modules m = lists _ _ _ _ _ _ _ _ (more types_in) (more constructors_
     more : (f : Named → List Declared) → flat_map f modules ++ f m ≡ flat_map f (modules ++ m ∷ [])
     more f = ap (λ ds. flat_map f modules ++ ds) (sym (append-nil (f m))) ∙ sym (flat_map-append f modules (m ∷ []))
 
-get_front : {A : Type 0} (xs : List A) (y : A) (k : ℕ) → k < length xs → slice_get (xs ++ y ∷ []) k ≡ slice_get xs k
-get_front [] y k within = let no : ⊥ = omega (arith, within) in absurd no
-get_front (x ∷ xs) y zero within = refl
-get_front (x ∷ xs) y (suc k) within = get_front xs y k (omega (arith, within))
+get_prefix : {A : Type 0} (xs : List A) (y : A) (k : ℕ) → k < length xs → slice_get (xs ++ y ∷ []) k ≡ slice_get xs k
+get_prefix [] y k within = let no : ⊥ = omega (arith, within) in absurd no
+get_prefix (x ∷ xs) y zero within = refl
+get_prefix (x ∷ xs) y (suc k) within = get_prefix xs y k (omega (arith, within))
 
 get_last : {A : Type 0} (xs : List A) (y : A) → slice_get (xs ++ y ∷ []) (length xs) ≡ Some y
 get_last [] y = refl
@@ -112,7 +112,7 @@ starts_more before m old new start pushed counted is has k within = ap (λ xs. s
         let differ : k ≡ length before → ⊥ = λ e. both_ways (nat_eq k (length before)) here ((Decides-eqb k (length before)).1 e) in
         let whole : length (before ++ m ∷ []) ≡ length before + 1 = length-append before (m ∷ []) in
         let left : k < length before = omega (arith, within, whole, differ) in
-        get_front old start k (omega (arith, left, counted)) ∙ has k left
+        get_prefix old start k (omega (arith, left, counted)) ∙ has k left
         ∙ ap (λ ms. Some (counts ms)) (sym (take-append-le k before (m ∷ []) (omega (arith, left))))
 
 pub counted_more : (before : List Named) (m : Named) (old new : List Counts) (start : Counts) → new ≡ old ++ start ∷ [] → length old ≡ length before → length new ≡ length (before ++ m ∷ [])

@@ -24,9 +24,9 @@ variables_more n =
 
 -- ---- all types
 
-one_behind : (before after : List DataType) (t : DataType) (meant : kernel.DataType) (all : List kernel.DataType) → after ≡ before ++ t ∷ [] → type_meaning t ≡ meant → map type_meaning before ≡ all
+one_after : (before after : List DataType) (t : DataType) (meant : kernel.DataType) (all : List kernel.DataType) → after ≡ before ++ t ∷ [] → type_meaning t ≡ meant → map type_meaning before ≡ all
     → map type_meaning after ≡ all ++ meant ∷ []
-one_behind before after t meant all pushed is same =
+one_after before after t meant all pushed is same =
     ap (map type_meaning) pushed ∙ map-append type_meaning before (t ∷ []) ∙ λ j. same j ++ is j ∷ []
 
 pub first_are : (r : Reading) (lists : DataType) (one tuples more all : List DataType) (int char : DataType) → one ≡ lists ∷ [] → type_meaning lists ≡ list_type r
@@ -35,5 +35,5 @@ pub first_are : (r : Reading) (lists : DataType) (one tuples more all : List Dat
 first_are r lists one tuples more all int char made lists_are tuples_are with_int int_is with_char char_is =
     let before : map type_meaning tuples ≡ list_type r ∷ map (tuple_type r) (0 ∷ tuple_sizes) =
     tuples_are ∙ ap (λ (ts : List DataType). map type_meaning ts ++ map (tuple_type r) (0 ∷ tuple_sizes)) made ∙ ap (λ (t : kernel.DataType). t ∷ map (tuple_type r) (0 ∷ tuple_sizes)) lists_are in
-    one_behind more all char (data_type r (codes "Char") 0 []) _ with_char char_is (one_behind tuples more int (data_type r (codes "Int") 0 []) _ with_int int_is before)
+    one_after more all char (data_type r (codes "Char") 0 []) _ with_char char_is (one_after tuples more int (data_type r (codes "Int") 0 []) _ with_int int_is before)
     ∙ append_assoc (list_type r ∷ map (tuple_type r) (0 ∷ tuple_sizes)) (data_type r (codes "Int") 0 [] ∷ []) (data_type r (codes "Char") 0 [] ∷ [])

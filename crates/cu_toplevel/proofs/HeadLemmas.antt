@@ -21,11 +21,11 @@ use Rattle.cu_syntax.specs.Syntax.{Name, Pattern, RightSide}
 use Rattle.cu_toplevel.specs.declared.function_heads.FunctionHead.{FunctionHead}
 use Rattle.cu_toplevel.specs.Heads.{Head, HeadIsOf, head_meaning, head_of_group, head_of_rule}
 use Rattle.cu_toplevel.specs.Inside.Heads.{IsBegun, begun_after, begun_with, heads_with}
-use Rattle.cu_translation.specs.Rules.{Begun, Group, Rule, begun_by, goes_on, groups, groups_behind, leading, pattern_count}
+use Rattle.cu_translation.specs.Rules.{Begun, Group, Rule, begun_by, goes_on, groups, groups_after, leading, pattern_count}
 use Rattle.cu_toplevel.proofs.NameLemmas.{same_id, same_name}
 
-abbrev heads_behind : Option Begun → List (Option Rule) → List Head
-heads_behind b ds = map head_of_group (groups_behind b ds)
+abbrev heads_after : Option Begun → List (Option Rule) → List Head
+heads_after b ds = map head_of_group (groups_after b ds)
 
 -- a rule that goes on belongs to the function that began
 still : (b : Option Begun) (name : Name) (at : Position) → goes_on b name ≡ true → Some (begun_by b name at) ≡ b
@@ -40,11 +40,11 @@ begun_name (Some b) name at = by (bytes_eq b.name name.text) refl
     by true is = (bytes_eq-Decides b.name name.text).0 is
     by false is = refl
 
-one_more : (b : Option Begun) (ds : List (Option Rule)) (d : Option Rule) → heads_behind b (ds ++ d ∷ []) ≡ heads_behind b ds ++ heads_with (begun_after b ds) d
+one_more : (b : Option Begun) (ds : List (Option Rule)) (d : Option Rule) → heads_after b (ds ++ d ∷ []) ≡ heads_after b ds ++ heads_with (begun_after b ds) d
 one_more b [] None = refl
 one_more b [] (Some r) = by (goes_on b r.name)
   where
-    by : (h : Bool) → map head_of_group (if h then groups_behind b [] else record { first = r; others = [] } ∷ groups_behind (Some (begun_by b r.name r.at)) []) ≡ (if h then [] else head_of_rule r ∷ [])
+    by : (h : Bool) → map head_of_group (if h then groups_after b [] else record { first = r; others = [] } ∷ groups_after (Some (begun_by b r.name r.at)) []) ≡ (if h then [] else head_of_rule r ∷ [])
     by true = refl
     by false = refl
 one_more b (None ∷ ds) d = one_more None ds d
@@ -53,12 +53,12 @@ one_more b (Some r ∷ ds) d = by (one_more b ds d) (one_more (Some (begun_by b 
     next : Option Begun
     next = Some (begun_by b r.name r.at)
 
-    by : heads_behind b (ds ++ d ∷ []) ≡ heads_behind b ds ++ heads_with (begun_after b ds) d
-        → heads_behind next (ds ++ d ∷ []) ≡ heads_behind next ds ++ heads_with (begun_after next ds) d
+    by : heads_after b (ds ++ d ∷ []) ≡ heads_after b ds ++ heads_with (begun_after b ds) d
+        → heads_after next (ds ++ d ∷ []) ≡ heads_after next ds ++ heads_with (begun_after next ds) d
         → (h : Bool) → goes_on b r.name ≡ h
-        → map head_of_group (if h then groups_behind b (ds ++ d ∷ []) else record { first = r; others = leading r.name.text (ds ++ d ∷ []) } ∷ groups_behind next (ds ++ d ∷ []))
-        ≡ map head_of_group (if h then groups_behind b ds else record { first = r; others = leading r.name.text ds } ∷ groups_behind next ds) ++ heads_with (begun_after next ds) d
-    by same other true goes = same ∙ ap (λ c. heads_behind b ds ++ heads_with (begun_after c ds) d) (sym (still b r.name r.at goes))
+        → map head_of_group (if h then groups_after b (ds ++ d ∷ []) else record { first = r; others = leading r.name.text (ds ++ d ∷ []) } ∷ groups_after next (ds ++ d ∷ []))
+        ≡ map head_of_group (if h then groups_after b ds else record { first = r; others = leading r.name.text ds } ∷ groups_after next ds) ++ heads_with (begun_after next ds) d
+    by same other true goes = same ∙ ap (λ c. heads_after b ds ++ heads_with (begun_after c ds) d) (sym (still b r.name r.at goes))
     by same other false goes = ap (λ hs. head_of_rule r ∷ hs) other
 
 begun_more : (b : Option Begun) (ds : List (Option Rule)) (d : Option Rule) → begun_after b (ds ++ d ∷ []) ≡ begun_with (begun_after b ds) d

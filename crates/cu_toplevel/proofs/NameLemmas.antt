@@ -23,8 +23,8 @@ same_name names a b differ known_a known_b =
 pub bytes_turned : (x y : List ℕ) → bytes_eq x y ≡ bytes_eq y x
 bytes_turned x y =
     let there = bytes_eq-Decides x y in
-    let back = bytes_eq-Decides y x in
-    same_from_decides (bytes_eq x y) (bytes_eq y x) there (λ e. sym (back.0 e), λ e. back.1 (sym e))
+    let converse = bytes_eq-Decides y x in
+    same_from_decides (bytes_eq x y) (bytes_eq y x) there (λ e. sym (converse.0 e), λ e. converse.1 (sym e))
 
 pub same_id : (a b : NameId) → nat_eq a.0 b.0 ≡ true → a ≡ b
 same_id a b is = ap (λ (n : ℕ). record { 0 = n }) ((Decides-eqb a.0 b.0).0 is)

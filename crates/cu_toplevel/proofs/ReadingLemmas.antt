@@ -32,7 +32,7 @@ use Rattle.cu_toplevel.proofs.TopLemmas.{id_is}
 -- a number of a table is that of a text where its text is this one
 pub same_number : (names : List (List ℕ)) (a : NameId) (text : List ℕ) → AllDiffer names → IsKnown names a → nat_eq a.0 (id_of names text).0 ≡ bytes_eq (text_of names a) text
 same_number names a text differ known =
-    same_from_decides (nat_eq a.0 at) (bytes_eq (text_of names a) text) (Decides-eqb a.0 at) (there, back)
+    same_from_decides (nat_eq a.0 at) (bytes_eq (text_of names a) text) (Decides-eqb a.0 at) (there, converse)
   where
     at : ℕ
     at = position_or_len (bytes_eq text) names
@@ -40,8 +40,8 @@ same_number names a text differ known =
     there : bytes_eq (text_of names a) text ≡ true → a.0 ≡ at
     there e = sym (ap (λ (id : NameId). id.0) (id_is names a text differ (stands names a known ∙ ap Some ((bytes_eq-Decides (text_of names a) text).0 e))))
 
-    back : a.0 ≡ at → bytes_eq (text_of names a) text ≡ true
-    back e =
+    converse : a.0 ≡ at → bytes_eq (text_of names a) text ≡ true
+    converse e =
         let within : at < length names = subst (λ n. n < length names) e known in
         (bytes_eq-Decides (text_of names a) text).1 (ap (λ n. get_or names n []) e ∙ sym ((bytes_eq-Decides text (get_or names at [])).0 (passes_at_first (bytes_eq text) names [] within)))
 

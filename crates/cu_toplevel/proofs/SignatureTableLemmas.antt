@@ -146,9 +146,9 @@ nothing_more owner names told more s none has =
 
 -- ---- all items
 
-signature_behind : (text : List ℕ) (done : List Item) (i : Item) → or_else (signature_of text done) (signature_by text i) ≡ signature_of text (done ++ i ∷ [])
-signature_behind text [] i = or_none (signature_by text i)
-signature_behind text (x ∷ done) i = or_regrouped (signature_by text x) (signature_of text done) (signature_by text i) ∙ ap (or_else (signature_by text x)) (signature_behind text done i)
+signature_after : (text : List ℕ) (done : List Item) (i : Item) → or_else (signature_of text done) (signature_by text i) ≡ signature_of text (done ++ i ∷ [])
+signature_after text [] i = or_none (signature_by text i)
+signature_after text (x ∷ done) i = or_regrouped (signature_by text x) (signature_of text done) (signature_by text i) ∙ ap (or_else (signature_by text x)) (signature_after text done i)
 
 pub item_more : (owner : NameId) (names : List (List ℕ)) (items : List texts.Item) (i : ℕ) (item : texts.Item) (s : Signatures) → i < length items → item ≡ get_or items i item
     → AreSignatures owner names (λ text. or_else (signature_of text (map (item_meaning names) (take i items))) (signature_by text (item_meaning names item))) s
@@ -156,5 +156,5 @@ pub item_more : (owner : NameId) (names : List (List ℕ)) (items : List texts.I
 item_more owner names items i item s within here has =
     let done = map (item_meaning names) (take i items) in
     are_same owner names (λ text. or_else (signature_of text done) (signature_by text (item_meaning names item))) (λ text. signature_of text (map (item_meaning names) (take (i + 1) items))) s
-    (λ text. signature_behind text done (item_meaning names item)
+    (λ text. signature_after text done (item_meaning names item)
     ∙ ap (signature_of text) (sym (map_more (item_meaning names) items i item within ∙ ap (λ x. done ++ item_meaning names x ∷ []) (sym here)))) has

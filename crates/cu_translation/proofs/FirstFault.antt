@@ -111,8 +111,8 @@ before f g e = less f.at.line f.at.column (rank f.wrong) g.at.line g.at.column (
 not_itself : (f : Fault) → is_before f f ≡ false
 not_itself f = never (is_before f f) (λ e. not_less_itself f.at.line f.at.column (rank f.wrong) (before f f e))
 
-not_behind : (f g : Fault) → is_before g f ≡ true → is_before f g ≡ false
-not_behind f g e =
+not_after : (f g : Fault) → is_before g f ≡ true → is_before f g ≡ false
+not_after f g e =
     never (is_before f g)
     (λ h. asymmetric g.at.line g.at.column (rank g.wrong) f.at.line f.at.column (rank f.wrong) (before g f e) (before f g h))
 
@@ -135,7 +135,7 @@ alone : (f : Fault) → IsFirst (f ∷ []) f
 alone f = record { listed = here []; first = λ g a. at_alone f g (among_cons g f [] a) }
 
 at_other : (f g h : Fault) (fs : List Fault) → IsFirst fs g → is_before g f ≡ true → (h ≡ f) ⊎ Among h fs → is_before h g ≡ false
-at_other f g h fs i e (inl s) = subst (λ k. is_before k g ≡ false) (sym s) (not_behind f g e)
+at_other f g h fs i e (inl s) = subst (λ k. is_before k g ≡ false) (sym s) (not_after f g e)
 at_other f g h fs i e (inr a) = i.first h a
 
 at_first : (f g h : Fault) (fs : List Fault) → IsFirst fs g → is_before g f ≡ false → (h ≡ f) ⊎ Among h fs → is_before h f ≡ false

@@ -74,13 +74,13 @@ from_flat_map f y (x ∷ xs) a = from_flat_map_cons f y x xs (from_append y (f x
 
 -- ---- tests of members
 
-any_behind : (a b : Bool) → b ≡ true → (a || b) ≡ true
-any_behind true b e = refl
-any_behind false b e = e
+any_after : (a b : Bool) → b ≡ true → (a || b) ≡ true
+any_after true b e = refl
+any_after false b e = e
 
 pub any_from : {X : Type 0} (p : X → Bool) (x : X) (xs : List X) → Among x xs → p x ≡ true → list_any p xs ≡ true
 any_from p x _ (here xs) e = rw e refl
-any_from p x _ (there y xs a) e = any_behind (p y) (list_any p xs) (any_from p x xs a e)
+any_from p x _ (there y xs a) e = any_after (p y) (list_any p xs) (any_from p x xs a e)
 
 pub record Passing {X : Type 0} (p : X → Bool) (xs : List X) : Type 0 where
   pub x : X

@@ -5,7 +5,7 @@ use Rattle.cu_fixity.specs.declared.fixity.Fixity.{Fixity}
 use Rattle.cu_fixity.specs.Grouping.{Applied, Between, Grouped, HasNoTree, Infix, Item, Leaf, Operand, Prefix, Tree, flatten, is_grouped}
 use Rattle.cu_fixity.proofs.OneTree.{one_tree}
 use Rattle.cu_translation.proofs.Members.{Among, among_cons, from_flat_map, from_map, here, in_flat_map, in_map, none_among, there}
-use Rattle.cu_translation.specs.GroupedTree.{grouped_tree, in_front, trees}
+use Rattle.cu_translation.specs.GroupedTree.{grouped_tree, on_left_spine, trees}
 
 -- what passes a test is found, or another one that does
 record Found {X : Type 0} (test : X → Bool) (xs : List X) : Type 0 where
@@ -39,29 +39,29 @@ finds test x (y ∷ ys) e = finds_first test x y ys (test y) refl e (finds test 
 
 -- ---- each tree is listed
 
-first_is : {A O : Type 0} (taking : Tree A O → Tree A O) (t : Tree A O) → Among (taking t) (in_front taking t)
+first_is : {A O : Type 0} (taking : Tree A O → Tree A O) (t : Tree A O) → Among (taking t) (on_left_spine taking t)
 first_is taking (Leaf a) = here []
 first_is taking (Applied o t) = here []
-first_is taking (Between l o r) = here (map (λ left. Between left o r) (in_front taking l))
+first_is taking (Between l o r) = here (map (λ left. Between left o r) (on_left_spine taking l))
 
 inside_is : {A O : Type 0} (taking : Tree A O → Tree A O) (l : Tree A O) (o : O) (r u : Tree A O)
-    → Among u (in_front taking l) → Among (Between u o r) (in_front taking (Between l o r))
+    → Among u (on_left_spine taking l) → Among (Between u o r) (on_left_spine taking (Between l o r))
 inside_is taking l o r u a =
-    there (taking (Between l o r)) (map (λ left. Between left o r) (in_front taking l))
-    (in_map (λ left. Between left o r) u (in_front taking l) a)
+    there (taking (Between l o r)) (map (λ left. Between left o r) (on_left_spine taking l))
+    (in_map (λ left. Between left o r) u (on_left_spine taking l) a)
 
 -- a list that begins alike, where its front isn't empty
 record Begins {X : Type 0} (xs ys : List X) (y : X) (rest : List X) : Type 0 where
   others : List X
-  front : xs ≡ y ∷ others
-  behind : rest ≡ others ++ ys
+  prefix : xs ≡ y ∷ others
+  suffix : rest ≡ others ++ ys
 
 begins : {X : Type 0} (xs ys : List X) (y : X) (rest : List X) → xs ++ ys ≡ y ∷ rest → (xs ≡ []) ⊎ Begins xs ys y rest
 begins [] ys y rest e = inl refl
 begins (x ∷ xs) ys y rest e =
     let same : x ≡ y = cc in
     let others : xs ++ ys ≡ rest = cc in
-    inr (record { others = xs; front = ap (λ z. z ∷ xs) same; behind = sym others })
+    inr (record { others = xs; prefix = ap (λ z. z ∷ xs) same; suffix = sym others })
 
 not_empty : {X : Type 0} (xs : List X) (y : X) (ys : List X) → ¬ (xs ++ y ∷ ys ≡ [])
 not_empty [] y ys e = cc
@@ -73,57 +73,57 @@ never_empty (Applied o t) e = cc
 never_empty (Between l o r) e = not_empty (flatten l) (Infix o) (flatten r) e
 
 -- the tree behind a prefix operator that comes first
-record BehindPrefix {A O : Type 0} (o : O) (rest : List (Item A O)) (t : Tree A O) : Type 0 where
+record AfterPrefix {A O : Type 0} (o : O) (rest : List (Item A O)) (t : Tree A O) : Type 0 where
   tree : Tree A O
   flattens : flatten tree ≡ rest
-  among : Among t (in_front (Applied o) tree)
+  among : Among t (on_left_spine (Applied o) tree)
 
-behind_prefix_left : {A O : Type 0} (o p : O) (rest : List (Item A O)) (l r : Tree A O)
+after_prefix_left : {A O : Type 0} (o p : O) (rest : List (Item A O)) (l r : Tree A O)
     → (flatten l ≡ []) ⊎ Begins (flatten l) (Infix p ∷ flatten r) (Prefix o) rest
-    → ((others : List (Item A O)) → flatten l ≡ Prefix o ∷ others → BehindPrefix o others l)
-    → BehindPrefix o rest (Between l p r)
-behind_prefix_left o p rest l r (inl e) go = absurd (never_empty l e)
-behind_prefix_left o p rest l r (inr b) go =
-    let left = go b.others b.front in
+    → ((others : List (Item A O)) → flatten l ≡ Prefix o ∷ others → AfterPrefix o others l)
+    → AfterPrefix o rest (Between l p r)
+after_prefix_left o p rest l r (inl e) go = absurd (never_empty l e)
+after_prefix_left o p rest l r (inr b) go =
+    let left = go b.others b.prefix in
     record {
       tree = Between left.tree p r;
-      flattens = ap (λ xs. xs ++ Infix p ∷ flatten r) left.flattens ∙ sym b.behind;
+      flattens = ap (λ xs. xs ++ Infix p ∷ flatten r) left.flattens ∙ sym b.suffix;
       among = inside_is (Applied o) left.tree p r l left.among;
     }
 
-behind_prefix : {A O : Type 0} (o : O) (rest : List (Item A O)) (t : Tree A O) → flatten t ≡ Prefix o ∷ rest → BehindPrefix o rest t
-behind_prefix o rest (Leaf a) e = let no : ⊥ = cc in absurd no
-behind_prefix o rest (Applied p t) e =
+after_prefix : {A O : Type 0} (o : O) (rest : List (Item A O)) (t : Tree A O) → flatten t ≡ Prefix o ∷ rest → AfterPrefix o rest t
+after_prefix o rest (Leaf a) e = let no : ⊥ = cc in absurd no
+after_prefix o rest (Applied p t) e =
     let same : p ≡ o = cc in
     let others : flatten t ≡ rest = cc in
-    record { tree = t; flattens = others; among = subst (λ q. Among (Applied q t) (in_front (Applied o) t)) (sym same) (first_is (Applied o) t) }
-behind_prefix o rest (Between l p r) e =
-    behind_prefix_left o p rest l r (begins (flatten l) (Infix p ∷ flatten r) (Prefix o) rest e) (λ others f. behind_prefix o others l f)
+    record { tree = t; flattens = others; among = subst (λ q. Among (Applied q t) (on_left_spine (Applied o) t)) (sym same) (first_is (Applied o) t) }
+after_prefix o rest (Between l p r) e =
+    after_prefix_left o p rest l r (begins (flatten l) (Infix p ∷ flatten r) (Prefix o) rest e) (λ others f. after_prefix o others l f)
 
 -- the tree behind an operand that comes first, and an operator
-record BehindOperand {A O : Type 0} (a : A) (rest : List (Item A O)) (t : Tree A O) : Type 0 where
+record AfterOperand {A O : Type 0} (a : A) (rest : List (Item A O)) (t : Tree A O) : Type 0 where
   operator : O
   others : List (Item A O)
   is : rest ≡ Infix operator ∷ others
   tree : Tree A O
   flattens : flatten tree ≡ others
-  among : Among t (in_front (Between (Leaf a) operator) tree)
+  among : Among t (on_left_spine (Between (Leaf a) operator) tree)
 
-abbrev AloneOrBehind : {A O : Type 0} → A → List (Item A O) → Tree A O → Type 0
-AloneOrBehind a rest t = ((rest ≡ []) × (t ≡ Leaf a)) ⊎ BehindOperand a rest t
+abbrev AloneOrAfter : {A O : Type 0} → A → List (Item A O) → Tree A O → Type 0
+AloneOrAfter a rest t = ((rest ≡ []) × (t ≡ Leaf a)) ⊎ AfterOperand a rest t
 
-behind_operand_within : {A O : Type 0} (a : A) (p : O) (rest others : List (Item A O)) (l r : Tree A O)
-    → rest ≡ others ++ Infix p ∷ flatten r → AloneOrBehind a others l → BehindOperand a rest (Between l p r)
-behind_operand_within a p rest others l r e (inl alone) =
+after_operand_within : {A O : Type 0} (a : A) (p : O) (rest others : List (Item A O)) (l r : Tree A O)
+    → rest ≡ others ++ Infix p ∷ flatten r → AloneOrAfter a others l → AfterOperand a rest (Between l p r)
+after_operand_within a p rest others l r e (inl alone) =
     record {
       operator = p;
       others = flatten r;
       is = e ∙ ap (λ xs. xs ++ Infix p ∷ flatten r) alone.0;
       tree = r;
       flattens = refl;
-      among = subst (λ u. Among (Between u p r) (in_front (Between (Leaf a) p) r)) (sym alone.1) (first_is (Between (Leaf a) p) r);
+      among = subst (λ u. Among (Between u p r) (on_left_spine (Between (Leaf a) p) r)) (sym alone.1) (first_is (Between (Leaf a) p) r);
     }
-behind_operand_within a p rest others l r e (inr b) =
+after_operand_within a p rest others l r e (inr b) =
     record {
       operator = b.operator;
       others = b.others ++ Infix p ∷ flatten r;
@@ -133,26 +133,26 @@ behind_operand_within a p rest others l r e (inr b) =
       among = inside_is (Between (Leaf a) b.operator) b.tree p r l b.among;
     }
 
-behind_operand_left : {A O : Type 0} (a : A) (p : O) (rest : List (Item A O)) (l r : Tree A O)
+after_operand_left : {A O : Type 0} (a : A) (p : O) (rest : List (Item A O)) (l r : Tree A O)
     → (flatten l ≡ []) ⊎ Begins (flatten l) (Infix p ∷ flatten r) (Operand a) rest
-    → ((others : List (Item A O)) → flatten l ≡ Operand a ∷ others → AloneOrBehind a others l)
-    → BehindOperand a rest (Between l p r)
-behind_operand_left a p rest l r (inl e) go = absurd (never_empty l e)
-behind_operand_left a p rest l r (inr b) go = behind_operand_within a p rest b.others l r b.behind (go b.others b.front)
+    → ((others : List (Item A O)) → flatten l ≡ Operand a ∷ others → AloneOrAfter a others l)
+    → AfterOperand a rest (Between l p r)
+after_operand_left a p rest l r (inl e) go = absurd (never_empty l e)
+after_operand_left a p rest l r (inr b) go = after_operand_within a p rest b.others l r b.suffix (go b.others b.prefix)
 
-behind_operand : {A O : Type 0} (a : A) (rest : List (Item A O)) (t : Tree A O) → flatten t ≡ Operand a ∷ rest → AloneOrBehind a rest t
-behind_operand a rest (Leaf b) e =
+after_operand : {A O : Type 0} (a : A) (rest : List (Item A O)) (t : Tree A O) → flatten t ≡ Operand a ∷ rest → AloneOrAfter a rest t
+after_operand a rest (Leaf b) e =
     let same : b ≡ a = cc in let none : rest ≡ [] = cc in inl (none, ap Leaf same)
-behind_operand a rest (Applied p t) e = let no : ⊥ = cc in absurd no
-behind_operand a rest (Between l p r) e =
-    inr (behind_operand_left a p rest l r (begins (flatten l) (Infix p ∷ flatten r) (Operand a) rest e) (λ others f. behind_operand a others l f))
+after_operand a rest (Applied p t) e = let no : ⊥ = cc in absurd no
+after_operand a rest (Between l p r) e =
+    inr (after_operand_left a p rest l r (begins (flatten l) (Infix p ∷ flatten r) (Operand a) rest e) (λ others f. after_operand a others l f))
 
 -- no tree begins with an operator between two
 no_infix_left : {A O : Type 0} (o p : O) (rest : List (Item A O)) (l r : Tree A O)
     → (flatten l ≡ []) ⊎ Begins (flatten l) (Infix p ∷ flatten r) (Infix o) rest
     → ((others : List (Item A O)) → ¬ (flatten l ≡ Infix o ∷ others)) → ⊥
 no_infix_left o p rest l r (inl e) go = never_empty l e
-no_infix_left o p rest l r (inr b) go = go b.others b.front
+no_infix_left o p rest l r (inr b) go = go b.others b.prefix
 
 no_infix : {A O : Type 0} (o : O) (rest : List (Item A O)) (t : Tree A O) → ¬ (flatten t ≡ Infix o ∷ rest)
 no_infix o rest (Leaf a) e = cc
@@ -160,38 +160,38 @@ no_infix o rest (Applied p t) e = cc
 no_infix o rest (Between l p r) e =
     no_infix_left o p rest l r (begins (flatten l) (Infix p ∷ flatten r) (Infix o) rest e) (λ others f. no_infix o others l f)
 
-listed_alone : {A O : Type 0} (a : A) (t : Tree A O) → AloneOrBehind a [] t → Among t (trees (Operand a ∷ []))
+listed_alone : {A O : Type 0} (a : A) (t : Tree A O) → AloneOrAfter a [] t → Among t (trees (Operand a ∷ []))
 listed_alone a t (inl alone) = subst (λ u. Among u (Leaf a ∷ [])) (sym alone.1) (here [])
 listed_alone a t (inr b) = let e : [] ≡ Infix b.operator ∷ b.others = b.is in let no : ⊥ = cc in absurd no
 
-listed_behind : {A O : Type 0} (a : A) (o : O) (items : List (Item A O)) (t : Tree A O)
+listed_after : {A O : Type 0} (a : A) (o : O) (items : List (Item A O)) (t : Tree A O)
     → ((u : Tree A O) → flatten u ≡ items → Among u (trees items))
-    → AloneOrBehind a (Infix o ∷ items) t → Among t (trees (Operand a ∷ Infix o ∷ items))
-listed_behind a o items t go (inl alone) = let e = alone.0 in let no : ⊥ = cc in absurd no
-listed_behind a o items t go (inr b) =
+    → AloneOrAfter a (Infix o ∷ items) t → Among t (trees (Operand a ∷ Infix o ∷ items))
+listed_after a o items t go (inl alone) = let e = alone.0 in let no : ⊥ = cc in absurd no
+listed_after a o items t go (inr b) =
     let e : Infix o ∷ items ≡ Infix b.operator ∷ b.others = b.is in
     let same : b.operator ≡ o = cc in
     let others : b.others ≡ items = cc in
-    in_flat_map (in_front (Between (Leaf a) o)) t b.tree (trees items) (go b.tree (b.flattens ∙ others))
-    (subst (λ q. Among t (in_front (Between (Leaf a) q) b.tree)) same b.among)
+    in_flat_map (on_left_spine (Between (Leaf a) o)) t b.tree (trees items) (go b.tree (b.flattens ∙ others))
+    (subst (λ q. Among t (on_left_spine (Between (Leaf a) q) b.tree)) same b.among)
 
-no_operand_next : {A O : Type 0} (a b : A) (items : List (Item A O)) (t : Tree A O) → AloneOrBehind a (Operand b ∷ items) t → ⊥
+no_operand_next : {A O : Type 0} (a b : A) (items : List (Item A O)) (t : Tree A O) → AloneOrAfter a (Operand b ∷ items) t → ⊥
 no_operand_next a b items t (inl alone) = let e = alone.0 in cc
 no_operand_next a b items t (inr n) = let e = n.is in cc
 
-no_prefix_next : {A O : Type 0} (a : A) (o : O) (items : List (Item A O)) (t : Tree A O) → AloneOrBehind a (Prefix o ∷ items) t → ⊥
+no_prefix_next : {A O : Type 0} (a : A) (o : O) (items : List (Item A O)) (t : Tree A O) → AloneOrAfter a (Prefix o ∷ items) t → ⊥
 no_prefix_next a o items t (inl alone) = let e = alone.0 in cc
 no_prefix_next a o items t (inr n) = let e = n.is in cc
 
 listed : {A O : Type 0} (items : List (Item A O)) (t : Tree A O) → flatten t ≡ items → Among t (trees items)
 listed [] t e = absurd (never_empty t e)
-listed (Operand a ∷ []) t e = listed_alone a t (behind_operand a [] t e)
-listed (Operand a ∷ Infix o ∷ items) t e = listed_behind a o items t (listed items) (behind_operand a (Infix o ∷ items) t e)
-listed (Operand a ∷ Operand b ∷ items) t e = absurd (no_operand_next a b items t (behind_operand a (Operand b ∷ items) t e))
-listed (Operand a ∷ Prefix o ∷ items) t e = absurd (no_prefix_next a o items t (behind_operand a (Prefix o ∷ items) t e))
+listed (Operand a ∷ []) t e = listed_alone a t (after_operand a [] t e)
+listed (Operand a ∷ Infix o ∷ items) t e = listed_after a o items t (listed items) (after_operand a (Infix o ∷ items) t e)
+listed (Operand a ∷ Operand b ∷ items) t e = absurd (no_operand_next a b items t (after_operand a (Operand b ∷ items) t e))
+listed (Operand a ∷ Prefix o ∷ items) t e = absurd (no_prefix_next a o items t (after_operand a (Prefix o ∷ items) t e))
 listed (Prefix o ∷ items) t e =
-    let b = behind_prefix o items t e in
-    in_flat_map (in_front (Applied o)) t b.tree (trees items) (listed items b.tree b.flattens) b.among
+    let b = after_prefix o items t e in
+    in_flat_map (on_left_spine (Applied o)) t b.tree (trees items) (listed items b.tree b.flattens) b.among
 listed (Infix o ∷ items) t e = absurd (no_infix o items t e)
 
 -- ---- and each tree that is listed has these items
@@ -200,38 +200,38 @@ only_one : {X : Type 0} (x y : X) → (x ≡ y) ⊎ Among x [] → x ≡ y
 only_one x y (inl e) = e
 only_one x y (inr a) = absurd (none_among x a)
 
-front_inside : {A O : Type 0} (taking : Tree A O → Tree A O) (front : List (Item A O)) (l : Tree A O) (o : O) (r u : Tree A O)
-    → flatten (taking (Between l o r)) ≡ front ++ flatten (Between l o r)
-    → ((v : Tree A O) → Among v (in_front taking l) → flatten v ≡ front ++ flatten l)
-    → (u ≡ taking (Between l o r)) ⊎ Among u (map (λ left. Between left o r) (in_front taking l))
-    → flatten u ≡ front ++ flatten (Between l o r)
-front_inside taking front l o r u h go (inl e) = ap flatten e ∙ h
-front_inside taking front l o r u h go (inr a) =
-    let m = from_map (λ left. Between left o r) u (in_front taking l) a in
-    ap flatten m.is ∙ ap (λ xs. xs ++ Infix o ∷ flatten r) (go m.x m.among) ∙ append_assoc front (flatten l) (Infix o ∷ flatten r)
+prefix_inside : {A O : Type 0} (taking : Tree A O → Tree A O) (prefix : List (Item A O)) (l : Tree A O) (o : O) (r u : Tree A O)
+    → flatten (taking (Between l o r)) ≡ prefix ++ flatten (Between l o r)
+    → ((v : Tree A O) → Among v (on_left_spine taking l) → flatten v ≡ prefix ++ flatten l)
+    → (u ≡ taking (Between l o r)) ⊎ Among u (map (λ left. Between left o r) (on_left_spine taking l))
+    → flatten u ≡ prefix ++ flatten (Between l o r)
+prefix_inside taking prefix l o r u h go (inl e) = ap flatten e ∙ h
+prefix_inside taking prefix l o r u h go (inr a) =
+    let m = from_map (λ left. Between left o r) u (on_left_spine taking l) a in
+    ap flatten m.is ∙ ap (λ xs. xs ++ Infix o ∷ flatten r) (go m.x m.among) ∙ append_assoc prefix (flatten l) (Infix o ∷ flatten r)
 
-front_flattens : {A O : Type 0} (taking : Tree A O → Tree A O) (front : List (Item A O))
-    → ((t : Tree A O) → flatten (taking t) ≡ front ++ flatten t)
-    → (t u : Tree A O) → Among u (in_front taking t) → flatten u ≡ front ++ flatten t
-front_flattens taking front h (Leaf a) u b = ap flatten (only_one u (taking (Leaf a)) (among_cons u (taking (Leaf a)) [] b)) ∙ h (Leaf a)
-front_flattens taking front h (Applied o t) u b =
+prefix_flattens : {A O : Type 0} (taking : Tree A O → Tree A O) (prefix : List (Item A O))
+    → ((t : Tree A O) → flatten (taking t) ≡ prefix ++ flatten t)
+    → (t u : Tree A O) → Among u (on_left_spine taking t) → flatten u ≡ prefix ++ flatten t
+prefix_flattens taking prefix h (Leaf a) u b = ap flatten (only_one u (taking (Leaf a)) (among_cons u (taking (Leaf a)) [] b)) ∙ h (Leaf a)
+prefix_flattens taking prefix h (Applied o t) u b =
     ap flatten (only_one u (taking (Applied o t)) (among_cons u (taking (Applied o t)) [] b)) ∙ h (Applied o t)
-front_flattens taking front h (Between l o r) u b =
-    front_inside taking front l o r u (h (Between l o r)) (front_flattens taking front h l)
-    (among_cons u (taking (Between l o r)) (map (λ left. Between left o r) (in_front taking l)) b)
+prefix_flattens taking prefix h (Between l o r) u b =
+    prefix_inside taking prefix l o r u (h (Between l o r)) (prefix_flattens taking prefix h l)
+    (among_cons u (taking (Between l o r)) (map (λ left. Between left o r) (on_left_spine taking l)) b)
 
 trees_flatten : {A O : Type 0} (items : List (Item A O)) (t : Tree A O) → Among t (trees items) → flatten t ≡ items
 trees_flatten [] t b = absurd (none_among t b)
 trees_flatten (Operand a ∷ []) t b = ap flatten (only_one t (Leaf a) (among_cons t (Leaf a) [] b))
 trees_flatten (Operand a ∷ Infix o ∷ items) t b =
-    let j = from_flat_map (in_front (Between (Leaf a) o)) t (trees items) b in
-    front_flattens (Between (Leaf a) o) (Operand a ∷ Infix o ∷ []) (λ u. refl) j.x t j.inside
+    let j = from_flat_map (on_left_spine (Between (Leaf a) o)) t (trees items) b in
+    prefix_flattens (Between (Leaf a) o) (Operand a ∷ Infix o ∷ []) (λ u. refl) j.x t j.inside
     ∙ ap (λ xs. Operand a ∷ Infix o ∷ xs) (trees_flatten items j.x j.among)
 trees_flatten (Operand a ∷ Operand c ∷ items) t b = absurd (none_among t b)
 trees_flatten (Operand a ∷ Prefix o ∷ items) t b = absurd (none_among t b)
 trees_flatten (Prefix o ∷ items) t b =
-    let j = from_flat_map (in_front (Applied o)) t (trees items) b in
-    front_flattens (Applied o) (Prefix o ∷ []) (λ u. refl) j.x t j.inside ∙ ap (λ xs. Prefix o ∷ xs) (trees_flatten items j.x j.among)
+    let j = from_flat_map (on_left_spine (Applied o)) t (trees items) b in
+    prefix_flattens (Applied o) (Prefix o ∷ []) (λ u. refl) j.x t j.inside ∙ ap (λ xs. Prefix o ∷ xs) (trees_flatten items j.x j.among)
 trees_flatten (Infix o ∷ items) t b = absurd (none_among t b)
 
 -- ---- the grouped tree

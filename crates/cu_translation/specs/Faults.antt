@@ -43,16 +43,16 @@ abbrev mutual
   pattern_clashes names (syntax.PatternOperators at first rest) =
       clash_unless at (grouped_tree (fixity_with names.fixity)
       (pattern_items (syntax.PatternOperators at first rest))) ++
-      (pattern_clashes names first ++ clashes_behind names rest)
+      (pattern_clashes names first ++ clashes_after names rest)
 
   pub all_clashes : Names → Patterns → List Fault
   all_clashes names syntax.NoPattern = []
   all_clashes names (syntax.MorePatterns p ps) = pattern_clashes names p ++ all_clashes names ps
 
-  pub clashes_behind : Names → PatternRest → List Fault
-  clashes_behind names syntax.NoConstructor = []
-  clashes_behind names (syntax.ThenConstructor c p rest) =
-      pattern_clashes names p ++ clashes_behind names rest
+  pub clashes_after : Names → PatternRest → List Fault
+  clashes_after names syntax.NoConstructor = []
+  clashes_after names (syntax.ThenConstructor c p rest) =
+      pattern_clashes names p ++ clashes_after names rest
 
 -- the grouped tree of an expression with operators, where it stands
 abbrev pub tree_of : Names → Scope → Expression → Option (Tree Expression Operator)

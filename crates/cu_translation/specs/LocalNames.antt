@@ -78,14 +78,14 @@ declaration_entries begun (syntax.FunctionRule at name parameters right) =
 declaration_entries begun (syntax.PatternBinding at p right) =
     variable_entries (pattern_variables p)
 
-abbrev pub entries_behind : Option Begun → Declarations → Scope
-entries_behind begun syntax.NoDeclaration = []
-entries_behind begun (syntax.MoreDeclarations d ds) =
-    declaration_entries begun d ++ entries_behind (begun_in begun d) ds
+abbrev pub entries_after : Option Begun → Declarations → Scope
+entries_after begun syntax.NoDeclaration = []
+entries_after begun (syntax.MoreDeclarations d ds) =
+    declaration_entries begun d ++ entries_after (begun_in begun d) ds
 
 -- what a block brings into scope in its declarations, and in the expression that it belongs to
 abbrev pub block_entries : Declarations → Scope
-block_entries ds = entries_behind None ds
+block_entries ds = entries_after None ds
 
 -- what a qualifier brings into scope in the qualifiers after it, and in the element
 abbrev pub qualifier_entries : Qualifier → Scope

@@ -20,15 +20,15 @@ abbrev mutual
   declared_places (syntax.Constructed at c ps) = all_places ps
   declared_places (syntax.PatternTuple at ps) = all_places ps
   declared_places (syntax.PatternList at ps) = all_places ps
-  declared_places (syntax.PatternOperators at p rest) = declared_places p ++ places_behind rest
+  declared_places (syntax.PatternOperators at p rest) = declared_places p ++ places_after rest
 
   pub all_places : Patterns → List Position
   all_places syntax.NoPattern = []
   all_places (syntax.MorePatterns p ps) = declared_places p ++ all_places ps
 
-  pub places_behind : PatternRest → List Position
-  places_behind syntax.NoConstructor = []
-  places_behind (syntax.ThenConstructor c p rest) = declared_places p ++ places_behind rest
+  pub places_after : PatternRest → List Position
+  places_after syntax.NoConstructor = []
+  places_after (syntax.ThenConstructor c p rest) = declared_places p ++ places_after rest
 
 abbrev pub at_name : Name → Binder
 at_name x = At x.at

@@ -65,16 +65,16 @@ begun_in begun (syntax.FunctionRule at name parameters right) = Some (begun_by b
 begun_in begun _ = None
 
 -- the functions whose rules stand among declarations, where the rules of `begun` may go on
-abbrev pub groups_behind : Option Begun → List (Option Rule) → List Group
-groups_behind begun [] = []
-groups_behind begun (None ∷ ds) = groups_behind None ds
-groups_behind begun (Some r ∷ ds) =
-    if goes_on begun r.name then groups_behind begun ds
+abbrev pub groups_after : Option Begun → List (Option Rule) → List Group
+groups_after begun [] = []
+groups_after begun (None ∷ ds) = groups_after None ds
+groups_after begun (Some r ∷ ds) =
+    if goes_on begun r.name then groups_after begun ds
     else record { first = r; others = leading r.name.text ds } ∷
-    groups_behind (Some (begun_by begun r.name r.at)) ds
+    groups_after (Some (begun_by begun r.name r.at)) ds
 
 abbrev pub groups : List (Option Rule) → List Group
-groups ds = groups_behind None ds
+groups ds = groups_after None ds
 
 -- ---- lists of patterns and expressions
 

@@ -37,7 +37,7 @@ pub fn functions_are_translated()
 
 /// A block after guards is translated to be around them, in a sample worked out
 /// by hand.
-pub fn blocks_behind_guards_are_translated()
+pub fn blocks_after_guards_are_translated()
     ensures { translated more.where_guard [] ≡ more.where_guard_term }
 {}
 

@@ -12,7 +12,7 @@ mod surroundings;
 
 pub use fault::{DesugarFault, Fault, Wrong};
 pub use laws::{
-    applications_are_translated, blocks_are_translated, blocks_behind_guards_are_translated,
+    applications_are_translated, blocks_after_guards_are_translated, blocks_are_translated,
     captures_are_least, closed_forms_are_translated, definitions_are_ordered, faults_are_told,
     first_types_stand_first, functions_are_marked, functions_are_translated,
     grouped_trees_are_found, local_functions_are_numbered, modules_are_translated,

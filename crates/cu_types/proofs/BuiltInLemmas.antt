@@ -83,10 +83,10 @@ map_last : (f : ℕ → TypeExpr) (xs : List ℕ) (y : ℕ) → map f (xs ++ y �
 map_last f [] y = refl
 map_last f (x ∷ xs) y = ap (λ (ys : List TypeExpr). f x ∷ ys) (map_last f xs y)
 
-front_member : (xs : List ℕ) (y k a : ℕ) → slice_get xs k ≡ Some a → slice_get (xs ++ y ∷ []) k ≡ Some a
-front_member [] y k a is = let none : ⊥ = cc in absurd none
-front_member (x ∷ xs) y zero a is = is
-front_member (x ∷ xs) y (suc k) a is = front_member xs y k a is
+prefix_member : (xs : List ℕ) (y k a : ℕ) → slice_get xs k ≡ Some a → slice_get (xs ++ y ∷ []) k ≡ Some a
+prefix_member [] y k a is = let none : ⊥ = cc in absurd none
+prefix_member (x ∷ xs) y zero a is = is
+prefix_member (x ∷ xs) y (suc k) a is = prefix_member xs y k a is
 
 last_member : (xs : List ℕ) (y : ℕ) → slice_get (xs ++ y ∷ []) (length xs) ≡ Some y
 last_member [] y = refl
@@ -95,9 +95,9 @@ last_member (x ∷ xs) y = last_member xs y
 pub last_within : (xs ys : List ℕ) (y n : ℕ) → xs ≡ ys ++ y ∷ [] → ((k a : ℕ) → slice_get xs k ≡ Some a → a < n) → y < n
 last_within xs ys y n is within = within (length ys) y (ap (λ (zs : List ℕ). slice_get zs (length ys)) is ∙ last_member ys y)
 
-pub front_within : (xs ys : List ℕ) (y n : ℕ) → xs ≡ ys ++ y ∷ [] → ((k a : ℕ) → slice_get xs k ≡ Some a → a < n) → (k a : ℕ)
+pub prefix_within : (xs ys : List ℕ) (y n : ℕ) → xs ≡ ys ++ y ∷ [] → ((k a : ℕ) → slice_get xs k ≡ Some a → a < n) → (k a : ℕ)
     → slice_get ys k ≡ Some a → a < n
-front_within xs ys y n is within k a e = within k a (ap (λ (zs : List ℕ). slice_get zs k) is ∙ front_member ys y k a e)
+prefix_within xs ys y n is within k a e = within k a (ap (λ (zs : List ℕ). slice_get zs k) is ∙ prefix_member ys y k a e)
 
 -- a function type whose last argument was taken
 pub functions_step : (ss mid after : List Shape) (xs ys : List ℕ) (y whole place : ℕ) (goal : TypeExpr) → xs ≡ ys ++ y ∷ []

@@ -18,13 +18,13 @@ pub each_append : (P : Pair → Type 0) (xs ys : List Pair) → Each P xs → Ea
 each_append P [] ys left right = right
 each_append P (x ∷ xs) ys left right = (left.0, each_append P xs ys left.1 right)
 
-pub each_front : (P : Pair → Type 0) (xs ys : List Pair) → Each P (xs ++ ys) → Each P xs
-each_front P [] ys all = tt
-each_front P (x ∷ xs) ys all = (all.0, each_front P xs ys all.1)
+pub each_prefix : (P : Pair → Type 0) (xs ys : List Pair) → Each P (xs ++ ys) → Each P xs
+each_prefix P [] ys all = tt
+each_prefix P (x ∷ xs) ys all = (all.0, each_prefix P xs ys all.1)
 
-pub each_back : (P : Pair → Type 0) (xs ys : List Pair) → Each P (xs ++ ys) → Each P ys
-each_back P [] ys all = all
-each_back P (x ∷ xs) ys all = each_back P xs ys all.1
+pub each_suffix : (P : Pair → Type 0) (xs ys : List Pair) → Each P (xs ++ ys) → Each P ys
+each_suffix P [] ys all = all
+each_suffix P (x ∷ xs) ys all = each_suffix P xs ys all.1
 
 pub each_paired : (P : Pair → Type 0) (ps qs : List ℕ)
     → ((k a b : ℕ) → slice_get ps k ≡ Some a → slice_get qs k ≡ Some b → P (record { left = a; right = b }))
@@ -133,12 +133,12 @@ closing_starts equations ss given parents alone sound = record {
 }
 
 -- a pair is that of its representatives
-pub closing_rooted : (equations : List Equation) (ss : List Shape) (given front : List Pair) (p q : Pair) (before after : List ℕ)
+pub closing_rooted : (equations : List Equation) (ss : List Shape) (given prefix : List Pair) (p q : Pair) (before after : List ℕ)
     (class : ℕ → ℕ) → Represents after class → IsWithin (length ss) p → q.left ≡ class p.left → q.right ≡ class p.right
-    → IsClosing equations ss given (front ++ p ∷ []) before class → IsClosing equations ss given (front ++ q ∷ []) after class
-closing_rooted equations ss given front p q before after class represents within left right c =
+    → IsClosing equations ss given (prefix ++ p ∷ []) before class → IsClosing equations ss given (prefix ++ q ∷ []) after class
+closing_rooted equations ss given prefix p q before after class represents within left right c =
     let equal : PairIsEqual equations (trees ss) p =
-    (each_back (PairIsEqual equations (trees ss)) front (p ∷ []) c.pending_sound).0 in
+    (each_suffix (PairIsEqual equations (trees ss)) prefix (p ∷ []) c.pending_sound).0 in
     let up : AreEqual equations (trees ss) p.left (class p.left) = c.sound p.left within.0 in
     let down : AreEqual equations (trees ss) p.right (class p.right) = c.sound p.right within.1 in
     let between : AreEqual equations (trees ss) (class p.left) (class p.right) =
@@ -148,67 +148,67 @@ closing_rooted equations ss given front p q before after class represents within
     record {
       represents = represents;
       sound = c.sound;
-      pending_sound = each_append (PairIsEqual equations (trees ss)) front (q ∷ [])
-          (each_front (PairIsEqual equations (trees ss)) front (p ∷ []) c.pending_sound) (
+      pending_sound = each_append (PairIsEqual equations (trees ss)) prefix (q ∷ [])
+          (each_prefix (PairIsEqual equations (trees ss)) prefix (p ∷ []) c.pending_sound) (
             subst (λ (x : ℕ). AreEqual equations (trees ss) x q.right) (sym left)
                 (subst (λ (x : ℕ). AreEqual equations (trees ss) (class p.left) x) (sym right) between),
             tt,
           );
       complete = λ f respects joins. c.complete f respects
-          (each_append (Joins f) front (p ∷ []) (each_front (Joins f) front (q ∷ []) joins)
-          (let e : f q.left ≡ f q.right = (each_back (Joins f) front (q ∷ []) joins).0 in
+          (each_append (Joins f) prefix (p ∷ []) (each_prefix (Joins f) prefix (q ∷ []) joins)
+          (let e : f q.left ≡ f q.right = (each_suffix (Joins f) prefix (q ∷ []) joins).0 in
           (sym (respects p.left within.0) ∙ ap f (sym left) ∙ e ∙ ap f right ∙ respects p.right within.1, tt)));
     }
 
 -- a pair of one place says nothing
-pub closing_dropped : (equations : List Equation) (ss : List Shape) (given front : List Pair) (q : Pair) (parents : List ℕ)
-    (class : ℕ → ℕ) → q.left ≡ q.right → IsClosing equations ss given (front ++ q ∷ []) parents class
-    → IsClosing equations ss given front parents class
-closing_dropped equations ss given front q parents class same c = record {
+pub closing_dropped : (equations : List Equation) (ss : List Shape) (given prefix : List Pair) (q : Pair) (parents : List ℕ)
+    (class : ℕ → ℕ) → q.left ≡ q.right → IsClosing equations ss given (prefix ++ q ∷ []) parents class
+    → IsClosing equations ss given prefix parents class
+closing_dropped equations ss given prefix q parents class same c = record {
   represents = c.represents;
   sound = c.sound;
-  pending_sound = each_front (PairIsEqual equations (trees ss)) front (q ∷ []) c.pending_sound;
-  complete = λ f respects joins. c.complete f respects (each_append (Joins f) front (q ∷ []) joins (ap f same, tt));
+  pending_sound = each_prefix (PairIsEqual equations (trees ss)) prefix (q ∷ []) c.pending_sound;
+  complete = λ f respects joins. c.complete f respects (each_append (Joins f) prefix (q ∷ []) joins (ap f same, tt));
 }
 
 abbrev pub turned : Pair → Pair
 turned p = record { left = p.right; right = p.left }
 
-pub closing_turned : (equations : List Equation) (ss : List Shape) (given front : List Pair) (q : Pair) (parents : List ℕ)
-    (class : ℕ → ℕ) → IsClosing equations ss given (front ++ q ∷ []) parents class
-    → IsClosing equations ss given (front ++ turned q ∷ []) parents class
-closing_turned equations ss given front q parents class c = record {
+pub closing_turned : (equations : List Equation) (ss : List Shape) (given prefix : List Pair) (q : Pair) (parents : List ℕ)
+    (class : ℕ → ℕ) → IsClosing equations ss given (prefix ++ q ∷ []) parents class
+    → IsClosing equations ss given (prefix ++ turned q ∷ []) parents class
+closing_turned equations ss given prefix q parents class c = record {
   represents = c.represents;
   sound = c.sound;
-  pending_sound = each_append (PairIsEqual equations (trees ss)) front (turned q ∷ [])
-      (each_front (PairIsEqual equations (trees ss)) front (q ∷ []) c.pending_sound) (
+  pending_sound = each_append (PairIsEqual equations (trees ss)) prefix (turned q ∷ [])
+      (each_prefix (PairIsEqual equations (trees ss)) prefix (q ∷ []) c.pending_sound) (
         made.symmetric (at (trees ss) q.left) (at (trees ss) q.right)
-            (each_back (PairIsEqual equations (trees ss)) front (q ∷ []) c.pending_sound).0,
+            (each_suffix (PairIsEqual equations (trees ss)) prefix (q ∷ []) c.pending_sound).0,
         tt,
       );
   complete = λ f respects joins. c.complete f respects
-      (each_append (Joins f) front (q ∷ []) (each_front (Joins f) front (turned q ∷ []) joins)
-      (let e : f q.right ≡ f q.left = (each_back (Joins f) front (turned q ∷ []) joins).0 in (sym e, tt)));
+      (each_append (Joins f) prefix (q ∷ []) (each_prefix (Joins f) prefix (turned q ∷ []) joins)
+      (let e : f q.right ≡ f q.left = (each_suffix (Joins f) prefix (turned q ∷ []) joins).0 in (sym e, tt)));
 }
 
 -- a function that agrees with the joined classes and the arguments agrees with the classes before, and with both shapes
-closing_agrees : (ss : List Shape) (given front : List Pair) (child root : ℕ) (s t : Shape) (class f : ℕ → ℕ)
+closing_agrees : (ss : List Shape) (given prefix : List Pair) (child root : ℕ) (s t : Shape) (class f : ℕ → ℕ)
     → slice_get ss child ≡ Some s → slice_get ss root ≡ Some t → Meet s t → (is_variable t ≡ true → is_variable s ≡ true)
     → class root ≡ root → class child ≡ child → child ≢ root → child < length ss → root < length ss
     → ((g : ℕ → ℕ) → ((k : ℕ) → k < length ss → g (class k) ≡ g k)
-    → Each (Joins g) (front ++ (record { left = child; right = root }) ∷ []) → Agrees ss given class g)
+    → Each (Joins g) (prefix ++ (record { left = child; right = root }) ∷ []) → Agrees ss given class g)
     → ((k : ℕ) → k < length ss → f (joined child root class k) ≡ f k)
-    → Each (Joins f) (front ++ paired (places s) (places t)) → Agrees ss given (joined child root class) f
-closing_agrees ss given front child root s t class f is_child is_root meet kinds own child_own apart child_in root_in complete respects joins =
+    → Each (Joins f) (prefix ++ paired (places s) (places t)) → Agrees ss given (joined child root class) f
+closing_agrees ss given prefix child root s t class f is_child is_root meet kinds own child_own apart child_in root_in complete respects joins =
     let joined_child : joined child root class child ≡ root = joined_there child root child class child_own in
     let same : f child ≡ f root = sym (respects child child_in) ∙ ap f joined_child in
     let classes : (k : ℕ) → k < length ss → f (class k) ≡ f k = λ k lt.
     at_joined child root k class (λ x. f x ≡ f k → f (class k) ≡ f k)
     (λ e it. ap f e ∙ same ∙ it) (λ n it. it) (respects k lt) in
     let before : Agrees ss given class f =
-    complete f classes (each_append (Joins f) front ((record { left = child; right = root }) ∷ [])
-    (each_front (Joins f) front (paired (places s) (places t)) joins) (same, tt)) in
-    let met : IsAlike f s t = alike_met f s t meet kinds (each_back (Joins f) front (paired (places s) (places t)) joins) in
+    complete f classes (each_append (Joins f) prefix ((record { left = child; right = root }) ∷ [])
+    (each_prefix (Joins f) prefix (paired (places s) (places t)) joins) (same, tt)) in
+    let met : IsAlike f s t = alike_met f s t meet kinds (each_suffix (Joins f) prefix (paired (places s) (places t)) joins) in
     record {
       joins = before.joins;
       alike = λ k u v is it.
@@ -222,25 +222,25 @@ closing_agrees ss given front child root s t class f is_child is_root meet kinds
     }
 
 -- the class of one representative is joined to that of another, and their arguments are pending
-pub closing_joined : (equations : List Equation) (ss : List Shape) (given front : List Pair) (child root : ℕ) (s t : Shape)
+pub closing_joined : (equations : List Equation) (ss : List Shape) (given prefix : List Pair) (child root : ℕ) (s t : Shape)
     (parents then : List ℕ) (class : ℕ → ℕ) → IsTable ss → child ≢ root → class child ≡ child → class root ≡ root
     → Represents then (joined child root class) → slice_get ss child ≡ Some s → slice_get ss root ≡ Some t → Meet s t
     → (is_variable t ≡ true → is_variable s ≡ true)
-    → IsClosing equations ss given (front ++ (record { left = child; right = root }) ∷ []) parents class
-    → IsClosing equations ss given (front ++ paired (places s) (places t)) then (joined child root class)
-closing_joined equations ss given front child root s t parents then class table apart child_own own represents is_child is_root meet kinds c =
+    → IsClosing equations ss given (prefix ++ (record { left = child; right = root }) ∷ []) parents class
+    → IsClosing equations ss given (prefix ++ paired (places s) (places t)) then (joined child root class)
+closing_joined equations ss given prefix child root s t parents then class table apart child_own own represents is_child is_root meet kinds c =
     let equal : AreEqual equations (trees ss) child root =
-    (each_back (PairIsEqual equations (trees ss)) front ((record { left = child; right = root }) ∷ []) c.pending_sound).0 in
+    (each_suffix (PairIsEqual equations (trees ss)) prefix ((record { left = child; right = root }) ∷ []) c.pending_sound).0 in
     record {
       represents = represents;
       sound = λ k lt. at_joined child root k class (AreEqual equations (trees ss) k)
           (λ e. made.transitive (at (trees ss) k) (at (trees ss) child) (at (trees ss) root)
           (subst (AreEqual equations (trees ss) k) e (c.sound k lt)) equal)
           (λ n. c.sound k lt);
-      pending_sound = each_append (PairIsEqual equations (trees ss)) front (paired (places s) (places t))
-          (each_front (PairIsEqual equations (trees ss)) front ((record { left = child; right = root }) ∷ []) c.pending_sound)
+      pending_sound = each_append (PairIsEqual equations (trees ss)) prefix (paired (places s) (places t))
+          (each_prefix (PairIsEqual equations (trees ss)) prefix ((record { left = child; right = root }) ∷ []) c.pending_sound)
           (arguments_equal equations ss child root s t table is_child is_root meet equal);
-      complete = λ f respects joins. closing_agrees ss given front child root s t class f is_child is_root meet kinds own child_own apart
+      complete = λ f respects joins. closing_agrees ss given prefix child root s t class f is_child is_root meet kinds own child_own apart
           (slice_get_within ss child s is_child) (slice_get_within ss root t is_root)
           c.complete respects joins;
     }

@@ -313,9 +313,9 @@ group_of program f = passing (connects program f.0) 0 (length program.functions)
 
 pub group_has : (program : Program) (f g : FunId) → IsFunction program g → Reaches program f g → Reaches program g f → IsIn (group_of program f) g
 unfolding group_of
-group_has program f g inside forth back =
+group_has program f g inside forth converse =
     passes_in (connects program f.0) 0 (length program.functions) g (omega arith) (omega (arith, inside))
-    (both_true (reach program f.0 g.0) (reach program g.0 f.0) (reaches program f g forth) (reaches program g f back))
+    (both_true (reach program f.0 g.0) (reach program g.0 f.0) (reaches program f g forth) (reaches program g f converse))
 
 pub group_is : (program : Program) (f g : FunId) → IsIn (group_of program f) g
     → IsFunction program g × Reaches program f g × Reaches program g f

@@ -17,7 +17,7 @@ use Rattle.cu_types.proofs.Connections.{group_of, is_group, own_group}
 use Rattle.cu_types.proofs.EarlierEquations.{signature_of, signature_there}
 use Rattle.cu_types.proofs.GrowingLemmas.{applied_arrows}
 use Rattle.cu_types.proofs.Inferring.{functions_length}
-use Rattle.cu_types.proofs.NumberingLemmas.{all_noted_more, held_front, noted_holds}
+use Rattle.cu_types.proofs.NumberingLemmas.{all_noted_more, held_prefix, noted_holds}
 use Rattle.cu_types.proofs.Renaming.{all_held, applied_twice, name_of, renamed_numbered, renamed_variables, variable_name}
 use Rattle.cu_types.proofs.RigidLemmas.{becomes, either_true, holds_either, holds_itself, holds_left, holds_right, left_true, right_true}
 use Rattle.cu_types.specs.BuiltInTypes.{arrows, variables_from}
@@ -71,7 +71,7 @@ noted_held x ks (y ∷ ys) h = elim (either_true (nat_eq x y) (holds x ys) h) [
       let same : x ≡ y = eqb-true x y first in
       let more = all_noted_more (noted ks y) ys in
       subst (λ (zs : List ℕ). IsTrue (holds x zs)) (sym more.1)
-      (held_front x (noted ks y) more.0 (subst (λ (z : ℕ). IsTrue (holds z (noted ks y))) (sym same) (noted_holds ks y)))
+      (held_prefix x (noted ks y) more.0 (subst (λ (z : ℕ). IsTrue (holds z (noted ks y))) (sym same) (noted_holds ks y)))
   | inr rest ↦ noted_held x (noted ks y) ys rest
 ]
 
@@ -185,8 +185,8 @@ module _ (cs : List TypeExpr) (e : TypeExpr) (own : Substitution) (next : ℕ)
   shifted_high : (x : ℕ) → shifted (next + x) ≡ own x
   shifted_high x =
       let none : nat_lt (next + x) next ≡ false = le-ltb (next + x) next (omega arith) in
-      let back : next + x - next ≡ x = omega arith in
-      ap (λ (b : Bool). cond b (type.Variable (next + x)) (own (next + x - next))) none ∙ ap own back
+      let converse : next + x - next ≡ x = omega arith in
+      ap (λ (b : Bool). cond b (type.Variable (next + x)) (own (next + x - next))) none ∙ ap own converse
 
   stays_below : (s : TypeExpr) → breadth s ≤ next → apply shifted s ≡ s
   stays_below s less =

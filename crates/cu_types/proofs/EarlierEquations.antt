@@ -10,7 +10,7 @@ use Rattle.cu_calculus.specs.declared.Head.{Head}
 use Rattle.cu_kernel.specs.Kernel.{Kernel}
 use Rattle.cu_kernel.specs.TypeExpr as type
 use Rattle.cu_kernel.specs.TypeExpr.{TypeExpr}
-use Rattle.cu_lift.proofs.Elements.{in_front, in_last}
+use Rattle.cu_lift.proofs.Elements.{in_prefix, in_last}
 use Rattle.cu_lift.specs.Groups.{IsIn}
 use Rattle.cu_types.specs.BuiltInTypes.{arrows, external_type, literal_type, variables_from}
 use Rattle.cu_types.specs.Equations as asked
@@ -19,7 +19,7 @@ use Rattle.cu_types.specs.Unification.{Equation}
 
 module _ (e : Equation) where
   asking_stays : (s t : TypeExpr) (a : Asked) → IsIn a.equations e → IsIn (asking s t a).equations e
-  asking_stays s t a there = in_front e a.equations (record { left = s; right = t } ∷ []) there
+  asking_stays s t a there = in_prefix e a.equations (record { left = s; right = t } ∷ []) there
 
   scheme_stays : (s : Scheme) (t : TypeExpr) (a : Asked) → IsIn a.equations e → IsIn (scheme_asks s t a).equations e
   scheme_stays s t a there = asking_stays (instance a.next s) t a there

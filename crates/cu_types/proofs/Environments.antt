@@ -15,8 +15,8 @@ pub bound_in : (old new : ℕ → Option ℕ) (x t : ℕ) → ((y : ℕ) → new
 bound_in old new x t is = fun_ext (λ y. ap or_zero (is y) ∙ changed (nat_eq x y) t (old y))
 
 -- a variable that is bound to what it had
-bound_back : (env : Environment) (x t y : ℕ) → bind (bind env x t) x (env x) y ≡ env y
-bound_back env x t y = elim (cases_eq x y) [
+bound_again : (env : Environment) (x t y : ℕ) → bind (bind env x t) x (env x) y ≡ env y
+bound_again env x t y = elim (cases_eq x y) [
   | inl same ↦ ap (λ (b : Bool). cond b (env x) (bind env x t y)) (eq-eqb x y same) ∙ ap env same
   | inr other ↦
       ap (λ (b : Bool). cond b (env x) (bind env x t y)) (ne_eqb x y other)
@@ -24,4 +24,4 @@ bound_back env x t y = elim (cases_eq x y) [
 ]
 
 pub restored : (env : Environment) (x t : ℕ) → bind (bind env x t) x (env x) ≡ env
-restored env x t = fun_ext (bound_back env x t)
+restored env x t = fun_ext (bound_again env x t)

@@ -39,12 +39,12 @@ kept_more ks left own types after shared whole is kept pushed before =
     ∙ sym (ap (λ (xs : List Known). types ++ map kept_type xs) is) ∙ before
 
 -- a slice that was written back as a whole
-front : (xs zs : List Known) → take (length xs) (xs ++ zs) ≡ xs
-front [] zs = refl
-front (x ∷ xs) zs = ap (λ (ys : List Known). x ∷ ys) (front xs zs)
+prefix : (xs zs : List Known) → take (length xs) (xs ++ zs) ≡ xs
+prefix [] zs = refl
+prefix (x ∷ xs) zs = ap (λ (ys : List Known). x ∷ ys) (prefix xs zs)
 
 pub written : (n : ℕ) (xs ys : List Known) → n ≡ length xs → take n (xs ++ drop (length xs) ys) ≡ xs
-written n xs ys size = ap (λ k. take k (xs ++ drop (length xs) ys)) size ∙ front xs (drop (length xs) ys)
+written n xs ys size = ap (λ k. take k (xs ++ drop (length xs) ys)) size ∙ prefix xs (drop (length xs) ys)
 
 -- ---- goals
 

@@ -3,7 +3,7 @@ use Rattle.std.proofs.Common.{◌≡◌, ◌≢◌, ℕ, zero, suc, ◌+◌, ◌
 use Rattle.std.proofs.lemmas.Bool.{cases_eq, eq-eqb, eqb-true, ne_eqb}
 use Rattle.std.proofs.lemmas.List.{get_or_append_left, get_or_push}
 use Rattle.std.proofs.lemmas.Option.{slice_get-map, slice_get_read, slice_get_within}
-use Rattle.cu_types.proofs.ClosingLemmas.{closing_dropped, closing_joined, closing_rooted, closing_turned, each_append, each_back, each_paired, meet_turned, turned}
+use Rattle.cu_types.proofs.ClosingLemmas.{closing_dropped, closing_joined, closing_rooted, closing_turned, each_append, each_suffix, each_paired, meet_turned, turned}
 use Rattle.cu_types.proofs.Debts.{owed_less, owed_same}
 use Rattle.cu_types.proofs.TableLemmas.{mapped_length}
 use Rattle.cu_types.specs.Inside.Classes.{Represents, is_root, joined}
@@ -86,7 +86,7 @@ joined_apart ss p q before parents then within q_within inside found s t left ri
       closing_rooted equations ss given before p q parents then class here.0 within here.1 here.2 c in
       record {
         within = q_within;
-        equal = (each_back (PairIsEqual equations (trees ss)) before (q ∷ []) rooted.pending_sound).0;
+        equal = (each_suffix (PairIsEqual equations (trees ss)) before (q ∷ []) rooted.pending_sound).0;
         apart = λ u v is it meet.
             let e : Some s ≡ Some u = sym left ∙ is in
             let f : Some t ≡ Some v = sym right ∙ it in
@@ -221,9 +221,9 @@ meet_again nodes i j a b c d i_in j_in is_a is_b is_c is_d meet =
     subst (λ (x : Shape). Meet x (shape_of d)) (read_twice nodes i a c i_in is_a is_c)
     (subst (Meet (shape_of a)) (read_twice nodes j b d j_in is_b is_d) meet)
 
-pub each_within_back : (nodes : List Node) (ps : List Pair) → Each (IsWithin (length (map shape_of nodes))) ps
+pub each_within_converse : (nodes : List Node) (ps : List Pair) → Each (IsWithin (length (map shape_of nodes))) ps
     → Each (IsWithin (length nodes)) ps
-each_within_back nodes ps within = subst (λ (n : ℕ). Each (IsWithin n) ps) (mapped_length shape_of nodes) within
+each_within_converse nodes ps within = subst (λ (n : ℕ). Each (IsWithin n) ps) (mapped_length shape_of nodes) within
 
 -- one more representative
 pub class_more : (xs ys : List ℕ) (n root : ℕ) (class : ℕ → ℕ) → length xs ≡ n → ((k : ℕ) → k < n → get_or xs k 0 ≡ class k)

@@ -13,7 +13,7 @@ use Rattle.cu_kernel.specs.TypesOf.{type_list}
 use Rattle.cu_types.proofs.Adding.{node_shape, node_within}
 use Rattle.cu_types.proofs.TableLemmas.{mapped_length, trees-length, trees_fit}
 use Rattle.cu_types.specs.Equations.{Member, breadth}
-use Rattle.cu_types.specs.Inside.Keeping.{IsPending, Told, among, became, behind, go_on, joined, joined_if, meets, numbers_from, shape_meets, shape_variable, some_meets, variable_of, with_declared, with_first, with_member, with_members}
+use Rattle.cu_types.specs.Inside.Keeping.{IsPending, Told, among, became, prefixed, go_on, joined, joined_if, meets, numbers_from, shape_meets, shape_variable, some_meets, variable_of, with_declared, with_first, with_member, with_members}
 use Rattle.cu_types.specs.Inside.Knowing.{AreMembers, IsMember, member_of}
 use Rattle.cu_types.specs.Meaning.{HasPlaces, place_in, subst_of, type_at, types_of_subst}
 use Rattle.cu_types.specs.Numbered.{variables_in, variables_in_all}
@@ -79,52 +79,52 @@ all_numbers first count =
 
 -- variables that became variables
 
-behind_none : (o : Option (List ℕ)) → behind [] o ≡ o
-behind_none None = refl
-behind_none (Some ys) = refl
+after_none : (o : Option (List ℕ)) → prefixed [] o ≡ o
+after_none None = refl
+after_none (Some ys) = refl
 
-behind_more : (ys : List ℕ) (y : ℕ) (o : Option (List ℕ)) → behind ys (with_first (Some y) o) ≡ behind (ys ++ y ∷ []) o
-behind_more ys y None = refl
-behind_more ys y (Some zs) = ap Some (sym (append_assoc ys (y ∷ []) zs))
+after_more : (ys : List ℕ) (y : ℕ) (o : Option (List ℕ)) → prefixed ys (with_first (Some y) o) ≡ prefixed (ys ++ y ∷ []) o
+after_more ys y None = refl
+after_more ys y (Some zs) = ap Some (sym (append_assoc ys (y ∷ []) zs))
 
 nothing_after : (xs : List ℕ) → xs ++ [] ≡ xs
 nothing_after [] = refl
 nothing_after (x ∷ xs) = ap (λ (ys : List ℕ). x ∷ ys) (nothing_after xs)
 
 pub became_start : (σ : Substitution) (first count : ℕ) (found : List ℕ) → found ≡ []
-    → behind found (became σ (numbers_from (first + 0) (count - 0))) ≡ became σ (numbers_from first count)
+    → prefixed found (became σ (numbers_from (first + 0) (count - 0))) ≡ became σ (numbers_from first count)
 became_start σ first count found none =
-    ap (λ (ys : List ℕ). behind ys (became σ (numbers_from (first + 0) (count - 0)))) none
-    ∙ behind_none (became σ (numbers_from (first + 0) (count - 0)))
+    ap (λ (ys : List ℕ). prefixed ys (became σ (numbers_from (first + 0) (count - 0)))) none
+    ∙ after_none (became σ (numbers_from (first + 0) (count - 0)))
     ∙ ap (became σ) (all_numbers first count)
 
 pub became_more : (σ : Substitution) (first count i x y : ℕ) (found after : List ℕ) (whole : Option (List ℕ)) → i < count
     → x ≡ first + i → Some y ≡ variable_of (σ x) → after ≡ found ++ y ∷ []
-    → behind found (became σ (numbers_from (first + i) (count - i))) ≡ whole
-    → behind after (became σ (numbers_from (first + (i + 1)) (count - (i + 1)))) ≡ whole
+    → prefixed found (became σ (numbers_from (first + i) (count - i))) ≡ whole
+    → prefixed after (became σ (numbers_from (first + (i + 1)) (count - (i + 1)))) ≡ whole
 became_more σ first count i x y found after whole lt here is pushed before =
     let rest : Option (List ℕ) = became σ (numbers_from (first + (i + 1)) (count - (i + 1))) in
     let one : Some y ≡ variable_of (σ (first + i)) = is ∙ ap (λ (z : ℕ). variable_of (σ z)) here in
-    ap (λ (ys : List ℕ). behind ys (became σ (numbers_from (first + (i + 1)) (count - (i + 1))))) pushed
-    ∙ sym (behind_more found y (became σ (numbers_from (first + (i + 1)) (count - (i + 1)))))
-    ∙ ap (λ (o : Option ℕ). behind found (with_first o (became σ (numbers_from (first + (i + 1)) (count - (i + 1)))))) one
-    ∙ sym (ap (λ (xs : List ℕ). behind found (became σ xs)) (next_number first i count lt))
+    ap (λ (ys : List ℕ). prefixed ys (became σ (numbers_from (first + (i + 1)) (count - (i + 1))))) pushed
+    ∙ sym (after_more found y (became σ (numbers_from (first + (i + 1)) (count - (i + 1)))))
+    ∙ ap (λ (o : Option ℕ). prefixed found (with_first o (became σ (numbers_from (first + (i + 1)) (count - (i + 1)))))) one
+    ∙ sym (ap (λ (xs : List ℕ). prefixed found (became σ xs)) (next_number first i count lt))
     ∙ before
 
 pub became_none : (σ : Substitution) (first count i x : ℕ) (found : List ℕ) (whole : Option (List ℕ)) → i < count
     → x ≡ first + i → None ≡ variable_of (σ x)
-    → behind found (became σ (numbers_from (first + i) (count - i))) ≡ whole → None ≡ whole
+    → prefixed found (became σ (numbers_from (first + i) (count - i))) ≡ whole → None ≡ whole
 became_none σ first count i x found whole lt here is before =
     let one : None ≡ variable_of (σ (first + i)) = is ∙ ap (λ (z : ℕ). variable_of (σ z)) here in
-    ap (λ (o : Option ℕ). behind found (with_first o (became σ (numbers_from (first + (i + 1)) (count - (i + 1)))))) one
-    ∙ sym (ap (λ (xs : List ℕ). behind found (became σ xs)) (next_number first i count lt))
+    ap (λ (o : Option ℕ). prefixed found (with_first o (became σ (numbers_from (first + (i + 1)) (count - (i + 1)))))) one
+    ∙ sym (ap (λ (xs : List ℕ). prefixed found (became σ xs)) (next_number first i count lt))
     ∙ before
 
 pub became_end : (σ : Substitution) (first count i : ℕ) (found : List ℕ) (whole : Option (List ℕ)) → count ≤ i
-    → behind found (became σ (numbers_from (first + i) (count - i))) ≡ whole → Some found ≡ whole
+    → prefixed found (became σ (numbers_from (first + i) (count - i))) ≡ whole → Some found ≡ whole
 became_end σ first count i found whole few before =
     ap Some (sym (nothing_after found))
-    ∙ sym (ap (λ (xs : List ℕ). behind found (became σ xs)) (no_number first i count few))
+    ∙ sym (ap (λ (xs : List ℕ). prefixed found (became σ xs)) (no_number first i count few))
     ∙ before
 
 -- numbers that are new

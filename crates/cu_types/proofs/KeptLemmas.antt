@@ -16,16 +16,16 @@ use Rattle.cu_types.specs.Types.{Substitution}
 
 -- places in lists
 
-placed_front : {A : Type 0} (xs ys : List A) (k : ℕ) (x : A) → slice_get xs k ≡ Some x → slice_get (xs ++ ys) k ≡ Some x
-placed_front [] ys k x is = let no : ⊥ = cc in absurd no
-placed_front (z ∷ xs) ys zero x is = is
-placed_front (z ∷ xs) ys (suc k) x is = placed_front xs ys k x is
+placed_prefix : {A : Type 0} (xs ys : List A) (k : ℕ) (x : A) → slice_get xs k ≡ Some x → slice_get (xs ++ ys) k ≡ Some x
+placed_prefix [] ys k x is = let no : ⊥ = cc in absurd no
+placed_prefix (z ∷ xs) ys zero x is = is
+placed_prefix (z ∷ xs) ys (suc k) x is = placed_prefix xs ys k x is
 
-placed_back : {A : Type 0} (xs ys : List A) (k : ℕ) → slice_get (xs ++ ys) (length xs + k) ≡ slice_get ys k
-placed_back [] ys k = let e : 0 + k ≡ k = omega arith in ap (slice_get ys) e
-placed_back (x ∷ xs) ys k =
+placed_suffix : {A : Type 0} (xs ys : List A) (k : ℕ) → slice_get (xs ++ ys) (length xs + k) ≡ slice_get ys k
+placed_suffix [] ys k = let e : 0 + k ≡ k = omega arith in ap (slice_get ys) e
+placed_suffix (x ∷ xs) ys k =
     let e : length (x ∷ xs) + k ≡ suc (length xs + k) = omega arith in
-    ap (slice_get (x ∷ xs ++ ys)) e ∙ placed_back xs ys k
+    ap (slice_get (x ∷ xs ++ ys)) e ∙ placed_suffix xs ys k
 
 -- a place of two lists is one of the first or of the second
 placed_either : {A : Type 0} (xs ys : List A) (k : ℕ) (x : A) → slice_get (xs ++ ys) k ≡ Some x
@@ -141,11 +141,11 @@ becomes_both : (σ : Substitution) (xs ys us vs : List ℕ) → Becomes σ xs ys
 becomes_both σ xs ys us vs first second = record {
   long = length-append xs us ∙ ap (λ (n : ℕ). n + length us) first.long ∙ ap (λ (n : ℕ). length ys + n) second.long ∙ sym (length-append ys vs);
   each = λ k x e. elim (placed_either xs us k x e) [
-    | inl at_k ↦ let w = first.each k x at_k in (w.0, placed_front ys vs k w.0 w.1, w.2)
+    | inl at_k ↦ let w = first.each k x at_k in (w.0, placed_prefix ys vs k w.0 w.1, w.2)
     | inr p ↦
         let w = second.each p.0 x p.2 in
         let here : k ≡ length ys + p.0 = p.1 ∙ ap (λ (n : ℕ). n + p.0) first.long in
-        (w.0, ap (slice_get (ys ++ vs)) here ∙ placed_back ys vs p.0 ∙ w.1, w.2)
+        (w.0, ap (slice_get (ys ++ vs)) here ∙ placed_suffix ys vs p.0 ∙ w.1, w.2)
   ];
 }
 
@@ -257,13 +257,13 @@ not_joined_by : (ks : List ℕ) (y : ℕ) (ys : List ℕ) (b : Bool) → holds y
     → (joined (ks ++ y ∷ []) ys ≡ None → ComesTwice ((ks ++ y ∷ []) ++ ys)) → ComesTwice (ks ++ y ∷ ys)
 not_joined_by ks y ys true here is go =
     let w = held_place y ks here in
-    let last : slice_get (ks ++ y ∷ ys) (length ks + 0) ≡ Some y = placed_back ks (y ∷ ys) 0 in
+    let last : slice_get (ks ++ y ∷ ys) (length ks + 0) ≡ Some y = placed_suffix ks (y ∷ ys) 0 in
     record {
       number = y;
       first = w.0;
       second = length ks + 0;
       earlier = (let within : w.0 < length ks = slice_get_within ks w.0 y w.1 in omega arith);
-      at_first = placed_front ks (y ∷ ys) w.0 y w.1;
+      at_first = placed_prefix ks (y ∷ ys) w.0 y w.1;
       at_second = last;
     }
 not_joined_by ks y ys false here is go = subst ComesTwice (append_assoc ks (y ∷ []) ys) (go is)
@@ -313,10 +313,10 @@ group_number [] k x m at_k d = let no : ⊥ = cc in absurd no
 group_number (n ∷ ms) zero x m at_k d =
     let same : n ≡ m = cc in
     let w = declared_number n x (subst (λ (o : Member). IsDeclared o x) (sym same) d) in
-    (w.0, placed_front (declared_numbers n) (all_declared ms) w.0 x w.1)
+    (w.0, placed_prefix (declared_numbers n) (all_declared ms) w.0 x w.1)
 group_number (n ∷ ms) (suc k) x m at_k d =
     let w = group_number ms k x m at_k d in
-    (length (declared_numbers n) + w.0, placed_back (declared_numbers n) (all_declared ms) w.0 ∙ w.1)
+    (length (declared_numbers n) + w.0, placed_suffix (declared_numbers n) (all_declared ms) w.0 ∙ w.1)
 
 number_of_group : (ms : List Member) (j x : ℕ) → slice_get (all_declared ms) j ≡ Some x → IsOfGroup ms x
 number_of_group [] j x at_j = let no : ⊥ = cc in absurd no
@@ -539,9 +539,9 @@ twice_refutes σ all xs ys more keeps rises is became twice =
     let a = became_at σ xs ys twice.first twice.number became twice.at_first in
     let b = became_at σ xs ys twice.second twice.number became twice.at_second in
     let first : slice_get (all_declared all) twice.first ≡ Some a.0 =
-    ap (λ (zs : List ℕ). slice_get zs twice.first) is ∙ placed_front xs more twice.first a.0 a.1 in
+    ap (λ (zs : List ℕ). slice_get zs twice.first) is ∙ placed_prefix xs more twice.first a.0 a.1 in
     let second : slice_get (all_declared all) twice.second ≡ Some b.0 =
-    ap (λ (zs : List ℕ). slice_get zs twice.second) is ∙ placed_front xs more twice.second b.0 b.1 in
+    ap (λ (zs : List ℕ). slice_get zs twice.second) is ∙ placed_prefix xs more twice.second b.0 b.1 in
     let same : a.0 ≡ b.0 =
     keeps.distinct a.0 b.0 (number_of_group all twice.first a.0 first) (number_of_group all twice.second b.0 second) (a.2 ∙ sym b.2) in
     let less : a.0 < b.0 = rises twice.first twice.second a.0 b.0 twice.earlier first second in
@@ -565,7 +565,7 @@ not_variable : (t : TypeExpr) (y : ℕ) → variable_of t ≡ None → t ≡ typ
 not_variable t y none is = let e : None ≡ Some y = sym none ∙ ap variable_of is in let no : ⊥ = cc in no
 
 placed_last : (done : List Member) (m : Member) (ms : List Member) → slice_get (done ++ m ∷ ms) (length done + 0) ≡ Some m
-placed_last done m ms = placed_back done (m ∷ ms) 0
+placed_last done m ms = placed_suffix done (m ∷ ms) 0
 
 refuted_by : (σ : Substitution) (all done ms : List Member) (m : Member) (ks ys : List ℕ) (b : Bool) → KeepsDeclared σ all
     → Rises (all_declared all) → all ≡ done ++ m ∷ ms → Becomes σ (all_declared done) ks → Becomes σ (declared_numbers m) ys

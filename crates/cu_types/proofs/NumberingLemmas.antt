@@ -46,9 +46,9 @@ held_here : (b rest after : Bool) → (b || rest) ≡ true → (rest ≡ true �
 held_here true rest after h go = refl
 held_here false rest after h go = go h
 
-pub held_front : (x : ℕ) (ks more : List ℕ) → holds x ks ≡ true → holds x (ks ++ more) ≡ true
-held_front x [] more h = let none : ⊥ = cc in absurd none
-held_front x (k ∷ ks) more h = held_here (nat_eq x k) (holds x ks) (holds x (ks ++ more)) h (held_front x ks more)
+pub held_prefix : (x : ℕ) (ks more : List ℕ) → holds x ks ≡ true → holds x (ks ++ more) ≡ true
+held_prefix x [] more h = let none : ⊥ = cc in absurd none
+held_prefix x (k ∷ ks) more h = held_here (nat_eq x k) (holds x ks) (holds x (ks ++ more)) h (held_prefix x ks more)
 
 held_last : (x : ℕ) (ks : List ℕ) → holds x (ks ++ x ∷ []) ≡ true
 held_last x [] = or_left (nat_eq x x) false (eq-eqb x x refl)
@@ -120,7 +120,7 @@ number_kept ks rest final x is =
 
 noted_longer : (ks more vs : List ℕ) → AreNoted ks vs → AreNoted (ks ++ more) vs
 noted_longer ks more [] all = tt
-noted_longer ks more (v ∷ vs) all = (held_front v ks more all.0, noted_longer ks more vs all.1)
+noted_longer ks more (v ∷ vs) all = (held_prefix v ks more all.0, noted_longer ks more vs all.1)
 
 noted_both : (ks us vs : List ℕ) → AreNoted ks us → AreNoted ks vs → AreNoted ks (us ++ vs)
 noted_both ks [] vs first second = second
@@ -266,14 +266,14 @@ all_made_noted ts final ks made (p ∷ ps) (m ∷ ms) all =
 -- one more type was made
 
 numbering_pushed : (ss : List Shape) (root : ℕ) (final : List ℕ) (find then : ℕ → Option ℕ) (made after grown : List Shape)
-    (known kept : ℕ → Option ℕ) (ks later more places now : List ℕ) (tasks left : List Task) (stack front : List ℕ) (p m : ℕ)
+    (known kept : ℕ → Option ℕ) (ks later more places now : List ℕ) (tasks left : List Task) (stack prefix : List ℕ) (p m : ℕ)
     → HasVariables then after → after ≡ made ++ grown → later ≡ ks ++ more
     → all_noted later (pending (trees ss) left) ≡ final → AreTasks (length ss) left → Makes ss root left (stack ++ p ∷ [])
-    → AllMade (IsMade (trees ss) final ks made) stack front → now ≡ front ++ m ∷ []
+    → AllMade (IsMade (trees ss) final ks made) stack prefix → now ≡ prefix ++ m ∷ []
     → IsMade (trees ss) final later after p m
     → ((q n : ℕ) → kept q ≡ Some n → IsMade (trees ss) final later after q n)
     → IsNumbering ss root final then after kept later now left
-numbering_pushed ss root final find then made after grown known kept ks later more places now tasks left stack front p m variables is longer_keys keys within
+numbering_pushed ss root final find then made after grown known kept ks later more places now tasks left stack prefix p m variables is longer_keys keys within
     makes are pushed one seen = record {
       variables = variables;
       keys = keys;
@@ -281,8 +281,8 @@ numbering_pushed ss root final find then made after grown known kept ks later mo
       stack = stack ++ p ∷ [];
       makes = makes;
       are = subst (AllMade (IsMade (trees ss) final later after) (stack ++ p ∷ [])) (sym pushed)
-          (all_made_push (IsMade (trees ss) final later after) stack front p m
-          (all_made_more (IsMade (trees ss) final ks made) (IsMade (trees ss) final later after) stack front
+          (all_made_push (IsMade (trees ss) final later after) stack prefix p m
+          (all_made_more (IsMade (trees ss) final ks made) (IsMade (trees ss) final later after) stack prefix
           (λ q n w. made_kept (trees ss) final ks later more made after grown longer_keys is q n w) are) one);
       seen = seen;
     }
@@ -394,8 +394,8 @@ pub record IsSplit (ss : List Shape) (final ks : List ℕ) (made : List Shape) (
   pub rest : List ℕ
   pub makes : Makes ss root tasks (rest ++ p ∷ [])
   pub few : length args ≤ length places
-  pub front : AllMade (IsMade (trees ss) final ks made) rest (take (length places - length args) places)
-  pub back : AllMade (IsMade (trees ss) final ks made) args (drop (length places - length args) places)
+  pub prefix : AllMade (IsMade (trees ss) final ks made) rest (take (length places - length args) places)
+  pub suffix : AllMade (IsMade (trees ss) final ks made) args (drop (length places - length args) places)
 
 split_at : (ss : List Shape) (final ks : List ℕ) (made : List Shape) (root p : ℕ) (rest args places stack : List ℕ) (tasks : List Task)
     → stack ≡ rest ++ args → Makes ss root tasks (rest ++ p ∷ []) → AllMade (IsMade (trees ss) final ks made) stack places
@@ -411,8 +411,8 @@ split_at ss final ks made root p rest args places stack tasks is makes are =
       rest = rest;
       makes = makes;
       few = omega arith;
-      front = subst (λ (n : ℕ). AllMade (IsMade (trees ss) final ks made) rest (take n places)) here parts.0;
-      back = subst (λ (n : ℕ). AllMade (IsMade (trees ss) final ks made) args (drop n places)) here parts.1;
+      prefix = subst (λ (n : ℕ). AllMade (IsMade (trees ss) final ks made) rest (take n places)) here parts.0;
+      suffix = subst (λ (n : ℕ). AllMade (IsMade (trees ss) final ks made) args (drop n places)) here parts.1;
     }
 
 pub split : (ss : List Shape) (root : ℕ) (final : List ℕ) (find : ℕ → Option ℕ) (made : List Shape) (known : ℕ → Option ℕ)
@@ -447,16 +447,16 @@ goes_left ss root final find then made after known kept ks later places now task
     let full : IsFull h (length (map (at (trees ss)) args)) = subst (IsFull h) (sym mapped) (full_at ss p h args table is) in
     let one : IsMade (trees ss) final later after p m = record {
       within = read.within;
-      value = read.value ∙ ap (built h) (all_made_values (trees ss) final ks made args (drop (length places - length args) places) s.back)
+      value = read.value ∙ ap (built h) (all_made_values (trees ss) final ks made args (drop (length places - length args) places) s.suffix)
           ∙ sym (applied_built (by_place final) h (map (at (trees ss)) args) full)
           ∙ ap (apply (by_place final)) (sym (type_at ss p h args table is));
       numbers = subst (AreNoted later) (sym (variables_at ss p h args table is))
           (subst (λ (xs : List ℕ). AreNoted xs (variables_of_all (at (trees ss)) args)) (sym same)
-          (all_made_noted (trees ss) final ks made args (drop (length places - length args) places) s.back));
+          (all_made_noted (trees ss) final ks made args (drop (length places - length args) places) s.suffix));
     } in
     numbering_pushed ss root final find then made after read.more known kept ks later [] places now tasks tasks s.rest
     (take (length places - length args) places) p m variables read.extends grown
-    (ap (λ (xs : List ℕ). all_noted xs (pending (trees ss) tasks)) same ∙ w.keys) w.within.1 s.makes s.front pushed one
+    (ap (λ (xs : List ℕ). all_noted xs (pending (trees ss) tasks)) same ∙ w.keys) w.within.1 s.makes s.prefix pushed one
     (λ q n e. seen_at (IsMade (trees ss) final later after) known kept p m q n (nat_eq p q) refl (changed q) one
     (λ j i f. made_kept (trees ss) final ks later [] made after read.more grown read.extends j i (w.seen j i f)) e)
 

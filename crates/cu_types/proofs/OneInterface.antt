@@ -70,7 +70,7 @@ module _ (p : Kernel) (i j : List TypeExpr) (one : PrincipallyTyped p i) (two : 
           | inl low ↦
               let fewer : reached (program_of p) g < reached (program_of p) f =
               reaches_fewer (program_of p) f g inside forth
-              (λ back. lacks_in g (group_of (program_of p) f) (group_has (program_of p) f g low forth back) lacks) in
+              (λ converse. lacks_in g (group_of (program_of p) f) (group_has (program_of p) f g low forth converse) lacks) in
               inr (below g low (omega (arith, fewer, few)))
           | inr out ↦ inr (no_function p i g one out ∙ sym (no_function p j g two out))
         ]

@@ -136,15 +136,15 @@ efforts_reads (type.MoreTypes u us) =
     let split = efforts_append (reverse (reads (listed us))) (step.Read u ∷ []) in
     omega arith
 
-take_front : (us ts : List TypeExpr) → take (length us) (us ++ ts) ≡ us
-take_front [] [] = refl
-take_front [] (t ∷ ts) = refl
-take_front (u ∷ us) ts = ap (λ (xs : List TypeExpr). u ∷ xs) (take_front us ts)
+take_prefix : (us ts : List TypeExpr) → take (length us) (us ++ ts) ≡ us
+take_prefix [] [] = refl
+take_prefix [] (t ∷ ts) = refl
+take_prefix (u ∷ us) ts = ap (λ (xs : List TypeExpr). u ∷ xs) (take_prefix us ts)
 
-drop_front : (us ts : List TypeExpr) → drop (length us) (us ++ ts) ≡ ts
-drop_front [] [] = refl
-drop_front [] (t ∷ ts) = refl
-drop_front (u ∷ us) ts = drop_front us ts
+drop_prefix : (us ts : List TypeExpr) → drop (length us) (us ++ ts) ≡ ts
+drop_prefix [] [] = refl
+drop_prefix [] (t ∷ ts) = refl
+drop_prefix (u ∷ us) ts = drop_prefix us ts
 
 -- a named type is read down to its arguments
 pub reading_named : (before : List Shape) (find : ℕ → Option ℕ) (ss : List Shape) (was steps : List Step) (ps : List ℕ)
@@ -165,8 +165,8 @@ reading_named before find ss was steps ps t u name us n is count pushed w =
             ∙ ap (λ (k : ℕ). done was (built (head.Named name) (take k (listed us ++ map (at (trees ss)) (reverse ps)))
             ∷ drop k (listed us ++ map (at (trees ss)) (reverse ps)))) count
             ∙ ap (λ (vs : List TypeExpr). done was (built (head.Named name) vs ∷ drop (length (listed us)) (listed us ++ map (at (trees ss)) (reverse ps))))
-            (take_front (listed us) (map (at (trees ss)) (reverse ps)))
-            ∙ ap (λ (vs : List TypeExpr). done was (built (head.Named name) (listed us) ∷ vs)) (drop_front (listed us) (map (at (trees ss)) (reverse ps)))
+            (take_prefix (listed us) (map (at (trees ss)) (reverse ps)))
+            ∙ ap (λ (vs : List TypeExpr). done was (built (head.Named name) (listed us) ∷ vs)) (drop_prefix (listed us) (map (at (trees ss)) (reverse ps)))
             ∙ ap (λ (v : TypeExpr). done was (v ∷ map (at (trees ss)) (reverse ps))) (ap (type.Named name) (list_again us) ∙ sym is)
             ∙ w.makes;
       });

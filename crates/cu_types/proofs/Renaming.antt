@@ -18,9 +18,9 @@ abbrev pub AllOf : (ℕ → Type 0) → List ℕ → Type 0
 AllOf P [] = Unit {0}
 AllOf P (x ∷ xs) = P x × AllOf P xs
 
-all_front : (P : ℕ → Type 0) (xs ys : List ℕ) → AllOf P (xs ++ ys) → AllOf P xs × AllOf P ys
-all_front P [] ys all = (tt, all)
-all_front P (x ∷ xs) ys all = let rest = all_front P xs ys all.1 in ((all.0, rest.0), rest.1)
+all_prefix : (P : ℕ → Type 0) (xs ys : List ℕ) → AllOf P (xs ++ ys) → AllOf P xs × AllOf P ys
+all_prefix P [] ys all = (tt, all)
+all_prefix P (x ∷ xs) ys all = let rest = all_prefix P xs ys all.1 in ((all.0, rest.0), rest.1)
 
 all_last : (P : ℕ → Type 0) (xs : List ℕ) (y : ℕ) → AllOf P xs → P y → AllOf P (xs ++ y ∷ [])
 all_last P [] y all last = (last, tt)
@@ -100,8 +100,8 @@ module _ (r : ℕ → ℕ) (P : ℕ → Type 0) (one : (x y : ℕ) → P x → P
     renamed_places ρ ks (type.Variable x) all each is =
         ap (apply (by_place (map r ks))) is.0 ∙ ap type.Variable (same_place x each.0 ks all)
     renamed_places ρ ks (type.Arrow a b) all each is =
-        let ps = all_front P (variables_in a) (variables_in b) each in
-        let rs = all_front (λ x. ρ x ≡ type.Variable (r x)) (variables_in a) (variables_in b) is in
+        let ps = all_prefix P (variables_in a) (variables_in b) each in
+        let rs = all_prefix (λ x. ρ x ≡ type.Variable (r x)) (variables_in a) (variables_in b) is in
         ap (λ (u : TypeExpr). type.Arrow u (apply (by_place (map r ks)) (apply ρ b))) (renamed_places ρ ks a all ps.0 rs.0)
         ∙ ap (type.Arrow (apply (by_place ks) a)) (renamed_places ρ ks b all ps.1 rs.1)
     renamed_places ρ ks (type.Named n ts) all each is = ap (type.Named n) (renamed_places_all ρ ks ts all each is)
@@ -111,8 +111,8 @@ module _ (r : ℕ → ℕ) (P : ℕ → Type 0) (one : (x y : ℕ) → P x → P
         → apply_all (by_place (map r ks)) (apply_all ρ ts) ≡ apply_all (by_place ks) ts
     renamed_places_all ρ ks type.NoType all each is = refl
     renamed_places_all ρ ks (type.MoreTypes t ts) all each is =
-        let ps = all_front P (variables_in t) (variables_in_all ts) each in
-        let rs = all_front (λ x. ρ x ≡ type.Variable (r x)) (variables_in t) (variables_in_all ts) is in
+        let ps = all_prefix P (variables_in t) (variables_in_all ts) each in
+        let rs = all_prefix (λ x. ρ x ≡ type.Variable (r x)) (variables_in t) (variables_in_all ts) is in
         ap (λ (u : TypeExpr). type.MoreTypes u (apply_all (by_place (map r ks)) (apply_all ρ ts))) (renamed_places ρ ks t all ps.0 rs.0)
         ∙ ap (type.MoreTypes (apply (by_place ks) t)) (renamed_places_all ρ ks ts all ps.1 rs.1)
 
@@ -121,7 +121,7 @@ mutual
       → variables_in (apply ρ t) ≡ map r (variables_in t)
   renamed_variables ρ r (type.Variable x) is = ap variables_in is.0
   renamed_variables ρ r (type.Arrow a b) is =
-      let rs = all_front (λ x. ρ x ≡ type.Variable (r x)) (variables_in a) (variables_in b) is in
+      let rs = all_prefix (λ x. ρ x ≡ type.Variable (r x)) (variables_in a) (variables_in b) is in
       ap (λ (xs : List ℕ). xs ++ variables_in (apply ρ b)) (renamed_variables ρ r a rs.0)
       ∙ ap (λ (xs : List ℕ). map r (variables_in a) ++ xs) (renamed_variables ρ r b rs.1)
       ∙ sym (mapped_both r (variables_in a) (variables_in b))
@@ -131,7 +131,7 @@ mutual
       → variables_in_all (apply_all ρ ts) ≡ map r (variables_in_all ts)
   renamed_variables_all ρ r type.NoType is = refl
   renamed_variables_all ρ r (type.MoreTypes t ts) is =
-      let rs = all_front (λ x. ρ x ≡ type.Variable (r x)) (variables_in t) (variables_in_all ts) is in
+      let rs = all_prefix (λ x. ρ x ≡ type.Variable (r x)) (variables_in t) (variables_in_all ts) is in
       ap (λ (xs : List ℕ). xs ++ variables_in_all (apply_all ρ ts)) (renamed_variables ρ r t rs.0)
       ∙ ap (λ (xs : List ℕ). map r (variables_in t) ++ xs) (renamed_variables_all ρ r ts rs.1)
       ∙ sym (mapped_both r (variables_in t) (variables_in_all ts))
@@ -213,17 +213,17 @@ pub variable_name : (x y : ℕ) → type.Variable x ≡ type.Variable y → x �
 variable_name x y e = ap name_of e
 
 -- a substitution that another one takes back renames the variables
-taken_back : (ρ back : Substitution) (t : TypeExpr) → apply back (apply ρ t) ≡ t → numbered (apply ρ t) ≡ numbered t
-taken_back ρ back t is =
-    let stays : AllOf (λ x. apply back (ρ x) ≡ type.Variable x) (variables_in t) =
-    unchanged (λ x. apply back (ρ x)) t (sym (applied_twice back ρ t) ∙ is) in
-    let home : (x : ℕ) → IsTrue (holds x (variables_in t)) → apply back (ρ x) ≡ type.Variable x =
-    of_all (λ x. apply back (ρ x) ≡ type.Variable x) (variables_in t) stays in
+taken_inverse : (ρ inverse : Substitution) (t : TypeExpr) → apply inverse (apply ρ t) ≡ t → numbered (apply ρ t) ≡ numbered t
+taken_inverse ρ inverse t is =
+    let stays : AllOf (λ x. apply inverse (ρ x) ≡ type.Variable x) (variables_in t) =
+    unchanged (λ x. apply inverse (ρ x)) t (sym (applied_twice inverse ρ t) ∙ is) in
+    let home : (x : ℕ) → IsTrue (holds x (variables_in t)) → apply inverse (ρ x) ≡ type.Variable x =
+    of_all (λ x. apply inverse (ρ x) ≡ type.Variable x) (variables_in t) stays in
     let names : (x : ℕ) → IsTrue (holds x (variables_in t)) → ρ x ≡ type.Variable (name_of (ρ x)) =
-    λ x h. is_variable back (ρ x) x (home x h) in
+    λ x h. is_variable inverse (ρ x) x (home x h) in
     renamed_numbered ρ (λ x. name_of (ρ x)) t names
     (λ x y h k e. variable_name x y
-    (sym (home x h) ∙ ap (apply back) (names x h ∙ ap type.Variable e ∙ sym (names y k)) ∙ home y k))
+    (sym (home x h) ∙ ap (apply inverse) (names x h ∙ ap type.Variable e ∙ sym (names y k)) ∙ home y k))
 
 -- what an instance gives
 instance_gives : (σ τ ρ : Substitution) (t : TypeExpr) → ((x : ℕ) → τ x ≡ apply ρ (σ x)) → apply τ t ≡ apply ρ (apply σ t)
@@ -231,7 +231,7 @@ instance_gives σ τ ρ t is = ap (λ (υ : Substitution). apply υ t) (fun_ext 
 
 -- solutions that are instances of one another give the same types, once these are numbered
 pub instances_alike : (σ τ : Substitution) (t : TypeExpr) → IsInstance τ σ → IsInstance σ τ → numbered (apply σ t) ≡ numbered (apply τ t)
-instances_alike σ τ t forth back =
+instances_alike σ τ t forth inverse =
     let there : apply τ t ≡ apply forth.0 (apply σ t) = instance_gives σ τ forth.0 t forth.1 in
-    let here : apply σ t ≡ apply back.0 (apply τ t) = instance_gives τ σ back.0 t back.1 in
-    sym (ap numbered there ∙ taken_back forth.0 back.0 (apply σ t) (ap (apply back.0) (sym there) ∙ sym here))
+    let here : apply σ t ≡ apply inverse.0 (apply τ t) = instance_gives τ σ inverse.0 t inverse.1 in
+    sym (ap numbered there ∙ taken_inverse forth.0 inverse.0 (apply σ t) (ap (apply inverse.0) (sym there) ∙ sym here))

@@ -5,7 +5,7 @@ use Rattle.std.proofs.lemmas.List.{get_or_read, reverse-append}
 use Rattle.std.proofs.lemmas.Option.{slice_get_within}
 use Rattle.cu_types.proofs.Debts.{owed_less, owed_same}
 use Rattle.cu_types.proofs.TableLemmas.{mapped_length}
-use Rattle.cu_types.proofs.Walks.{among_back, among_reverse, entering, entering_append, reversed_tasks, state_here, state_there, walk_left, walk_opened, walk_placed}
+use Rattle.cu_types.proofs.Walks.{among_reversed, among_reverse, entering, entering_append, reversed_tasks, state_here, state_there, walk_left, walk_opened, walk_placed}
 use Rattle.cu_types.specs.Inside.Closing.{owed, weight}
 use Rattle.cu_types.specs.Inside.Ordering.{AreWithin, IsWalk, Steps, class_of, is_unseen, left_over, placed_shape, state_of}
 use Rattle.cu_types.specs.Table.{IsTable, Shape, places, shape_of}
@@ -83,7 +83,7 @@ steps_opened ss classes states solved now i s x tasks then after table inside is
           (subst (λ (v : List Shape). IsWalk ss classes (set states (class_of classes i) state.Open) v (reverse after)) (sym same)
           (subst (IsWalk ss classes (set states (class_of classes i) state.Open) solved) (sym (opened_tasks tasks after (class_of classes i) (places s) pushed))
           (walk_opened ss classes states solved i (class_of classes i) s (reverse (places s)) (reverse tasks) table inside refl is was
-          (λ k a e. among_back (places s) a k e) (λ k a e. among_reverse (places s) a k e) w)));
+          (λ k a e. among_reversed (places s) a k e) (λ k a e. among_reverse (places s) a k e) w)));
     }
 
 pub steps_placed : (ss : List Shape) (classes : List ℕ) (states : List State) (solved : List Shape) (i p : ℕ) (x : State)

@@ -7,7 +7,7 @@ use Rattle.cu_kernel.specs.TypeExpr as type
 use Rattle.cu_kernel.specs.TypeExpr.{TypeExpr, TypeExprs}
 use Rattle.cu_kernel.specs.TypesOf.{type_list}
 use Rattle.cu_types.specs.Table as shape
-use Rattle.cu_types.specs.Table.{IsFull, IsTable, MayStand, Shape, at, built, places, tree_over, trees, trees_behind}
+use Rattle.cu_types.specs.Table.{IsFull, IsTable, MayStand, Shape, at, built, places, tree_over, trees, trees_after}
 use Rattle.cu_types.specs.Types.{arguments, head_of, listed}
 use Rattle.cu_types.specs.declared.node.TypeHead.{TypeHead}
 use Rattle.cu_types.specs.declared.node.TypeHead.TheVariants as head
@@ -51,64 +51,64 @@ pub tree_over_same : (n : ℕ) (s : Shape) (f g : ℕ → TypeExpr) → MayStand
 tree_over_same n (shape.Variable x) f g may same = refl
 tree_over_same n (shape.Applied h ps) f g may same = ap (built h) (map_same f g ps (λ a k e. same a (may.1 a k e)))
 
-trees_behind-append : (before : List TypeExpr) (xs ys : List Shape)
-    → trees_behind before (xs ++ ys) ≡ trees_behind (trees_behind before xs) ys
-trees_behind-append before [] ys = refl
-trees_behind-append before (x ∷ xs) ys = trees_behind-append (before ++ tree_over (at before) x ∷ []) xs ys
+trees_after-append : (before : List TypeExpr) (xs ys : List Shape)
+    → trees_after before (xs ++ ys) ≡ trees_after (trees_after before xs) ys
+trees_after-append before [] ys = refl
+trees_after-append before (x ∷ xs) ys = trees_after-append (before ++ tree_over (at before) x ∷ []) xs ys
 
-trees_behind-length : (before : List TypeExpr) (xs : List Shape) → length (trees_behind before xs) ≡ length before + length xs
-trees_behind-length before [] = omega arith
-trees_behind-length before (x ∷ xs) =
-    let rest = trees_behind-length (before ++ tree_over (at before) x ∷ []) xs in
+trees_after-length : (before : List TypeExpr) (xs : List Shape) → length (trees_after before xs) ≡ length before + length xs
+trees_after-length before [] = omega arith
+trees_after-length before (x ∷ xs) =
+    let rest = trees_after-length (before ++ tree_over (at before) x ∷ []) xs in
     let grown = length-append before (tree_over (at before) x ∷ []) in omega arith
 
-trees_behind-kept : (before : List TypeExpr) (xs : List Shape) (i : ℕ) → i < length before
-    → at (trees_behind before xs) i ≡ at before i
-trees_behind-kept before [] i within = refl
-trees_behind-kept before (x ∷ xs) i within =
+trees_after-kept : (before : List TypeExpr) (xs : List Shape) (i : ℕ) → i < length before
+    → at (trees_after before xs) i ≡ at before i
+trees_after-kept before [] i within = refl
+trees_after-kept before (x ∷ xs) i within =
     let grown = length-append before (tree_over (at before) x ∷ []) in
-    trees_behind-kept (before ++ tree_over (at before) x ∷ []) xs i (omega arith)
+    trees_after-kept (before ++ tree_over (at before) x ∷ []) xs i (omega arith)
     ∙ get_or_append_left before (tree_over (at before) x ∷ []) (type.Variable 0) i within
 
 pub trees-length : (ss : List Shape) → length (trees ss) ≡ length ss
 unfolding trees
-trees-length ss = let e = trees_behind-length [] ss in omega arith
+trees-length ss = let e = trees_after-length [] ss in omega arith
 
 pub trees-push : (ss : List Shape) (s : Shape) → trees (ss ++ s ∷ []) ≡ trees ss ++ tree_over (at (trees ss)) s ∷ []
 unfolding trees
-trees-push ss s = trees_behind-append [] ss (s ∷ [])
+trees-push ss s = trees_after-append [] ss (s ∷ [])
 
 -- a later type changes none before it
 pub trees-append : (xs ys : List Shape) (i : ℕ) → i < length xs → at (trees (xs ++ ys)) i ≡ at (trees xs) i
 unfolding trees
 trees-append xs ys i within =
-    let sized = trees_behind-length [] xs in
-    ap (λ (ts : List TypeExpr). at ts i) (trees_behind-append [] xs ys) ∙ trees_behind-kept (trees_behind [] xs) ys i (omega arith)
+    let sized = trees_after-length [] xs in
+    ap (λ (ts : List TypeExpr). at ts i) (trees_after-append [] xs ys) ∙ trees_after-kept (trees_after [] xs) ys i (omega arith)
 
-trees_behind_fit : (before : List TypeExpr) (ss : List Shape)
+trees_after_fit : (before : List TypeExpr) (ss : List Shape)
     → ((i : ℕ) (s : Shape) → slice_get ss i ≡ Some s → MayStand (length before + i) s) → (i : ℕ) (s : Shape)
-    → slice_get ss i ≡ Some s → at (trees_behind before ss) (length before + i) ≡ tree_over (at (trees_behind before ss)) s
-trees_behind_fit before [] may i s is = let no : ⊥ = cc in absurd no
-trees_behind_fit before (x ∷ ss) may zero s is =
+    → slice_get ss i ≡ Some s → at (trees_after before ss) (length before + i) ≡ tree_over (at (trees_after before ss)) s
+trees_after_fit before [] may i s is = let no : ⊥ = cc in absurd no
+trees_after_fit before (x ∷ ss) may zero s is =
     let e : x ≡ s = cc in
     let n : length before + 0 ≡ length before = omega arith in
     let grown = length-append before (tree_over (at before) x ∷ []) in
-    let here : at (trees_behind (before ++ tree_over (at before) x ∷ []) ss) (length before) ≡ at (before ++ tree_over (at before) x ∷ []) (length before) =
-    trees_behind-kept (before ++ tree_over (at before) x ∷ []) ss (length before) (omega arith) in
+    let here : at (trees_after (before ++ tree_over (at before) x ∷ []) ss) (length before) ≡ at (before ++ tree_over (at before) x ∷ []) (length before) =
+    trees_after-kept (before ++ tree_over (at before) x ∷ []) ss (length before) (omega arith) in
     let it : at (before ++ tree_over (at before) x ∷ []) (length before) ≡ tree_over (at before) x =
     get_or_push before (tree_over (at before) x) (type.Variable 0) (length before) refl in
-    let same : tree_over (at before) x ≡ tree_over (at (trees_behind (before ++ tree_over (at before) x ∷ []) ss)) x =
-    tree_over_same (length before) x (at before) (at (trees_behind (before ++ tree_over (at before) x ∷ []) ss))
+    let same : tree_over (at before) x ≡ tree_over (at (trees_after (before ++ tree_over (at before) x ∷ []) ss)) x =
+    tree_over_same (length before) x (at before) (at (trees_after (before ++ tree_over (at before) x ∷ []) ss))
     (subst (λ (k : ℕ). MayStand k x) n (may 0 x refl))
-    (λ a lt. sym (trees_behind-kept (before ++ tree_over (at before) x ∷ []) ss a (omega arith)
+    (λ a lt. sym (trees_after-kept (before ++ tree_over (at before) x ∷ []) ss a (omega arith)
     ∙ get_or_append_left before (tree_over (at before) x ∷ []) (type.Variable 0) a lt)) in
-    ap (at (trees_behind (before ++ tree_over (at before) x ∷ []) ss)) n ∙ here ∙ it ∙ same
-    ∙ ap (tree_over (at (trees_behind (before ++ tree_over (at before) x ∷ []) ss))) e
-trees_behind_fit before (x ∷ ss) may (suc i) s is =
+    ap (at (trees_after (before ++ tree_over (at before) x ∷ []) ss)) n ∙ here ∙ it ∙ same
+    ∙ ap (tree_over (at (trees_after (before ++ tree_over (at before) x ∷ []) ss))) e
+trees_after_fit before (x ∷ ss) may (suc i) s is =
     let grown = length-append before (tree_over (at before) x ∷ []) in
     let n : (j : ℕ) → length before + suc j ≡ length (before ++ tree_over (at before) x ∷ []) + j = λ j. omega arith in
-    ap (at (trees_behind (before ++ tree_over (at before) x ∷ []) ss)) (n i)
-    ∙ trees_behind_fit (before ++ tree_over (at before) x ∷ []) ss
+    ap (at (trees_after (before ++ tree_over (at before) x ∷ []) ss)) (n i)
+    ∙ trees_after_fit (before ++ tree_over (at before) x ∷ []) ss
     (λ j u e. subst (λ (k : ℕ). MayStand k u) (n j) (may (suc j) u e)) i s is
 
 -- each type of a table is that of its shape over the table
@@ -117,8 +117,8 @@ pub trees_fit : (ss : List Shape) (i : ℕ) (s : Shape) → IsTable ss → slice
 unfolding trees
 trees_fit ss i s table is =
     let n : (j : ℕ) → j ≡ 0 + j = λ j. omega arith in
-    ap (at (trees_behind [] ss)) (n i)
-    ∙ trees_behind_fit [] ss (λ j u e. subst (λ (k : ℕ). MayStand k u) (n j) (table.stand j u e)) i s is
+    ap (at (trees_after [] ss)) (n i)
+    ∙ trees_after_fit [] ss (λ j u e. subst (λ (k : ℕ). MayStand k u) (n j) (table.stand j u e)) i s is
 
 -- a place that a list of places gives is one of theirs
 pub place_within : (found : List ℕ) (o : Option ℕ) (p n m : ℕ) → length found ≡ n → ((k : ℕ) → k < n → slice_index found k < m)

@@ -279,10 +279,10 @@ unfolding_starts ss classes first tasks table inside cyclic = record {
   larger = λ σ. omega arith;
 }
 
-pub shape_back : (ss more : List Shape) (k : ℕ) (s : Shape) → slice_get (ss ++ more) k ≡ Some s → k < length ss → slice_get ss k ≡ Some s
-shape_back [] more k s is within = absurd (omega arith)
-shape_back (x ∷ ss) more zero s is within = is
-shape_back (x ∷ ss) more (suc k) s is within = shape_back ss more k s is (omega arith)
+pub shape_before : (ss more : List Shape) (k : ℕ) (s : Shape) → slice_get (ss ++ more) k ≡ Some s → k < length ss → slice_get ss k ≡ Some s
+shape_before [] more k s is within = absurd (omega arith)
+shape_before (x ∷ ss) more zero s is within = is
+shape_before (x ∷ ss) more (suc k) s is within = shape_before ss more k s is (omega arith)
 
 shapes_append : (xs : List Node) (m : Node) → map shape_of (xs ++ m ∷ []) ≡ map shape_of xs ++ shape_of m ∷ []
 shapes_append [] m = refl
@@ -298,7 +298,7 @@ pub user_arguments : (ss : List Shape) (classes : List ℕ) (first : ℕ) (now :
     → slice_get now user ≡ Some s → slice_get (places s) k ≡ Some a → a < length classes
 user_arguments ss classes first now tasks used place user k a s table inside u at_user e =
     let at_ss : slice_get ss user ≡ Some s =
-    shape_back ss u.more user s (ap (λ (xs : List Shape). slice_get xs user) (sym u.extends) ∙ at_user) u.linked.0 in
+    shape_before ss u.more user s (ap (λ (xs : List Shape). slice_get xs user) (sym u.extends) ∙ at_user) u.linked.0 in
     let it : a < length ss = place_within ss user s k a table at_ss e in
     let sized : length classes ≡ length ss = inside.sized in
     omega arith

@@ -334,7 +334,7 @@ pub walk_opened : (ss : List Shape) (classes : List ℕ) (states : List State) (
     → ((k a : ℕ) → slice_get qs k ≡ Some a → Among (places s) a) → ((k a : ℕ) → slice_get (places s) k ≡ Some a → Among qs a)
     → IsWalk ss classes states solved (task.Enter i ∷ tasks)
     → IsWalk ss classes (set states r state.Open) solved (entering qs (task.Leave r ∷ tasks))
-walk_opened ss classes states solved i r s qs tasks table inside class is unseen there back w =
+walk_opened ss classes states solved i r s qs tasks table inside class is unseen there converse w =
     let within : r < length ss = slice_get_within ss r s is in
     let sized : length states ≡ length ss = w.placed.sized in
     let here : state_of (set states r state.Open) r ≡ state.Open = state_here states r state.Open (omega arith) in
@@ -352,7 +352,7 @@ walk_opened ss classes states solved i r s qs tasks table inside class is unseen
             (w.placed.fixed c p t at_c (sym (state_there states r c state.Open other) ∙ placed)));
       };
       promises = promises_entering ss classes (λ c. IsPlaced (state_of (set states r state.Open) c)) qs r tasks
-          (λ t k a at_r e. inr (back k a (subst (λ (x : Shape). slice_get (places x) k ≡ Some a) (one_shape ss r t s at_r is) e)))
+          (λ t k a at_r e. inr (converse k a (subst (λ (x : Shape). slice_get (places x) k ≡ Some a) (one_shape ss r t s at_r is) e)))
           (promises_more ss classes (λ c. IsPlaced (state_of states c) ⊎ (c ≡ class_of classes i))
           (λ c. IsPlaced (state_of (set states r state.Open) c) ⊎ (c ≡ r)) tasks
           (λ c v. elim v [ inl e ↦ inl (subst IsPlaced (sym (kept c e)) e) | inr e ↦ inr (e ∙ class) ]) w.promises);
@@ -500,8 +500,8 @@ among_reverse (x ∷ xs) a (suc k) is =
     subst (λ (ys : List ℕ). Among ys a) (sym (reverse-append (x ∷ []) xs))
     (w.0, among_append_left (reverse xs) (x ∷ []) a w.0 w.1)
 
-pub among_back : (xs : List ℕ) (a k : ℕ) → slice_get (reverse xs) k ≡ Some a → Among xs a
-among_back xs a k is = subst (λ (ys : List ℕ). Among ys a) (reverse-reverse xs) (among_reverse (reverse xs) a k is)
+pub among_reversed : (xs : List ℕ) (a k : ℕ) → slice_get (reverse xs) k ≡ Some a → Among xs a
+among_reversed xs a k is = subst (λ (ys : List ℕ). Among ys a) (reverse-reverse xs) (among_reverse (reverse xs) a k is)
 
 pub reversed_tasks : (qs : List ℕ) → reverse (map (λ a. task.Enter a) qs) ≡ entering (reverse qs) []
 reversed_tasks [] = refl
@@ -541,7 +541,7 @@ walk_starts ss classes inside fixed =
           (λ k lt. let at_k = class_among classes k (omega arith) in inr (among_reverse classes (class_of classes k) k at_k)) fixed;
       linked = linked_all ss classes (reverse classes)
           (λ k a e.
-          let w : Among classes a = among_back classes a k e in
+          let w : Among classes a = among_reversed classes a k e in
           let it : class_of classes w.0 ≡ a = get_or_from_slice_get classes w.0 a 0 w.1 in
           let in_it : w.0 < length classes = slice_get_within classes w.0 a w.1 in
           subst (λ (x : ℕ). x < length ss) it (inside.within w.0 (omega arith)));

@@ -48,13 +48,13 @@ abbrev pub at : List TypeExpr → ℕ → TypeExpr
 at ts i = slice_index_or ts i (type.Variable 0)
 
 -- the types of shapes, after those of the shapes before them
-abbrev pub trees_behind : List TypeExpr → List Shape → List TypeExpr
-trees_behind before [] = before
-trees_behind before (s ∷ ss) = trees_behind (before ++ tree_over (at before) s ∷ []) ss
+abbrev pub trees_after : List TypeExpr → List Shape → List TypeExpr
+trees_after before [] = before
+trees_after before (s ∷ ss) = trees_after (before ++ tree_over (at before) s ∷ []) ss
 
 -- the types of a table, in the order of their places
 unfoldable pub trees : List Shape → List TypeExpr
-trees ss = trees_behind [] ss
+trees ss = trees_after [] ss
 
 -- a shape may stand at place i: its head has enough arguments, and they stand at earlier places
 abbrev pub MayStand : ℕ → Shape → Type 0

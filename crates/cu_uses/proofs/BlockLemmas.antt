@@ -28,7 +28,7 @@ use Rattle.cu_uses.specs.Demands.{Demand, Lacks, Repeats}
 use Rattle.cu_uses.specs.Inside.Blocks.{Gathers, IsBlockOf, IsEmpty, IsOfModule, block_asks, block_declares, block_signs, declares, function_text, is_function, signs}
 use Rattle.cu_uses.specs.Inside.Gathered.{Adds, names_meaning, pattern_binds}
 use Rattle.cu_uses.specs.Inside.Worlds.{Told, World}
-use Rattle.cu_uses.proofs.FoundLemmas.{adds_both, adds_none, adds_one, front, nothing_left}
+use Rattle.cu_uses.proofs.FoundLemmas.{adds_both, adds_none, adds_one, prefix, nothing_left}
 use Rattle.cu_uses.proofs.ToldLemmas.{told_both}
 
 -- several names at once
@@ -44,9 +44,9 @@ gathers_both {owner = owner} {names = names} {a = a} {c = c} {ds = ds} {es = es}
   names_added = subst (λ xs. Adds owner names a.names.items xs c.names.items) (sym (flat_map-append names_of ds es)) (adds_both one.names_added two.names_added);
   signed_added = adds_both one.signed_added two.signed_added;
   keeps = λ is. two.keeps (one.keeps is);
-  once = λ is behind.
-      ap (λ zs. names_meaning names a.once.items ++ declared_once (function_text names a) zs) (append_assoc ds es behind)
-      ∙ one.once is (es ++ behind) ∙ two.once (one.keeps is) behind;
+  once = λ is after.
+      ap (λ zs. names_meaning names a.once.items ++ declared_once (function_text names a) zs) (append_assoc ds es after)
+      ∙ one.once is (es ++ after) ∙ two.once (one.keeps is) after;
 }
 
 pub gathers_none : (owner : NameId) (names : List (List ℕ)) (a : Block) → Gathers owner names a [] [] a
@@ -54,7 +54,7 @@ gathers_none owner names a = record {
   names_added = adds_none owner names a.names.items;
   signed_added = adds_none owner names a.signed.items;
   keeps = λ is. is;
-  once = λ is behind. refl;
+  once = λ is after. refl;
 }
 
 -- ---- rules
@@ -64,13 +64,13 @@ function_continues : (names : List (List ℕ)) (function : Option NameId) (goes_
 function_continues names None goes_on name differ known of = refl
 function_continues names (Some function) goes_on name differ known of = sym (same_name names function name.text differ known of)
 
-rule_again : (function : Option (List ℕ)) (goes_on : Bool) (name : Name) (behind : List Declared) → continues function (Rule goes_on name) ≡ true
-    → declared_once function (Rule goes_on name ∷ behind) ≡ declared_once function behind
-rule_again function goes_on name behind is = rw is refl
+rule_again : (function : Option (List ℕ)) (goes_on : Bool) (name : Name) (after : List Declared) → continues function (Rule goes_on name) ≡ true
+    → declared_once function (Rule goes_on name ∷ after) ≡ declared_once function after
+rule_again function goes_on name after is = rw is refl
 
-rule_first : (function : Option (List ℕ)) (goes_on : Bool) (name : Name) (behind : List Declared) → continues function (Rule goes_on name) ≡ false
-    → declared_once function (Rule goes_on name ∷ behind) ≡ name ∷ declared_once (function_of (Rule goes_on name)) behind
-rule_first function goes_on name behind is = rw is refl
+rule_first : (function : Option (List ℕ)) (goes_on : Bool) (name : Name) (after : List Declared) → continues function (Rule goes_on name) ≡ false
+    → declared_once function (Rule goes_on name ∷ after) ≡ name ∷ declared_once (function_of (Rule goes_on name)) after
+rule_first function goes_on name after is = rw is refl
 
 pub gathers_again : (owner : NameId) (names : List (List ℕ)) (a b : Block) (goes_on : Bool) (name : code.Name) → AllDiffer names → NameIsOf owner names name
     → is_function a.function name.text ≡ true → b.names.items ≡ a.names.items ++ name ∷ [] → b.signed.items ≡ a.signed.items → b.once.items ≡ a.once.items → b.function ≡ a.function
@@ -82,10 +82,10 @@ gathers_again owner names a b goes_on name differ of again pushed signed_is once
     once = subst (All (NameIsOf owner names)) (sym once_is) is.once;
     function = subst (λ f. IfSome f (IsKnown names)) (sym function_is) is.function;
   };
-  once = λ is behind.
+  once = λ is after.
       ap (λ zs. names_meaning names a.once.items ++ zs)
-      (rule_again (function_text names a) goes_on (name_meaning names name) behind (function_continues names a.function goes_on name differ is.function of.text ∙ again))
-      ∙ ap₂ (λ xs f. names_meaning names xs ++ declared_once (option_map (text_of names) f) behind) (sym once_is) (sym function_is);
+      (rule_again (function_text names a) goes_on (name_meaning names name) after (function_continues names a.function goes_on name differ is.function of.text ∙ again))
+      ∙ ap₂ (λ xs f. names_meaning names xs ++ declared_once (option_map (text_of names) f) after) (sym once_is) (sym function_is);
 }
 
 -- the function whose rules may follow a rule
@@ -111,20 +111,20 @@ gathers_first owner names a b goes_on name differ of other pushed signed_is once
     once = subst (All (NameIsOf owner names)) (sym once_is) (All-push (NameIsOf owner names) a.once.items name is.once of);
     function = subst (λ f. IfSome f (IsKnown names)) (sym function_is) (next_known names goes_on name.text of.text);
   };
-  once = λ is behind.
+  once = λ is after.
       ap (λ zs. names_meaning names a.once.items ++ zs)
-      (rule_first (function_text names a) goes_on (name_meaning names name) behind (function_continues names a.function goes_on name differ is.function of.text ∙ other)
-      ∙ ap (λ f. name_meaning names name ∷ declared_once f behind) (next_text names goes_on name))
-      ∙ sym (append_assoc (names_meaning names a.once.items) (name_meaning names name ∷ []) (declared_once (option_map (text_of names) (next_function goes_on name.text)) behind))
-      ∙ ap₂ (λ xs f. xs ++ declared_once (option_map (text_of names) f) behind)
+      (rule_first (function_text names a) goes_on (name_meaning names name) after (function_continues names a.function goes_on name differ is.function of.text ∙ other)
+      ∙ ap (λ f. name_meaning names name ∷ declared_once f after) (next_text names goes_on name))
+      ∙ sym (append_assoc (names_meaning names a.once.items) (name_meaning names name ∷ []) (declared_once (option_map (text_of names) (next_function goes_on name.text)) after))
+      ∙ ap₂ (λ xs f. xs ++ declared_once (option_map (text_of names) f) after)
       (sym (ap (names_meaning names) once_is ∙ map-append (name_meaning names) a.once.items (name ∷ []))) (sym function_is);
 }
 
 -- ---- names that are declared together
 
-together : (function : Option (List ℕ)) (xs : List Name) (behind : List Declared) → declared_once function (Names xs ∷ behind) ≡ xs ++ declared_once None behind
-together None xs behind = refl
-together (Some function) xs behind = refl
+together : (function : Option (List ℕ)) (xs : List Name) (after : List Declared) → declared_once function (Names xs ∷ after) ≡ xs ++ declared_once None after
+together None xs after = refl
+together (Some function) xs after = refl
 
 pub gathers_names : (owner : NameId) (names : List (List ℕ)) (a b : Block) (xs : List code.Name) → All (NameIsOf owner names) xs
     → b.names.items ≡ a.names.items ++ xs → b.signed.items ≡ a.signed.items → b.once.items ≡ a.once.items ++ xs → b.function ≡ None
@@ -136,10 +136,10 @@ gathers_names owner names a b xs of extended signed_is once_is function_is = rec
     once = subst (All (NameIsOf owner names)) (sym once_is) (All-append (NameIsOf owner names) a.once.items xs is.once of);
     function = subst (λ f. IfSome f (IsKnown names)) (sym function_is) tt;
   };
-  once = λ is behind.
-      ap (λ zs. names_meaning names a.once.items ++ zs) (together (function_text names a) (names_meaning names xs) behind)
-      ∙ sym (append_assoc (names_meaning names a.once.items) (names_meaning names xs) (declared_once None behind))
-      ∙ ap₂ (λ ys f. ys ++ declared_once (option_map (text_of names) f) behind)
+  once = λ is after.
+      ap (λ zs. names_meaning names a.once.items ++ zs) (together (function_text names a) (names_meaning names xs) after)
+      ∙ sym (append_assoc (names_meaning names a.once.items) (names_meaning names xs) (declared_once None after))
+      ∙ ap₂ (λ ys f. ys ++ declared_once (option_map (text_of names) f) after)
       (sym (ap (names_meaning names) once_is ∙ map-append (name_meaning names) a.once.items xs)) (sym function_is);
 }
 
@@ -153,7 +153,7 @@ gathers_signed owner names a b xs of extended names_is once_is function_is = rec
     once = subst (All (NameIsOf owner names)) (sym once_is) is.once;
     function = subst (λ f. IfSome f (IsKnown names)) (sym function_is) is.function;
   };
-  once = λ is behind. ap₂ (λ ys f. names_meaning names ys ++ declared_once (option_map (text_of names) f) behind) (sym once_is) (sym function_is);
+  once = λ is after. ap₂ (λ ys f. names_meaning names ys ++ declared_once (option_map (text_of names) f) after) (sym once_is) (sym function_is);
 }
 
 -- ---- the variables of a pattern
@@ -243,13 +243,13 @@ block_signs_nil : (names : List (List ℕ)) → block_signs names [] ≡ []
 unfolding block_signs
 block_signs_nil names = refl
 
-pub block_front : (P : Declaration → Type 0) (owner : NameId) (names : List (List ℕ)) (xs : List Declaration) (i : ℕ) (x : Declaration) (a b c : Block) → x ≡ get_or xs i x → i < length xs → All P xs
+pub block_prefix : (P : Declaration → Type 0) (owner : NameId) (names : List (List ℕ)) (xs : List Declaration) (i : ℕ) (x : Declaration) (a b c : Block) → x ≡ get_or xs i x → i < length xs → All P xs
     → (P x → Gathers owner names a (declares names x ∷ []) (signs names x) b) → Gathers owner names b (block_declares names (drop (i + 1) xs)) (block_signs names (drop (i + 1) xs)) c
     → Gathers owner names a (block_declares names (drop i xs)) (block_signs names (drop i xs)) c
-block_front P owner names xs i x a b c is within all here behind =
-    subst (λ ys. Gathers owner names a ys (block_signs names (drop i xs)) c) (front (block_declares names) (λ d. declares names d ∷ []) (block_declares_cons names) xs i x is within)
-    (subst (λ ys. Gathers owner names a ((declares names x ∷ []) ++ block_declares names (drop (i + 1) xs)) ys c) (front (block_signs names) (signs names) (block_signs_cons names) xs i x is within)
-    (gathers_both (here (subst P (sym is) (All-get_or P xs i x within all))) behind))
+block_prefix P owner names xs i x a b c is within all here suffix =
+    subst (λ ys. Gathers owner names a ys (block_signs names (drop i xs)) c) (prefix (block_declares names) (λ d. declares names d ∷ []) (block_declares_cons names) xs i x is within)
+    (subst (λ ys. Gathers owner names a ((declares names x ∷ []) ++ block_declares names (drop (i + 1) xs)) ys c) (prefix (block_signs names) (signs names) (block_signs_cons names) xs i x is within)
+    (gathers_both (here (subst P (sym is) (All-get_or P xs i x within all))) suffix))
 
 pub block_end : (owner : NameId) (names : List (List ℕ)) (xs : List Declaration) (i : ℕ) (a : Block) → length xs ≤ i → Gathers owner names a (block_declares names (drop i xs)) (block_signs names (drop i xs)) a
 block_end owner names xs i a past =

@@ -32,9 +32,9 @@ on_ok (Err e) f p = tt
 
 -- ---- lists that a loop walks over
 
-pub front : {X Y : Type 0} (F : List X → List Y) (f : X → List Y) → ((x : X) (xs : List X) → F (x ∷ xs) ≡ f x ++ F xs) → (xs : List X) (i : ℕ) (x : X) → x ≡ get_or xs i x → i < length xs
+pub prefix : {X Y : Type 0} (F : List X → List Y) (f : X → List Y) → ((x : X) (xs : List X) → F (x ∷ xs) ≡ f x ++ F xs) → (xs : List X) (i : ℕ) (x : X) → x ≡ get_or xs i x → i < length xs
     → f x ++ F (drop (i + 1) xs) ≡ F (drop i xs)
-front F f cons xs i x is within =
+prefix F f cons xs i x is within =
     sym (ap F (drop-cons xs i x within ∙ ap₂ (λ y n. y ∷ drop n xs) (sym is) (sym (add-one i))) ∙ cons x (drop (i + 1) xs))
 
 pub nothing_left : {X Y : Type 0} (F : List X → List Y) → F [] ≡ [] → (xs : List X) (i : ℕ) → length xs ≤ i → F (drop i xs) ≡ []
@@ -65,14 +65,14 @@ pub finds_both : {owner : NameId} {names : List (List ℕ)} {a b c : Found} {xs 
 finds_both one two = record { variables = adds_both one.variables two.variables; constructors = adds_both one.constructors two.constructors }
 
 -- one round of a loop
-finds_front : {X : Type 0} (P : X → Type 0) (F G : List X → List syntax.Name) (f g : X → List syntax.Name)
+finds_prefix : {X : Type 0} (P : X → Type 0) (F G : List X → List syntax.Name) (f g : X → List syntax.Name)
     → ((x : X) (xs : List X) → F (x ∷ xs) ≡ f x ++ F xs) → ((x : X) (xs : List X) → G (x ∷ xs) ≡ g x ++ G xs)
     → (owner : NameId) (names : List (List ℕ)) (xs : List X) (i : ℕ) (x : X) (a b c : Found) → x ≡ get_or xs i x → i < length xs → All P xs
     → (P x → Finds owner names a (f x) (g x) b) → Finds owner names b (F (drop (i + 1) xs)) (G (drop (i + 1) xs)) c → Finds owner names a (F (drop i xs)) (G (drop i xs)) c
-finds_front P F G f g consF consG owner names xs i x a b c is within all here behind =
-    subst (λ ys. Finds owner names a ys (G (drop i xs)) c) (front F f consF xs i x is within)
-    (subst (λ ys. Finds owner names a (f x ++ F (drop (i + 1) xs)) ys c) (front G g consG xs i x is within)
-    (finds_both (here (subst P (sym is) (All-get_or P xs i x within all))) behind))
+finds_prefix P F G f g consF consG owner names xs i x a b c is within all here suffix =
+    subst (λ ys. Finds owner names a ys (G (drop i xs)) c) (prefix F f consF xs i x is within)
+    (subst (λ ys. Finds owner names a (f x ++ F (drop (i + 1) xs)) ys c) (prefix G g consG xs i x is within)
+    (finds_both (here (subst P (sym is) (All-get_or P xs i x within all))) suffix))
 
 finds_end : {X : Type 0} (F G : List X → List syntax.Name) → F [] ≡ [] → G [] ≡ [] → (owner : NameId) (names : List (List ℕ)) (xs : List X) (i : ℕ) (a : Found) → length xs ≤ i
     → Finds owner names a (F (drop i xs)) (G (drop i xs)) a
@@ -163,11 +163,11 @@ patterns_build_nil : (names : List (List ℕ)) → patterns_build names [] ≡ [
 unfolding patterns_build
 patterns_build_nil names = refl
 
-pub patterns_front : (P : Pattern → Type 0) (owner : NameId) (names : List (List ℕ)) (xs : List Pattern) (i : ℕ) (x : Pattern) (a b c : Found) → x ≡ get_or xs i x → i < length xs → All P xs
+pub patterns_prefix : (P : Pattern → Type 0) (owner : NameId) (names : List (List ℕ)) (xs : List Pattern) (i : ℕ) (x : Pattern) (a b c : Found) → x ≡ get_or xs i x → i < length xs → All P xs
     → (P x → Finds owner names a (pattern_binds names x) (pattern_builds names x) b) → Finds owner names b (patterns_bind names (drop (i + 1) xs)) (patterns_build names (drop (i + 1) xs)) c
     → Finds owner names a (patterns_bind names (drop i xs)) (patterns_build names (drop i xs)) c
-patterns_front P owner names =
-    finds_front P (patterns_bind names) (patterns_build names) (pattern_binds names) (pattern_builds names) (patterns_bind_cons names) (patterns_build_cons names) owner names
+patterns_prefix P owner names =
+    finds_prefix P (patterns_bind names) (patterns_build names) (pattern_binds names) (pattern_builds names) (patterns_bind_cons names) (patterns_build_cons names) owner names
 
 pub patterns_end : (owner : NameId) (names : List (List ℕ)) (xs : List Pattern) (i : ℕ) (a : Found) → length xs ≤ i → Finds owner names a (patterns_bind names (drop i xs)) (patterns_build names (drop i xs)) a
 patterns_end owner names = finds_end (patterns_bind names) (patterns_build names) (patterns_bind_nil names) (patterns_build_nil names) owner names
@@ -194,11 +194,11 @@ operands_build_nil : (names : List (List ℕ)) → operands_build names [] ≡ [
 unfolding operands_build
 operands_build_nil names = refl
 
-pub operands_front : (P : ConstructorItem → Type 0) (owner : NameId) (names : List (List ℕ)) (xs : List ConstructorItem) (i : ℕ) (x : ConstructorItem) (a b c : Found) → x ≡ get_or xs i x → i < length xs → All P xs
+pub operands_prefix : (P : ConstructorItem → Type 0) (owner : NameId) (names : List (List ℕ)) (xs : List ConstructorItem) (i : ℕ) (x : ConstructorItem) (a b c : Found) → x ≡ get_or xs i x → i < length xs → All P xs
     → (P x → Finds owner names a (operand_binds names x) (operand_builds names x) b) → Finds owner names b (operands_bind names (drop (i + 1) xs)) (operands_build names (drop (i + 1) xs)) c
     → Finds owner names a (operands_bind names (drop i xs)) (operands_build names (drop i xs)) c
-operands_front P owner names =
-    finds_front P (operands_bind names) (operands_build names) (operand_binds names) (operand_builds names) (operands_bind_cons names) (operands_build_cons names) owner names
+operands_prefix P owner names =
+    finds_prefix P (operands_bind names) (operands_build names) (operand_binds names) (operand_builds names) (operands_bind_cons names) (operands_build_cons names) owner names
 
 pub operands_end : (owner : NameId) (names : List (List ℕ)) (xs : List ConstructorItem) (i : ℕ) (a : Found) → length xs ≤ i → Finds owner names a (operands_bind names (drop i xs)) (operands_build names (drop i xs)) a
 operands_end owner names = finds_end (operands_bind names) (operands_build names) (operands_bind_nil names) (operands_build_nil names) owner names
@@ -278,11 +278,11 @@ types_build_nil : (names : List (List ℕ)) → types_build names [] ≡ []
 unfolding types_build
 types_build_nil names = refl
 
-pub types_front : (P : TypeTerm → Type 0) (owner : NameId) (names : List (List ℕ)) (xs : List TypeTerm) (i : ℕ) (x : TypeTerm) (a b c : Found) → x ≡ get_or xs i x → i < length xs → All P xs
+pub types_prefix : (P : TypeTerm → Type 0) (owner : NameId) (names : List (List ℕ)) (xs : List TypeTerm) (i : ℕ) (x : TypeTerm) (a b c : Found) → x ≡ get_or xs i x → i < length xs → All P xs
     → (P x → Finds owner names a (type_binds names x) (type_builds names x) b) → Finds owner names b (types_bind names (drop (i + 1) xs)) (types_build names (drop (i + 1) xs)) c
     → Finds owner names a (types_bind names (drop i xs)) (types_build names (drop i xs)) c
-types_front P owner names =
-    finds_front P (types_bind names) (types_build names) (type_binds names) (type_builds names) (types_bind_cons names) (types_build_cons names) owner names
+types_prefix P owner names =
+    finds_prefix P (types_bind names) (types_build names) (type_binds names) (type_builds names) (types_bind_cons names) (types_build_cons names) owner names
 
 pub types_end : (owner : NameId) (names : List (List ℕ)) (xs : List TypeTerm) (i : ℕ) (a : Found) → length xs ≤ i → Finds owner names a (types_bind names (drop i xs)) (types_build names (drop i xs)) a
 types_end owner names = finds_end (types_bind names) (types_build names) (types_bind_nil names) (types_build_nil names) owner names

@@ -40,9 +40,9 @@ none_left names xs i past = ap (names_meaning names) (drop_all i xs past)
 
 -- ---- uses
 
-pub used_front : (w : World) (space : Space) (xs : List code.Name) (i : ℕ) (a b c : FirstFault) → i < length xs → Told w a (Uses space (name_meaning w.names (name_at xs i)) ∷ []) b
+pub used_prefix : (w : World) (space : Space) (xs : List code.Name) (i : ℕ) (a b c : FirstFault) → i < length xs → Told w a (Uses space (name_meaning w.names (name_at xs i)) ∷ []) b
     → Told w b (used space (names_meaning w.names (drop (i + 1) xs))) c → Told w a (used space (names_meaning w.names (drop i xs))) c
-used_front w space xs i a b c within one rest = subst (λ ns. Told w a (used space ns) c) (sym (dropped w.names xs i within)) (told_both one rest)
+used_prefix w space xs i a b c within one rest = subst (λ ns. Told w a (used space ns) c) (sym (dropped w.names xs i within)) (told_both one rest)
 
 pub used_end : (w : World) (space : Space) (xs : List code.Name) (i : ℕ) (a : FirstFault) → length xs ≤ i → Told w a (used space (names_meaning w.names (drop i xs))) a
 used_end w space xs i a past = subst (λ ns. Told w a (used space ns) a) (sym (none_left w.names xs i past)) (told_none w a)
@@ -74,16 +74,16 @@ missing_has known x xs is = rw is refl
 missing_lacks : (known : List (List ℕ)) (x : Name) (xs : List Name) → is_among known x.text ≡ false → missing known (x ∷ xs) ≡ x ∷ missing known xs
 missing_lacks known x xs is = rw is refl
 
-pub missing_front_lacks : (w : World) (known : List (List ℕ)) (xs : List code.Name) (i : ℕ) (a b c : FirstFault) → i < length xs → is_among known (text_of w.names (name_at xs i).text) ≡ false
+pub missing_prefix_lacks : (w : World) (known : List (List ℕ)) (xs : List code.Name) (i : ℕ) (a b c : FirstFault) → i < length xs → is_among known (text_of w.names (name_at xs i).text) ≡ false
     → Told w a (Lacks (name_meaning w.names (name_at xs i)) ∷ []) b → Told w b (map Lacks (missing known (names_meaning w.names (drop (i + 1) xs)))) c
     → Told w a (map Lacks (missing known (names_meaning w.names (drop i xs)))) c
-missing_front_lacks w known xs i a b c within lacks one rest =
+missing_prefix_lacks w known xs i a b c within lacks one rest =
     subst (λ ns. Told w a (map Lacks ns) c)
     (sym (ap (missing known) (dropped w.names xs i within) ∙ missing_lacks known (name_meaning w.names (name_at xs i)) (names_meaning w.names (drop (i + 1) xs)) lacks)) (told_both one rest)
 
-pub missing_front_has : (w : World) (known : List (List ℕ)) (xs : List code.Name) (i : ℕ) (a c : FirstFault) → i < length xs → is_among known (text_of w.names (name_at xs i).text) ≡ true
+pub missing_prefix_has : (w : World) (known : List (List ℕ)) (xs : List code.Name) (i : ℕ) (a c : FirstFault) → i < length xs → is_among known (text_of w.names (name_at xs i).text) ≡ true
     → Told w a (map Lacks (missing known (names_meaning w.names (drop (i + 1) xs)))) c → Told w a (map Lacks (missing known (names_meaning w.names (drop i xs)))) c
-missing_front_has w known xs i a c within has rest =
+missing_prefix_has w known xs i a c within has rest =
     subst (λ ns. Told w a (map Lacks ns) c)
     (sym (ap (missing known) (dropped w.names xs i within) ∙ missing_has known (name_meaning w.names (name_at xs i)) (names_meaning w.names (drop (i + 1) xs)) has)) rest
 
@@ -110,17 +110,17 @@ repeated_again seen x xs is = rw is refl
 repeated_new : (seen : List (List ℕ)) (x : Name) (xs : List Name) → is_among seen x.text ≡ false → repeated seen (x ∷ xs) ≡ repeated (x.text ∷ seen) xs
 repeated_new seen x xs is = rw is refl
 
-pub repeated_front_again : (w : World) (seen : List (List ℕ)) (xs : List code.Name) (i : ℕ) (a b c : FirstFault) → i < length xs → is_among seen (text_of w.names (name_at xs i).text) ≡ true
+pub repeated_prefix_again : (w : World) (seen : List (List ℕ)) (xs : List code.Name) (i : ℕ) (a b c : FirstFault) → i < length xs → is_among seen (text_of w.names (name_at xs i).text) ≡ true
     → Told w a (Repeats (name_meaning w.names (name_at xs i)) ∷ []) b → Told w b (map Repeats (repeated seen (names_meaning w.names (drop (i + 1) xs)))) c
     → Told w a (map Repeats (repeated seen (names_meaning w.names (drop i xs)))) c
-repeated_front_again w seen xs i a b c within again one rest =
+repeated_prefix_again w seen xs i a b c within again one rest =
     subst (λ ns. Told w a (map Repeats ns) c)
     (sym (ap (repeated seen) (dropped w.names xs i within) ∙ repeated_again seen (name_meaning w.names (name_at xs i)) (names_meaning w.names (drop (i + 1) xs)) again)) (told_both one rest)
 
-pub repeated_front_new : (w : World) (seen : List (List ℕ)) (xs : List code.Name) (i : ℕ) (a c : FirstFault) → i < length xs → is_among seen (text_of w.names (name_at xs i).text) ≡ false
+pub repeated_prefix_new : (w : World) (seen : List (List ℕ)) (xs : List code.Name) (i : ℕ) (a c : FirstFault) → i < length xs → is_among seen (text_of w.names (name_at xs i).text) ≡ false
     → Told w a (map Repeats (repeated (text_of w.names (name_at xs i).text ∷ seen) (names_meaning w.names (drop (i + 1) xs)))) c
     → Told w a (map Repeats (repeated seen (names_meaning w.names (drop i xs)))) c
-repeated_front_new w seen xs i a c within new rest =
+repeated_prefix_new w seen xs i a c within new rest =
     subst (λ ns. Told w a (map Repeats ns) c)
     (sym (ap (repeated seen) (dropped w.names xs i within) ∙ repeated_new seen (name_meaning w.names (name_at xs i)) (names_meaning w.names (drop (i + 1) xs)) new)) rest
 
@@ -133,14 +133,14 @@ once_again seen x xs is = rw is refl
 once_new : (seen : List (List ℕ)) (x : Name) (xs : List Name) → is_among seen x.text ≡ false → once seen (x ∷ xs) ≡ x ∷ once (x.text ∷ seen) xs
 once_new seen x xs is = rw is refl
 
-pub once_front_again : (names seen : List (List ℕ)) (xs : List code.Name) (i : ℕ) → i < length xs → is_among seen (text_of names (name_at xs i).text) ≡ true
+pub once_prefix_again : (names seen : List (List ℕ)) (xs : List code.Name) (i : ℕ) → i < length xs → is_among seen (text_of names (name_at xs i).text) ≡ true
     → once seen (names_meaning names (drop (i + 1) xs)) ≡ once seen (names_meaning names (drop i xs))
-once_front_again names seen xs i within again =
+once_prefix_again names seen xs i within again =
     sym (ap (once seen) (dropped names xs i within) ∙ once_again seen (name_meaning names (name_at xs i)) (names_meaning names (drop (i + 1) xs)) again)
 
-pub once_front_new : (names seen : List (List ℕ)) (xs found more : List code.Name) (i : ℕ) → i < length xs → is_among seen (text_of names (name_at xs i).text) ≡ false → more ≡ found ++ name_at xs i ∷ []
+pub once_prefix_new : (names seen : List (List ℕ)) (xs found more : List code.Name) (i : ℕ) → i < length xs → is_among seen (text_of names (name_at xs i).text) ≡ false → more ≡ found ++ name_at xs i ∷ []
     → names_meaning names more ++ once (text_of names (name_at xs i).text ∷ seen) (names_meaning names (drop (i + 1) xs)) ≡ names_meaning names found ++ once seen (names_meaning names (drop i xs))
-once_front_new names seen xs found more i within new pushed =
+once_prefix_new names seen xs found more i within new pushed =
     ap (λ ms. ms ++ once (text_of names (name_at xs i).text ∷ seen) (names_meaning names (drop (i + 1) xs))) (ap (names_meaning names) pushed ∙ map-append (name_meaning names) found (name_at xs i ∷ []))
     ∙ append_assoc (names_meaning names found) (name_meaning names (name_at xs i) ∷ []) (once (text_of names (name_at xs i).text ∷ seen) (names_meaning names (drop (i + 1) xs)))
     ∙ ap (λ ns. names_meaning names found ++ ns)

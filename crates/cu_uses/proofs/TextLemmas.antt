@@ -17,8 +17,8 @@ use Rattle.cu_uses.specs.Telling.{HasTexts}
 pub bytes_turned : (x y : List ℕ) → bytes_eq x y ≡ bytes_eq y x
 bytes_turned x y =
     let there = bytes_eq-Decides x y in
-    let back = bytes_eq-Decides y x in
-    same_from_decides (bytes_eq x y) (bytes_eq y x) there (λ e. sym (back.0 e), λ e. back.1 (sym e))
+    let converse = bytes_eq-Decides y x in
+    same_from_decides (bytes_eq x y) (bytes_eq y x) there (λ e. sym (converse.0 e), λ e. converse.1 (sym e))
 
 or_false : (b : Bool) → (b || false) ≡ b
 or_false true = refl

@@ -20,7 +20,7 @@ use Rattle.cu_uses.specs.Demands.{Demand, Uses}
 use Rattle.cu_uses.specs.Faults.{Fault, demand_fault, demand_faults, unless_one, wrong_name}
 use Rattle.cu_uses.specs.Telling.{AreTold}
 use Rattle.cu_uses.specs.Inside.Worlds.{Told, World}
-use Rattle.cu_uses.proofs.FoundLemmas.{front, nothing_left}
+use Rattle.cu_uses.proofs.FoundLemmas.{prefix, nothing_left}
 
 pub told_none : (w : World) (a : FirstFault) → Told w a [] a
 told_none w a = record { told = λ faults is. subst (λ fs. AreTold w.owner w.names fs a) (sym (append-nil faults)) is }
@@ -34,11 +34,11 @@ told_both {w = w} {c = c} {ds = ds} {es = es} one two = record {
 }
 
 -- one round of a loop
-pub told_front : {X : Type 0} (P : X → Type 0) (F : List X → List Demand) (f : X → List Demand) → ((x : X) (xs : List X) → F (x ∷ xs) ≡ f x ++ F xs)
+pub told_prefix : {X : Type 0} (P : X → Type 0) (F : List X → List Demand) (f : X → List Demand) → ((x : X) (xs : List X) → F (x ∷ xs) ≡ f x ++ F xs)
     → (w : World) (xs : List X) (i : ℕ) (x : X) (a b c : FirstFault) → x ≡ get_or xs i x → i < length xs → All P xs
     → (P x → Told w a (f x) b) → Told w b (F (drop (i + 1) xs)) c → Told w a (F (drop i xs)) c
-told_front P F f cons w xs i x a b c is within all here behind =
-    subst (λ ds. Told w a ds c) (front F f cons xs i x is within) (told_both (here (subst P (sym is) (All-get_or P xs i x within all))) behind)
+told_prefix P F f cons w xs i x a b c is within all here suffix =
+    subst (λ ds. Told w a ds c) (prefix F f cons xs i x is within) (told_both (here (subst P (sym is) (All-get_or P xs i x within all))) suffix)
 
 pub told_end : {X : Type 0} (F : List X → List Demand) → F [] ≡ [] → (w : World) (xs : List X) (i : ℕ) (a : FirstFault) → length xs ≤ i → Told w a (F (drop i xs)) a
 told_end F empty w xs i a past = subst (λ ds. Told w a ds a) (sym (nothing_left F empty xs i past)) (told_none w a)

@@ -33,8 +33,8 @@ use Rattle.cu_uses.specs.Inside.Gathered.{Adds, names_meaning, types_bind, types
 use Rattle.cu_uses.specs.Inside.Tops.{IsTop, Reads, Top, both, constructor_names, fields_ask, item_asks, item_top, items_ask, items_top, nothing, top, top_by, top_declares, types_ask}
 use Rattle.cu_uses.specs.Inside.Worlds.{Told, World}
 use Rattle.cu_uses.proofs.BlockLemmas.{gathered_block, gathers_both, gathers_none, node_signs, signs_node}
-use Rattle.cu_uses.proofs.FoundLemmas.{adds_both, adds_none, front, nothing_left, on_ok}
-use Rattle.cu_uses.proofs.ToldLemmas.{told_both, told_end, told_front}
+use Rattle.cu_uses.proofs.FoundLemmas.{adds_both, adds_none, prefix, nothing_left, on_ok}
+use Rattle.cu_uses.proofs.ToldLemmas.{told_both, told_end, told_prefix}
 
 -- ---- declarations at top level
 
@@ -117,17 +117,17 @@ top_split : (names : List (List ℕ)) (xs : List Item) (i : ℕ) (x : Item) → 
 top_split names xs i x is within =
     sym (ap (items_top names) (drop-cons xs i x within ∙ ap₂ (λ y n. y ∷ drop n xs) (sym is) (sym (add-one i))) ∙ items_top_cons names x (drop (i + 1) xs))
 
-pub top_front : (owner : NameId) (names : List (List ℕ)) (xs : List Item) (i : ℕ) (x : Item) (a b c : TopLevel) → x ≡ get_or xs i x → i < length xs → All (ItemIsOf owner names) xs
+pub top_prefix : (owner : NameId) (names : List (List ℕ)) (xs : List Item) (i : ℕ) (x : Item) (a b c : TopLevel) → x ≡ get_or xs i x → i < length xs → All (ItemIsOf owner names) xs
     → (ItemIsOf owner names x → Reads owner names a (item_top names x) b) → Reads owner names b (items_top names (drop (i + 1) xs)) c → Reads owner names a (items_top names (drop i xs)) c
-top_front owner names xs i x a b c is within all here behind =
+top_prefix owner names xs i x a b c is within all here after =
     subst (λ t. Reads owner names a t c) (top_split names xs i x is within)
-    (reads_both (here (subst (ItemIsOf owner names) (sym is) (All-get_or (ItemIsOf owner names) xs i x within all))) behind)
+    (reads_both (here (subst (ItemIsOf owner names) (sym is) (All-get_or (ItemIsOf owner names) xs i x within all))) after)
 
-nothing_behind : (names : List (List ℕ)) (xs : List Item) → xs ≡ [] → items_top names xs ≡ nothing
-nothing_behind names xs is = ap (items_top names) is ∙ items_top_nil names
+nothing_after : (names : List (List ℕ)) (xs : List Item) → xs ≡ [] → items_top names xs ≡ nothing
+nothing_after names xs is = ap (items_top names) is ∙ items_top_nil names
 
 pub top_end : (owner : NameId) (names : List (List ℕ)) (xs : List Item) (i : ℕ) (a : TopLevel) → length xs ≤ i → Reads owner names a (items_top names (drop i xs)) a
-top_end owner names xs i a past = subst (λ t. Reads owner names a t a) (sym (nothing_behind names (drop i xs) (nothing_left (λ (ys : List Item). ys) refl xs i past))) (reads_none owner names a)
+top_end owner names xs i a past = subst (λ t. Reads owner names a t a) (sym (nothing_after names (drop i xs) (nothing_left (λ (ys : List Item). ys) refl xs i past))) (reads_none owner names a)
 
 pub from_empty : (owner : NameId) (names : List (List ℕ)) (fresh found : List code.Name) (xs : List Name) → fresh ≡ [] → Adds owner names fresh xs found → Adds owner names [] xs found
 from_empty owner names fresh found xs empty adds = subst (λ ys. Adds owner names ys xs found) empty adds
@@ -145,7 +145,7 @@ pub constructor_pushed : (xs : List ConstructorDeclaration) (i : ℕ) (x : Const
     → old ++ constructor_names (drop i xs) ≡ whole → new ++ constructor_names (drop (i + 1) xs) ≡ whole
 constructor_pushed xs i x old new whole is within pushed so_far =
     ap (λ ys. ys ++ constructor_names (drop (i + 1) xs)) pushed ∙ append_assoc old (x.name ∷ []) (constructor_names (drop (i + 1) xs))
-    ∙ ap (λ ys. old ++ ys) (front constructor_names (λ (c : ConstructorDeclaration). c.name ∷ []) (λ y ys. refl) xs i x is within) ∙ so_far
+    ∙ ap (λ ys. old ++ ys) (prefix constructor_names (λ (c : ConstructorDeclaration). c.name ∷ []) (λ y ys. refl) xs i x is within) ∙ so_far
 
 pub constructors_end : (xs : List ConstructorDeclaration) (i : ℕ) (found whole : List code.Name) → length xs ≤ i → found ++ constructor_names (drop i xs) ≡ whole → found ≡ whole
 constructors_end xs i found whole past so_far =
@@ -203,10 +203,10 @@ fields_nil : (names : List (List ℕ)) (ps : List Name) → fields_ask names ps 
 unfolding fields_ask
 fields_nil names ps = refl
 
-pub fields_front : (w : World) (ps : List Name) (xs : List ConstructorDeclaration) (i : ℕ) (x : ConstructorDeclaration) (a b c : FirstFault) → x ≡ get_or xs i x → i < length xs
+pub fields_prefix : (w : World) (ps : List Name) (xs : List ConstructorDeclaration) (i : ℕ) (x : ConstructorDeclaration) (a b c : FirstFault) → x ≡ get_or xs i x → i < length xs
     → All (ConstructorDeclarationIsOf w.owner w.names) xs → (ConstructorDeclarationIsOf w.owner w.names x → Told w a (types_ask w.names ps x.fields.items) b)
     → Told w b (fields_ask w.names ps (drop (i + 1) xs)) c → Told w a (fields_ask w.names ps (drop i xs)) c
-fields_front w ps = told_front (ConstructorDeclarationIsOf w.owner w.names) (fields_ask w.names ps) (λ (x : ConstructorDeclaration). types_ask w.names ps x.fields.items) (fields_cons w.names ps) w
+fields_prefix w ps = told_prefix (ConstructorDeclarationIsOf w.owner w.names) (fields_ask w.names ps) (λ (x : ConstructorDeclaration). types_ask w.names ps x.fields.items) (fields_cons w.names ps) w
 
 pub fields_end : (w : World) (ps : List Name) (xs : List ConstructorDeclaration) (i : ℕ) (a : FirstFault) → length xs ≤ i → Told w a (fields_ask w.names ps (drop i xs)) a
 fields_end w ps = told_end (fields_ask w.names ps) (fields_nil w.names ps) w
@@ -242,9 +242,9 @@ items_ask_nil : (names : List (List ℕ)) → items_ask names [] ≡ []
 unfolding items_ask
 items_ask_nil names = refl
 
-pub items_front : (w : World) (xs : List Item) (i : ℕ) (x : Item) (a b c : FirstFault) → x ≡ get_or xs i x → i < length xs → All (ItemIsOf w.owner w.names) xs
+pub items_prefix : (w : World) (xs : List Item) (i : ℕ) (x : Item) (a b c : FirstFault) → x ≡ get_or xs i x → i < length xs → All (ItemIsOf w.owner w.names) xs
     → (ItemIsOf w.owner w.names x → Told w a (item_asks w.names x) b) → Told w b (items_ask w.names (drop (i + 1) xs)) c → Told w a (items_ask w.names (drop i xs)) c
-items_front w = told_front (ItemIsOf w.owner w.names) (items_ask w.names) (item_asks w.names) (items_ask_cons w.names) w
+items_prefix w = told_prefix (ItemIsOf w.owner w.names) (items_ask w.names) (item_asks w.names) (items_ask_cons w.names) w
 
 pub items_end : (w : World) (xs : List Item) (i : ℕ) (a : FirstFault) → length xs ≤ i → Told w a (items_ask w.names (drop i xs)) a
 items_end w = told_end (items_ask w.names) (items_ask_nil w.names) w

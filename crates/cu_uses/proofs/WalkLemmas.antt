@@ -40,15 +40,15 @@ use Rattle.cu_syntax.specs.Syntax as syntax
 use Rattle.cu_uses.specs.declared.first_fault.FirstFault.{FirstFault}
 use Rattle.cu_uses.specs.declared.scope.Scope.{Scope}
 use Rattle.cu_uses.specs.Binders.{declared_names, is_among, repeated, texts}
-use Rattle.cu_uses.specs.Demands.{Demand, Repeats, Uses, behind, goal_demands, declaration_demands, expression_demands, qualifier_demands, qualifier_names, qualifiers_demands, right_demands, use_of, used, with}
+use Rattle.cu_uses.specs.Demands.{Demand, Repeats, Uses, scope_after, goal_demands, declaration_demands, expression_demands, qualifier_demands, qualifier_names, qualifiers_demands, right_demands, use_of, used, with}
 use Rattle.cu_uses.specs.Inside.Asked.{alternative_asks, alternatives_ask, body_asks, declaration_asks, declarations_ask, enumeration_asks, expression_asks, expressions_ask, guards_ask, in_block, lambda_asks, let_asks, maybe_asks, operands_ask, qualifier_asks, qualifier_binds, qualifiers_ask, right_asks}
 use Rattle.cu_uses.specs.Inside.Blocks.{block_asks, block_declares}
 use Rattle.cu_uses.specs.Inside.Gathered.{Adds, names_meaning, pattern_binds, pattern_builds, patterns_bind, patterns_build, type_builds}
 use Rattle.cu_uses.specs.Inside.Scopes.{Brings, Sees, has_text, is_local, or_among, table_in}
 use Rattle.cu_uses.specs.Inside.Worlds.{Told, World}
-use Rattle.cu_uses.proofs.FoundLemmas.{front, nothing_left}
+use Rattle.cu_uses.proofs.FoundLemmas.{prefix, nothing_left}
 use Rattle.cu_uses.proofs.TextLemmas.{bytes_turned}
-use Rattle.cu_uses.proofs.ToldLemmas.{told_both, told_end, told_front, told_none}
+use Rattle.cu_uses.proofs.ToldLemmas.{told_both, told_end, told_prefix, told_none}
 
 -- ---- scopes
 
@@ -149,9 +149,9 @@ expressions_nil : (names local : List (List ℕ)) → expressions_ask names loca
 unfolding expressions_ask
 expressions_nil names local = refl
 
-pub expressions_front : (P : Expression → Type 0) (w : World) (local : List (List ℕ)) (xs : List Expression) (i : ℕ) (x : Expression) (a b c : FirstFault) → x ≡ get_or xs i x → i < length xs → All P xs
+pub expressions_prefix : (P : Expression → Type 0) (w : World) (local : List (List ℕ)) (xs : List Expression) (i : ℕ) (x : Expression) (a b c : FirstFault) → x ≡ get_or xs i x → i < length xs → All P xs
     → (P x → Told w a (expression_asks w.names local x) b) → Told w b (expressions_ask w.names local (drop (i + 1) xs)) c → Told w a (expressions_ask w.names local (drop i xs)) c
-expressions_front P w local = told_front P (expressions_ask w.names local) (expression_asks w.names local) (expressions_cons w.names local) w
+expressions_prefix P w local = told_prefix P (expressions_ask w.names local) (expression_asks w.names local) (expressions_cons w.names local) w
 
 pub expressions_end : (w : World) (local : List (List ℕ)) (xs : List Expression) (i : ℕ) (a : FirstFault) → length xs ≤ i → Told w a (expressions_ask w.names local (drop i xs)) a
 expressions_end w local = told_end (expressions_ask w.names local) (expressions_nil w.names local) w
@@ -167,9 +167,9 @@ operands_nil : (names local : List (List ℕ)) → operands_ask names local [] �
 unfolding operands_ask
 operands_nil names local = refl
 
-pub operands_front : (P : OperatorItem → Type 0) (w : World) (local : List (List ℕ)) (xs : List OperatorItem) (i : ℕ) (x : OperatorItem) (a b c : FirstFault) → x ≡ get_or xs i x → i < length xs → All P xs
+pub operands_prefix : (P : OperatorItem → Type 0) (w : World) (local : List (List ℕ)) (xs : List OperatorItem) (i : ℕ) (x : OperatorItem) (a b c : FirstFault) → x ≡ get_or xs i x → i < length xs → All P xs
     → (P x → Told w a (operand_asks w.names local x) b) → Told w b (operands_ask w.names local (drop (i + 1) xs)) c → Told w a (operands_ask w.names local (drop i xs)) c
-operands_front P w local = told_front P (operands_ask w.names local) (operand_asks w.names local) (operands_cons w.names local) w
+operands_prefix P w local = told_prefix P (operands_ask w.names local) (operand_asks w.names local) (operands_cons w.names local) w
 
 pub operands_end : (w : World) (local : List (List ℕ)) (xs : List OperatorItem) (i : ℕ) (a : FirstFault) → length xs ≤ i → Told w a (operands_ask w.names local (drop i xs)) a
 operands_end w local = told_end (operands_ask w.names local) (operands_nil w.names local) w
@@ -183,9 +183,9 @@ alternatives_nil : (names local : List (List ℕ)) → alternatives_ask names lo
 unfolding alternatives_ask
 alternatives_nil names local = refl
 
-pub alternatives_front : (P : Alternative → Type 0) (w : World) (local : List (List ℕ)) (xs : List Alternative) (i : ℕ) (x : Alternative) (a b c : FirstFault) → x ≡ get_or xs i x → i < length xs → All P xs
+pub alternatives_prefix : (P : Alternative → Type 0) (w : World) (local : List (List ℕ)) (xs : List Alternative) (i : ℕ) (x : Alternative) (a b c : FirstFault) → x ≡ get_or xs i x → i < length xs → All P xs
     → (P x → Told w a (alternative_asks w.names local x) b) → Told w b (alternatives_ask w.names local (drop (i + 1) xs)) c → Told w a (alternatives_ask w.names local (drop i xs)) c
-alternatives_front P w local = told_front P (alternatives_ask w.names local) (alternative_asks w.names local) (alternatives_cons w.names local) w
+alternatives_prefix P w local = told_prefix P (alternatives_ask w.names local) (alternative_asks w.names local) (alternatives_cons w.names local) w
 
 pub alternatives_end : (w : World) (local : List (List ℕ)) (xs : List Alternative) (i : ℕ) (a : FirstFault) → length xs ≤ i → Told w a (alternatives_ask w.names local (drop i xs)) a
 alternatives_end w local = told_end (alternatives_ask w.names local) (alternatives_nil w.names local) w
@@ -201,9 +201,9 @@ guards_nil : (names local : List (List ℕ)) → guards_ask names local [] ≡ [
 unfolding guards_ask
 guards_nil names local = refl
 
-pub guards_front : (P : Guard → Type 0) (w : World) (local : List (List ℕ)) (xs : List Guard) (i : ℕ) (x : Guard) (a b c : FirstFault) → x ≡ get_or xs i x → i < length xs → All P xs
+pub guards_prefix : (P : Guard → Type 0) (w : World) (local : List (List ℕ)) (xs : List Guard) (i : ℕ) (x : Guard) (a b c : FirstFault) → x ≡ get_or xs i x → i < length xs → All P xs
     → (P x → Told w a (guard_asks w.names local x) b) → Told w b (guards_ask w.names local (drop (i + 1) xs)) c → Told w a (guards_ask w.names local (drop i xs)) c
-guards_front P w local = told_front P (guards_ask w.names local) (guard_asks w.names local) (guards_cons w.names local) w
+guards_prefix P w local = told_prefix P (guards_ask w.names local) (guard_asks w.names local) (guards_cons w.names local) w
 
 pub guards_end : (w : World) (local : List (List ℕ)) (xs : List Guard) (i : ℕ) (a : FirstFault) → length xs ≤ i → Told w a (guards_ask w.names local (drop i xs)) a
 guards_end w local = told_end (guards_ask w.names local) (guards_nil w.names local) w
@@ -216,9 +216,9 @@ declarations_nil : (names local : List (List ℕ)) → declarations_ask names lo
 unfolding declarations_ask
 declarations_nil names local = refl
 
-pub declarations_front : (P : Declaration → Type 0) (w : World) (local : List (List ℕ)) (xs : List Declaration) (i : ℕ) (x : Declaration) (a b c : FirstFault) → x ≡ get_or xs i x → i < length xs → All P xs
+pub declarations_prefix : (P : Declaration → Type 0) (w : World) (local : List (List ℕ)) (xs : List Declaration) (i : ℕ) (x : Declaration) (a b c : FirstFault) → x ≡ get_or xs i x → i < length xs → All P xs
     → (P x → Told w a (declaration_asks w.names local x) b) → Told w b (declarations_ask w.names local (drop (i + 1) xs)) c → Told w a (declarations_ask w.names local (drop i xs)) c
-declarations_front P w local = told_front P (declarations_ask w.names local) (declaration_asks w.names local) (declarations_cons w.names local) w
+declarations_prefix P w local = told_prefix P (declarations_ask w.names local) (declaration_asks w.names local) (declarations_cons w.names local) w
 
 pub declarations_end : (w : World) (local : List (List ℕ)) (xs : List Declaration) (i : ℕ) (a : FirstFault) → length xs ≤ i → Told w a (declarations_ask w.names local (drop i xs)) a
 declarations_end w local = told_end (declarations_ask w.names local) (declarations_nil w.names local) w
@@ -289,7 +289,7 @@ qualifiers_cons : (names local : List (List ℕ)) (e : Expression) (q : Qualifie
 unfolding qualifiers_ask qualifier_asks qualifier_binds
 qualifiers_cons names local e q qs =
     sym (append_assoc (qualifier_demands local (qualifier_meaning names q)) (qualifiers_demands (with (qualifier_names (qualifier_meaning names q)) local) (qualifiers_meaning names qs))
-    (expression_demands (behind (with (qualifier_names (qualifier_meaning names q)) local) (qualifiers_meaning names qs)) (expression_meaning names e)))
+    (expression_demands (scope_after (with (qualifier_names (qualifier_meaning names q)) local) (qualifiers_meaning names qs)) (expression_meaning names e)))
 
 qualifiers_split : (names local : List (List ℕ)) (e : Expression) (xs : List Qualifier) (i : ℕ) (x : Qualifier) → x ≡ get_or xs i x → i < length xs
     → qualifier_asks names local x ++ qualifiers_ask names (with (qualifier_binds names x) local) e (drop (i + 1) xs) ≡ qualifiers_ask names local e (drop i xs)
@@ -297,10 +297,10 @@ qualifiers_split names local e xs i x is within =
     qualifiers_cons names local e x (drop (i + 1) xs)
     ∙ sym (ap (qualifiers_ask names local e) (drop-cons xs i x within ∙ ap₂ (λ y n. y ∷ drop n xs) (sym is) (sym (add-one i))))
 
-pub qualifiers_front : (w : World) (local : List (List ℕ)) (e : Expression) (xs : List Qualifier) (i : ℕ) (x : Qualifier) (a b c : FirstFault) → x ≡ get_or xs i x → i < length xs
+pub qualifiers_prefix : (w : World) (local : List (List ℕ)) (e : Expression) (xs : List Qualifier) (i : ℕ) (x : Qualifier) (a b c : FirstFault) → x ≡ get_or xs i x → i < length xs
     → Told w a (qualifier_asks w.names local x) b → Told w b (qualifiers_ask w.names (with (qualifier_binds w.names x) local) e (drop (i + 1) xs)) c
     → Told w a (qualifiers_ask w.names local e (drop i xs)) c
-qualifiers_front w local e xs i x a b c is within one rest = subst (λ ds. Told w a ds c) (qualifiers_split w.names local e xs i x is within) (told_both one rest)
+qualifiers_prefix w local e xs i x a b c is within one rest = subst (λ ds. Told w a ds c) (qualifiers_split w.names local e xs i x is within) (told_both one rest)
 
 pub qualifiers_end : (w : World) (local : List (List ℕ)) (e : Expression) (xs : List Qualifier) (i : ℕ) (a b : FirstFault) → length xs ≤ i → Told w a (expression_asks w.names local e) b
     → Told w a (qualifiers_ask w.names local e (drop i xs)) b

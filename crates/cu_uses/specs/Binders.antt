@@ -22,15 +22,15 @@ abbrev mutual
   pattern_variables (Constructed at c ps) = variables ps
   pattern_variables (PatternTuple at ps) = variables ps
   pattern_variables (PatternList at ps) = variables ps
-  pattern_variables (PatternOperators at p rest) = pattern_variables p ++ variables_behind rest
+  pattern_variables (PatternOperators at p rest) = pattern_variables p ++ variables_after rest
 
   pub variables : Patterns → List Name
   variables NoPattern = []
   variables (MorePatterns p ps) = pattern_variables p ++ variables ps
 
-  pub variables_behind : PatternRest → List Name
-  variables_behind NoConstructor = []
-  variables_behind (ThenConstructor c p rest) = pattern_variables p ++ variables_behind rest
+  pub variables_after : PatternRest → List Name
+  variables_after NoConstructor = []
+  variables_after (ThenConstructor c p rest) = pattern_variables p ++ variables_after rest
 
 abbrev mutual
   -- the constructors in a pattern
@@ -43,16 +43,16 @@ abbrev mutual
   pattern_constructors (PatternTuple at ps) = constructors ps
   pattern_constructors (PatternList at ps) = constructors ps
   pattern_constructors (PatternOperators at p rest) =
-      pattern_constructors p ++ constructors_behind rest
+      pattern_constructors p ++ constructors_after rest
 
   pub constructors : Patterns → List Name
   constructors NoPattern = []
   constructors (MorePatterns p ps) = pattern_constructors p ++ constructors ps
 
-  pub constructors_behind : PatternRest → List Name
-  constructors_behind NoConstructor = []
-  constructors_behind (ThenConstructor c p rest) =
-      c ∷ pattern_constructors p ++ constructors_behind rest
+  pub constructors_after : PatternRest → List Name
+  constructors_after NoConstructor = []
+  constructors_after (ThenConstructor c p rest) =
+      c ∷ pattern_constructors p ++ constructors_after rest
 
 -- ---- types
 

@@ -45,10 +45,10 @@ qualifier_names (syntax.LocalDeclarations at ds) = block_names ds
 qualifier_names (syntax.Condition at condition) = []
 
 -- the local variables that are in scope after qualifiers
-abbrev pub behind : List (List ℕ) → Qualifiers → List (List ℕ)
-behind local syntax.NoQualifier = local
-behind local (syntax.MoreQualifiers q qualifiers) =
-    behind (with (qualifier_names q) local) qualifiers
+abbrev pub scope_after : List (List ℕ) → Qualifiers → List (List ℕ)
+scope_after local syntax.NoQualifier = local
+scope_after local (syntax.MoreQualifiers q qualifiers) =
+    scope_after (with (qualifier_names q) local) qualifiers
 
 abbrev mutual
   pub expression_demands : List (List ℕ) → Expression → List Demand
@@ -80,7 +80,8 @@ abbrev mutual
   expression_demands local (syntax.Enumeration at first second last) =
       expression_demands local first ++ (maybe_demands local second ++ maybe_demands local last)
   expression_demands local (syntax.Comprehension at element qualifiers) =
-      qualifiers_demands local qualifiers ++ expression_demands (behind local qualifiers) element
+      qualifiers_demands local qualifiers
+      ++ expression_demands (scope_after local qualifiers) element
 
   pub all_demands : List (List ℕ) → Expressions → List Demand
   all_demands local syntax.NoExpression = []

@@ -8,7 +8,7 @@ use Rattle.cu_calculus.specs.Value as value
 use Rattle.cu_calculus.specs.Value.{Value, Values, count, list_of, values_of}
 use Rattle.cu_values.specs.declared.cell.Cell.{Cell}
 use Rattle.cu_values.specs.declared.cell.Cell.TheVariants as cell
-use Rattle.cu_values.specs.Cells.{back, first, read, read_all, spell, spell_all, IsOneSpelled, IsSpelled}
+use Rattle.cu_values.specs.Cells.{suffix, first, read, read_all, spell, spell_all, IsOneSpelled, IsSpelled}
 use Rattle.cu_values.specs.Parts.{arguments_of, head_of}
 use Rattle.cu_values.specs.Spelling.{join, read_all-spell_all, read-spell}
 
@@ -60,11 +60,11 @@ all_written items arguments i whole past h =
 
 -- one value between two places
 pub piece_between : (cells : List Cell) (at end : ℕ) → IsSpelled (drop at cells) → 1 ≤ count (read_all (drop at cells)) → at < end → end ≤ length cells
-    → IsSpelled (drop end cells) → read_all (drop end cells) ≡ back 1 (read_all (drop at cells))
+    → IsSpelled (drop end cells) → read_all (drop end cells) ≡ suffix 1 (read_all (drop at cells))
     → take (end - at) (drop at cells) ≡ spell (first (read_all (drop at cells)))
 piece_between cells at end spelled some less within rest_spelled rest = by (read_all (drop at cells)) some spelled rest
   where
-    by : (us : Values) → 1 ≤ count us → spell_all us ≡ drop at cells → read_all (drop end cells) ≡ back 1 us → take (end - at) (drop at cells) ≡ spell (first us)
+    by : (us : Values) → 1 ≤ count us → spell_all us ≡ drop at cells → read_all (drop end cells) ≡ suffix 1 us → take (end - at) (drop at cells) ≡ spell (first us)
     by value.NoValue none s r = absurd (omega (arith, none))
     by (value.MoreValues u us) _ s r =
         let tail : spell_all us ≡ drop end cells = ap spell_all (sym r) ∙ rest_spelled in
@@ -74,7 +74,7 @@ piece_between cells at end spelled some less within rest_spelled rest = by (read
         rw (long, whole) (take-append_seam (spell u) (drop end cells))
 
 -- an argument that is read goes after those that were
-pub read_on : (vs : List Value) (us rest : Values) (v : Value) (all : List Value) → 1 ≤ count us → rest ≡ back 1 us → v ≡ first us
+pub read_on : (vs : List Value) (us rest : Values) (v : Value) (all : List Value) → 1 ≤ count us → rest ≡ suffix 1 us → v ≡ first us
     → vs ++ list_of us ≡ all → (vs ++ v ∷ []) ++ list_of rest ≡ all
 read_on vs value.NoValue rest v all none r e h = absurd (omega (arith, none))
 read_on vs (value.MoreValues u us) rest v all some r e h = rw (r, e, append_assoc vs (u ∷ []) (list_of us)) h

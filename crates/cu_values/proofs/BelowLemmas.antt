@@ -18,8 +18,8 @@ use Rattle.cu_calculus.specs.Value.{Value, Values, count}
 use Rattle.cu_values.specs.Approximation.{are_below, is_below, same_head}
 use Rattle.cu_values.specs.declared.cell.Cell.{Cell}
 use Rattle.cu_values.specs.declared.cell.Cell.TheVariants as cell
-use Rattle.cu_values.specs.Cells.{arity_of, back, front, put, read_all, spell, IsSpelled}
-use Rattle.cu_values.proofs.CellLemmas.{behind, read_all_one, some_cell, some_value, spelled_one, Behind}
+use Rattle.cu_values.specs.Cells.{arity_of, suffix, prefix, put, read_all, spell, IsSpelled}
+use Rattle.cu_values.proofs.CellLemmas.{after, read_all_one, some_cell, some_value, spelled_one, After}
 
 -- tests of equality
 
@@ -106,13 +106,13 @@ pub and_true : (a : Bool) → (a && true) ≡ a
 and_true true = refl
 and_true false = refl
 
-pub front_back_below : (n : ℕ) (us vs : Values) → (are_below (front n us) (front n vs) && are_below (back n us) (back n vs)) ≡ are_below us vs
-front_back_below zero us vs = refl
-front_back_below (suc n) value.NoValue value.NoValue = refl
-front_back_below (suc n) value.NoValue (value.MoreValues v vs) = refl
-front_back_below (suc n) (value.MoreValues u us) value.NoValue = refl
-front_back_below (suc n) (value.MoreValues u us) (value.MoreValues v vs) =
-    and_assoc (is_below u v) _ _ ∙ ap (λ b. is_below u v && b) (front_back_below n us vs)
+pub prefix_suffix_below : (n : ℕ) (us vs : Values) → (are_below (prefix n us) (prefix n vs) && are_below (suffix n us) (suffix n vs)) ≡ are_below us vs
+prefix_suffix_below zero us vs = refl
+prefix_suffix_below (suc n) value.NoValue value.NoValue = refl
+prefix_suffix_below (suc n) value.NoValue (value.MoreValues v vs) = refl
+prefix_suffix_below (suc n) (value.MoreValues u us) value.NoValue = refl
+prefix_suffix_below (suc n) (value.MoreValues u us) (value.MoreValues v vs) =
+    and_assoc (is_below u v) _ _ ∙ ap (λ b. is_below u v && b) (prefix_suffix_below n us vs)
 
 pub below_counts : (us vs : Values) → are_below us vs ≡ true → count us ≡ count vs
 below_counts value.NoValue value.NoValue e = refl
@@ -125,8 +125,8 @@ pub same_heads : (c : Cell) (us vs : Values) → are_below (put c us) (put c vs)
 same_heads cell.Bottom us vs = refl
 same_heads (cell.LVar x) us vs = rw (eq-eqb x x refl) refl
 same_heads (cell.Lit l) us vs = rw (same_literal_itself l) refl
-same_heads (cell.Con c n) us vs = rw (same_constructor_itself c) (front_back_below n us vs)
-same_heads (cell.Part h n) us vs = rw (same_head_itself h) (front_back_below n us vs)
+same_heads (cell.Con c n) us vs = rw (same_constructor_itself c) (prefix_suffix_below n us vs)
+same_heads (cell.Part h n) us vs = rw (same_head_itself h) (prefix_suffix_below n us vs)
 
 -- applications whose heads or numbers of arguments differ
 pub differing : (same : Bool) (m n : ℕ) (fs gs : Values) (rest : Bool) → count fs ≡ m → count gs ≡ n → (same ≡ true → m ≡ n → ⊥)
@@ -138,7 +138,7 @@ differing true m n fs gs rest e f differ = by (are_below fs gs) refl
     by true k = absurd (differ refl (sym e ∙ below_counts fs gs k ∙ f))
     by false k = rw k refl
 
-pub other_heads : (c d : Cell) (us vs : Values) → count (front (arity_of c) us) ≡ arity_of c → count (front (arity_of d) vs) ≡ arity_of d
+pub other_heads : (c d : Cell) (us vs : Values) → count (prefix (arity_of c) us) ≡ arity_of c → count (prefix (arity_of d) vs) ≡ arity_of d
     → (c ≡ cell.Bottom → ⊥) → (d ≡ c → ⊥) → are_below (put c us) (put d vs) ≡ false
 other_heads cell.Bottom d us vs e f known differ = absurd (known refl)
 other_heads (cell.LVar x) (cell.LVar y) us vs e f known differ = rw (ne_eqb x y (λ p. differ (ap cell.LVar (sym p)))) refl
@@ -148,9 +148,9 @@ other_heads (cell.Lit l) (cell.Lit m) us vs e f known differ = by (same_literal 
     by true k = absurd (differ (ap cell.Lit (sym (same_literal_is l m k))))
     by false k = rw k refl
 other_heads (cell.Con c m) (cell.Con d n) us vs e f known differ =
-    differing (same_constructor c d) m n (front m us) (front n vs) _ e f (λ k s. let g : c ≡ d = same_constructor_is c d k in differ cc)
+    differing (same_constructor c d) m n (prefix m us) (prefix n vs) _ e f (λ k s. let g : c ≡ d = same_constructor_is c d k in differ cc)
 other_heads (cell.Part c m) (cell.Part d n) us vs e f known differ =
-    differing (same_head c d) m n (front m us) (front n vs) _ e f (λ k s. let g : c ≡ d = same_head_is c d k in differ cc)
+    differing (same_head c d) m n (prefix m us) (prefix n vs) _ e f (λ k s. let g : c ≡ d = same_head_is c d k in differ cc)
 other_heads _ _ us vs e f known differ = refl
 
 -- cells of the values that are still to be compared, and what the comparison gives
@@ -163,8 +163,8 @@ pub record Compared (cs ds : List Cell) (answer : Bool) : Type 0 where
 -- a pair of heads that are the same
 pub step_same : (c : Cell) (cs ds : List Cell) (answer : Bool) → Compared (c ∷ cs) (c ∷ ds) answer → Compared cs ds answer
 step_same c cs ds answer p =
-    let b : Behind c cs = behind c cs p.spelled in
-    let d : Behind c ds = behind c ds p.others in
+    let b : After c cs = after c cs p.spelled in
+    let d : After c ds = after c ds p.others in
     record {
       spelled = b.others;
       others = d.others;
@@ -173,20 +173,20 @@ step_same c cs ds answer p =
     }
 
 -- nothing is known on the left
-pub skip_below : (us vs : Values) → count us + 1 ≡ count vs → are_below (value.MoreValues value.Bottom us) vs ≡ are_below us (back 1 vs)
+pub skip_below : (us vs : Values) → count us + 1 ≡ count vs → are_below (value.MoreValues value.Bottom us) vs ≡ are_below us (suffix 1 vs)
 skip_below us value.NoValue e = absurd (omega (arith, e))
 skip_below us (value.MoreValues v vs) e = refl
 
-pub skip_count : (vs : Values) → 1 ≤ count vs → count (back 1 vs) + 1 ≡ count vs
+pub skip_count : (vs : Values) → 1 ≤ count vs → count (suffix 1 vs) + 1 ≡ count vs
 skip_count value.NoValue e = absurd (omega (arith, e))
 skip_count (value.MoreValues v vs) e = refl
 
 pub step_bottom : (cs ds es : List Cell) (answer : Bool) → Compared (cell.Bottom ∷ cs) ds answer → IsSpelled es
-    → read_all es ≡ back 1 (read_all ds) → Compared cs es answer
+    → read_all es ≡ suffix 1 (read_all ds) → Compared cs es answer
 step_bottom cs ds es answer p spelled rest =
-    let b : Behind cell.Bottom cs = behind cell.Bottom cs p.spelled in
+    let b : After cell.Bottom cs = after cell.Bottom cs p.spelled in
     let n : count (read_all cs) + 1 ≡ count (read_all ds) = p.counts in
-    let k : count (back 1 (read_all ds)) + 1 ≡ count (read_all ds) = skip_count (read_all ds) (omega (arith, n)) in
+    let k : count (suffix 1 (read_all ds)) + 1 ≡ count (read_all ds) = skip_count (read_all ds) (omega (arith, n)) in
     record {
       spelled = b.others;
       others = spelled;
@@ -197,8 +197,8 @@ step_bottom cs ds es answer p spelled rest =
 -- heads that differ
 pub step_other : (c d : Cell) (cs ds : List Cell) (answer : Bool) → Compared (c ∷ cs) (d ∷ ds) answer → (c ≡ cell.Bottom → ⊥) → (d ≡ c → ⊥) → answer ≡ false
 step_other c d cs ds answer p known differ =
-    let b : Behind c cs = behind c cs p.spelled in
-    let e : Behind d ds = behind d ds p.others in
+    let b : After c cs = after c cs p.spelled in
+    let e : After d ds = after d ds p.others in
     p.decides ∙ other_heads c d (read_all cs) (read_all ds) b.whole e.whole known differ
 
 -- no cell is left
@@ -240,7 +240,7 @@ same_at cells others i at d answer within e p =
 
 pub bottom_at : (cells others : List Cell) (i at end : ℕ) (d : Cell) (answer : Bool) → i < length cells
     → get_or cells i d ≡ cell.Bottom → Compared (drop i cells) (drop at others) answer
-    → IsSpelled (drop end others) → read_all (drop end others) ≡ back 1 (read_all (drop at others))
+    → IsSpelled (drop end others) → read_all (drop end others) ≡ suffix 1 (read_all (drop at others))
     → Compared (drop (i + 1) cells) (drop end others) answer
 bottom_at cells others i at end d answer within e p spelled rest =
     let mine : drop i cells ≡ cell.Bottom ∷ drop (suc i) cells =

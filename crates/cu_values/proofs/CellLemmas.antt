@@ -5,75 +5,75 @@ use Rattle.cu_calculus.specs.Value as value
 use Rattle.cu_calculus.specs.Value.{Value, Values, count}
 use Rattle.cu_values.specs.declared.cell.Cell.{Cell}
 use Rattle.cu_values.specs.declared.cell.Cell.TheVariants as cell
-use Rattle.cu_values.specs.Cells.{arity_of, back, front, put, read_all, spell, spell_all, IsSpelled}
+use Rattle.cu_values.specs.Cells.{arity_of, suffix, prefix, put, read_all, spell, spell_all, IsSpelled}
 use Rattle.cu_values.specs.Spelling.{join, read_all-spell}
 
 pub spell_all-join : (us vs : Values) → spell_all (join us vs) ≡ spell_all us ++ spell_all vs
 spell_all-join value.NoValue vs = refl
 spell_all-join (value.MoreValues u us) vs = rw (spell_all-join us vs, append_assoc (spell u) (spell_all us) (spell_all vs)) refl
 
-pub join-front-back : (n : ℕ) (vs : Values) → join (front n vs) (back n vs) ≡ vs
-join-front-back zero vs = refl
-join-front-back (suc n) value.NoValue = refl
-join-front-back (suc n) (value.MoreValues v vs) = ap (value.MoreValues v) (join-front-back n vs)
+pub join-prefix-suffix : (n : ℕ) (vs : Values) → join (prefix n vs) (suffix n vs) ≡ vs
+join-prefix-suffix zero vs = refl
+join-prefix-suffix (suc n) value.NoValue = refl
+join-prefix-suffix (suc n) (value.MoreValues v vs) = ap (value.MoreValues v) (join-prefix-suffix n vs)
 
-pub spell-front-back : (n : ℕ) (vs : Values) → spell_all (front n vs) ++ spell_all (back n vs) ≡ spell_all vs
-spell-front-back n vs = sym (spell_all-join (front n vs) (back n vs)) ∙ ap spell_all (join-front-back n vs)
+pub spell-prefix-suffix : (n : ℕ) (vs : Values) → spell_all (prefix n vs) ++ spell_all (suffix n vs) ≡ spell_all vs
+spell-prefix-suffix n vs = sym (spell_all-join (prefix n vs) (suffix n vs)) ∙ ap spell_all (join-prefix-suffix n vs)
 
-pub count-front-back : (n : ℕ) (vs : Values) → count (front n vs) + count (back n vs) ≡ count vs
-count-front-back zero vs = omega arith
-count-front-back (suc n) value.NoValue = refl
-count-front-back (suc n) (value.MoreValues v vs) = omega (arith, count-front-back n vs)
+pub count-prefix-suffix : (n : ℕ) (vs : Values) → count (prefix n vs) + count (suffix n vs) ≡ count vs
+count-prefix-suffix zero vs = omega arith
+count-prefix-suffix (suc n) value.NoValue = refl
+count-prefix-suffix (suc n) (value.MoreValues v vs) = omega (arith, count-prefix-suffix n vs)
 
-pub back-none : (n : ℕ) → back n value.NoValue ≡ value.NoValue
-back-none zero = refl
-back-none (suc n) = refl
+pub suffix-none : (n : ℕ) → suffix n value.NoValue ≡ value.NoValue
+suffix-none zero = refl
+suffix-none (suc n) = refl
 
-pub back-back : (n q : ℕ) (vs : Values) → back q (back n vs) ≡ back (q + n) vs
-back-back zero q vs = rw add-zero refl
-back-back (suc n) q value.NoValue = back-none q ∙ sym (back-none (q + suc n))
-back-back (suc n) q (value.MoreValues v vs) = rw (add-suc, back-back n q vs) refl
+pub suffix-suffix : (n q : ℕ) (vs : Values) → suffix q (suffix n vs) ≡ suffix (q + n) vs
+suffix-suffix zero q vs = rw add-zero refl
+suffix-suffix (suc n) q value.NoValue = suffix-none q ∙ sym (suffix-none (q + suc n))
+suffix-suffix (suc n) q (value.MoreValues v vs) = rw (add-suc, suffix-suffix n q vs) refl
 
 -- after a head, the values after its arguments are left
-pub back-put : (c : Cell) (vs : Values) (q : ℕ) → back (suc q) (put c vs) ≡ back (q + arity_of c) vs
-back-put cell.Bottom vs q = rw add-zero refl
-back-put (cell.LVar x) vs q = rw add-zero refl
-back-put (cell.Lit l) vs q = rw add-zero refl
-back-put (cell.Con k n) vs q = back-back n q vs
-back-put (cell.Part h n) vs q = back-back n q vs
+pub suffix-put : (c : Cell) (vs : Values) (q : ℕ) → suffix (suc q) (put c vs) ≡ suffix (q + arity_of c) vs
+suffix-put cell.Bottom vs q = rw add-zero refl
+suffix-put (cell.LVar x) vs q = rw add-zero refl
+suffix-put (cell.Lit l) vs q = rw add-zero refl
+suffix-put (cell.Con k n) vs q = suffix-suffix n q vs
+suffix-put (cell.Part h n) vs q = suffix-suffix n q vs
 
 -- a head has all its arguments among the values
 pub IsWhole : Cell → Values → Type 0
-IsWhole c vs = count (front (arity_of c) vs) ≡ arity_of c
+IsWhole c vs = count (prefix (arity_of c) vs) ≡ arity_of c
 
 -- what is known after the first of cells that spell values
-pub record Behind (c : Cell) (cs : List Cell) : Type 0 where
+pub record After (c : Cell) (cs : List Cell) : Type 0 where
   pub others : IsSpelled cs
-  pub whole : count (front (arity_of c) (read_all cs)) ≡ arity_of c
+  pub whole : count (prefix (arity_of c) (read_all cs)) ≡ arity_of c
   pub counted : count (read_all (c ∷ cs)) + arity_of c ≡ count (read_all cs) + 1
 
-pub counted_from : (n : ℕ) (vs : Values) → count (front n vs) ≡ n → (count (back n vs) + 1) + n ≡ count vs + 1
-counted_from n vs e = omega (arith, count-front-back n vs, e)
+pub counted_from : (n : ℕ) (vs : Values) → count (prefix n vs) ≡ n → (count (suffix n vs) + 1) + n ≡ count vs + 1
+counted_from n vs e = omega (arith, count-prefix-suffix n vs, e)
 
-pub behind : (c : Cell) (cs : List Cell) → IsSpelled (c ∷ cs) → Behind c cs
-behind cell.Bottom cs h = record { others = cc; whole = refl; counted = omega arith }
-behind (cell.LVar x) cs h = record { others = cc; whole = refl; counted = omega arith }
-behind (cell.Lit l) cs h = record { others = cc; whole = refl; counted = omega arith }
-behind (cell.Con k n) cs h =
-    let all : count (front n (read_all cs)) ≡ n = cc in
-    let rest : spell_all (front n (read_all cs)) ++ spell_all (back n (read_all cs)) ≡ cs = cc in
-    record { others = sym (spell-front-back n (read_all cs)) ∙ rest; whole = all; counted = counted_from n (read_all cs) all }
-behind (cell.Part k n) cs h =
-    let all : count (front n (read_all cs)) ≡ n = cc in
-    let rest : spell_all (front n (read_all cs)) ++ spell_all (back n (read_all cs)) ≡ cs = cc in
-    record { others = sym (spell-front-back n (read_all cs)) ∙ rest; whole = all; counted = counted_from n (read_all cs) all }
+pub after : (c : Cell) (cs : List Cell) → IsSpelled (c ∷ cs) → After c cs
+after cell.Bottom cs h = record { others = cc; whole = refl; counted = omega arith }
+after (cell.LVar x) cs h = record { others = cc; whole = refl; counted = omega arith }
+after (cell.Lit l) cs h = record { others = cc; whole = refl; counted = omega arith }
+after (cell.Con k n) cs h =
+    let all : count (prefix n (read_all cs)) ≡ n = cc in
+    let rest : spell_all (prefix n (read_all cs)) ++ spell_all (suffix n (read_all cs)) ≡ cs = cc in
+    record { others = sym (spell-prefix-suffix n (read_all cs)) ∙ rest; whole = all; counted = counted_from n (read_all cs) all }
+after (cell.Part k n) cs h =
+    let all : count (prefix n (read_all cs)) ≡ n = cc in
+    let rest : spell_all (prefix n (read_all cs)) ++ spell_all (suffix n (read_all cs)) ≡ cs = cc in
+    record { others = sym (spell-prefix-suffix n (read_all cs)) ∙ rest; whole = all; counted = counted_from n (read_all cs) all }
 
 count-put : (c : Cell) (vs : Values) → count (put c vs) ≤ count vs + 1
 count-put cell.Bottom vs = omega arith
 count-put (cell.LVar x) vs = omega arith
 count-put (cell.Lit l) vs = omega arith
-count-put (cell.Con k n) vs = omega (arith, count-front-back n vs)
-count-put (cell.Part h n) vs = omega (arith, count-front-back n vs)
+count-put (cell.Con k n) vs = omega (arith, count-prefix-suffix n vs)
+count-put (cell.Part h n) vs = omega (arith, count-prefix-suffix n vs)
 
 -- each value has a cell
 pub count_read_all : (cells : List Cell) → count (read_all cells) ≤ length cells
@@ -84,18 +84,18 @@ count_read_all (c ∷ cs) = omega (arith, count-put c (read_all cs), count_read_
 pub record Passed (cs : List Cell) (goal : Values) (pending : ℕ) : Type 0 where
   pub spelled : IsSpelled cs
   pub enough : pending ≤ count (read_all cs)
-  pub others : back pending (read_all cs) ≡ goal
+  pub others : suffix pending (read_all cs) ≡ goal
 
 pub pass : (c : Cell) (cs rest : List Cell) (goal : Values) (q : ℕ) → rest ≡ c ∷ cs → Passed rest goal (suc q) → Passed cs goal (q + arity_of c)
 pass c cs rest goal q e p =
     let spelled : IsSpelled (c ∷ cs) = subst (λ (x : List Cell). IsSpelled x) e p.spelled in
     let enough : suc q ≤ count (read_all (c ∷ cs)) = subst (λ (x : List Cell). suc q ≤ count (read_all x)) e p.enough in
-    let others : back (suc q) (read_all (c ∷ cs)) ≡ goal = subst (λ (x : List Cell). back (suc q) (read_all x) ≡ goal) e p.others in
-    let b : Behind c cs = behind c cs spelled in
+    let others : suffix (suc q) (read_all (c ∷ cs)) ≡ goal = subst (λ (x : List Cell). suffix (suc q) (read_all x) ≡ goal) e p.others in
+    let b : After c cs = after c cs spelled in
     record {
       spelled = b.others;
       enough = omega (arith, b.counted, enough);
-      others = sym (back-put c (read_all cs) q) ∙ others;
+      others = sym (suffix-put c (read_all cs) q) ∙ others;
     }
 
 -- the cells of a value

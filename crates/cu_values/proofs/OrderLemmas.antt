@@ -10,9 +10,9 @@ use Rattle.cu_calculus.specs.Value as value
 use Rattle.cu_calculus.specs.Value.{Value, Values, count}
 use Rattle.cu_values.specs.declared.cell.Cell.{Cell}
 use Rattle.cu_values.specs.declared.cell.Cell.TheVariants as cell
-use Rattle.cu_values.specs.Cells.{arity_of, back, first, front, put, read_all, spell, IsSpelled}
+use Rattle.cu_values.specs.Cells.{arity_of, suffix, first, prefix, put, read_all, spell, IsSpelled}
 use Rattle.cu_values.specs.HeadsOrder.{cell_order}
-use Rattle.cu_values.proofs.CellLemmas.{behind, count-put-some, count_read_all, read_all_one, some_cell, spelled_one, Behind}
+use Rattle.cu_values.proofs.CellLemmas.{after, count-put-some, count_read_all, read_all_one, some_cell, spelled_one, After}
 
 pub then_equal : (o : Ordering) → ordering_then o Equal ≡ o
 then_equal Less = refl
@@ -38,19 +38,19 @@ pairs_order (suc n) (value.MoreValues u us) value.NoValue = Equal
 pairs_order (suc n) (value.MoreValues u us) (value.MoreValues v vs) = ordering_then (value_order u v) (pairs_order n us vs)
 
 -- as many arguments, and then what stands after them
-pub pairs_front : (m q : ℕ) (us vs : Values) → m ≤ count us → m ≤ count vs
-    → ordering_then (values_order (front m us) (front m vs)) (pairs_order q (back m us) (back m vs)) ≡ pairs_order (q + m) us vs
-pairs_front zero q us vs e f = rw add-zero refl
-pairs_front (suc m) q value.NoValue vs e f = absurd (omega (arith, e))
-pairs_front (suc m) q (value.MoreValues u us) value.NoValue e f = absurd (omega (arith, f))
-pairs_front (suc m) q (value.MoreValues u us) (value.MoreValues v vs) e f =
+pub pairs_prefix : (m q : ℕ) (us vs : Values) → m ≤ count us → m ≤ count vs
+    → ordering_then (values_order (prefix m us) (prefix m vs)) (pairs_order q (suffix m us) (suffix m vs)) ≡ pairs_order (q + m) us vs
+pairs_prefix zero q us vs e f = rw add-zero refl
+pairs_prefix (suc m) q value.NoValue vs e f = absurd (omega (arith, e))
+pairs_prefix (suc m) q (value.MoreValues u us) value.NoValue e f = absurd (omega (arith, f))
+pairs_prefix (suc m) q (value.MoreValues u us) (value.MoreValues v vs) e f =
     rw add-suc
-    (then_assoc (value_order u v) (values_order (front m us) (front m vs)) (pairs_order q (back m us) (back m vs))
-    ∙ ap (λ o. ordering_then (value_order u v) o) (pairs_front m q us vs (omega (arith, e)) (omega (arith, f))))
+    (then_assoc (value_order u v) (values_order (prefix m us) (prefix m vs)) (pairs_order q (suffix m us) (suffix m vs))
+    ∙ ap (λ o. ordering_then (value_order u v) o) (pairs_prefix m q us vs (omega (arith, e)) (omega (arith, f))))
 
 -- fewer arguments on the left
 pub pairs_fewer : (m n : ℕ) (us vs : Values) → m < n → m ≤ count us → n ≤ count vs
-    → values_order (front m us) (front n vs) ≡ ordering_then (pairs_order m us vs) Less
+    → values_order (prefix m us) (prefix n vs) ≡ ordering_then (pairs_order m us vs) Less
 pairs_fewer m zero us vs less e f = absurd (omega (arith, less))
 pairs_fewer m (suc n) us value.NoValue less e f = absurd (omega (arith, f))
 pairs_fewer zero (suc n) us (value.MoreValues v vs) less e f = refl
@@ -61,7 +61,7 @@ pairs_fewer (suc m) (suc n) (value.MoreValues u us) (value.MoreValues v vs) less
 
 -- more arguments on the left
 pub pairs_more : (m n : ℕ) (us vs : Values) → n < m → m ≤ count us → n ≤ count vs
-    → values_order (front m us) (front n vs) ≡ ordering_then (pairs_order n us vs) Greater
+    → values_order (prefix m us) (prefix n vs) ≡ ordering_then (pairs_order n us vs) Greater
 pairs_more zero n us vs less e f = absurd (omega (arith, less))
 pairs_more (suc m) n value.NoValue vs less e f = absurd (omega (arith, e))
 pairs_more (suc m) zero (value.MoreValues u us) vs less e f = refl
@@ -70,7 +70,7 @@ pairs_more (suc m) (suc n) (value.MoreValues u us) (value.MoreValues v vs) less 
     ap (λ o. ordering_then (value_order u v) o) (pairs_more m n us vs (omega (arith, less)) (omega (arith, e)) (omega (arith, f)))
     ∙ sym (then_assoc (value_order u v) (pairs_order n us vs) Greater)
 
-pub put_parts : (c : Cell) (us : Values) → put c us ≡ value.MoreValues (first (put c us)) (back (arity_of c) us)
+pub put_parts : (c : Cell) (us : Values) → put c us ≡ value.MoreValues (first (put c us)) (suffix (arity_of c) us)
 put_parts cell.Bottom us = refl
 put_parts (cell.LVar x) us = refl
 put_parts (cell.Lit l) us = refl
@@ -79,7 +79,7 @@ put_parts (cell.Part h n) us = refl
 
 -- the heads decide first, and then the arguments
 pub heads_order : (c d : Cell) (us vs : Values)
-    → value_order (first (put c us)) (first (put d vs)) ≡ ordering_then (cell_order c d) (values_order (front (arity_of c) us) (front (arity_of d) vs))
+    → value_order (first (put c us)) (first (put d vs)) ≡ ordering_then (cell_order c d) (values_order (prefix (arity_of c) us) (prefix (arity_of d) vs))
 heads_order cell.Bottom cell.Bottom us vs = refl
 heads_order cell.Bottom (cell.LVar y) us vs = refl
 heads_order cell.Bottom (cell.Lit m) us vs = refl
@@ -102,11 +102,11 @@ pub record Ordered (cs ds : List Cell) (left : ℕ) (last answer : Ordering) : T
 
 pub pairs_heads : (c d : Cell) (us vs : Values) (q : ℕ)
     → pairs_order (suc q) (put c us) (put d vs)
-    ≡ ordering_then (ordering_then (cell_order c d) (values_order (front (arity_of c) us) (front (arity_of d) vs))) (pairs_order q (back (arity_of c) us) (back (arity_of d) vs))
+    ≡ ordering_then (ordering_then (cell_order c d) (values_order (prefix (arity_of c) us) (prefix (arity_of d) vs))) (pairs_order q (suffix (arity_of c) us) (suffix (arity_of d) vs))
 pairs_heads c d us vs q =
     ap (λ (x : Values). pairs_order (suc q) x (put d vs)) (put_parts c us)
-    ∙ ap (λ (x : Values). pairs_order (suc q) (value.MoreValues (first (put c us)) (back (arity_of c) us)) x) (put_parts d vs)
-    ∙ ap (λ o. ordering_then o (pairs_order q (back (arity_of c) us) (back (arity_of d) vs))) (heads_order c d us vs)
+    ∙ ap (λ (x : Values). pairs_order (suc q) (value.MoreValues (first (put c us)) (suffix (arity_of c) us)) x) (put_parts d vs)
+    ∙ ap (λ o. ordering_then o (pairs_order q (suffix (arity_of c) us) (suffix (arity_of d) vs))) (heads_order c d us vs)
 
 -- heads that differ decide
 pub order_differ : (c d : Cell) (cs ds : List Cell) (q : ℕ) (last answer : Ordering) → Ordered (c ∷ cs) (d ∷ ds) (suc q) last answer
@@ -115,21 +115,21 @@ order_differ c d cs ds q last answer p differ =
     let h = pairs_heads c d (read_all cs) (read_all ds) q in
     let o = cell_order c d in
     p.decides ∙ ap (λ x. ordering_then x last) h
-    ∙ ap (λ x. ordering_then (ordering_then x (pairs_order q (back (arity_of c) (read_all cs)) (back (arity_of d) (read_all ds)))) last)
-    (then_final o (values_order (front (arity_of c) (read_all cs)) (front (arity_of d) (read_all ds))) differ)
-    ∙ ap (λ x. ordering_then x last) (then_final o (pairs_order q (back (arity_of c) (read_all cs)) (back (arity_of d) (read_all ds))) differ)
+    ∙ ap (λ x. ordering_then (ordering_then x (pairs_order q (suffix (arity_of c) (read_all cs)) (suffix (arity_of d) (read_all ds)))) last)
+    (then_final o (values_order (prefix (arity_of c) (read_all cs)) (prefix (arity_of d) (read_all ds))) differ)
+    ∙ ap (λ x. ordering_then x last) (then_final o (pairs_order q (suffix (arity_of c) (read_all cs)) (suffix (arity_of d) (read_all ds))) differ)
     ∙ then_final o last differ
 
-pub whole_enough : (c : Cell) (cs : List Cell) → Behind c cs → arity_of c ≤ count (read_all cs)
+pub whole_enough : (c : Cell) (cs : List Cell) → After c cs → arity_of c ≤ count (read_all cs)
 whole_enough c cs b = omega (arith, b.counted, count-put-some c (read_all cs))
 
 -- heads that are alike leave their arguments to be compared
 pub order_alike : (c d : Cell) (cs ds : List Cell) (q : ℕ) (last answer : Ordering) → Ordered (c ∷ cs) (d ∷ ds) (suc q) last answer
     → cell_order c d ≡ Equal
-    → answer ≡ ordering_then (ordering_then (values_order (front (arity_of c) (read_all cs)) (front (arity_of d) (read_all ds))) (pairs_order q (back (arity_of c) (read_all cs)) (back (arity_of d) (read_all ds)))) last
+    → answer ≡ ordering_then (ordering_then (values_order (prefix (arity_of c) (read_all cs)) (prefix (arity_of d) (read_all ds))) (pairs_order q (suffix (arity_of c) (read_all cs)) (suffix (arity_of d) (read_all ds)))) last
 order_alike c d cs ds q last answer p alike =
     p.decides ∙ ap (λ x. ordering_then x last) (pairs_heads c d (read_all cs) (read_all ds) q)
-    ∙ ap (λ x. ordering_then (ordering_then (ordering_then x (values_order (front (arity_of c) (read_all cs)) (front (arity_of d) (read_all ds)))) (pairs_order q (back (arity_of c) (read_all cs)) (back (arity_of d) (read_all ds)))) last) alike
+    ∙ ap (λ x. ordering_then (ordering_then (ordering_then x (values_order (prefix (arity_of c) (read_all cs)) (prefix (arity_of d) (read_all ds)))) (pairs_order q (suffix (arity_of c) (read_all cs)) (suffix (arity_of d) (read_all ds)))) last) alike
 
 -- a prefix that differs is not refined by what stands after it
 pub then_last : (p l b last : Ordering) → (l ≡ Equal → ⊥) → ordering_then (ordering_then (ordering_then p l) b) last ≡ ordering_then p l
@@ -148,21 +148,21 @@ pub step_same : (c d : Cell) (cs ds : List Cell) (q : ℕ) (last answer : Orderi
 step_same c d cs ds q last answer left new p alike l e =
     let us = read_all cs in
     let vs = read_all ds in
-    let b : Behind c cs = behind c cs p.spelled in
-    let k : Behind d ds = behind d ds p.others in
+    let b : After c cs = after c cs p.spelled in
+    let k : After d ds = after d ds p.others in
     let n : left ≡ q + arity_of c = (l.same e).0 in
     let o : new ≡ last = (l.same e).1 in
     let mine : arity_of c ≤ count us = whole_enough c cs b in
     let theirs : arity_of c ≤ count vs = rw e (whole_enough d ds k) in
     let begun = order_alike c d cs ds q last answer p alike in
-    let even : answer ≡ ordering_then (ordering_then (values_order (front (arity_of c) us) (front (arity_of c) vs)) (pairs_order q (back (arity_of c) us) (back (arity_of c) vs))) last =
-    subst (λ (m : ℕ). answer ≡ ordering_then (ordering_then (values_order (front (arity_of c) us) (front m vs)) (pairs_order q (back (arity_of c) us) (back m vs))) last) (sym e) begun in
+    let even : answer ≡ ordering_then (ordering_then (values_order (prefix (arity_of c) us) (prefix (arity_of c) vs)) (pairs_order q (suffix (arity_of c) us) (suffix (arity_of c) vs))) last =
+    subst (λ (m : ℕ). answer ≡ ordering_then (ordering_then (values_order (prefix (arity_of c) us) (prefix m vs)) (pairs_order q (suffix (arity_of c) us) (suffix m vs))) last) (sym e) begun in
     rw (n, o) record {
       spelled = b.others;
       others = k.others;
       mine = omega (arith, b.counted, p.mine);
       theirs = omega (arith, k.counted, p.theirs, e);
-      decides = even ∙ ap (λ x. ordering_then x last) (pairs_front (arity_of c) q us vs mine theirs);
+      decides = even ∙ ap (λ x. ordering_then x last) (pairs_prefix (arity_of c) q us vs mine theirs);
     }
 
 pub step_fewer : (c d : Cell) (cs ds : List Cell) (q : ℕ) (last answer : Ordering) (left : ℕ) (new : Ordering)
@@ -171,23 +171,23 @@ pub step_fewer : (c d : Cell) (cs ds : List Cell) (q : ℕ) (last answer : Order
 step_fewer c d cs ds q last answer left new p alike l less =
     let us = read_all cs in
     let vs = read_all ds in
-    let b : Behind c cs = behind c cs p.spelled in
-    let k : Behind d ds = behind d ds p.others in
+    let b : After c cs = after c cs p.spelled in
+    let k : After d ds = after d ds p.others in
     let unlike : arity_of c ≡ arity_of d → ⊥ = omega (arith, less) in
     let n : left ≡ arity_of c = omega (arith, (l.differ unlike).0, less) in
     let o : new ≡ Less = (l.differ unlike).1 ∙ sym (nat_cmp_is (arity_of c) (arity_of d) Less less) in
     let mine : arity_of c ≤ count us = whole_enough c cs b in
     let theirs : arity_of d ≤ count vs = whole_enough d ds k in
     let begun = order_alike c d cs ds q last answer p alike in
-    let behind_them = pairs_order q (back (arity_of c) us) (back (arity_of d) vs) in
+    let after_them = pairs_order q (suffix (arity_of c) us) (suffix (arity_of d) vs) in
     rw (n, o) record {
       spelled = b.others;
       others = k.others;
       mine = mine;
       theirs = omega (arith, theirs, less);
       decides =
-          begun ∙ ap (λ x. ordering_then (ordering_then x behind_them) last) (pairs_fewer (arity_of c) (arity_of d) us vs less mine theirs)
-          ∙ then_last (pairs_order (arity_of c) us vs) Less behind_them last (λ e. cc);
+          begun ∙ ap (λ x. ordering_then (ordering_then x after_them) last) (pairs_fewer (arity_of c) (arity_of d) us vs less mine theirs)
+          ∙ then_last (pairs_order (arity_of c) us vs) Less after_them last (λ e. cc);
     }
 
 pub step_more : (c d : Cell) (cs ds : List Cell) (q : ℕ) (last answer : Ordering) (left : ℕ) (new : Ordering)
@@ -196,23 +196,23 @@ pub step_more : (c d : Cell) (cs ds : List Cell) (q : ℕ) (last answer : Orderi
 step_more c d cs ds q last answer left new p alike l less =
     let us = read_all cs in
     let vs = read_all ds in
-    let b : Behind c cs = behind c cs p.spelled in
-    let k : Behind d ds = behind d ds p.others in
+    let b : After c cs = after c cs p.spelled in
+    let k : After d ds = after d ds p.others in
     let unlike : arity_of c ≡ arity_of d → ⊥ = omega (arith, less) in
     let n : left ≡ arity_of d = omega (arith, (l.differ unlike).0, less) in
     let o : new ≡ Greater = (l.differ unlike).1 ∙ sym (nat_cmp_is (arity_of c) (arity_of d) Greater less) in
     let mine : arity_of c ≤ count us = whole_enough c cs b in
     let theirs : arity_of d ≤ count vs = whole_enough d ds k in
     let begun = order_alike c d cs ds q last answer p alike in
-    let behind_them = pairs_order q (back (arity_of c) us) (back (arity_of d) vs) in
+    let after_them = pairs_order q (suffix (arity_of c) us) (suffix (arity_of d) vs) in
     rw (n, o) record {
       spelled = b.others;
       others = k.others;
       mine = omega (arith, mine, less);
       theirs = theirs;
       decides =
-          begun ∙ ap (λ x. ordering_then (ordering_then x behind_them) last) (pairs_more (arity_of c) (arity_of d) us vs less mine theirs)
-          ∙ then_last (pairs_order (arity_of d) us vs) Greater behind_them last (λ e. cc);
+          begun ∙ ap (λ x. ordering_then (ordering_then x after_them) last) (pairs_more (arity_of c) (arity_of d) us vs less mine theirs)
+          ∙ then_last (pairs_order (arity_of d) us vs) Greater after_them last (λ e. cc);
     }
 
 pub order_step : (c d : Cell) (cs ds : List Cell) (q : ℕ) (last answer : Ordering) (left : ℕ) (new : Ordering)
@@ -276,7 +276,7 @@ pub arity_room : (cells others : List Cell) (i left : ℕ) (d : Cell) (last answ
     → Ordered (drop i cells) (drop i others) left last answer → left + arity_of (get_or cells i d) ≤ length cells + 1
 arity_room cells others i left d last answer some p =
     let q = order_here cells others i left d last answer some p in
-    let b : Behind (get_or cells i d) (drop (suc i) cells) = behind (get_or cells i d) (drop (suc i) cells) q.spelled in
+    let b : After (get_or cells i d) (drop (suc i) cells) = after (get_or cells i d) (drop (suc i) cells) q.spelled in
     omega (arith, b.counted, q.mine, count_read_all (drop (suc i) cells), length-drop (suc i) cells, some)
 
 pub left_from : (m n a b left : ℕ) (last : Ordering) (k : ℕ) (new : Ordering) → m ≡ a → n ≡ b → 0 < left

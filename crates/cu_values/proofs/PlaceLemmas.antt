@@ -6,14 +6,14 @@ use Rattle.cu_calculus.specs.Value as value
 use Rattle.cu_calculus.specs.Value.{Value, Values, count}
 use Rattle.cu_values.specs.declared.cell.Cell.{Cell}
 use Rattle.cu_values.specs.declared.cell.Cell.TheVariants as cell
-use Rattle.cu_values.specs.Cells.{back, front, put, read_all, IsSpelled}
-use Rattle.cu_values.proofs.CellLemmas.{behind, join-front-back, Behind}
+use Rattle.cu_values.specs.Cells.{suffix, prefix, put, read_all, IsSpelled}
+use Rattle.cu_values.proofs.CellLemmas.{after, join-prefix-suffix, After}
 use Rattle.cu_values.specs.Spelling.{join}
 
 pub record Here (cells : List Cell) (at : ℕ) (c : Cell) : Type 0 where
   pub within : at < length cells
   pub read : read_all (drop at cells) ≡ put c (read_all (drop (at + 1) cells))
-  pub behind : Behind c (drop (at + 1) cells)
+  pub after : After c (drop (at + 1) cells)
 
 pub here : (cells : List Cell) (at : ℕ) (c : Cell) → at < length cells → get_or cells at cell.Bottom ≡ c → IsSpelled (drop at cells) → Here cells at c
 here cells at c within is spelled =
@@ -22,18 +22,18 @@ here cells at c within is spelled =
     record {
       within = within;
       read = ap read_all cut;
-      behind = behind c (drop (at + 1) cells) (subst (λ (x : List Cell). IsSpelled x) cut spelled);
+      after = after c (drop (at + 1) cells) (subst (λ (x : List Cell). IsSpelled x) cut spelled);
     }
 
 -- the cells after the first are spelled too
 pub spelled_drop : (cells : List Cell) (i : ℕ) → IsSpelled cells → IsSpelled (drop i cells)
 spelled_drop cells zero h = h
 spelled_drop [] (suc i) h = refl
-spelled_drop (c ∷ cs) (suc i) h = spelled_drop cs i (behind c cs h).others
+spelled_drop (c ∷ cs) (suc i) h = spelled_drop cs i (after c cs h).others
 
 -- the values that a head takes stand before the others
-pub taken : (n : ℕ) (us vs : Values) → front n us ≡ vs → us ≡ join vs (back n us)
-taken n us vs e = sym (join-front-back n us) ∙ ap (λ (x : Values). join x (back n us)) e
+pub taken : (n : ℕ) (us vs : Values) → prefix n us ≡ vs → us ≡ join vs (suffix n us)
+taken n us vs e = sym (join-prefix-suffix n us) ∙ ap (λ (x : Values). join x (suffix n us)) e
 
 -- a literal's cell
 pub literal_cell : (c : Cell) (us : Values) (l : Lit) (vs : Values) → put c us ≡ value.MoreValues (value.Literal l) vs → (c ≡ cell.Lit l) × (us ≡ vs)

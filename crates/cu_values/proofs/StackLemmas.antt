@@ -10,11 +10,11 @@ use Rattle.cu_calculus.specs.Value.{Value, Values, count}
 use Rattle.cu_values.specs.declared.cell.Cell.{Cell}
 use Rattle.cu_values.specs.declared.cell.Cell.TheVariants as cell
 use Rattle.cu_values.specs.declared.shape.Shape.{Shape}
-use Rattle.cu_values.specs.Cells.{arity_of, back, first, front, put, read_all, IsSpelled}
+use Rattle.cu_values.specs.Cells.{arity_of, suffix, first, prefix, put, read_all, IsSpelled}
 use Rattle.cu_values.specs.Display.{Labels}
 use Rattle.cu_values.specs.Shapes.{other_shape, shape_of, shapes_at, stacked}
 use Rattle.cu_values.specs.Spelling.{join}
-use Rattle.cu_values.proofs.CellLemmas.{count-front-back, join-front-back}
+use Rattle.cu_values.proofs.CellLemmas.{count-prefix-suffix, join-prefix-suffix}
 use Rattle.cu_values.proofs.OrderLemmas.{put_parts, whole_enough}
 use Rattle.cu_values.proofs.PlaceLemmas.{here, spelled_drop, Here}
 
@@ -29,18 +29,18 @@ stacked-join labels (value.MoreValues u us) vs =
     ap (λ (x : List Shape). x ++ shape_of labels u ∷ []) (stacked-join labels us vs) ∙ append_assoc (stacked labels vs) (stacked labels us) (shape_of labels u ∷ [])
 
 -- without the shapes of the first values
-pub stacked-back : (labels : Labels) (n : ℕ) (vs : Values) → count (front n vs) ≡ n
-    → take (length (stacked labels vs) - n) (stacked labels vs) ≡ stacked labels (back n vs)
-stacked-back labels n vs whole =
-    let parts : stacked labels vs ≡ stacked labels (back n vs) ++ stacked labels (front n vs) =
-    ap (λ (x : Values). stacked labels x) (sym (join-front-back n vs)) ∙ stacked-join labels (front n vs) (back n vs) in
-    let long : length (stacked labels vs) - n ≡ length (stacked labels (back n vs)) =
-    omega (arith, length-stacked labels vs, length-stacked labels (back n vs), count-front-back n vs, whole) in
-    rw long (ap (λ (x : List Shape). take (length (stacked labels (back n vs))) x) parts ∙ take-append_seam (stacked labels (back n vs)) (stacked labels (front n vs)))
+pub stacked-suffix : (labels : Labels) (n : ℕ) (vs : Values) → count (prefix n vs) ≡ n
+    → take (length (stacked labels vs) - n) (stacked labels vs) ≡ stacked labels (suffix n vs)
+stacked-suffix labels n vs whole =
+    let parts : stacked labels vs ≡ stacked labels (suffix n vs) ++ stacked labels (prefix n vs) =
+    ap (λ (x : Values). stacked labels x) (sym (join-prefix-suffix n vs)) ∙ stacked-join labels (prefix n vs) (suffix n vs) in
+    let long : length (stacked labels vs) - n ≡ length (stacked labels (suffix n vs)) =
+    omega (arith, length-stacked labels vs, length-stacked labels (suffix n vs), count-prefix-suffix n vs, whole) in
+    rw long (ap (λ (x : List Shape). take (length (stacked labels (suffix n vs))) x) parts ∙ take-append_seam (stacked labels (suffix n vs)) (stacked labels (prefix n vs)))
 
 -- an application that is no `:` with two arguments
 pub other_shown : (labels : Labels) (c : ConId) (n : ℕ) (vs : Values) → (n ≡ 0 → ⊥) → n ≤ count vs
-    → (n ≡ 2 → ⊥) ⊎ (same_constructor c labels.cons ≡ false) → other_shape labels c ≡ shape_of labels (value.Constructed c (front n vs))
+    → (n ≡ 2 → ⊥) ⊎ (same_constructor c labels.cons ≡ false) → other_shape labels c ≡ shape_of labels (value.Constructed c (prefix n vs))
 other_shown labels c zero vs some enough differs = absurd (some refl)
 other_shown labels c (suc n) value.NoValue some enough differs = absurd (omega (arith, enough))
 other_shown labels c (suc zero) (value.MoreValues v vs) some enough differs = refl
@@ -51,7 +51,7 @@ other_shown labels c (suc (suc (suc n))) (value.MoreValues v (value.MoreValues w
 other_shown labels c (suc (suc (suc n))) (value.MoreValues v (value.MoreValues w (value.MoreValues x vs))) some enough differs = refl
 
 pub other_is : (labels : Labels) (c : ConId) (n : ℕ) (vs : Values) (shapes : List Shape) → shapes ≡ stacked labels vs → (n ≡ 0 → ⊥) → n ≤ length shapes
-    → (n ≡ 2 → ⊥) ⊎ (same_constructor c labels.cons ≡ false) → other_shape labels c ≡ shape_of labels (value.Constructed c (front n vs))
+    → (n ≡ 2 → ⊥) ⊎ (same_constructor c labels.cons ≡ false) → other_shape labels c ≡ shape_of labels (value.Constructed c (prefix n vs))
 other_is labels c n vs shapes e some enough differs =
     other_shown labels c n vs some (omega (arith, enough, ap length e, length-stacked labels vs)) differs
 
@@ -63,7 +63,7 @@ stack_room labels cells at shapes spelled some within e =
     let c = get_or cells (at - 1) cell.Bottom in
     let p : Here cells (at - 1) c = here cells (at - 1) c (omega arith) refl (spelled_drop cells (at - 1) spelled) in
     let n : at - 1 + 1 ≡ at = omega arith in
-    let enough : arity_of c ≤ count (read_all (drop (at - 1 + 1) cells)) = whole_enough c (drop (at - 1 + 1) cells) p.behind in
+    let enough : arity_of c ≤ count (read_all (drop (at - 1 + 1) cells)) = whole_enough c (drop (at - 1 + 1) cells) p.after in
     let enough_here : arity_of c ≤ count (read_all (drop at cells)) = subst (λ (x : ℕ). arity_of c ≤ count (read_all (drop x cells))) n enough in
     omega (arith, enough_here, ap length e, length-stacked labels (read_all (drop at cells)))
 
@@ -77,8 +77,8 @@ stack_left labels cells at shapes spelled some within e =
     let n : at - 1 + 1 ≡ at = omega arith in
     let vs = read_all (drop at cells) in
     let read : read_all (drop (at - 1) cells) ≡ put c vs = subst (λ (x : ℕ). read_all (drop (at - 1) cells) ≡ put c (read_all (drop x cells))) n p.read in
-    let whole : count (front (arity_of c) vs) ≡ arity_of c = subst (λ (x : ℕ). count (front (arity_of c) (read_all (drop x cells))) ≡ arity_of c) n p.behind.whole in
-    rw (e, stacked-back labels (arity_of c) vs whole)
+    let whole : count (prefix (arity_of c) vs) ≡ arity_of c = subst (λ (x : ℕ). count (prefix (arity_of c) (read_all (drop x cells))) ≡ arity_of c) n p.after.whole in
+    rw (e, stacked-suffix labels (arity_of c) vs whole)
     (ap (λ (x : Values). stacked labels x) (sym (put_parts c vs)) ∙ ap (λ (x : Values). stacked labels x) (sym read))
 
 pub found_left : (labels : Labels) (cells : List Cell) (at : ℕ) (found longer : List Shape) (s : Shape) → IsSpelled cells → 0 < at → at ≤ length cells

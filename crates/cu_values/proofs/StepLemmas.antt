@@ -12,7 +12,7 @@ use Rattle.cu_values.specs.declared.shape.Shape.{Shape}
 use Rattle.cu_values.specs.declared.shape.Shape.TheVariants as shape
 use Rattle.cu_values.specs.declared.task.Task.{Task}
 use Rattle.cu_values.specs.declared.task.Task.TheVariants as task
-use Rattle.cu_values.specs.Cells.{arity_of, back, first, front, put, read_all, spell, IsSpelled}
+use Rattle.cu_values.specs.Cells.{arity_of, suffix, first, prefix, put, read_all, spell, IsSpelled}
 use Rattle.cu_values.specs.Display as d
 use Rattle.cu_values.specs.Display.{display, Labels}
 use Rattle.cu_values.specs.Shapes.{is_enclosed, is_no_list, shape_of, shapes_at}
@@ -51,7 +51,7 @@ pub fits_here : (labels : Labels) (cells : List Cell) (at : ℕ) (tasks : List T
     → fit labels t (first (read_all (drop at cells))) ≡ true
 fits_here labels cells at tasks t ready =
     let vs = read_all (drop at cells) in
-    both_left (fit labels t (first vs)) (all_fit labels (reverse tasks) (back (takes t) vs))
+    both_left (fit labels t (first vs)) (all_fit labels (reverse tasks) (suffix (takes t) vs))
     (ap (λ (x : List Task). all_fit labels x vs) (sym (w.reverse_snoc tasks t)) ∙ ready.fit)
 
 pub has_by_count : (vs : Values) → 0 < count vs → d.has_arguments vs ≡ true
@@ -69,12 +69,12 @@ elements_end_any labels (cell.LVar x) us ts e f = let no : ⊥ = cc in absurd no
 elements_end_any labels (cell.Lit l) us ts e f = let no : ⊥ = cc in absurd no
 elements_end_any labels (cell.Part h n) us ts e f = let no : ⊥ = cc in absurd no
 
-pub elements_any : (labels : Labels) (c : Cell) (us : Values) (ts : List Task) → 0 < arity_of c → count (front (arity_of c) us) ≡ arity_of c
+pub elements_any : (labels : Labels) (c : Cell) (us : Values) (ts : List Task) → 0 < arity_of c → count (prefix (arity_of c) us) ≡ arity_of c
     → d.is_list labels (first (put c us)) ≡ true → Rule labels (put c us) (task.Elements ∷ ts) (codes ",") us (task.Alone ∷ task.Elements ∷ ts)
 elements_any labels (cell.Con k n) us ts some whole f =
-    let has : d.has_arguments (front n us) ≡ true = has_by_count (front n us) (omega (arith, some, whole)) in
-    let p : Parted (front n us) (d.is_list labels) = list_parts labels k (front n us) f has in
-    let rule = w.elements_rule labels (value.Constructed k (front n us)) p.element p.rest (back n us) ts f p.tested
+    let has : d.has_arguments (prefix n us) ≡ true = has_by_count (prefix n us) (omega (arith, some, whole)) in
+    let p : Parted (prefix n us) (d.is_list labels) = list_parts labels k (prefix n us) f has in
+    let rule = w.elements_rule labels (value.Constructed k (prefix n us)) p.element p.rest (suffix n us) ts f p.tested
     (ap (λ (x : Values). d.further_elements labels (value.Constructed k x)) p.parts) in
     subst (λ (x : Values). Rule labels (put (cell.Con k n) us) (task.Elements ∷ ts) (codes ",") x (task.Alone ∷ task.Elements ∷ ts))
     (sym (taken n us _ p.parts)) rule
@@ -106,7 +106,7 @@ elements_step labels cells at tasks one two text longer ready some e f g =
     rw (g, f)
     (w.head_step labels cells 1 at tasks task.Elements text ((tasks ++ task.Elements ∷ []) ++ task.Alone ∷ []) longer (codes ",") c
     (task.Alone ∷ task.Elements ∷ reverse tasks) ready p
-    (elements_any labels c (read_all (drop (at + 1) cells)) (reverse tasks) (omega (arith, some)) p.behind.whole list) (w.reverse_two tasks task.Elements task.Alone) e
+    (elements_any labels c (read_all (drop (at + 1) cells)) (reverse tasks) (omega (arith, some)) p.after.whole list) (w.reverse_two tasks task.Elements task.Alone) e
     (omega (arith, w.length_snoc (tasks ++ task.Elements ∷ []) task.Alone, w.length_snoc tasks task.Elements)))
 
 -- The rest of a list that ends in a variable.
@@ -114,8 +114,8 @@ elements_step labels cells at tasks one two text longer ready some e f g =
 pub open_rest_any : (labels : Labels) (c : Cell) (us : Values) (ts : List Task) → ((n : ℕ) → c ≡ cell.LVar n → ⊥) → d.is_open labels (first (put c us)) ≡ true
     → Rule labels (put c us) (task.OpenRest ∷ ts) (codes ":") us (task.Argument ∷ task.OpenRest ∷ ts)
 open_rest_any labels (cell.Con k n) us ts other f =
-    let p : Parted (front n us) (d.is_open labels) = open_parts labels k (front n us) f in
-    let rule = w.open_rest_rule labels (value.Constructed k (front n us)) p.element p.rest (back n us) ts p.tested
+    let p : Parted (prefix n us) (d.is_open labels) = open_parts labels k (prefix n us) f in
+    let rule = w.open_rest_rule labels (value.Constructed k (prefix n us)) p.element p.rest (suffix n us) ts p.tested
     (ap (λ (x : Values). d.open_rest labels (value.Constructed k x)) p.parts) in
     subst (λ (x : Values). Rule labels (put (cell.Con k n) us) (task.OpenRest ∷ ts) (codes ":") x (task.Argument ∷ task.OpenRest ∷ ts))
     (sym (taken n us _ p.parts)) rule
@@ -154,7 +154,7 @@ open_rest_step labels cells at tasks one two text longer ready other e f g =
 -- the place of a constructor, and the shape of the value there
 pub record Headed (labels : Labels) (cells : List Cell) (at : ℕ) (k : ConId) (n : ℕ) (x : Shape) : Type 0 where
   pub here : Here cells at (cell.Con k n)
-  pub shape : x ≡ shape_of labels (value.Constructed k (front n (read_all (drop (at + 1) cells))))
+  pub shape : x ≡ shape_of labels (value.Constructed k (prefix n (read_all (drop (at + 1) cells))))
 
 pub headed : (labels : Labels) (cells : List Cell) (shapes : List Shape) (at : ℕ) (tasks : List Task) (k : ConId) (n : ℕ) (x : Shape)
     → Ready labels cells at (tasks ++ task.Alone ∷ []) → get_or cells at cell.Bottom ≡ cell.Con k n → shapes ≡ shapes_at labels cells
@@ -187,16 +187,16 @@ pub tuple_step : (labels : Labels) (cells : List Cell) (at : ℕ) (tasks one two
 tuple_step labels cells at tasks one two three text longer k n m x ready head none tuple more e f g i =
     let h : Headed labels cells at k (suc m) x = subst (λ (y : ℕ). Headed labels cells at k y x) more head in
     let us = read_all (drop (at + 1) cells) in
-    let shown : display labels (value.Constructed k (front (suc m) us)) ≡ codes "(" ++ (d.components labels (front (suc m) us) ++ codes ")") =
-    s.shown_other labels k (front (suc m) us) (ap is_no_list (sym h.shape) ∙ none)
-    ∙ ap (λ b. if b then codes "(" ++ (d.components labels (front (suc m) us) ++ codes ")")
-    else d.in_parentheses (d.is_operator (labels.constructor k)) (labels.constructor k) ++ d.arguments labels (front (suc m) us)) tuple in
+    let shown : display labels (value.Constructed k (prefix (suc m) us)) ≡ codes "(" ++ (d.components labels (prefix (suc m) us) ++ codes ")") =
+    s.shown_other labels k (prefix (suc m) us) (ap is_no_list (sym h.shape) ∙ none)
+    ∙ ap (λ b. if b then codes "(" ++ (d.components labels (prefix (suc m) us) ++ codes ")")
+    else d.in_parentheses (d.is_operator (labels.constructor k)) (labels.constructor k) ++ d.arguments labels (prefix (suc m) us)) tuple in
     let a = tasks ++ task.ClosingParenthesis ∷ [] in
     let b = a ++ task.Components m ∷ [] in
     rw (i, g, f)
     (w.head_step labels cells 6 at tasks task.Alone text (b ++ task.Alone ∷ []) longer (codes "(") (cell.Con k (suc m))
     (task.Alone ∷ task.Components m ∷ task.ClosingParenthesis ∷ reverse tasks) ready h.here
-    (w.tuple_rule labels k m us (reverse tasks) h.here.behind.whole shown)
+    (w.tuple_rule labels k m us (reverse tasks) h.here.after.whole shown)
     (w.reverse_three tasks task.ClosingParenthesis (task.Components m) task.Alone) e
     (omega (arith, w.length_snoc tasks task.ClosingParenthesis, w.length_snoc a (task.Components m), w.length_snoc b task.Alone)))
 
@@ -207,12 +207,12 @@ pub application_step : (labels : Labels) (cells : List Cell) (at : ℕ) (tasks o
 application_step labels cells at tasks others text longer k n x ready h none tuple e f =
     let us = read_all (drop (at + 1) cells) in
     let name = d.in_parentheses (d.is_operator (labels.constructor k)) (labels.constructor k) in
-    let shown : display labels (value.Constructed k (front n us)) ≡ name ++ d.arguments labels (front n us) =
-    s.shown_other labels k (front n us) (ap is_no_list (sym h.shape) ∙ none)
-    ∙ ap (λ b. if b then codes "(" ++ (d.components labels (front n us) ++ codes ")") else name ++ d.arguments labels (front n us)) tuple in
+    let shown : display labels (value.Constructed k (prefix n us)) ≡ name ++ d.arguments labels (prefix n us) =
+    s.shown_other labels k (prefix n us) (ap is_no_list (sym h.shape) ∙ none)
+    ∙ ap (λ b. if b then codes "(" ++ (d.components labels (prefix n us) ++ codes ")") else name ++ d.arguments labels (prefix n us)) tuple in
     rw f
     (w.head_step labels cells 6 at tasks task.Alone text (tasks ++ task.Arguments n ∷ []) longer name (cell.Con k n)
-    (task.Arguments n ∷ reverse tasks) ready h.here (w.application_rule labels k n us (reverse tasks) name h.here.behind.whole shown)
+    (task.Arguments n ∷ reverse tasks) ready h.here (w.application_rule labels k n us (reverse tasks) name h.here.after.whole shown)
     (w.reverse_snoc tasks (task.Arguments n)) e (omega (arith, w.length_snoc tasks (task.Arguments n))))
 
 pub empty_step : (labels : Labels) (cells : List Cell) (at : ℕ) (tasks : List Task) (text longer : List ℕ) (k : ConId) (n : ℕ) (x : Shape)
@@ -220,12 +220,12 @@ pub empty_step : (labels : Labels) (cells : List Cell) (at : ℕ) (tasks : List 
     → Step labels cells 6 at (tasks ++ task.Alone ∷ []) text (at + 1) tasks longer
 empty_step labels cells at tasks text longer k n x ready h is e =
     let us = read_all (drop (at + 1) cells) in
-    let shown = s.shown_empty labels k (front n us) (sym h.shape ∙ is) in
-    let none : n ≡ 0 = sym h.here.behind.whole ∙ ap count shown.0 in
-    let read : read_all (drop at cells) ≡ value.MoreValues (value.Constructed k (front n us)) us =
-    h.here.read ∙ ap (λ m. value.MoreValues (value.Constructed k (front n us)) (back m us)) none in
-    w.whole_step labels cells at tasks text (at + 1) longer (codes "[]") ready (omega arith) (omega (arith, h.here.within)) h.here.behind.others
-    (ap (λ (y : Values). back 1 y) (sym read)) (ap (λ (y : Values). display labels (first y)) read ∙ shown.1) e
+    let shown = s.shown_empty labels k (prefix n us) (sym h.shape ∙ is) in
+    let none : n ≡ 0 = sym h.here.after.whole ∙ ap count shown.0 in
+    let read : read_all (drop at cells) ≡ value.MoreValues (value.Constructed k (prefix n us)) us =
+    h.here.read ∙ ap (λ m. value.MoreValues (value.Constructed k (prefix n us)) (suffix m us)) none in
+    w.whole_step labels cells at tasks text (at + 1) longer (codes "[]") ready (omega arith) (omega (arith, h.here.within)) h.here.after.others
+    (ap (λ (y : Values). suffix 1 y) (sym read)) (ap (λ (y : Values). display labels (first y)) read ∙ shown.1) e
 
 pub list_step : (labels : Labels) (cells : List Cell) (at : ℕ) (tasks one two three : List Task) (text longer : List ℕ) (k : ConId) (n : ℕ) (x : Shape)
     → Ready labels cells at (tasks ++ task.Alone ∷ []) → Headed labels cells at k n x → x ≡ shape.List → longer ≡ text ++ codes "["
@@ -233,12 +233,12 @@ pub list_step : (labels : Labels) (cells : List Cell) (at : ℕ) (tasks one two 
     → Step labels cells 6 at (tasks ++ task.Alone ∷ []) text (at + 1) three longer
 list_step labels cells at tasks one two three text longer k n x ready h is e f g i =
     let us = read_all (drop (at + 1) cells) in
-    let shaped : shape_of labels (value.Constructed k (front n us)) ≡ shape.List = sym h.shape ∙ is in
-    let list : d.is_list labels (value.Constructed k (front n us)) ≡ true = s.list_by_shape labels (value.Constructed k (front n us)) ∙ ap s.lists shaped in
-    let p : Parted (front n us) (d.is_list labels) = list_parts labels k (front n us) list (s.argumentless labels k (front n us) shaped) in
-    let shown : display labels (value.Constructed k (front n us)) ≡ codes "[" ++ ((display labels p.element ++ d.further_elements labels p.rest) ++ codes "]") =
-    s.shown_list labels k (front n us) shaped ∙ ap (λ (y : Values). codes "[" ++ (d.elements labels y ++ codes "]")) p.parts in
-    let rule = w.list_rule labels (value.Constructed k (front n us)) p.element p.rest (back n us) (reverse tasks) p.tested shown in
+    let shaped : shape_of labels (value.Constructed k (prefix n us)) ≡ shape.List = sym h.shape ∙ is in
+    let list : d.is_list labels (value.Constructed k (prefix n us)) ≡ true = s.list_by_shape labels (value.Constructed k (prefix n us)) ∙ ap s.lists shaped in
+    let p : Parted (prefix n us) (d.is_list labels) = list_parts labels k (prefix n us) list (s.argumentless labels k (prefix n us) shaped) in
+    let shown : display labels (value.Constructed k (prefix n us)) ≡ codes "[" ++ ((display labels p.element ++ d.further_elements labels p.rest) ++ codes "]") =
+    s.shown_list labels k (prefix n us) shaped ∙ ap (λ (y : Values). codes "[" ++ (d.elements labels y ++ codes "]")) p.parts in
+    let rule = w.list_rule labels (value.Constructed k (prefix n us)) p.element p.rest (suffix n us) (reverse tasks) p.tested shown in
     let rule_here : Rule labels (put (cell.Con k n) us) (task.Alone ∷ reverse tasks) (codes "[") us (task.Alone ∷ task.Elements ∷ task.ClosingBracket ∷ reverse tasks) =
     subst (λ (y : Values). Rule labels (put (cell.Con k n) us) (task.Alone ∷ reverse tasks) (codes "[") y (task.Alone ∷ task.Elements ∷ task.ClosingBracket ∷ reverse tasks))
     (sym (taken n us _ p.parts)) rule in
@@ -256,11 +256,11 @@ pub open_step : (labels : Labels) (cells : List Cell) (at : ℕ) (tasks one two 
     → Step labels cells 6 at (tasks ++ task.Alone ∷ []) text (at + 1) two text
 open_step labels cells at tasks one two text k n x ready h is f g =
     let us = read_all (drop (at + 1) cells) in
-    let shaped : shape_of labels (value.Constructed k (front n us)) ≡ shape.Open = sym h.shape ∙ is in
-    let open_one : d.is_open labels (value.Constructed k (front n us)) ≡ true = s.open_by_shape labels (value.Constructed k (front n us)) ∙ ap s.opens shaped in
-    let p : Parted (front n us) (d.is_open labels) = open_parts labels k (front n us) open_one in
-    let shown = s.shown_open labels k (front n us) shaped ∙ ap (λ (y : Values). d.open_elements labels y) p.parts in
-    let rule = w.open_rule labels (value.Constructed k (front n us)) p.element p.rest (back n us) (reverse tasks) p.tested shown in
+    let shaped : shape_of labels (value.Constructed k (prefix n us)) ≡ shape.Open = sym h.shape ∙ is in
+    let open_one : d.is_open labels (value.Constructed k (prefix n us)) ≡ true = s.open_by_shape labels (value.Constructed k (prefix n us)) ∙ ap s.opens shaped in
+    let p : Parted (prefix n us) (d.is_open labels) = open_parts labels k (prefix n us) open_one in
+    let shown = s.shown_open labels k (prefix n us) shaped ∙ ap (λ (y : Values). d.open_elements labels y) p.parts in
+    let rule = w.open_rule labels (value.Constructed k (prefix n us)) p.element p.rest (suffix n us) (reverse tasks) p.tested shown in
     let rule_here : Rule labels (put (cell.Con k n) us) (task.Alone ∷ reverse tasks) [] us (task.Argument ∷ task.OpenRest ∷ reverse tasks) =
     subst (λ (y : Values). Rule labels (put (cell.Con k n) us) (task.Alone ∷ reverse tasks) [] y (task.Argument ∷ task.OpenRest ∷ reverse tasks))
     (sym (taken n us _ p.parts)) rule in
@@ -273,7 +273,7 @@ open_step labels cells at tasks one two text k n x ready h is f g =
 pub other_shape_by : (labels : Labels) (cells : List Cell) (at : ℕ) (k : ConId) (n : ℕ) (x : Shape) → Headed labels cells at k n x
     → (x ≡ shape.Text → ⊥) → (x ≡ shape.Empty → ⊥) → (x ≡ shape.List → ⊥) → (x ≡ shape.Open → ⊥) → is_no_list x ≡ true
 other_shape_by labels cells at k n x h a b c e =
-    s.no_list_by x a b c e (ap s.is_variable_shape h.shape ∙ s.variable_constructed labels k (front n (read_all (drop (at + 1) cells))))
+    s.no_list_by x a b c e (ap s.is_variable_shape h.shape ∙ s.variable_constructed labels k (prefix n (read_all (drop (at + 1) cells))))
 
 -- Strings.
 
@@ -285,7 +285,7 @@ string_letters labels cells shapes at x shaped within is =
 
 pub string_step : (labels : Labels) (cells : List Cell) (shapes : List Shape) (at : ℕ) (tasks : List Task) (text one two longer : List ℕ) (next : ℕ) (x : Shape)
     → Ready labels cells at (tasks ++ task.Alone ∷ []) → shapes ≡ shapes_at labels cells → get_or shapes at x ≡ shape.Text
-    → at < next → next ≤ length cells → IsSpelled (drop next cells) → read_all (drop next cells) ≡ back 1 (read_all (drop at cells))
+    → at < next → next ≤ length cells → IsSpelled (drop next cells) → read_all (drop next cells) ≡ suffix 1 (read_all (drop at cells))
     → one ≡ text ++ 34 ∷ [] → two ≡ one ++ d.string_text (d.characters (first (read_all (drop at cells)))) → longer ≡ two ++ 34 ∷ []
     → Step labels cells 6 at (tasks ++ task.Alone ∷ []) text next tasks longer
 string_step labels cells shapes at tasks text one two longer next x ready shaped is after within spelled others e f g =

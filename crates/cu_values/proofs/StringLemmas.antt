@@ -7,7 +7,7 @@ use Rattle.cu_calculus.specs.Value as value
 use Rattle.cu_calculus.specs.Value.{Value, Values, count}
 use Rattle.cu_values.specs.declared.cell.Cell.{Cell}
 use Rattle.cu_values.specs.declared.cell.Cell.TheVariants as cell
-use Rattle.cu_values.specs.Cells.{arity_of, back, first, front, put, read_all, IsSpelled}
+use Rattle.cu_values.specs.Cells.{arity_of, suffix, first, prefix, put, read_all, IsSpelled}
 use Rattle.cu_values.specs.Display.{characters, escaped, gap, is_digit, is_numeric, string_text}
 use Rattle.cu_values.specs.Tasks.{are_characters, character_of}
 use Rattle.cu_values.proofs.CellLemmas.{some_cell}
@@ -50,7 +50,7 @@ pub record Longer (cells : List Cell) (at : ℕ) : Type 0 where
   pub spelled : IsSpelled (drop (at + 2) cells)
   pub rest : are_characters (first (read_all (drop (at + 2) cells))) ≡ true
   pub all : characters (first (read_all (drop at cells))) ≡ letter ∷ characters (first (read_all (drop (at + 2) cells)))
-  pub others : back 1 (read_all (drop (at + 2) cells)) ≡ back 1 (read_all (drop at cells))
+  pub others : suffix 1 (read_all (drop (at + 2) cells)) ≡ suffix 1 (read_all (drop at cells))
 
 -- the values after the head of such a list
 pub record Spread (c : Cell) (us : Values) : Type 0 where
@@ -58,19 +58,19 @@ pub record Spread (c : Cell) (us : Values) : Type 0 where
   pub rest : Value
   pub others : Values
   pub are : us ≡ value.MoreValues (value.Literal (lit.Char letter)) (value.MoreValues rest others)
-  pub back_is : back 1 (put c us) ≡ others
+  pub suffix_is : suffix 1 (put c us) ≡ others
   pub tested : are_characters rest ≡ true
   pub all : characters (first (put c us)) ≡ letter ∷ characters rest
 
-pub spread_by : (k : ConId) (n : ℕ) (us vs : Values) → front n us ≡ vs → count vs ≡ n → 0 < n → are_characters (value.Constructed k vs) ≡ true
+pub spread_by : (k : ConId) (n : ℕ) (us vs : Values) → prefix n us ≡ vs → count vs ≡ n → 0 < n → are_characters (value.Constructed k vs) ≡ true
     → Spread (cell.Con k n) us
 spread_by k n us value.NoValue e f some h = absurd (omega (arith, f, some))
 spread_by k n us (value.MoreValues (value.Literal (lit.Char x)) (value.MoreValues rest value.NoValue)) e f some h = record {
   letter = x;
   rest = rest;
-  others = back n us;
+  others = suffix n us;
   are = taken n us _ e;
-  back_is = refl;
+  suffix_is = refl;
   tested = h;
   all = ap (λ (ws : Values). characters (value.Constructed k ws)) e;
 }
@@ -89,8 +89,8 @@ spread_by k n us (value.MoreValues x (value.MoreValues y (value.MoreValues z zs)
 spread_by k n us (value.MoreValues (value.Literal (lit.Int x)) (value.MoreValues rest value.NoValue)) e f some h = let no : ⊥ = cc in absurd no
 spread_by k n us (value.MoreValues _ (value.MoreValues rest value.NoValue)) e f some h = let no : ⊥ = cc in absurd no
 
-pub spread : (c : Cell) (us : Values) → count (front (arity_of c) us) ≡ arity_of c → 0 < arity_of c → are_characters (first (put c us)) ≡ true → Spread c us
-spread (cell.Con k n) us whole some h = spread_by k n us (front n us) refl whole some h
+pub spread : (c : Cell) (us : Values) → count (prefix (arity_of c) us) ≡ arity_of c → 0 < arity_of c → are_characters (first (put c us)) ≡ true → Spread c us
+spread (cell.Con k n) us whole some h = spread_by k n us (prefix n us) refl whole some h
 spread cell.Bottom us whole some h = absurd (omega (arith, some))
 spread (cell.LVar x) us whole some h = absurd (omega (arith, some))
 spread (cell.Lit l) us whole some h = absurd (omega (arith, some))
@@ -102,11 +102,11 @@ longer cells at within spelled some h =
     let c = get_or cells at cell.Bottom in
     let us = read_all (drop (at + 1) cells) in
     let p : Here cells at c = here cells at c within refl spelled in
-    let s : Spread c us = spread c us p.behind.whole some (subst (λ (x : Values). are_characters (first x) ≡ true) p.read h) in
+    let s : Spread c us = spread c us p.after.whole some (subst (λ (x : Values). are_characters (first x) ≡ true) p.read h) in
     let one : 1 ≤ count us = rw (s.are) (omega arith) in
     let inside : at + 1 < length cells = some_cell cells (at + 1) one in
     let d = get_or cells (at + 1) cell.Bottom in
-    let q : Here cells (at + 1) d = here cells (at + 1) d inside refl p.behind.others in
+    let q : Here cells (at + 1) d = here cells (at + 1) d inside refl p.after.others in
     let two : at + 1 + 1 ≡ at + 2 = omega arith in
     let l = literal_cell d (read_all (drop (at + 1 + 1) cells)) (lit.Char s.letter) (value.MoreValues s.rest s.others) (sym q.read ∙ s.are) in
     let left : read_all (drop (at + 2) cells) ≡ value.MoreValues s.rest s.others = subst (λ (n : ℕ). read_all (drop n cells) ≡ value.MoreValues s.rest s.others) two l.1 in
@@ -114,17 +114,17 @@ longer cells at within spelled some h =
       letter = s.letter;
       is = ap character_of l.0;
       within = some_cell cells (at + 2) (rw left (omega arith));
-      spelled = subst (λ (n : ℕ). IsSpelled (drop n cells)) two q.behind.others;
+      spelled = subst (λ (n : ℕ). IsSpelled (drop n cells)) two q.after.others;
       rest = rw left s.tested;
       all = ap (λ (x : Values). characters (first x)) p.read ∙ s.all ∙ ap (λ (x : Values). s.letter ∷ characters (first x)) (sym left);
-      others = ap (λ (x : Values). back 1 x) left ∙ sym s.back_is ∙ ap (λ (x : Values). back 1 x) (sym p.read);
+      others = ap (λ (x : Values). suffix 1 x) left ∙ sym s.suffix_is ∙ ap (λ (x : Values). suffix 1 x) (sym p.read);
     }
 
 -- the end of a list of characters
-pub no_more : (c : Cell) (us : Values) → arity_of c ≡ 0 → are_characters (first (put c us)) ≡ true → (characters (first (put c us)) ≡ []) × (back 1 (put c us) ≡ us)
+pub no_more : (c : Cell) (us : Values) → arity_of c ≡ 0 → are_characters (first (put c us)) ≡ true → (characters (first (put c us)) ≡ []) × (suffix 1 (put c us) ≡ us)
 no_more (cell.Con k n) us none h = by n none h
   where
-    by : (m : ℕ) → m ≡ 0 → are_characters (value.Constructed k (front m us)) ≡ true → (characters (value.Constructed k (front m us)) ≡ []) × (back m us ≡ us)
+    by : (m : ℕ) → m ≡ 0 → are_characters (value.Constructed k (prefix m us)) ≡ true → (characters (value.Constructed k (prefix m us)) ≡ []) × (suffix m us ≡ us)
     by zero e g = (refl, refl)
     by (suc m) e g = absurd (omega (arith, e))
 no_more cell.Bottom us none h = let no : ⊥ = cc in absurd no
@@ -136,7 +136,7 @@ no_more (cell.Part k n) us none h = let no : ⊥ = cc in absurd no
 pub record Ended (cells : List Cell) (at : ℕ) : Type 0 where
   pub none : characters (first (read_all (drop at cells))) ≡ []
   pub spelled : IsSpelled (drop (at + 1) cells)
-  pub others : read_all (drop (at + 1) cells) ≡ back 1 (read_all (drop at cells))
+  pub others : read_all (drop (at + 1) cells) ≡ suffix 1 (read_all (drop at cells))
 
 pub ended : (cells : List Cell) (at : ℕ) → at < length cells → IsSpelled (drop at cells) → arity_of (get_or cells at cell.Bottom) ≡ 0
     → are_characters (first (read_all (drop at cells))) ≡ true → Ended cells at
@@ -147,8 +147,8 @@ ended cells at within spelled none h =
     let n = no_more c us none (subst (λ (x : Values). are_characters (first x) ≡ true) p.read h) in
     record {
       none = ap (λ (x : Values). characters (first x)) p.read ∙ n.0;
-      spelled = p.behind.others;
-      others = sym n.1 ∙ ap (λ (x : Values). back 1 x) (sym p.read);
+      spelled = p.after.others;
+      others = sym n.1 ∙ ap (λ (x : Values). suffix 1 x) (sym p.read);
     }
 
 pub nothing_after : (numeric : Bool) → string_after numeric [] ≡ []

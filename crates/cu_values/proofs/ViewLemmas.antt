@@ -4,7 +4,7 @@ use Rattle.std.proofs.Math.Seq.{take-length}
 use Rattle.cu_calculus.specs.Value as value
 use Rattle.cu_calculus.specs.Value.{Value, Values, count, list_of}
 use Rattle.cu_values.proofs.ArgumentLemmas.{arguments_left, first_cell, spelled_all}
-use Rattle.cu_values.specs.Cells.{arity_of, back, first, read_all, spell, spell_all, IsSpelled}
+use Rattle.cu_values.specs.Cells.{arity_of, suffix, first, read_all, spell, spell_all, IsSpelled}
 use Rattle.cu_values.specs.Parts.{arguments_of, head_of, split}
 use Rattle.cu_values.specs.declared.cell.Cell.{Cell}
 use Rattle.cu_values.specs.declared.cell.Cell.TheVariants.{Bottom}
@@ -33,29 +33,29 @@ only_value value.NoValue cells spelled one = absurd (omega (arith, one))
 only_value (value.MoreValues v value.NoValue) cells spelled one = sym spelled ∙ append-nil (spell v)
 only_value (value.MoreValues v (value.MoreValues w ws)) cells spelled one = absurd (omega (arith, one))
 
-pub none_behind : (vs : Values) → 1 ≡ count vs → [] ≡ spell_all (back 1 vs)
-none_behind value.NoValue one = absurd (omega (arith, one))
-none_behind (value.MoreValues v value.NoValue) one = refl
-none_behind (value.MoreValues v (value.MoreValues w ws)) one = absurd (omega (arith, one))
+pub none_after : (vs : Values) → 1 ≡ count vs → [] ≡ spell_all (suffix 1 vs)
+none_after value.NoValue one = absurd (omega (arith, one))
+none_after (value.MoreValues v value.NoValue) one = refl
+none_after (value.MoreValues v (value.MoreValues w ws)) one = absurd (omega (arith, one))
 
 pub some_cell : (cells : List Cell) → 0 < count (read_all cells) → 0 < length cells
 some_cell [] some = absurd (omega (arith, some))
 some_cell (c ∷ cells) some = omega arith
 
-pub behind_spelled : (vs : Values) (cells : List Cell) → cells ≡ spell_all vs → IsSpelled cells
-behind_spelled vs cells e = ap (λ cs. spell_all (read_all cs)) e ∙ ap spell_all (spelled_all vs) ∙ sym e
+pub after_spelled : (vs : Values) (cells : List Cell) → cells ≡ spell_all vs → IsSpelled cells
+after_spelled vs cells e = ap (λ cs. spell_all (read_all cs)) e ∙ ap spell_all (spelled_all vs) ∙ sym e
 
-pub behind_read : (vs : Values) (cells : List Cell) → cells ≡ spell_all vs → read_all cells ≡ vs
-behind_read vs cells e = ap read_all e ∙ spelled_all vs
+pub after_read : (vs : Values) (cells : List Cell) → cells ≡ spell_all vs → read_all cells ≡ vs
+after_read vs cells e = ap read_all e ∙ spelled_all vs
 
-count_behind : (vs : Values) → count (back 1 vs) ≡ count vs - 1
-count_behind value.NoValue = refl
-count_behind (value.MoreValues v vs) = omega arith
+count_after : (vs : Values) → count (suffix 1 vs) ≡ count vs - 1
+count_after value.NoValue = refl
+count_after (value.MoreValues v vs) = omega arith
 
-pub behind_counted : (vs : Values) (cells : List Cell) (n : ℕ) → cells ≡ spell_all (back 1 vs) → n ≡ count vs → n - 1 ≡ count (read_all cells)
-behind_counted vs cells n e is = ap (λ m. m - 1) is ∙ sym (count_behind vs) ∙ sym (ap count (behind_read (back 1 vs) cells e))
+pub after_counted : (vs : Values) (cells : List Cell) (n : ℕ) → cells ≡ spell_all (suffix 1 vs) → n ≡ count vs → n - 1 ≡ count (read_all cells)
+after_counted vs cells n e is = ap (λ m. m - 1) is ∙ sym (count_after vs) ∙ sym (ap count (after_read (suffix 1 vs) cells e))
 
-pub split_some : (vs : Values) → 0 < count vs → Some (first vs, back 1 vs) ≡ split vs
+pub split_some : (vs : Values) → 0 < count vs → Some (first vs, suffix 1 vs) ≡ split vs
 split_some value.NoValue some = absurd (omega (arith, some))
 split_some (value.MoreValues v vs) some = refl
 

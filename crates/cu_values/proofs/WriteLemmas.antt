@@ -9,11 +9,11 @@ use Rattle.cu_values.specs.declared.cell.Cell.{Cell}
 use Rattle.cu_values.specs.declared.cell.Cell.TheVariants as cell
 use Rattle.cu_values.specs.declared.task.Task.{Task}
 use Rattle.cu_values.specs.declared.task.Task.TheVariants as task
-use Rattle.cu_values.specs.Cells.{back, first, front, put, read_all, IsSpelled}
+use Rattle.cu_values.specs.Cells.{suffix, first, prefix, put, read_all, IsSpelled}
 use Rattle.cu_values.specs.Display as d
 use Rattle.cu_values.specs.Display.{display, Labels}
 use Rattle.cu_values.specs.Tasks.{all_fit, due, takes, written, Ready, Step}
-use Rattle.cu_values.proofs.CellLemmas.{count-front-back, some_cell}
+use Rattle.cu_values.proofs.CellLemmas.{count-prefix-suffix, some_cell}
 use Rattle.cu_values.proofs.PlaceLemmas.{here, Here}
 use Rattle.cu_values.proofs.ShapeLemmas.{right_true}
 
@@ -84,7 +84,7 @@ composed labels cells at tasks t between_tasks s bytes rs text between next othe
 -- The rules.
 
 -- a value that is written whole
-pub whole_rule : (labels : Labels) (vs us : Values) (ts : List Task) (bytes : List ℕ) → 1 ≤ count vs → us ≡ back 1 vs → display labels (first vs) ≡ bytes
+pub whole_rule : (labels : Labels) (vs us : Values) (ts : List Task) (bytes : List ℕ) → 1 ≤ count vs → us ≡ suffix 1 vs → display labels (first vs) ≡ bytes
     → Rule labels vs (task.Alone ∷ ts) bytes us ts
 whole_rule labels value.NoValue us ts bytes some e f = absurd (omega (arith, some))
 whole_rule labels (value.MoreValues v vs) us ts bytes some e f = record {
@@ -104,13 +104,13 @@ pub place : (labels : Labels) (cells : List Cell) (at : ℕ) (tasks : List Task)
 place labels cells at tasks t ready one = some_cell cells at (some_due labels cells at tasks t ready one)
 
 -- an application: its arguments are left
-pub application_rule : (labels : Labels) (k : ConId) (n : ℕ) (us : Values) (ts : List Task) (bytes : List ℕ) → count (front n us) ≡ n
-    → display labels (value.Constructed k (front n us)) ≡ bytes ++ d.arguments labels (front n us)
+pub application_rule : (labels : Labels) (k : ConId) (n : ℕ) (us : Values) (ts : List Task) (bytes : List ℕ) → count (prefix n us) ≡ n
+    → display labels (value.Constructed k (prefix n us)) ≡ bytes ++ d.arguments labels (prefix n us)
     → Rule labels (put (cell.Con k n) us) (task.Alone ∷ ts) bytes us (task.Arguments n ∷ ts)
 application_rule labels k n us ts bytes whole e = record {
-  dues = λ h. omega (arith, h, count-front-back n us, whole);
+  dues = λ h. omega (arith, h, count-prefix-suffix n us, whole);
   fits = λ h. h;
-  same = ap (λ (x : List ℕ). x ++ written labels ts (back n us)) e ∙ append_assoc bytes (d.arguments labels (front n us)) (written labels ts (back n us));
+  same = ap (λ (x : List ℕ). x ++ written labels ts (suffix n us)) e ∙ append_assoc bytes (d.arguments labels (prefix n us)) (written labels ts (suffix n us));
 }
 
 -- unit
@@ -124,18 +124,18 @@ unit_rule labels k us ts e = record {
 }
 
 -- a tuple: its first component, the others and the parenthesis are left
-pub tuple_rule : (labels : Labels) (k : ConId) (m : ℕ) (us : Values) (ts : List Task) → count (front (suc m) us) ≡ suc m
-    → display labels (value.Constructed k (front (suc m) us)) ≡ codes "(" ++ (d.components labels (front (suc m) us) ++ codes ")")
+pub tuple_rule : (labels : Labels) (k : ConId) (m : ℕ) (us : Values) (ts : List Task) → count (prefix (suc m) us) ≡ suc m
+    → display labels (value.Constructed k (prefix (suc m) us)) ≡ codes "(" ++ (d.components labels (prefix (suc m) us) ++ codes ")")
     → Rule labels (put (cell.Con k (suc m)) us) (task.Alone ∷ ts) (codes "(") us (task.Alone ∷ task.Components m ∷ task.ClosingParenthesis ∷ ts)
 tuple_rule labels k m value.NoValue ts whole e = absurd (omega (arith, whole))
 tuple_rule labels k m (value.MoreValues v us) ts whole e = record {
-  dues = λ h. omega (arith, h, count-front-back m us, whole);
+  dues = λ h. omega (arith, h, count-prefix-suffix m us, whole);
   fits = λ h. h;
   same =
-      ap (λ (x : List ℕ). x ++ written labels ts (back m us)) e
+      ap (λ (x : List ℕ). x ++ written labels ts (suffix m us)) e
       ∙ ap (λ (x : List ℕ). codes "(" ++ x)
-      (append_assoc (display labels v ++ d.further_components labels (front m us)) (codes ")") (written labels ts (back m us))
-      ∙ append_assoc (display labels v) (d.further_components labels (front m us)) (codes ")" ++ written labels ts (back m us)));
+      (append_assoc (display labels v ++ d.further_components labels (prefix m us)) (codes ")") (written labels ts (suffix m us))
+      ∙ append_assoc (display labels v) (d.further_components labels (prefix m us)) (codes ")" ++ written labels ts (suffix m us)));
 }
 
 -- a finite list: its first element, the others and the bracket are left
@@ -210,7 +210,7 @@ pub argument_rule : (labels : Labels) (vs : Values) (ts : List Task) → d.takes
 argument_rule labels vs ts e = record {
   dues = λ h. h;
   fits = λ h. h;
-  same = ap (λ b. d.in_parentheses b (display labels (first vs)) ++ written labels ts (back 1 vs)) e;
+  same = ap (λ b. d.in_parentheses b (display labels (first vs)) ++ written labels ts (suffix 1 vs)) e;
 }
 
 pub enclosed_rule : (labels : Labels) (vs : Values) (ts : List Task) → d.takes_parentheses labels (first vs) ≡ true
@@ -219,8 +219,8 @@ enclosed_rule labels vs ts e = record {
   dues = λ h. omega (arith, h);
   fits = λ h. h;
   same =
-      ap (λ b. d.in_parentheses b (display labels (first vs)) ++ written labels ts (back 1 vs)) e
-      ∙ ap (λ (x : List ℕ). codes "(" ++ x) (append_assoc (display labels (first vs)) (codes ")") (written labels ts (back 1 vs)));
+      ap (λ b. d.in_parentheses b (display labels (first vs)) ++ written labels ts (suffix 1 vs)) e
+      ∙ ap (λ (x : List ℕ). codes "(" ++ x) (append_assoc (display labels (first vs)) (codes ")") (written labels ts (suffix 1 vs)));
 }
 
 pub no_arguments_rule : (labels : Labels) (vs : Values) (ts : List Task) → Rule labels vs (task.Arguments 0 ∷ ts) [] vs ts
@@ -233,7 +233,7 @@ arguments_rule labels m (value.MoreValues v vs) ts some = record {
   dues = λ h. omega (arith, h);
   fits = λ h. h;
   same = ap (λ (x : List ℕ). codes " " ++ x)
-      (append_assoc (d.in_parentheses (d.takes_parentheses labels v) (display labels v)) (d.arguments labels (front m vs)) (written labels ts (back m vs)));
+      (append_assoc (d.in_parentheses (d.takes_parentheses labels v) (display labels v)) (d.arguments labels (prefix m vs)) (written labels ts (suffix m vs)));
 }
 
 pub no_components_rule : (labels : Labels) (vs : Values) (ts : List Task) → Rule labels vs (task.Components 0 ∷ ts) [] vs ts
@@ -245,7 +245,7 @@ components_rule labels m value.NoValue ts some = absurd (omega (arith, some))
 components_rule labels m (value.MoreValues v vs) ts some = record {
   dues = λ h. omega (arith, h);
   fits = λ h. h;
-  same = ap (λ (x : List ℕ). codes "," ++ x) (append_assoc (display labels v) (d.further_components labels (front m vs)) (written labels ts (back m vs)));
+  same = ap (λ (x : List ℕ). codes "," ++ x) (append_assoc (display labels v) (d.further_components labels (prefix m vs)) (written labels ts (suffix m vs)));
 }
 
 pub parenthesis_rule : (labels : Labels) (vs : Values) (ts : List Task) → Rule labels vs (task.ClosingParenthesis ∷ ts) (codes ")") vs ts
@@ -258,7 +258,7 @@ bracket_rule labels vs ts = record { dues = λ h. omega (arith, h); fits = λ h.
 
 pub whole_step : (labels : Labels) (cells : List Cell) (at : ℕ) (tasks : List Task) (text : List ℕ) (next : ℕ) (longer bytes : List ℕ)
     → Ready labels cells at (tasks ++ task.Alone ∷ []) → at < next → next ≤ length cells → IsSpelled (drop next cells)
-    → read_all (drop next cells) ≡ back 1 (read_all (drop at cells)) → display labels (first (read_all (drop at cells))) ≡ bytes → longer ≡ text ++ bytes
+    → read_all (drop next cells) ≡ suffix 1 (read_all (drop at cells)) → display labels (first (read_all (drop at cells))) ≡ bytes → longer ≡ text ++ bytes
     → Step labels cells 6 at (tasks ++ task.Alone ∷ []) text next tasks longer
 whole_step labels cells at tasks text next longer bytes ready after within spelled others shown e =
     step_by labels cells 6 at tasks task.Alone text next tasks longer bytes (reverse tasks) ready within spelled
@@ -273,8 +273,8 @@ leaf_step labels cells at tasks text longer bytes c v ready is leaf shown e =
     let p : Here cells at c = here cells at c (place labels cells at tasks task.Alone ready refl) is ready.spelled in
     let us = read_all (drop (at + 1) cells) in
     let read : read_all (drop at cells) ≡ value.MoreValues v us = p.read ∙ leaf us in
-    whole_step labels cells at tasks text (at + 1) longer bytes ready (omega arith) (omega (arith, p.within)) p.behind.others
-    (ap (λ (x : Values). back 1 x) (sym read)) (ap (λ (x : Values). display labels (first x)) read ∙ shown) e
+    whole_step labels cells at tasks text (at + 1) longer bytes ready (omega arith) (omega (arith, p.within)) p.after.others
+    (ap (λ (x : Values). suffix 1 x) (sym read)) (ap (λ (x : Values). display labels (first x)) read ∙ shown) e
 
 -- a step that passes a head and leaves tasks
 pub head_step : (labels : Labels) (cells : List Cell) (weight at : ℕ) (tasks : List Task) (t : Task) (text : List ℕ) (others : List Task) (longer bytes : List ℕ)
@@ -283,7 +283,7 @@ pub head_step : (labels : Labels) (cells : List Cell) (weight at : ℕ) (tasks :
     → longer ≡ text ++ bytes → length others + weight ≤ length tasks + 9
     → Step labels cells weight at (tasks ++ t ∷ []) text (at + 1) others longer
 head_step labels cells weight at tasks t text others longer bytes c rs ready p rule e f less =
-    step_by labels cells weight at tasks t text (at + 1) others longer bytes rs ready (omega (arith, p.within)) p.behind.others
+    step_by labels cells weight at tasks t text (at + 1) others longer bytes rs ready (omega (arith, p.within)) p.after.others
     (subst (λ (x : Values). Rule labels x (t ∷ reverse tasks) bytes (read_all (drop (at + 1) cells)) rs) (sym p.read) rule) e f
     (omega (arith, p.within, less))
 

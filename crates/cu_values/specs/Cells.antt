@@ -21,16 +21,16 @@ abbrev mutual
   spell_all (value.MoreValues v vs) = spell v ++ spell_all vs
 
 -- the first n of several values, or all where there are fewer
-abbrev pub front : ℕ → Values → Values
-front zero vs = value.NoValue
-front (suc n) value.NoValue = value.NoValue
-front (suc n) (value.MoreValues v vs) = value.MoreValues v (front n vs)
+abbrev pub prefix : ℕ → Values → Values
+prefix zero vs = value.NoValue
+prefix (suc n) value.NoValue = value.NoValue
+prefix (suc n) (value.MoreValues v vs) = value.MoreValues v (prefix n vs)
 
 -- the values after the first n
-abbrev pub back : ℕ → Values → Values
-back zero vs = vs
-back (suc n) value.NoValue = value.NoValue
-back (suc n) (value.MoreValues v vs) = back n vs
+abbrev pub suffix : ℕ → Values → Values
+suffix zero vs = vs
+suffix (suc n) value.NoValue = value.NoValue
+suffix (suc n) (value.MoreValues v vs) = suffix n vs
 
 -- The values that begin with a cell, where these values follow it: a head takes its arguments from
 -- the first of them.
@@ -38,8 +38,8 @@ abbrev pub put : Cell → Values → Values
 put cell.Bottom vs = value.MoreValues value.Bottom vs
 put (cell.LVar x) vs = value.MoreValues (value.Variable x) vs
 put (cell.Lit l) vs = value.MoreValues (value.Literal l) vs
-put (cell.Con c n) vs = value.MoreValues (value.Constructed c (front n vs)) (back n vs)
-put (cell.Part h n) vs = value.MoreValues (value.Partial h (front n vs)) (back n vs)
+put (cell.Con c n) vs = value.MoreValues (value.Constructed c (prefix n vs)) (suffix n vs)
+put (cell.Part h n) vs = value.MoreValues (value.Partial h (prefix n vs)) (suffix n vs)
 
 -- the values that cells spell, read from the right
 abbrev pub read_all : List Cell → Values

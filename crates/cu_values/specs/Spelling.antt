@@ -6,20 +6,20 @@ use Rattle.cu_calculus.specs.Value as value
 use Rattle.cu_calculus.specs.Value.{Value, Values, count}
 use Rattle.cu_values.specs.contracts.cell.Cell as cell_contract
 use Rattle.cu_values.specs.declared.cell.Cell.{Cell}
-use Rattle.cu_values.specs.Cells.{back, front, read, read_all, spell, spell_all}
+use Rattle.cu_values.specs.Cells.{suffix, prefix, read, read_all, spell, spell_all}
 
 -- several values, and then others
 abbrev pub join : Values → Values → Values
 join value.NoValue ws = ws
 join (value.MoreValues v vs) ws = value.MoreValues v (join vs ws)
 
-pub front-join : (vs ws : Values) → front (count vs) (join vs ws) ≡ vs
-front-join value.NoValue ws = refl
-front-join (value.MoreValues v vs) ws = rw (add-one, front-join vs ws) refl
+pub prefix-join : (vs ws : Values) → prefix (count vs) (join vs ws) ≡ vs
+prefix-join value.NoValue ws = refl
+prefix-join (value.MoreValues v vs) ws = rw (add-one, prefix-join vs ws) refl
 
-pub back-join : (vs ws : Values) → back (count vs) (join vs ws) ≡ ws
-back-join value.NoValue ws = refl
-back-join (value.MoreValues v vs) ws = rw (add-one, back-join vs ws) refl
+pub suffix-join : (vs ws : Values) → suffix (count vs) (join vs ws) ≡ ws
+suffix-join value.NoValue ws = refl
+suffix-join (value.MoreValues v vs) ws = rw (add-one, suffix-join vs ws) refl
 
 mutual
   pub read_all-spell : (v : Value) (cells : List Cell)
@@ -30,14 +30,14 @@ mutual
   read_all-spell (value.Constructed c vs) cells =
       rw (
         read_all-spell_all vs cells,
-        front-join vs (read_all cells),
-        back-join vs (read_all cells),
+        prefix-join vs (read_all cells),
+        suffix-join vs (read_all cells),
       ) refl
   read_all-spell (value.Partial h vs) cells =
       rw (
         read_all-spell_all vs cells,
-        front-join vs (read_all cells),
-        back-join vs (read_all cells),
+        prefix-join vs (read_all cells),
+        suffix-join vs (read_all cells),
       ) refl
 
   pub read_all-spell_all : (vs : Values) (cells : List Cell)

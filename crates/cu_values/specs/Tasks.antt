@@ -7,7 +7,7 @@ use Rattle.cu_values.specs.declared.cell.Cell.{Cell}
 use Rattle.cu_values.specs.declared.cell.Cell.TheVariants as cell
 use Rattle.cu_values.specs.declared.task.Task.{Task}
 use Rattle.cu_values.specs.declared.task.Task.TheVariants as task
-use Rattle.cu_values.specs.Cells.{back, first, front, read_all, IsSpelled}
+use Rattle.cu_values.specs.Cells.{suffix, first, prefix, read_all, IsSpelled}
 use Rattle.cu_values.specs.Display.{arguments, display, further_components, further_elements, in_parentheses, is_list, is_open, open_rest, takes_parentheses, Labels}
 
 -- the character of a cell, or the character 0 where it has none
@@ -39,8 +39,8 @@ abbrev pub part : Labels → Task → Values → List ℕ
 part labels task.Alone vs = display labels (first vs)
 part labels task.Argument vs =
     in_parentheses (takes_parentheses labels (first vs)) (display labels (first vs))
-part labels (task.Arguments n) vs = arguments labels (front n vs)
-part labels (task.Components n) vs = further_components labels (front n vs)
+part labels (task.Arguments n) vs = arguments labels (prefix n vs)
+part labels (task.Components n) vs = further_components labels (prefix n vs)
 part labels task.Elements vs = further_elements labels (first vs)
 part labels task.OpenRest vs = codes ":" ++ open_rest labels (first vs)
 part labels task.ClosingParenthesis vs = codes ")"
@@ -50,7 +50,7 @@ part labels task.ClosingBracket vs = codes "]"
 -- values
 abbrev pub written : Labels → List Task → Values → List ℕ
 written labels [] vs = []
-written labels (t ∷ ts) vs = part labels t vs ++ written labels ts (back (takes t) vs)
+written labels (t ∷ ts) vs = part labels t vs ++ written labels ts (suffix (takes t) vs)
 
 -- how many values several tasks take together
 abbrev pub due : List Task → ℕ
@@ -67,7 +67,7 @@ fit labels _ v = true
 -- whether each task gets a value that it can go on with
 abbrev pub all_fit : Labels → List Task → Values → Bool
 all_fit labels [] vs = true
-all_fit labels (t ∷ ts) vs = fit labels t (first vs) && all_fit labels ts (back (takes t) vs)
+all_fit labels (t ∷ ts) vs = fit labels t (first vs) && all_fit labels ts (suffix (takes t) vs)
 
 -- The tasks, the last one first, take exactly the values of the cells from an index on.
 pub record Ready (labels : Labels) (cells : List Cell) (at : ℕ) (tasks : List Task) : Type 0 where

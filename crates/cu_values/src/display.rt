@@ -34,7 +34,7 @@ pub struct Workspace {
     text: String,
     tasks: Vec<Task>,
     shapes: Vec<Shape>,
-    behind: Vec<Shape>,
+    after: Vec<Shape>,
 }
 
 /// Appends the display of a value to a text in UTF-8, by the names that a
@@ -85,7 +85,7 @@ impl Workspace {
             text: String::new(alloc),
             tasks: Vec::new(alloc),
             shapes: Vec::new(alloc),
-            behind: Vec::new(alloc),
+            after: Vec::new(alloc),
         }
     }
 
@@ -99,7 +99,7 @@ impl Workspace {
         workspace.text.reserve(LINE)?;
         workspace.tasks.reserve(TASKS)?;
         workspace.shapes.reserve(CELLS)?;
-        workspace.behind.reserve(CELLS)?;
+        workspace.after.reserve(CELLS)?;
         Ok(workspace)
     }
 
@@ -129,7 +129,7 @@ impl Workspace {
             ≡ display (labels_meaning names.now) value.now) }
     {
         let cells = value.cells();
-        find_shapes(names, cells, &mut self.shapes, &mut self.behind)?;
+        find_shapes(names, cells, &mut self.shapes, &mut self.after)?;
         let layout = Layout {
             names,
             cells,

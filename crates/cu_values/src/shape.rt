@@ -3,7 +3,7 @@
 ghost use Rattle.std.specs.Prelude.{◌≡◌, ◌≤◌, OnOk, length};
 ghost use Rattle.cu_calculus.specs.Value as value;
 ghost use Rattle.cu_calculus.specs.Value.{Values};
-ghost use Rattle.cu_values.specs.Cells.{arity_of, first, front, put, IsSpelled};
+ghost use Rattle.cu_values.specs.Cells.{arity_of, first, prefix, put, IsSpelled};
 ghost use Rattle.cu_values.specs.Shapes.{list_shape, other_shape, shape_of, shapes_at, stacked};
 ghost use Rattle.cu_values.specs.LabelsOf.{labels_meaning};
 
@@ -71,16 +71,11 @@ fn other_shape(names: &ProgramNames, constructor: ConId) -> Shape
 
 /// The shape of a constructor with arguments. The arguments' shapes are the
 /// last ones of the stack, the first argument's last.
-fn constructed_shape(
-    names: &ProgramNames,
-    constructor: ConId,
-    arity: u32,
-    behind: &[Shape],
-) -> Shape
-    requires { arity ≤ length behind.now }
-    ensures { (vs : Values) → behind.now ≡ stacked (labels_meaning names.now) vs
+fn constructed_shape(names: &ProgramNames, constructor: ConId, arity: u32, after: &[Shape]) -> Shape
+    requires { arity ≤ length after.now }
+    ensures { (vs : Values) → after.now ≡ stacked (labels_meaning names.now) vs
         → result ≡ shape_of (labels_meaning names.now)
-        (value.Constructed constructor (front arity vs)) }
+        (value.Constructed constructor (prefix arity vs)) }
 {
     if arity == 0 {
         return if constructor == names.nil() {
@@ -91,8 +86,8 @@ fn constructed_shape(
     }
     let other = other_shape(names, constructor);
     if arity == 2 && constructor == names.cons() {
-        let nearest = behind.len() - 1;
-        list_shape(behind[nearest], behind[nearest - 1], other)
+        let nearest = after.len() - 1;
+        list_shape(after[nearest], after[nearest - 1], other)
     } else {
         other
     }
@@ -100,9 +95,9 @@ fn constructed_shape(
 
 /// The shape of the value with a head. The shapes of the values after the head
 /// are a stack, with that of the next value last.
-fn shape_of(names: &ProgramNames, cell: Cell, behind: &[Shape]) -> Shape
-    requires { arity_of cell ≤ length behind.now }
-    ensures { (vs : Values) → behind.now ≡ stacked (labels_meaning names.now) vs
+fn shape_of(names: &ProgramNames, cell: Cell, after: &[Shape]) -> Shape
+    requires { arity_of cell ≤ length after.now }
+    ensures { (vs : Values) → after.now ≡ stacked (labels_meaning names.now) vs
         → result ≡ shape_of (labels_meaning names.now) (first (put cell vs)) }
 {
     match cell {
@@ -116,31 +111,31 @@ fn shape_of(names: &ProgramNames, cell: Cell, behind: &[Shape]) -> Shape
             }
         }
         Cell::Lit(Lit::Char(_)) => Shape::Character,
-        Cell::Con(constructor, arity) => constructed_shape(names, constructor, arity, behind),
+        Cell::Con(constructor, arity) => constructed_shape(names, constructor, arity, after),
         Cell::Part(_, _) => Shape::Simple,
     }
 }
 
 /// Finds for each cell the shape of the value that begins there. The shapes of
-/// the values that are met are kept on a stack, `behind`.
+/// the values that are met are kept on a stack, `after`.
 pub(crate) fn find_shapes(
     names: &ProgramNames,
     cells: &[Cell],
     shapes: &mut Vec<Shape>,
-    behind: &mut Vec<Shape>,
+    after: &mut Vec<Shape>,
 ) -> Result<(), AllocError>
     requires { IsSpelled cells.now }
     ensures { OnOk result (shapes.new.items ≡ shapes_at (labels_meaning names.now) cells.now) }
 {
     shapes.clear();
-    behind.clear();
+    after.clear();
     let mut at = cells.len();
     while at > 0 {
         at -= 1;
-        let shape = shape_of(names, cells[at], behind.as_slice());
-        let others = behind.len() - cells[at].arity() as usize;
-        behind.truncate(others);
-        behind.push(shape)?;
+        let shape = shape_of(names, cells[at], after.as_slice());
+        let others = after.len() - cells[at].arity() as usize;
+        after.truncate(others);
+        after.push(shape)?;
         shapes.push(shape)?;
     }
     shapes.reverse();

@@ -1,7 +1,7 @@
 //! Strings in a display.
 ghost use Rattle.std.specs.Prelude.{◌≡◌, ◌<◌, ◌≤◌, ◌&&◌, [], ◌∷◌, ◌++◌, if◌then◌else◌, true, IfOk, OnOk, codes, drop, length};
 ghost use Rattle.std.specs.String.{string_bytes};
-ghost use Rattle.cu_values.specs.Cells.{back, first, read_all, IsSpelled};
+ghost use Rattle.cu_values.specs.Cells.{suffix, first, read_all, IsSpelled};
 ghost use Rattle.cu_values.specs.Display.{characters, is_digit, string_text};
 ghost use Rattle.cu_values.specs.Tasks.{are_characters, character_of};
 
@@ -48,7 +48,7 @@ pub(crate) fn push_string(
     ensures within { IfOk result (λ next. next ≤ length cells.now) }
     ensures spelled { IfOk result (λ next. IsSpelled (drop next cells.now)) }
     ensures others { IfOk result (λ next. read_all (drop next cells.now)
-        ≡ back 1 (read_all (drop start cells.now))) }
+        ≡ suffix 1 (read_all (drop start cells.now))) }
 {
     let mut at = start;
     let mut after_number = false;

@@ -5,7 +5,7 @@ ghost use Rattle.cu_calculus.specs.Order.{value_order};
 ghost use Rattle.cu_calculus.specs.Shape.{is_data, is_ground, is_total};
 ghost use Rattle.cu_calculus.specs.Value.{count as number_of};
 ghost use Rattle.cu_values.specs.Approximation.{is_below};
-ghost use Rattle.cu_values.specs.Cells.{back, first, read, read_all, spell, spell_all, IsOneSpelled, IsSpelled};
+ghost use Rattle.cu_values.specs.Cells.{suffix, first, read, read_all, spell, spell_all, IsOneSpelled, IsSpelled};
 ghost use Rattle.cu_values.specs.Parts.{arguments_of, head_of, split};
 ghost use Rattle.cu_values.specs.Views.{all_viewed, both_viewed, viewed};
 
@@ -133,7 +133,7 @@ fn end_of_first(cells: &[Cell], count: usize) -> usize
     requires some { 0 < count }
     ensures within { result ≤ length cells.now }
     ensures first { take result cells.now ≡ spell (first (read_all cells.now)) }
-    ensures others { drop result cells.now ≡ spell_all (back 1 (read_all cells.now)) }
+    ensures others { drop result cells.now ≡ spell_all (suffix 1 (read_all cells.now)) }
 {
     if count == 1 {
         return cells.len();

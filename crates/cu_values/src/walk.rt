@@ -1,6 +1,6 @@
 //! Walks over the cells of values.
 ghost use Rattle.std.specs.Prelude.{◌≡◌, ◌<◌, ◌≤◌, drop, length};
-ghost use Rattle.cu_values.specs.Cells.{back, read_all, IsSpelled};
+ghost use Rattle.cu_values.specs.Cells.{suffix, read_all, IsSpelled};
 
 use crate::Cell;
 use std::cmp::Ordering;
@@ -13,7 +13,7 @@ pub(crate) fn end_of(cells: &[Cell], start: usize) -> usize
     ensures after { start < result }
     ensures within { result ≤ length cells.now }
     ensures spelled { IsSpelled (drop result cells.now) }
-    ensures others { read_all (drop result cells.now) ≡ back 1 (read_all (drop start cells.now)) }
+    ensures others { read_all (drop result cells.now) ≡ suffix 1 (read_all (drop start cells.now)) }
 {
     let mut pending = 1;
     let mut i = start;

@@ -188,17 +188,17 @@ fn outcome(alloc: Global, text: &str, goal: &str) -> Option<String> {
 }
 
 /// Whether this is said of a module of a text, and of a goal there.
-fn says(alloc: Global, text: &str, goal: &str, want: &str) -> bool {
+fn says(alloc: Global, text: &str, goal: &str, expected: &str) -> bool {
     match outcome(alloc, text, goal) {
-        Some(line) => line.as_str() == want,
+        Some(line) => line.as_str() == expected,
         None => false,
     }
 }
 
 /// The first text of which something else is said.
 fn unexpected(alloc: Global, cases: &[Case]) -> Option<&'static str> {
-    for (text, want) in cases {
-        if !says(alloc, text, "1", want) {
+    for (text, expected) in cases {
+        if !says(alloc, text, "1", expected) {
             return Some(text);
         }
     }
@@ -207,8 +207,8 @@ fn unexpected(alloc: Global, cases: &[Case]) -> Option<&'static str> {
 
 /// The first goal of which something else is said.
 fn unexpected_goal(alloc: Global) -> Option<&'static str> {
-    for (goal, want) in &GOALS {
-        if !says(alloc, GOALS_MODULE, goal, want) {
+    for (goal, expected) in &GOALS {
+        if !says(alloc, GOALS_MODULE, goal, expected) {
             return Some(goal);
         }
     }

@@ -49,12 +49,17 @@ fn text_fault(alloc: Global, start: Start, text: &str) -> Option<ParseFault> {
     }
 }
 
-fn expect_fault<R: Abort>(rt: &R, found: Option<ParseFault>, want: Option<ParseFault>, text: &str) {
-    assert_eq!(rt; found, want, "{text}");
+fn expect_fault<R: Abort>(
+    rt: &R,
+    found: Option<ParseFault>,
+    expected: Option<ParseFault>,
+    text: &str,
+) {
+    assert_eq!(rt; found, expected, "{text}");
 }
 
-fn expect<R: Abort>(rt: &R, alloc: Global, start: Start, text: &str, want: Option<ParseFault>) {
-    expect_fault(rt, text_fault(alloc, start, text), want, text);
+fn expect<R: Abort>(rt: &R, alloc: Global, start: Start, text: &str, expected: Option<ParseFault>) {
+    expect_fault(rt, text_fault(alloc, start, text), expected, text);
 }
 
 fn expect_all<R: Abort>(
@@ -62,10 +67,10 @@ fn expect_all<R: Abort>(
     alloc: Global,
     start: Start,
     texts: &[&str],
-    want: Option<ParseFault>,
+    expected: Option<ParseFault>,
 ) {
     for text in texts {
-        expect(rt, alloc, start, text, want);
+        expect(rt, alloc, start, text, expected);
     }
 }
 
@@ -220,8 +225,8 @@ fn no_tokens(rt: HostRuntime) {
 
 /// A text in which a piece is repeated, between a beginning and an end.
 fn repeated(alloc: Global, parts: [&str; 3], count: usize) -> Result<String, AllocError> {
-    let [front, piece, end] = parts;
-    let mut text = String::from_str(alloc, front)?;
+    let [prefix, piece, end] = parts;
+    let mut text = String::from_str(alloc, prefix)?;
     for _ in 0..count {
         text.push_str(piece)?;
     }
@@ -235,10 +240,10 @@ fn expect_repeated<R: Abort>(
     start: Start,
     parts: [&str; 3],
     count: usize,
-    want: Option<ParseFault>,
+    expected: Option<ParseFault>,
 ) {
     match repeated(alloc, parts, count) {
-        Ok(text) => expect(rt, alloc, start, text.as_str(), want),
+        Ok(text) => expect(rt, alloc, start, text.as_str(), expected),
         Err(error) => panic!(rt; "{error}"),
     }
 }
@@ -292,13 +297,13 @@ fn first_faults<R: Abort>(rt: &R, alloc: Global) {
     let open = ["f = (", " x", ""];
     let earlier = ["x = )\nf = \"", "a", "\""];
     let first = ["module M\nwhere (\nf = \"", "a", "\""];
-    let behind = ["module M where {\ng = 1 } f = \"", "a", "\""];
+    let after = ["module M where {\ng = 1 } f = \"", "a", "\""];
     expect_repeated(rt, alloc, Start::Module, open, 4093, SYNTAX);
     expect_repeated(rt, alloc, Start::Module, open, 4094, LONG);
     expect_repeated(rt, alloc, Start::Module, earlier, 4094, SYNTAX);
     expect_repeated(rt, alloc, Start::Module, first, 4094, second);
-    expect_repeated(rt, alloc, Start::Module, behind, 4093, second);
-    expect_repeated(rt, alloc, Start::Module, behind, 4094, late);
+    expect_repeated(rt, alloc, Start::Module, after, 4093, second);
+    expect_repeated(rt, alloc, Start::Module, after, 4094, late);
 }
 
 #[test]

@@ -226,10 +226,10 @@ const TEXTS: [(bool, &str, &str); 36] = [
 #[test]
 fn texts_with_their_layout(rt: HostRuntime) -> Result<(), Fail> {
     let alloc = rt.alloc();
-    for (whole, text, want) in &TEXTS {
+    for (whole, text, expected) in &TEXTS {
         let found = shown_layout(alloc, *whole, text)?;
-        let wanted = shown_text(alloc, want)?;
-        assert_eq!(rt; found.as_str(), wanted.as_str(), "{text}");
+        let laid_out = shown_text(alloc, expected)?;
+        assert_eq!(rt; found.as_str(), laid_out.as_str(), "{text}");
     }
     Ok(())
 }
@@ -280,10 +280,10 @@ fn marks_of_modules(rt: HostRuntime) -> Result<(), Fail> {
 fn parentheses(
     alloc: Global,
     whole: bool,
-    front: &str,
+    prefix: &str,
     count: u16,
 ) -> Result<Option<TooDeep>, Fail> {
-    let mut text = String::from_str(alloc, front)?;
+    let mut text = String::from_str(alloc, prefix)?;
     for _ in 0..count {
         text.push_str("(")?;
     }
@@ -336,7 +336,7 @@ fn places_of_marks(rt: HostRuntime) -> Result<(), Fail> {
     let alloc = rt.alloc();
     let found = laid(alloc, true, "x = 1\ny = let")?;
     let shown = shown_marks(alloc, found.as_slice())?;
-    let want = "Open 1:1;Separator 2:1;Open 2:5;Close 2:5;Close 2:5;";
-    assert_eq!(rt; shown.as_str(), want);
+    let expected = "Open 1:1;Separator 2:1;Open 2:5;Close 2:5;Close 2:5;";
+    assert_eq!(rt; shown.as_str(), expected);
     Ok(())
 }

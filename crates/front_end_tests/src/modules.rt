@@ -77,22 +77,22 @@ fn told(alloc: Global, names: &Names, fault: &OrderFault) -> Result<String, Allo
     }
 }
 
-fn line(alloc: Global, front: &str, end: &str) -> Result<String, AllocError> {
-    let mut line = String::from_str(alloc, front)?;
+fn line(alloc: Global, prefix: &str, end: &str) -> Result<String, AllocError> {
+    let mut line = String::from_str(alloc, prefix)?;
     line.push_str(end)?;
     Ok(line)
 }
 
-fn is_outcome(alloc: Global, modules: &[(&str, &str)], failing: Vec<u64>, want: &str) -> bool {
+fn is_outcome(alloc: Global, modules: &[(&str, &str)], failing: Vec<u64>, expected: &str) -> bool {
     match outcome(alloc, modules, failing) {
-        Some(line) => line.as_str() == want,
+        Some(line) => line.as_str() == expected,
         None => false,
     }
 }
 
 /// Whether the outcome is so, where the library never fails.
-fn gives(alloc: Global, modules: &[(&str, &str)], want: &str) -> bool {
-    is_outcome(alloc, modules, Vec::new(alloc), want)
+fn gives(alloc: Global, modules: &[(&str, &str)], expected: &str) -> bool {
+    is_outcome(alloc, modules, Vec::new(alloc), expected)
 }
 
 #[test]

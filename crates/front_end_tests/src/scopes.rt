@@ -302,17 +302,17 @@ fn outcome(alloc: Global, text: &str, goal: &str) -> Option<String> {
 }
 
 /// Whether this is said of a module of a text, and of a goal there.
-fn says(alloc: Global, text: &str, goal: &str, want: &str) -> bool {
+fn says(alloc: Global, text: &str, goal: &str, expected: &str) -> bool {
     match outcome(alloc, text, goal) {
-        Some(line) => line.as_str() == want,
+        Some(line) => line.as_str() == expected,
         None => false,
     }
 }
 
 /// The first text of which something else is said.
 fn unexpected(alloc: Global, cases: &[Case]) -> Option<&'static str> {
-    for (text, want) in cases {
-        if !says(alloc, text, "1", want) {
+    for (text, expected) in cases {
+        if !says(alloc, text, "1", expected) {
             return Some(text);
         }
     }
@@ -321,8 +321,8 @@ fn unexpected(alloc: Global, cases: &[Case]) -> Option<&'static str> {
 
 /// The first goal of which something else is said.
 fn unexpected_goal(alloc: Global) -> Option<&'static str> {
-    for (goal, want) in &GOALS {
-        if !says(alloc, GOALS_MODULE, goal, want) {
+    for (goal, expected) in &GOALS {
+        if !says(alloc, GOALS_MODULE, goal, expected) {
             return Some(goal);
         }
     }
@@ -376,10 +376,10 @@ fn owner_of(alloc: Global, text: &str, qualifier: Option<&str>, base: &str) -> O
 }
 
 /// Whether a name means a function of this module, or none alone.
-fn is_owned(alloc: Global, qualifier: Option<&str>, base: &str, want: Option<&str>) -> bool {
+fn is_owned(alloc: Global, qualifier: Option<&str>, base: &str, expected: Option<&str>) -> bool {
     let text = "import B as Z\nimport C\nimport D\nx = 3\nz = 4";
-    match (owner_of(alloc, text, qualifier, base), want) {
-        (Some(owner), Some(want)) => owner.as_str() == want,
+    match (owner_of(alloc, text, qualifier, base), expected) {
+        (Some(owner), Some(expected)) => owner.as_str() == expected,
         (None, None) => true,
         _ => false,
     }

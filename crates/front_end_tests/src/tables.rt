@@ -66,7 +66,7 @@ fn names_between_commas(rt: HostRuntime) -> Result<(), Fail> {
     rows.push(Row::Token(NAME))?;
     rows.push(Row::Token(Class::Mark(Mark::Comma)))?;
     let list = grammar(alloc, rows)?;
-    for (text, want) in &[
+    for (text, expected) in &[
         ("a", "p2;0;"),
         ("a,b,c", "p4;0;2;4;"),
         ("a,", "-"),
@@ -77,7 +77,7 @@ fn names_between_commas(rt: HostRuntime) -> Result<(), Fail> {
     ] {
         let tokens = tokens_of(alloc, text.as_bytes())?;
         let found = tree(alloc, &list, tokens.as_slice())?;
-        assert_eq!(rt; found.as_str(), *want, "{text}");
+        assert_eq!(rt; found.as_str(), *expected, "{text}");
     }
     Ok(())
 }
@@ -94,7 +94,7 @@ fn repeated_and_optional_parts(rt: HostRuntime) -> Result<(), Fail> {
     rows.push(Row::AtLeastOne(6))?;
     rows.push(Row::Token(Class::Char))?;
     let parts = grammar(alloc, rows)?;
-    for (text, want) in &[
+    for (text, expected) in &[
         ("x 1 2 'a'", "p8;p2;0;p3;1;2;p2;3;"),
         ("'a' 'b'", "p6;p1;p1;p3;0;1;"),
         ("x 1", "-"),
@@ -102,7 +102,7 @@ fn repeated_and_optional_parts(rt: HostRuntime) -> Result<(), Fail> {
     ] {
         let tokens = tokens_of(alloc, text.as_bytes())?;
         let found = tree(alloc, &parts, tokens.as_slice())?;
-        assert_eq!(rt; found.as_str(), *want, "{text}");
+        assert_eq!(rt; found.as_str(), *expected, "{text}");
     }
     Ok(())
 }
@@ -120,7 +120,7 @@ fn ordered_choice_and_looking_ahead(rt: HostRuntime) -> Result<(), Fail> {
     rows.push(Row::Token(Class::Int))?;
     rows.push(Row::Ahead(5))?;
     let choice = grammar(alloc, rows)?;
-    for (text, want) in &[
+    for (text, expected) in &[
         ("a", "c0/4;p3;0;p1;"),
         ("1 2", "c1/5;p4;0;p1;1;"),
         ("a 1", "-"),
@@ -129,7 +129,7 @@ fn ordered_choice_and_looking_ahead(rt: HostRuntime) -> Result<(), Fail> {
     ] {
         let tokens = tokens_of(alloc, text.as_bytes())?;
         let found = tree(alloc, &choice, tokens.as_slice())?;
-        assert_eq!(rt; found.as_str(), *want, "{text}");
+        assert_eq!(rt; found.as_str(), *expected, "{text}");
     }
     Ok(())
 }
@@ -140,10 +140,10 @@ fn all_tokens_are_matched(rt: HostRuntime) -> Result<(), Fail> {
     let mut rows = Vec::new(alloc);
     rows.push(Row::Token(NAME))?;
     let name = grammar(alloc, rows)?;
-    for (text, want) in &[("a a", "-"), ("a", "0;"), ("", "-")] {
+    for (text, expected) in &[("a a", "-"), ("a", "0;"), ("", "-")] {
         let tokens = tokens_of(alloc, text.as_bytes())?;
         let found = tree(alloc, &name, tokens.as_slice())?;
-        assert_eq!(rt; found.as_str(), *want, "{text}");
+        assert_eq!(rt; found.as_str(), *expected, "{text}");
     }
     Ok(())
 }
@@ -195,7 +195,7 @@ fn bad_rows(rt: HostRuntime) -> Result<(), Fail> {
 fn classes(rt: HostRuntime) -> Result<(), Fail> {
     let alloc = rt.alloc();
     let tokens = tokens_of(alloc, b"x M.x C M.C + :+ - as 7 70 'c' \"s\" of = {")?;
-    for (class, want) in &[
+    for (class, expected) in &[
         (NAME, "100000010000000"),
         (Class::Name(NameKind::VarId), "110000010000000"),
         (Class::Unqualified(NameKind::ConId), "001000000000000"),
@@ -216,7 +216,7 @@ fn classes(rt: HostRuntime) -> Result<(), Fail> {
         for token in &tokens {
             found.push(if class.has(token) { '1' } else { '0' })?;
         }
-        assert_eq!(rt; found.as_str(), *want, "{class:?}");
+        assert_eq!(rt; found.as_str(), *expected, "{class:?}");
     }
     Ok(())
 }

@@ -90,9 +90,9 @@ fn shown_classes(alloc: Global, text: &str) -> Result<String, LexFault> {
     Ok(classes(alloc, tokens.as_slice())?)
 }
 
-fn expect_classes<R: Abort>(rt: &R, alloc: Global, text: &str, want: &str) {
+fn expect_classes<R: Abort>(rt: &R, alloc: Global, text: &str, expected: &str) {
     match shown_classes(alloc, text) {
-        Ok(found) => assert_eq!(rt; found.as_str(), want, "{text}"),
+        Ok(found) => assert_eq!(rt; found.as_str(), expected, "{text}"),
         Err(fault) => panic!(rt; "{text}: {fault:?}"),
     }
 }
@@ -100,8 +100,8 @@ fn expect_classes<R: Abort>(rt: &R, alloc: Global, text: &str, want: &str) {
 #[test]
 fn classes_of_tokens(rt: HostRuntime) {
     let alloc = rt.alloc();
-    for (text, want) in &CLASSES {
-        expect_classes(&rt, alloc, text, want);
+    for (text, expected) in &CLASSES {
+        expect_classes(&rt, alloc, text, expected);
     }
 }
 
@@ -187,24 +187,24 @@ const MARKS: [(&str, Mark); 10] = [
 #[test]
 fn every_keyword(rt: HostRuntime) {
     let alloc = rt.alloc();
-    for (text, want) in &KEYWORDS {
-        assert_eq!(rt; only_keyword(alloc, text), Some(*want), "{text}");
+    for (text, expected) in &KEYWORDS {
+        assert_eq!(rt; only_keyword(alloc, text), Some(*expected), "{text}");
     }
 }
 
 #[test]
 fn every_reserved_operator(rt: HostRuntime) {
     let alloc = rt.alloc();
-    for (text, want) in &RESERVED_OPERATORS {
-        assert_eq!(rt; only_operator(alloc, text), Some(*want), "{text}");
+    for (text, expected) in &RESERVED_OPERATORS {
+        assert_eq!(rt; only_operator(alloc, text), Some(*expected), "{text}");
     }
 }
 
 #[test]
 fn every_mark(rt: HostRuntime) {
     let alloc = rt.alloc();
-    for (text, want) in &MARKS {
-        assert_eq!(rt; only_mark(alloc, text), Some(*want), "{text}");
+    for (text, expected) in &MARKS {
+        assert_eq!(rt; only_mark(alloc, text), Some(*expected), "{text}");
     }
 }
 
@@ -226,8 +226,8 @@ const NUMBERS: [(&str, Int); 4] = [
 #[test]
 fn numbers(rt: HostRuntime) {
     let alloc = rt.alloc();
-    for (text, want) in &NUMBERS {
-        assert_eq!(rt; only_int(alloc, text), Some(*want), "{text}");
+    for (text, expected) in &NUMBERS {
+        assert_eq!(rt; only_int(alloc, text), Some(*expected), "{text}");
     }
 }
 
@@ -238,8 +238,8 @@ fn fault_of(alloc: Global, text: &[u8]) -> Option<LexFault> {
     }
 }
 
-fn expect_fault<R: Abort>(rt: &R, alloc: Global, text: &[u8], want: LexFault) {
-    assert_eq!(rt; fault_of(alloc, text), Some(want));
+fn expect_fault<R: Abort>(rt: &R, alloc: Global, text: &[u8], expected: LexFault) {
+    assert_eq!(rt; fault_of(alloc, text), Some(expected));
 }
 
 fn at(line: u32, column: u32) -> Place {
@@ -273,12 +273,12 @@ const LARGE_LITERALS: [(&str, u32, u32); 3] = [
 fn first_faults(rt: HostRuntime) {
     let alloc = rt.alloc();
     for (text, line, column) in &BAD_TOKENS {
-        let want = LexFault::BadToken(at(*line, *column));
-        expect_fault(&rt, alloc, text.as_bytes(), want);
+        let expected = LexFault::BadToken(at(*line, *column));
+        expect_fault(&rt, alloc, text.as_bytes(), expected);
     }
     for (text, line, column) in &LARGE_LITERALS {
-        let want = LexFault::LiteralRange(at(*line, *column));
-        expect_fault(&rt, alloc, text.as_bytes(), want);
+        let expected = LexFault::LiteralRange(at(*line, *column));
+        expect_fault(&rt, alloc, text.as_bytes(), expected);
     }
 }
 

@@ -21,8 +21,8 @@ fn laid(alloc: Global, names: &mut Names, whole: bool, text: &str) -> Option<Vec
 }
 
 /// A goal with this text between a beginning and an end.
-fn goal(alloc: Global, names: &mut Names, front: &str, text: &str, end: &str) -> Option<GoalText> {
-    let mut whole = String::from_str(alloc, front).ok()?;
+fn goal(alloc: Global, names: &mut Names, prefix: &str, text: &str, end: &str) -> Option<GoalText> {
+    let mut whole = String::from_str(alloc, prefix).ok()?;
     whole.push_str(text).ok()?;
     whole.push_str(end).ok()?;
     let tokens = laid(alloc, names, false, whole.as_str())?;
@@ -105,15 +105,15 @@ fn told_part(alloc: Global, part: Part, goal: &GoalText) -> Told {
     }
 }
 
-fn expect_line<R: Abort>(rt: &R, told: &Told, want: &str, text: &str) {
-    assert_eq!(rt; told.line(), want, "{text}");
+fn expect_line<R: Abort>(rt: &R, told: &Told, expected: &str, text: &str) {
+    assert_eq!(rt; told.line(), expected, "{text}");
 }
 
-fn expect<R: Abort>(rt: &R, alloc: Global, part: Part, text: &str, want: &str) {
+fn expect<R: Abort>(rt: &R, alloc: Global, part: Part, text: &str, expected: &str) {
     let mut names = Names::new(alloc);
-    let (front, end) = around(part);
-    match goal(alloc, &mut names, front, text, end) {
-        Some(goal) => expect_line(rt, &told_part(alloc, part, &goal), want, text),
+    let (prefix, end) = around(part);
+    match goal(alloc, &mut names, prefix, text, end) {
+        Some(goal) => expect_line(rt, &told_part(alloc, part, &goal), expected, text),
         None => panic!(rt; "{text}"),
     }
 }
@@ -276,9 +276,9 @@ fn told_module(alloc: Global, module: &Module) -> Told {
     told
 }
 
-fn expect_module<R: Abort>(rt: &R, alloc: Global, text: &str, want: &str) {
+fn expect_module<R: Abort>(rt: &R, alloc: Global, text: &str, expected: &str) {
     match module(alloc, text) {
-        Some(module) => expect_line(rt, &told_module(alloc, &module), want, text),
+        Some(module) => expect_line(rt, &told_module(alloc, &module), expected, text),
         None => panic!(rt; "{text}"),
     }
 }

@@ -74,10 +74,10 @@ fn captured_inside(alloc: Global) -> Result<Vec<Vec<u32>>, AllocError> {
     captured(alloc, &function)
 }
 
-fn expect<R: Abort>(rt: &R, found: Result<Vec<Vec<u32>>, AllocError>, wanted: &[u32]) {
+fn expect<R: Abort>(rt: &R, found: Result<Vec<Vec<u32>>, AllocError>, expected: &[u32]) {
     match found {
         Ok(sets) => match sets.as_slice() {
-            [set] => assert!(rt; set.as_slice() == wanted),
+            [set] => assert!(rt; set.as_slice() == expected),
             _ => panic!(rt; "another number of local functions"),
         },
         Err(_) => panic!(rt; "out of memory"),

@@ -29,7 +29,7 @@ const FAULTS: [Fault; 10] = [
 
 const JOIN_FAULTS: [JoinFault; 6] = [
     JoinFault::TypesBefore,
-    JoinFault::FalseBehindTrue,
+    JoinFault::FalseAfterTrue,
     JoinFault::OtherRules,
     JoinFault::NoSuchModule,
     JoinFault::NoSuchFunction,

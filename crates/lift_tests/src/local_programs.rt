@@ -43,7 +43,7 @@ pub(crate) enum JoinFault {
     /// Types come before.
     TypesBefore,
     /// `True` is declared before `False`.
-    FalseBehindTrue,
+    FalseAfterTrue,
     /// Both rules of `&&` are for `True`.
     OtherRules,
     /// A mark names the second of one module.
@@ -257,7 +257,7 @@ fn synonyms(alloc: Global, fault: Fault) -> Result<Vec<Synonym>, AllocError> {
 
 fn entities(join: JoinFault) -> Special {
     match join {
-        JoinFault::FalseBehindTrue => Special {
+        JoinFault::FalseAfterTrue => Special {
             falsity: TRUE,
             truth: FALSE,
             ..ENTITIES

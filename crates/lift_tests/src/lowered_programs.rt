@@ -15,7 +15,7 @@ const EQUAL: Head = Head::Fun(FunId(2));
 /// An expression that is wanted. Its parts are named by how far they stand
 /// after the first expression of their function.
 #[derive(Clone, Copy)]
-enum Wanted<'a> {
+enum Expected<'a> {
     Variable(u32),
     Number(Int),
     Call(Head, &'a [usize]),
@@ -32,53 +32,53 @@ enum Branch<'a> {
 }
 
 /// Whether an index is this far after that of a function's first expression.
-fn is_at(first: usize, found: ExprId, wanted: usize) -> bool {
-    found.0 == first.saturating_add(wanted)
+fn is_at(first: usize, found: ExprId, expected: usize) -> bool {
+    found.0 == first.saturating_add(expected)
 }
 
-fn are_at(first: usize, found: &[ExprId], wanted: &[usize]) -> bool {
-    found.len() == wanted.len()
+fn are_at(first: usize, found: &[ExprId], expected: &[usize]) -> bool {
+    found.len() == expected.len()
         && found
             .iter()
-            .zip(wanted)
+            .zip(expected)
             .all(|(one, place)| is_at(first, *one, *place))
 }
 
-fn is_branch(first: usize, found: &(Pattern, ExprId), wanted: Branch) -> bool {
-    match (&found.0, wanted) {
+fn is_branch(first: usize, found: &(Pattern, ExprId), expected: Branch) -> bool {
+    match (&found.0, expected) {
         (Pattern::Lit(literal), Branch::Number(n, body)) => {
             *literal == Lit::Int(n) && is_at(first, found.1, body)
         }
-        (Pattern::Con(constructor, variables), Branch::Constructor(wanted, names, body)) => {
-            *constructor == wanted && variables.as_slice() == names && is_at(first, found.1, body)
+        (Pattern::Con(constructor, variables), Branch::Constructor(expected, names, body)) => {
+            *constructor == expected && variables.as_slice() == names && is_at(first, found.1, body)
         }
         _ => false,
     }
 }
 
-fn are_branches(first: usize, found: &[(Pattern, ExprId)], wanted: &[Branch]) -> bool {
-    found.len() == wanted.len()
+fn are_branches(first: usize, found: &[(Pattern, ExprId)], expected: &[Branch]) -> bool {
+    found.len() == expected.len()
         && found
             .iter()
-            .zip(wanted)
+            .zip(expected)
             .all(|(one, branch)| is_branch(first, one, *branch))
 }
 
-fn is_like(first: usize, found: &Expr, wanted: Wanted) -> bool {
-    match (found, wanted) {
-        (Expr::Var(x), Wanted::Variable(y)) => *x == y,
-        (Expr::Lit(literal), Wanted::Number(n)) => *literal == Lit::Int(n),
-        (Expr::Whole(head, parts), Wanted::Call(wanted, places)) => {
-            *head == wanted && are_at(first, parts.as_slice(), places)
+fn is_like(first: usize, found: &Expr, expected: Expected) -> bool {
+    match (found, expected) {
+        (Expr::Var(x), Expected::Variable(y)) => *x == y,
+        (Expr::Lit(literal), Expected::Number(n)) => *literal == Lit::Int(n),
+        (Expr::Whole(head, parts), Expected::Call(expected, places)) => {
+            *head == expected && are_at(first, parts.as_slice(), places)
         }
-        (Expr::Or(left, right), Wanted::Either(one, other)) => {
+        (Expr::Or(left, right), Expected::Either(one, other)) => {
             is_at(first, *left, one) && is_at(first, *right, other)
         }
-        (Expr::Let(x, value, body), Wanted::Bound(y, one, other)) => {
+        (Expr::Let(x, value, body), Expected::Bound(y, one, other)) => {
             *x == y && is_at(first, *value, one) && is_at(first, *body, other)
         }
-        (Expr::Case(mode, scrutinee, branches), Wanted::Cases(wanted, one, rows)) => {
-            *mode == wanted
+        (Expr::Case(mode, scrutinee, branches), Expected::Cases(expected, one, rows)) => {
+            *mode == expected
                 && is_at(first, *scrutinee, one)
                 && are_branches(first, branches.as_slice(), rows)
         }
@@ -113,8 +113,8 @@ fn lowered_program(alloc: Global, program: &Program) -> Option<Result<FlatProgra
 }
 
 /// The expressions of a function, which begin at this index.
-fn expect<R: Abort>(rt: &R, flat: &FlatProgram, first: usize, wanted: &[Wanted]) {
-    for (index, one) in wanted.iter().enumerate() {
+fn expect<R: Abort>(rt: &R, flat: &FlatProgram, first: usize, expected: &[Expected]) {
+    for (index, one) in expected.iter().enumerate() {
         match flat.find(ExprId(first.saturating_add(index))) {
             Some(found) => assert!(rt; is_like(first, found, *one)),
             None => panic!(rt; "no such expression"),
@@ -124,11 +124,11 @@ fn expect<R: Abort>(rt: &R, flat: &FlatProgram, first: usize, wanted: &[Wanted])
 
 /// Rules that overlap, and rules over lists.
 fn expect_lists<R: Abort>(rt: &R, flat: &FlatProgram) {
-    let both: &[Wanted] = &[
-        Wanted::Variable(1),
-        Wanted::Call(Head::Con(FALSE), &[]),
-        Wanted::Variable(2),
-        Wanted::Cases(
+    let both: &[Expected] = &[
+        Expected::Variable(1),
+        Expected::Call(Head::Con(FALSE), &[]),
+        Expected::Variable(2),
+        Expected::Cases(
             Mode::Flex,
             0,
             &[
@@ -138,19 +138,19 @@ fn expect_lists<R: Abort>(rt: &R, flat: &FlatProgram) {
         ),
     ];
     expect(rt, flat, 0, both);
-    let zero_or_any: &[Wanted] = &[
-        Wanted::Variable(1),
-        Wanted::Number(1),
-        Wanted::Cases(Mode::Flex, 0, &[Branch::Number(0, 1)]),
-        Wanted::Number(2),
-        Wanted::Either(2, 3),
+    let zero_or_any: &[Expected] = &[
+        Expected::Variable(1),
+        Expected::Number(1),
+        Expected::Cases(Mode::Flex, 0, &[Branch::Number(0, 1)]),
+        Expected::Number(2),
+        Expected::Either(2, 3),
     ];
     expect(rt, flat, 4, zero_or_any);
-    let first_of_list: &[Wanted] = &[
-        Wanted::Variable(1),
-        Wanted::Number(0),
-        Wanted::Variable(2),
-        Wanted::Cases(
+    let first_of_list: &[Expected] = &[
+        Expected::Variable(1),
+        Expected::Number(0),
+        Expected::Variable(2),
+        Expected::Cases(
             Mode::Flex,
             0,
             &[
@@ -160,44 +160,44 @@ fn expect_lists<R: Abort>(rt: &R, flat: &FlatProgram) {
         ),
     ];
     expect(rt, flat, 9, first_of_list);
-    let second_of_list: &[Wanted] = &[
-        Wanted::Variable(1),
-        Wanted::Variable(3),
-        Wanted::Variable(4),
-        Wanted::Cases(Mode::Flex, 1, &[Branch::Constructor(CONS, &[4, 5], 2)]),
-        Wanted::Cases(Mode::Flex, 0, &[Branch::Constructor(CONS, &[2, 3], 3)]),
+    let second_of_list: &[Expected] = &[
+        Expected::Variable(1),
+        Expected::Variable(3),
+        Expected::Variable(4),
+        Expected::Cases(Mode::Flex, 1, &[Branch::Constructor(CONS, &[4, 5], 2)]),
+        Expected::Cases(Mode::Flex, 0, &[Branch::Constructor(CONS, &[2, 3], 3)]),
     ];
     expect(rt, flat, 13, second_of_list);
 }
 
 /// Literals, and positions that not all rules demand.
 fn expect_positions<R: Abort>(rt: &R, flat: &FlatProgram) {
-    let by_literals: &[Wanted] = &[
-        Wanted::Variable(1),
-        Wanted::Number(0),
-        Wanted::Number(2),
-        Wanted::Either(1, 2),
-        Wanted::Number(1),
-        Wanted::Cases(Mode::Flex, 0, &[Branch::Number(5, 3), Branch::Number(3, 4)]),
+    let by_literals: &[Expected] = &[
+        Expected::Variable(1),
+        Expected::Number(0),
+        Expected::Number(2),
+        Expected::Either(1, 2),
+        Expected::Number(1),
+        Expected::Cases(Mode::Flex, 0, &[Branch::Number(5, 3), Branch::Number(3, 4)]),
     ];
     expect(rt, flat, 18, by_literals);
-    let by_either: &[Wanted] = &[
-        Wanted::Variable(1),
-        Wanted::Number(1),
-        Wanted::Cases(Mode::Flex, 0, &[Branch::Constructor(TRUE, &[], 1)]),
-        Wanted::Variable(2),
-        Wanted::Number(2),
-        Wanted::Cases(Mode::Flex, 3, &[Branch::Constructor(TRUE, &[], 4)]),
-        Wanted::Either(2, 5),
+    let by_either: &[Expected] = &[
+        Expected::Variable(1),
+        Expected::Number(1),
+        Expected::Cases(Mode::Flex, 0, &[Branch::Constructor(TRUE, &[], 1)]),
+        Expected::Variable(2),
+        Expected::Number(2),
+        Expected::Cases(Mode::Flex, 3, &[Branch::Constructor(TRUE, &[], 4)]),
+        Expected::Either(2, 5),
     ];
     expect(rt, flat, 24, by_either);
-    let by_second: &[Wanted] = &[
-        Wanted::Variable(2),
-        Wanted::Number(1),
-        Wanted::Variable(1),
-        Wanted::Number(2),
-        Wanted::Cases(Mode::Flex, 2, &[Branch::Constructor(TRUE, &[], 3)]),
-        Wanted::Cases(
+    let by_second: &[Expected] = &[
+        Expected::Variable(2),
+        Expected::Number(1),
+        Expected::Variable(1),
+        Expected::Number(2),
+        Expected::Cases(Mode::Flex, 2, &[Branch::Constructor(TRUE, &[], 3)]),
+        Expected::Cases(
             Mode::Flex,
             0,
             &[
@@ -211,11 +211,11 @@ fn expect_positions<R: Abort>(rt: &R, flat: &FlatProgram) {
 
 /// Case distinctions in right sides, and a function without rules.
 fn expect_cases<R: Abort>(rt: &R, flat: &FlatProgram) {
-    let true_or_variable: &[Wanted] = &[
-        Wanted::Variable(1),
-        Wanted::Variable(1),
-        Wanted::Number(1),
-        Wanted::Cases(
+    let true_or_variable: &[Expected] = &[
+        Expected::Variable(1),
+        Expected::Variable(1),
+        Expected::Number(1),
+        Expected::Cases(
             Mode::Rigid,
             0,
             &[
@@ -225,13 +225,13 @@ fn expect_cases<R: Abort>(rt: &R, flat: &FlatProgram) {
         ),
     ];
     expect(rt, flat, 37, true_or_variable);
-    let three_or_variable: &[Wanted] = &[
-        Wanted::Variable(1),
-        Wanted::Number(3),
-        Wanted::Call(EQUAL, &[0, 1]),
-        Wanted::Number(1),
-        Wanted::Variable(1),
-        Wanted::Cases(
+    let three_or_variable: &[Expected] = &[
+        Expected::Variable(1),
+        Expected::Number(3),
+        Expected::Call(EQUAL, &[0, 1]),
+        Expected::Number(1),
+        Expected::Variable(1),
+        Expected::Cases(
             Mode::Rigid,
             2,
             &[
@@ -241,15 +241,15 @@ fn expect_cases<R: Abort>(rt: &R, flat: &FlatProgram) {
         ),
     ];
     expect(rt, flat, 41, three_or_variable);
-    let case_on_number: &[Wanted] = &[
-        Wanted::Number(7),
-        Wanted::Variable(1),
-        Wanted::Number(1),
-        Wanted::Cases(Mode::Rigid, 1, &[Branch::Number(7, 2)]),
-        Wanted::Bound(1, 0, 3),
+    let case_on_number: &[Expected] = &[
+        Expected::Number(7),
+        Expected::Variable(1),
+        Expected::Number(1),
+        Expected::Cases(Mode::Rigid, 1, &[Branch::Number(7, 2)]),
+        Expected::Bound(1, 0, 3),
     ];
     expect(rt, flat, 47, case_on_number);
-    expect(rt, flat, 52, &[Wanted::Call(FAILED, &[])]);
+    expect(rt, flat, 52, &[Expected::Call(FAILED, &[])]);
 }
 
 #[test]

@@ -183,11 +183,11 @@ fn imitation_on_the_left<R: Abort>(rt: &R, alloc: Global) -> FlatProgram {
 
 /// A variable becomes a constructor over new ones, on either side.
 fn expect_imitations<R: Abort>(rt: &R, alloc: Global) {
-    let want = "& 7 8 | : 5 6 | free | [] | : 2 3 | free | free | =:= 5 2 | =:= 6 3";
+    let expected = "& 7 8 | : 5 6 | free | [] | : 2 3 | free | free | =:= 5 2 | =:= 6 3";
     let program = imitation(rt, alloc);
-    expect(rt, alloc, &program, 2, "0", want);
+    expect(rt, alloc, &program, 2, "0", expected);
     let program = imitation_on_the_left(rt, alloc);
-    expect(rt, alloc, &program, 2, "0", want);
+    expect(rt, alloc, &program, 2, "0", expected);
 }
 
 /// `x =:= [x]`.

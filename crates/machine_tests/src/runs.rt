@@ -277,12 +277,12 @@ fn expect_by<R: Abort>(
     goal: usize,
     path: &str,
     limits: &SearchLimits,
-    want: &str,
+    expected: &str,
 ) {
     match outcome_of(alloc, program, goal, path.as_bytes(), limits) {
         Ok(outcome) => {
             let text = outcome_text(alloc, &outcome).expect(rt, "memory");
-            assert_eq!(rt; text.as_str(), want, "f{goal} after {path}");
+            assert_eq!(rt; text.as_str(), expected, "f{goal} after {path}");
         }
         Err(_) => panic!(rt; "f{goal} has no way {path}"),
     }
@@ -297,9 +297,17 @@ pub(crate) fn expect_within<R: Abort>(
     goal: usize,
     path: &str,
     nodes: u32,
-    want: &str,
+    expected: &str,
 ) {
-    expect_by(rt, alloc, program, goal, path, &bounds(1, nodes, 1), want);
+    expect_by(
+        rt,
+        alloc,
+        program,
+        goal,
+        path,
+        &bounds(1, nodes, 1),
+        expected,
+    );
 }
 
 /// Expects what stands at the end of a path of single steps.
@@ -309,9 +317,9 @@ pub(crate) fn expect<R: Abort>(
     program: &FlatProgram,
     goal: usize,
     path: &str,
-    want: &str,
+    expected: &str,
 ) {
-    expect_within(rt, alloc, program, goal, path, NODES, want);
+    expect_within(rt, alloc, program, goal, path, NODES, expected);
 }
 
 /// Expects what stands at the end of a path of long rounds, where levels have
@@ -323,7 +331,7 @@ pub(crate) fn expect_run<R: Abort>(
     goal: usize,
     path: &str,
     width: u32,
-    want: &str,
+    expected: &str,
 ) {
     expect_by(
         rt,
@@ -332,6 +340,6 @@ pub(crate) fn expect_run<R: Abort>(
         goal,
         path,
         &bounds(STRIDE, NODES, width),
-        want,
+        expected,
     );
 }

@@ -66,7 +66,7 @@ fn many_workers_answer_in_order(rt: HostRuntime) -> Result<(), Fail> {
 }
 
 #[test]
-fn want_of_memory_is_answered(rt: HostRuntime) -> Result<(), Fail> {
+fn memory_exhaustion_is_answered(rt: HostRuntime) -> Result<(), Fail> {
     let items = numbers(rt.alloc(), 100)?;
     let answer = round(&rt, rt.alloc(), items, 3, &OpenGate, &Failing { item: 7 });
     assert!(rt; answer.is_err());

@@ -105,15 +105,15 @@ fn answer(alloc: Global, line: &str, before: usize) -> Option<String> {
 }
 
 /// Expects these types of the functions after so many, or this fault.
-pub(crate) fn expect_behind<R: Abort>(
+pub(crate) fn expect_after<R: Abort>(
     rt: &R,
     alloc: Global,
     before: usize,
     line: &str,
-    wanted: &str,
+    expected: &str,
 ) {
     match answer(alloc, line, before) {
-        Some(found) => assert_eq!(rt; found.as_str(), wanted, "of {line}"),
+        Some(found) => assert_eq!(rt; found.as_str(), expected, "of {line}"),
         None => panic!(rt; "no answer for {line}"),
     }
 }

@@ -1,14 +1,14 @@
 //! Inference: the types of programs, and why there are none, worked by hand.
 //! A comment gives each program in the source language.
 
-use crate::answers::{expect_behind, table_size};
+use crate::answers::{expect_after, table_size};
 use crate::sample_types::BEFORE;
 use std::alloc::Global;
 use std::process::Abort;
 
 /// Expects these types of the functions that are written down, or this fault.
-fn expect<R: Abort>(rt: &R, alloc: Global, line: &str, wanted: &str) {
-    expect_behind(rt, alloc, BEFORE, line, wanted);
+fn expect<R: Abort>(rt: &R, alloc: Global, line: &str, expected: &str) {
+    expect_after(rt, alloc, BEFORE, line, expected);
 }
 
 fn plain_functions<R: Abort>(rt: &R, alloc: Global) {
@@ -250,8 +250,8 @@ fn set_functions<R: Abort>(rt: &R, alloc: Global) {
     );
     // f = set1 g; g x = h x; h x y = x
     let inside = "fun/0 rule/0 $g~0 fun/1 rule/1 .x0 h~1 x0 fun/2 rule/2 .x0 .x1 x0";
-    let wanted = "(0 -> (Values (1 -> 0))); (0 -> (1 -> 0)); (0 -> (1 -> 0))";
-    expect(rt, alloc, inside, wanted);
+    let expected = "(0 -> (Values (1 -> 0))); (0 -> (1 -> 0)); (0 -> (1 -> 0))";
+    expect(rt, alloc, inside, expected);
     // f x y = x + y; g = set2 (+) 1
     let two = "fun/2 rule/2 .x0 .x1 +/2 x0 x1 fun/0 rule/0 $+~1 1";
     expect(
@@ -270,12 +270,12 @@ fn set_functions<R: Abort>(rt: &R, alloc: Global) {
 
 fn built_in<R: Abort>(rt: &R, alloc: Global) {
     // `&&`, and what is built in
-    let wanted = "(Bool -> (Bool -> Bool)); (Int -> (Int -> Int)); (Int -> (Int -> Int)); \
+    let expected = "(Bool -> (Bool -> Bool)); (Int -> (Int -> Int)); (Int -> (Int -> Int)); \
         (Int -> (Int -> Int)); (Int -> (Int -> Int)); (Int -> (Int -> Int)); \
         (Int -> (Int -> Bool)); (Int -> (Int -> Bool)); (Int -> (Int -> Bool)); \
         (Int -> (Int -> Bool)); (0 -> (0 -> Bool)); (0 -> (0 -> Bool)); \
         (Bool -> (Bool -> Bool)); (Char -> Int); (Int -> Char); 0; Unit";
-    expect_behind(rt, alloc, 0, "fun/0 rule/0 Unit", wanted);
+    expect_after(rt, alloc, 0, "fun/0 rule/0 Unit", expected);
     // f x y = x == y & y =:= x
     let equations = "fun/2 rule/2 .x0 .x1 &/2 ==/2 x0 x1 =:=/2 x1 x0";
     expect(rt, alloc, equations, "(0 -> (0 -> Bool))");
@@ -318,8 +318,8 @@ fn constructors<R: Abort>(rt: &R, alloc: Global) {
     expect(rt, alloc, swap, "((Pair 0 1) -> (Pair 1 0))");
     // f = (:); g = (:) 1
     let parts = "fun/0 rule/0 Cons~0 fun/0 rule/0 Cons~1 1";
-    let wanted = "(0 -> ((List 0) -> (List 0))); ((List Int) -> (List Int))";
-    expect(rt, alloc, parts, wanted);
+    let expected = "(0 -> ((List 0) -> (List 0))); ((List Int) -> (List Int))";
+    expect(rt, alloc, parts, expected);
     // f = Fun; g (Fun h) = h
     let fields = "fun/0 rule/0 Fun~0 fun/1 rule/1 .Fun/1 .x0 x0";
     expect(
@@ -391,8 +391,8 @@ fn forms<R: Abort>(rt: &R, alloc: Global) {
     expect(rt, alloc, "fun/0 rule/0 or 1 'a", "clash f");
     // f = (+) 1; g = h 'a'; h x y = (y, x)
     let parts = "fun/0 rule/0 +~1 1 fun/0 rule/0 h~1 'a fun/2 rule/2 .x0 .x1 Pair/2 x1 x0";
-    let wanted = "(Int -> Int); (0 -> (Pair 0 Char)); (0 -> (1 -> (Pair 1 0)))";
-    expect(rt, alloc, parts, wanted);
+    let expected = "(Int -> Int); (0 -> (Pair 0 Char)); (0 -> (1 -> (Pair 1 0)))";
+    expect(rt, alloc, parts, expected);
     // f g = g (+) 1
     let higher = "fun/1 rule/1 .x0 apply apply x0 +~0 1";
     expect(

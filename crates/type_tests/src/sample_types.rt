@@ -204,8 +204,8 @@ fn synonym(arity: u32, body: Result<TypeTerm, AllocError>) -> Result<Synonym, Al
 pub(crate) fn synonyms(alloc: Global) -> Result<Vec<Synonym>, AllocError> {
     let text_body = list_of(alloc, named(17, Ok(Vec::new(alloc))));
     let texts = list_of(alloc, Ok(text(alloc)));
-    let back = arrow(alloc, Ok(TypeTerm::Var(1)), Ok(TypeTerm::Var(0)));
-    let first = arrow(alloc, Ok(TypeTerm::Var(0)), back);
+    let backward = arrow(alloc, Ok(TypeTerm::Var(1)), Ok(TypeTerm::Var(0)));
+    let first = arrow(alloc, Ok(TypeTerm::Var(0)), backward);
     let two = and(one(alloc, synonym(0, text_body)), synonym(1, twice(alloc)));
     and(and(two, synonym(0, texts)), synonym(2, first))
 }

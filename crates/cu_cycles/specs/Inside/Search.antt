@@ -29,7 +29,7 @@ pub record Source (g : Graph) (path : List ℕ) (parts : List Part) (i : ℕ) (p
   pub is_open : slice_get path place ≡ Some node
   pub edge : Edge g node w
 
--- w is closed, open in a part or behind it, or pending
+-- w is closed, open in a part or after it, or pending
 pub data Followed (places : List Place) (path pending : List ℕ) (p : Part) (w : ℕ) : Type 0 where
   closed : (c : ℕ) → slice_get places w ≡ Some (Closed c) → Followed places path pending p w
   opened : (s : ℕ) → slice_get path s ≡ Some w → p.start ≤ s → Followed places path pending p w
@@ -67,7 +67,7 @@ pub record Good (g : Graph) (places : List Place) (path pending : List ℕ) (par
   -- open nodes reach later ones, and the first of their part
   pub later : (s t u v : ℕ) → s ≤ t → slice_get path s ≡ Some u → slice_get path t ≡ Some v
       → Reach g u v
-  pub back : (i : ℕ) (p : Part) (t u v : ℕ) → Own parts t i p → slice_get path t ≡ Some u
+  pub to_start : (i : ℕ) (p : Part) (t u v : ℕ) → Own parts t i p → slice_get path t ≡ Some u
       → slice_get path p.start ≡ Some v → Reach g u v
   -- where they lead was followed, or is pending; and to what is pending they lead
   pub follows : (i : ℕ) (p : Part) (t u w : ℕ) → Own parts t i p → slice_get path t ≡ Some u

@@ -2,7 +2,7 @@
 use Rattle.std.specs.Prelude.{ℕ, Option, Bool, not, List, ◌∷◌, [], ◌++◌, Some, None, map, slice_get}
 use denote.Ref.{Bor}
 use Rattle.cu_calculus.specs.Choose as calculus
-use Rattle.cu_calculus.specs.Choose.{arguments_of, is_demanding, not_literal, wants_constructor, wants_literal}
+use Rattle.cu_calculus.specs.Choose.{arguments_of, is_demanding, not_literal, demands_constructor, demands_literal}
 use Rattle.cu_calculus.specs.Term as clean
 use Rattle.cu_calculus.specs.declared.ConId.{ConId}
 use Rattle.cu_calculus.specs.declared.Lit.{Lit}
@@ -24,16 +24,16 @@ demand_meaning demand.Nothing = calculus.Nothing
 demand_meaning (demand.Literal l) = calculus.ALiteral l
 demand_meaning (demand.Constructor c) = calculus.AConstructor c
 
-abbrev pub wants : Choice → calculus.Demand → Bool
-wants (choice.Constructor c) = wants_constructor c
-wants (choice.Literal l) = wants_literal l
+abbrev pub demands_choice : Choice → calculus.Demand → Bool
+demands_choice (choice.Constructor c) = demands_constructor c
+demands_choice (choice.Literal l) = demands_literal l
 
 -- which demands stay
 abbrev pub keeps : Keep → calculus.Demand → Bool
 keeps keep.Demanding d = is_demanding d
 keeps keep.Undemanding d = not (is_demanding d)
 keeps (keep.OtherThan l) d = not_literal l d
-keeps (keep.Branch c has_variables) d = goes_on has_variables (wants c) d
+keeps (keep.Branch c has_variables) d = goes_on has_variables (demands_choice c) d
 
 -- patterns behind references
 abbrev pub patterns_at : List (Bor Pattern) → List clean.Pattern

@@ -10,7 +10,7 @@ use Rattle.cu_calculus.specs.Term as clean
 use Rattle.cu_calculus.specs.declared.Mode.{Mode}
 use Rattle.cu_calculus.specs.declared.Mode.TheVariants.{Flex}
 use Rattle.cu_deftree.specs.Inside.NamesOf.{names_of}
-use Rattle.cu_deftree.specs.Inside.RowsOf.{all_rows, wants}
+use Rattle.cu_deftree.specs.Inside.RowsOf.{all_rows, demands_choice}
 use Rattle.cu_deftree.specs.LoweredProgram.{size}
 use Rattle.cu_deftree.specs.Lowering.{Distinguishes, Lowers, Tree, goes_on, variables}
 use Rattle.cu_deftree.specs.Rows.{Row, constructor_arity, demand_at, demanded_by_all, demands, numbers, specialize}
@@ -115,7 +115,7 @@ abbrev pub OpenedLower : Program → Manner → Bool → Matrix → ℕ → Choi
     → Type 0
 OpenedLower program m has_variables matrix k c new n t =
     RowsLower program m (spliced k new matrix.positions.now) (matrix.next + n)
-    (specialize k new (goes_on has_variables (wants c)) (all_rows matrix.rows.now)) t
+    (specialize k new (goes_on has_variables (demands_choice c)) (all_rows matrix.rows.now)) t
 
 abbrev pub BranchLowers : Program → Manner → Bool → Matrix → ℕ → Choice → clean.Pattern × clean.Term
     → Type 0

@@ -11,7 +11,7 @@ use Rattle.cu_syntax.specs.declared.patterns.Pattern.{Pattern}
 use Rattle.cu_syntax.specs.Names.{name_meaning}
 use Rattle.cu_syntax.specs.Patterns.{pat_items_meaning, pattern_meaning, patterns_meaning, rest_meaning}
 use Rattle.cu_translation.specs.FaultOrder.{Fault, NonLinear, at_name}
-use Rattle.cu_translation.specs.Faults.{all_clashes, all_constructor_faults, clash_unless, clashes_behind, constructor_fault, constructor_faults, operator_faults, pattern_clashes, pattern_faults}
+use Rattle.cu_translation.specs.Faults.{all_clashes, all_constructor_faults, clash_unless, clashes_after, constructor_fault, constructor_faults, operator_faults, pattern_clashes, pattern_faults}
 use Rattle.cu_translation.specs.GroupedTree.{grouped_tree}
 use Rattle.cu_translation.specs.Meaning.{Setting}
 use Rattle.cu_uses.specs.Binders.{repeated, variables}
@@ -21,14 +21,14 @@ use Rattle.cu_faults.specs.declared.patterns.Sought.TheVariants.{Clashes, Counts
 -- ---- clashes
 
 -- what grouping sees of constructor operators and the patterns after them
-abbrev pub pieces_behind : Setting → List ConstructorItem → List Piece
-pieces_behind w [] = []
-pieces_behind w (item ∷ items) =
+abbrev pub pieces_after : Setting → List ConstructorItem → List Piece
+pieces_after w [] = []
+pieces_after w (item ∷ items) =
     piece.Operator (w.around.names.fixity (name_meaning w.names item.operator)) ∷
-    piece.Operand ∷ pieces_behind w items
+    piece.Operand ∷ pieces_after w items
 
 abbrev pub pieces_of : Setting → PatItems → List Piece
-pieces_of w items = piece.Operand ∷ pieces_behind w items.rest.items
+pieces_of w items = piece.Operand ∷ pieces_after w items.rest.items
 
 unfoldable pub operators_clash : Setting → PatItems → List Fault
 operators_clash w items =
@@ -57,7 +57,7 @@ patterns_told Clashes w ps = all_clashes w.around.names (patterns_meaning w.name
 patterns_told Counts w ps = all_constructor_faults w.around.names (patterns_meaning w.names ps)
 
 unfoldable pub operands_told : Sought → Setting → List ConstructorItem → List Fault
-operands_told Clashes w items = clashes_behind w.around.names (rest_meaning w.names items)
+operands_told Clashes w items = clashes_after w.around.names (rest_meaning w.names items)
 operands_told Counts w items = operator_faults w.around.names (rest_meaning w.names items)
 
 -- ---- variables

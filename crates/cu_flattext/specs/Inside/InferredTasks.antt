@@ -22,8 +22,8 @@ text_there program count table place = written_type_text program count (type_at 
 -- the text of a task
 abbrev pub inferred_part : Lowered → ℕ → TypeTable → InferredTask → List ℕ
 inferred_part program count table (task.Type place) = text_there program count table place
-inferred_part program count table (task.Types places behind) =
-    elements behind (map (text_there program count table) places.now)
+inferred_part program count table (task.Types places follows) =
+    elements follows (map (text_there program count table) places.now)
 inferred_part program count table (task.Text text) = text.now
 
 -- the text of several tasks, the first task first
@@ -41,8 +41,8 @@ abbrev pub inferred_left_with : InferredTask → InferredType → List ℕ
 inferred_left_with t s = inferred_part (lowered_of s.wording) s.count s.table t ++ inferred_left s
 
 -- a text, and then that of the tasks that are left
-abbrev pub inferred_left_behind : List ℕ → InferredType → List ℕ
-inferred_left_behind text s = text ++ inferred_left s
+abbrev pub inferred_left_after : List ℕ → InferredType → List ℕ
+inferred_left_after text s = text ++ inferred_left s
 
 -- the text of a type
 abbrev pub text_of_type : InferredType → TypeExpr → List ℕ

@@ -62,20 +62,20 @@ function_lines program m k =
 -- the text of a part of a module
 abbrev pub line_part : Lowered → ℕ → Line → List ℕ
 line_part program m (line.Text text) = text.now
-line_part program m (line.Imports imports behind) =
-    elements behind (map (import_text program) imports.now)
-line_part program m (line.DataTypes ts behind) =
-    elements behind
+line_part program m (line.Imports imports follows) =
+    elements follows (map (import_text program) imports.now)
+line_part program m (line.DataTypes ts follows) =
+    elements follows
     (map on_a_line (data_type_texts program m (map type_meaning ts.now)
     ++ synonym_texts program m program.kernel.synonyms))
-line_part program m (line.Synonyms ss behind) =
-    elements behind (map on_a_line (synonym_texts program m (map synonym_meaning ss.now)))
-line_part program m (line.Constructors cs arity behind) =
-    elements behind (map (constructor_text program m arity) (map constructor_meaning cs.now))
-line_part program m (line.Functions k behind) = elements behind (function_lines program m k)
+line_part program m (line.Synonyms ss follows) =
+    elements follows (map on_a_line (synonym_texts program m (map synonym_meaning ss.now)))
+line_part program m (line.Constructors cs arity follows) =
+    elements follows (map (constructor_text program m arity) (map constructor_meaning cs.now))
+line_part program m (line.Functions k follows) = elements follows (function_lines program m k)
 line_part program m (line.Body f) = body_text program f
-line_part program m (line.Operators os behind) =
-    elements behind (map on_a_line (map (operator_text program m) os.now))
+line_part program m (line.Operators os follows) =
+    elements follows (map on_a_line (map (operator_text program m) os.now))
 
 -- the text of several parts, the first part first
 abbrev pub line_parts : Lowered → ℕ → List Line → List ℕ
@@ -102,8 +102,8 @@ abbrev pub lines_left_with : Line → ModuleText → List ℕ
 lines_left_with l s = line_part (lowered_of s.wording) s.module l ++ lines_left s
 
 -- a text, and then that of the parts that are left
-abbrev pub lines_left_behind : List ℕ → ModuleText → List ℕ
-lines_left_behind text s = text ++ lines_left s
+abbrev pub lines_left_after : List ℕ → ModuleText → List ℕ
+lines_left_after text s = text ++ lines_left s
 
 -- the text of what is to be written before the next part
 abbrev pub work_left : Work → List ℕ
@@ -113,8 +113,8 @@ work_left (work.Inferred inferred) = inferred_left inferred
 work_left (work.Expressions expressions) = left_of expressions
 
 -- the text of what is to be written before the next part, and of the parts that are left
-abbrev pub left_behind : Work → ModuleText → List ℕ
-left_behind w s = work_left w ++ lines_left s
+abbrev pub left_after : Work → ModuleText → List ℕ
+left_after w s = work_left w ++ lines_left s
 
 -- the text of all that is left
 abbrev pub all_left : Writer → List ℕ

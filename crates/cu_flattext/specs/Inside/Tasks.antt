@@ -45,16 +45,16 @@ bound_in code (task.Text text) = 0
 bound_in code (task.Number x k) = 0
 
 -- the numbers of variables after a task
-abbrev pub numbers_behind : Task → Numbers → Numbers
-numbers_behind (task.Number x k) numbers = numbered x k numbers
-numbers_behind _ numbers = numbers
+abbrev pub numbers_after : Task → Numbers → Numbers
+numbers_after (task.Number x k) numbers = numbered x k numbers
+numbers_after _ numbers = numbers
 
 -- the text of several tasks, the first task first, where the next variable has the number n
 abbrev pub all_parts : Lowered → Code → List Task → ℕ → Numbers → List ℕ
 all_parts program code [] n numbers = []
 all_parts program code (t ∷ ts) n numbers =
     part_of program code t n numbers ++ all_parts program code ts (n + bound_in code t)
-    (numbers_behind t numbers)
+    (numbers_after t numbers)
 
 -- the text of the tasks that are left
 abbrev pub left_of : Expressions → List ℕ

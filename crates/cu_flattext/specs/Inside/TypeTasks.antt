@@ -81,15 +81,15 @@ type_part program scopes (task.Text text) = text.now
 type_part program scopes task.Leave = []
 
 -- the scopes after a task
-abbrev pub scopes_behind : TypeTask → List Scope → List Scope
-scopes_behind task.Leave scopes = take (length scopes - 1) scopes
-scopes_behind _ scopes = scopes
+abbrev pub scopes_after : TypeTask → List Scope → List Scope
+scopes_after task.Leave scopes = take (length scopes - 1) scopes
+scopes_after _ scopes = scopes
 
 -- the text of several tasks, the first task first, in these scopes
 abbrev pub type_parts : Lowered → List Scope → List TypeTask → List ℕ
 type_parts program scopes [] = []
 type_parts program scopes (t ∷ ts) =
-    type_part program scopes t ++ type_parts program (scopes_behind t scopes) ts
+    type_part program scopes t ++ type_parts program (scopes_after t scopes) ts
 
 -- the text of the tasks that are left
 abbrev pub types_left : Types → List ℕ

@@ -69,8 +69,8 @@ BegunIsKnown w begun = IfSome begun (λ (b : code.Begun). IsKnown w.names b.name
 unfoldable pub let_form_of : Setting → Scope → Option Begun → Declaration → List blocks.Bound
 let_form_of w local begun d = table.let_of w.around local begun (declaration_meaning w.names d)
 
-unfoldable pub lets_behind : Setting → Scope → Option Begun → List Declaration → List blocks.Bound
-lets_behind w local begun ds = table.lets w.around local begun (declarations_meaning w.names ds)
+unfoldable pub lets_after : Setting → Scope → Option Begun → List Declaration → List blocks.Bound
+lets_after w local begun ds = table.lets w.around local begun (declarations_meaning w.names ds)
 
 -- The definitions found grew by those of a declaration, and this is the function whose rules may go
 -- on.

@@ -17,7 +17,7 @@ use Rattle.cu_translation.specs.Functions.{goal_parameter}
 use Rattle.cu_translation.specs.LocalFunctions as functions
 use Rattle.cu_translation.specs.LocalNames.{Otherwise, Scope, Whole}
 use Rattle.cu_translation.specs.Meaning.{Setting}
-use Rattle.cu_forms.specs.Functions.{behind_first, element_in, qualifiers_in}
+use Rattle.cu_forms.specs.Functions.{after_first, element_in, qualifiers_in}
 use Rattle.cu_forms.specs.Inside.Lists.{list_term}
 
 abbrev pub parameter_of : Setting → code.Name → calculus.Pattern
@@ -31,7 +31,7 @@ selector_of w p x = functions.selector w.around (pattern_meaning w.names p) (nam
 unfoldable pub rest_form : Setting → Scope → Expression → ℕ → LocalTerm
 rest_form w local whole count =
     functions.rest_of w.around local (element_in (expression_meaning w.names whole))
-    (behind_first count (qualifiers_in (expression_meaning w.names whole)))
+    (after_first count (qualifiers_in (expression_meaning w.names whole)))
 
 -- the function of a qualifier, given the rest of the comprehension
 unfoldable pub generator_of : Setting → Position → Pattern → LocalTerm → LocalFunction

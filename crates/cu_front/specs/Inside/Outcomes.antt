@@ -41,10 +41,10 @@ kept stage.NoMemory = Err stage.NoMemory
 -- ---- parts in a row
 
 -- the outcome for a program and a part after it: both joined, or the refusal that is found first
-abbrev pub behind : Outcome → Outcome → Outcome
-behind (outcome.Program first) (outcome.Program second) = outcome.Program (joined first second)
-behind (outcome.Program first) (outcome.Refused refusal) = outcome.Refused refusal
-behind (outcome.Refused refusal) second = outcome.Refused refusal
+abbrev pub followed_by : Outcome → Outcome → Outcome
+followed_by (outcome.Program first) (outcome.Program second) = outcome.Program (joined first second)
+followed_by (outcome.Program first) (outcome.Refused refusal) = outcome.Refused refusal
+followed_by (outcome.Refused refusal) second = outcome.Refused refusal
 
 -- The numbers of a part follow those of the program before it.
 abbrev pub Follow : Outcome → Outcome → Type 0

@@ -26,8 +26,8 @@ use Rattle.cu_translation.specs.Parts.{goal_part}
 use Rattle.cu_translation.specs.Translation as translation
 use Rattle.cu_translation.specs.Translation.{goal_translation}
 use Rattle.cu_uses.specs.Faults as uses
-use Rattle.cu_front.specs.Compiling.{Compiles, GoalRefused, Held, ModulesCompile}
-use Rattle.cu_front.specs.Compiling.{ModulesRefused, Refuses, whole_program}
+use Rattle.cu_front.specs.Compiling.{Compiles, GoalRefused, Folder, ModulesCompile}
+use Rattle.cu_front.specs.Compiling.{ModulesRefused, RequestRefused, whole_program}
 use Rattle.cu_front.specs.declared.fault.CompileFault.{CompileFault}
 use Rattle.cu_front.specs.declared.fault.CompileFault.TheVariants as answer
 use Rattle.cu_front.specs.declared.fault.StageFault.{StageFault}
@@ -114,26 +114,26 @@ pub record IsInTypes (P : List ℕ → type_faults.Fault → Type 0) (refusal : 
 -- The modules that the root reaches are refused, for this reason, whatever folder holds them.
 abbrev pub RefusesModules : List Named → List ℕ → Refusal → Type 0
 RefusesModules modules root refusal =
-    (held : Held) → Walk held root (Ok modules) → ModulesRefused held root refusal
+    (held : Folder) → Walk held root (Ok modules) → ModulesRefused held root refusal
 
 -- The modules that the root reaches come to this program, with these types, whatever folder holds
 -- them.
 abbrev pub CompileAlone : List Named → List ℕ → List (List ℕ) → Kernel → List TypeExpr
     → calculus.Program → Type 0
 CompileAlone modules root names program interface flat =
-    (held : Held) → Walk held root (Ok modules)
+    (held : Folder) → Walk held root (Ok modules)
     → ModulesCompile held root modules names program interface flat
 
 -- The modules, or a goal in the root, are refused, for this reason, whatever folder holds them.
 abbrev pub RefusesBoth : List Named → List ℕ → List ℕ → Refusal → Type 0
 RefusesBoth modules root text refusal =
-    (held : Held) → Walk held root (Ok modules) → Refuses held root text refusal
+    (held : Folder) → Walk held root (Ok modules) → RequestRefused held root text refusal
 
 -- The modules and a goal in the root come to this program, whatever folder holds them.
 abbrev pub CompileBoth :
     List Named → List ℕ → List ℕ → List (List ℕ) → Kernel → calculus.Program → Type 0
 CompileBoth modules root text names program flat =
-    (held : Held) → Walk held root (Ok modules) → Compiles held root text names program flat
+    (held : Folder) → Walk held root (Ok modules) → Compiles held root text names program flat
 
 -- ---- before lifting
 

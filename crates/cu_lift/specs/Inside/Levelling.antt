@@ -111,11 +111,11 @@ pub record IsFirstCall (ranks : List ℕ) (calls : List (Option Call)) (first : 
 
 -- a walk from a function to a caller, and from what it collects back
 pub record IsCycleOf (g : Graph) (first caller collected : ℕ) (cycle : List FunId) : Type 0 where
-  pub front : List FunId
-  pub back : List FunId
-  pub to : Steps g first front caller
-  pub from : Steps g collected back first
-  pub whole : cycle ≡ front ++ record { 0 = caller } ∷ back
+  pub prefix : List FunId
+  pub suffix : List FunId
+  pub to : Steps g first prefix caller
+  pub from : Steps g collected suffix first
+  pub whole : cycle ≡ prefix ++ record { 0 = caller } ∷ suffix
 
 -- each demand fits below a bound
 abbrev pub AreBelow : ℕ → List ℕ → Type 0

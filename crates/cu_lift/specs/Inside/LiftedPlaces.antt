@@ -42,7 +42,7 @@ pub record AreRows (locals : List LocalFunction) (rows : List (List ℕ)) : Type
   pub as_many : length rows ≡ length locals
   pub each : (k : ℕ) (row : List ℕ) → slice_get rows k ≡ Some row → AreCaptured locals k row
 
--- the names of functions that have these numbers, behind the one with the text and its number
+-- the names of functions that have these numbers, after the one with the text and its number
 pub record AreNames (texts : List (List ℕ)) (text : List ℕ) (number : ℕ) (numbers : List ℕ)
     (ids : List NameId) : Type 0 where
   pub as_many : length ids ≡ length numbers

@@ -15,9 +15,9 @@ use Rattle.cu_modules.specs.Walk.{Refusal, VisitAll, import_names, is_there}
 -- The imports before those that are left are done.
 pub record Skipped (names : List (List ℕ)) (done : List declared.Module)
     (all left : List NameId) : Type 0 where
-  pub front : List NameId
-  pub there : All (λ id. is_there (modules_of names done) (text_of names id) ≡ true) front
-  pub whole : all ≡ front ++ left
+  pub prefix : List NameId
+  pub there : All (λ id. is_there (modules_of names done) (text_of names id) ≡ true) prefix
+  pub whole : all ≡ prefix ++ left
 
 -- the first import that isn't done, if there is one, and those after it
 abbrev pub Seeks : List (List ℕ) → List declared.Module → List NameId → Option NameId → List NameId
@@ -69,9 +69,9 @@ Finishes held base (m ∷ outer) done outcome =
 -- A module on the path, whose name isn't on the path before it. Its imports are met, but for those
 -- that are left.
 pub record IsPending (path met : List (List ℕ)) (m : Open) : Type 0 where
-  pub front : List (List ℕ)
-  pub imports : import_names (named_of m) ≡ front ++ m.left
-  pub there : All (λ text. is_among met text ≡ true) front
+  pub prefix : List (List ℕ)
+  pub imports : import_names (named_of m) ≡ prefix ++ m.left
+  pub there : All (λ text. is_among met text ≡ true) prefix
   pub new : is_among path m.name ≡ false
   pub own : IsOwn (named_of m)
 

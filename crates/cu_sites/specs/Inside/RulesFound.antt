@@ -1,7 +1,7 @@
 -- Rules that were found, and the functions to which they belong.
 use Rattle.std.specs.Prelude.{◌≡◌, ℕ, List, [], ◌∷◌, ◌++◌, Option, None, Some, IfSome, map, option_map}
 use Rattle.std.specs.List.{All}
-use Rattle.cu_translation.specs.Rules.{Begun, Group, Rule, groups_behind, leading}
+use Rattle.cu_translation.specs.Rules.{Begun, Group, Rule, groups_after, leading}
 use Rattle.cu_sites.specs.declared.grouping.Grouping.{Grouping}
 use Rattle.cu_sites.specs.declared.rules.Group as groups
 use Rattle.cu_sites.specs.declared.rules.Rule as rules
@@ -26,11 +26,11 @@ begun_at r = record { name = r.name.text; at = r.at }
 -- the groups of rules when these rules are read too, after those of `done` and of the group that
 -- may go on, if there is one
 abbrev pub grouped : List Group → Option Group → List (Option Rule) → List Group
-grouped done None rest = done ++ groups_behind None rest
+grouped done None rest = done ++ groups_after None rest
 grouped done (Some g) rest =
     done ++
     record { first = g.first; others = g.others ++ leading g.first.name.text rest } ∷
-    groups_behind (Some (begun_at g.first)) rest
+    groups_after (Some (begun_at g.first)) rest
 
 -- the groups of rules when these rules are read too, after those that the code has read
 abbrev pub all_grouped : List (List ℕ) → Grouping → List (Option Rule) → List Group

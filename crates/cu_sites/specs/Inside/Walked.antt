@@ -30,7 +30,7 @@ use Rattle.cu_sites.specs.declared.sites.Sites.{Sites}
 use Rattle.cu_sites.specs.declared.walk.BlockSpot.{BlockSpot}
 use Rattle.cu_sites.specs.declared.walk.Step.{Step}
 use Rattle.cu_locals.specs.Text.{Text}
-use Rattle.cu_sites.specs.Meaning.{behind, element_in, qualifiers_in, rule_meaning}
+use Rattle.cu_sites.specs.Meaning.{qualifiers_after, element_in, qualifiers_in, rule_meaning}
 use Rattle.cu_sites.specs.Inside.Entering.{IsAt, IsBlock, Writes}
 use Rattle.cu_locals.specs.BegunFound.{IsBefore}
 use Rattle.cu_uses.specs.Inside.Gathered.{pattern_binds, patterns_bind}
@@ -155,9 +155,10 @@ pub record IsComprehension (t : Text) (whole : Expression) (element : syntax.Exp
 pub record IsStep (t : Text) (s : Sites) (step : Step) (spot : Spot) (element : syntax.Expression)
     (others : syntax.Qualifiers) (q : Qualifier) : Type 0 where
   pub before : IsAt t s step.before spot
-  pub behind_it : IsAt t s step.behind (past (qualifier_of t.names q) spot)
+  pub after_it : IsAt t s step.after (past (qualifier_of t.names q) spot)
   pub of : ExpressionIsOf t.owner t.names step.whole
-  pub follow : behind step.number (qualifiers_in (expression_meaning t.names step.whole)) ≡ others
+  pub follow : qualifiers_after step.number (qualifiers_in (expression_meaning t.names step.whole))
+      ≡ others
   pub element_is : element_in (expression_meaning t.names step.whole) ≡ element
 
 -- ---- blocks

@@ -39,9 +39,9 @@ abbrev pub became : Substitution → List ℕ → Option (List ℕ)
 became σ [] = Some []
 became σ (x ∷ xs) = with_first (variable_of (σ x)) (became σ xs)
 
-abbrev pub behind : List ℕ → Option (List ℕ) → Option (List ℕ)
-behind ys None = None
-behind ys (Some zs) = Some (ys ++ zs)
+abbrev pub prefixed : List ℕ → Option (List ℕ) → Option (List ℕ)
+prefixed ys None = None
+prefixed ys (Some zs) = Some (ys ++ zs)
 
 -- a list with these numbers after its own, if they are new in it and differ
 abbrev pub joined : List ℕ → List ℕ → Option (List ℕ)

@@ -88,11 +88,11 @@ pub record Proceeds (ss : List Shape) (root : ℕ) (final : List ℕ) (n : Numbe
   pub nearer : efforts (trees ss) tasks < efforts (trees ss) was
 
 -- a type was made, and its place comes last of the places
-pub record Pushes (before after : Numbering) (front : List ℕ) (t : TypeExpr) : Type 0 where
+pub record Pushes (before after : Numbering) (prefix : List ℕ) (t : TypeExpr) : Type 0 where
   pub place : ℕ
   pub reader : IsReader after.made
   pub reads : Reads (shapes before.made) (shapes after.made) t place
-  pub pushed : after.places.items ≡ front ++ place ∷ []
+  pub pushed : after.places.items ≡ prefix ++ place ∷ []
 
 -- the type at a place was made of the types that were made last, `count` of them
 pub record Joins (before after : Numbering) (p : ℕ) (h : TypeHead) (count : ℕ) : Type 0 where

@@ -17,7 +17,7 @@ use Rattle.cu_syntax.specs.ExpressionMeaning.{expression_meaning, expressions_me
 use Rattle.cu_syntax.specs.Expressions.{alternatives_meaning, maybe_meaning, qualifier_meaning, qualifiers_meaning, rest_meaning}
 use Rattle.cu_syntax.specs.Syntax.{Name}
 use Rattle.cu_uses.specs.Binders.{declared_names}
-use Rattle.cu_uses.specs.Demands.{Demand, all_demands, alternatives_demands, behind, declaration_demands, declarations_demands, expression_demands, guards_demands, maybe_demands, qualifier_demands, qualifier_names, qualifiers_demands, rest_demands, right_demands, used, with}
+use Rattle.cu_uses.specs.Demands.{Demand, all_demands, alternatives_demands, scope_after, declaration_demands, declarations_demands, expression_demands, guards_demands, maybe_demands, qualifier_demands, qualifier_names, qualifiers_demands, rest_demands, right_demands, used, with}
 use Rattle.cu_uses.specs.Inside.Blocks.{block_asks, block_declares}
 use Rattle.cu_uses.specs.Inside.Gathered.{pattern_binds, pattern_builds, patterns_bind, patterns_build}
 
@@ -59,7 +59,7 @@ unfoldable pub qualifiers_ask : List (List ℕ) → List (List ℕ) → Expressi
     → List Demand
 qualifiers_ask names local element qs =
     qualifiers_demands local (qualifiers_meaning names qs)
-    ++ expression_demands (behind local (qualifiers_meaning names qs))
+    ++ expression_demands (scope_after local (qualifiers_meaning names qs))
     (expression_meaning names element)
 
 -- ---- what expressions ask, by their parts

@@ -46,10 +46,10 @@ pub record Gathers (owner : NameId) (names : List (List ℕ)) (before : Block)
   pub names_added : Adds owner names before.names.items (declared_names declared) after.names.items
   pub signed_added : Adds owner names before.signed.items signs after.signed.items
   pub keeps : IsOfModule owner names before → IsOfModule owner names after
-  pub once : IsOfModule owner names before → (behind : List Declared)
+  pub once : IsOfModule owner names before → (later : List Declared)
       → names_meaning names before.once.items
-      ++ declared_once (function_text names before) (declared ++ behind)
-      ≡ names_meaning names after.once.items ++ declared_once (function_text names after) behind
+      ++ declared_once (function_text names before) (declared ++ later)
+      ≡ names_meaning names after.once.items ++ declared_once (function_text names after) later
 
 -- What a block gathered is what these declarations and these names of signatures are.
 pub record IsBlockOf (owner : NameId) (names : List (List ℕ)) (declared : List Declared)

@@ -12,7 +12,7 @@ use Rattle.cu_syntax.specs.Patterns.{pattern_meaning, patterns_meaning, rest_mea
 use Rattle.cu_syntax.specs.Syntax.{Name}
 use Rattle.cu_syntax.specs.Types.{type_meaning, types_meaning}
 use Rattle.cu_uses.specs.declared.found.Found.{Found}
-use Rattle.cu_uses.specs.Binders.{all_type_constructors, all_type_variables, constructors, constructors_behind, pattern_constructors, pattern_variables, type_constructors, type_variables, variables, variables_behind}
+use Rattle.cu_uses.specs.Binders.{all_type_constructors, all_type_variables, constructors, constructors_after, pattern_constructors, pattern_variables, type_constructors, type_variables, variables, variables_after}
 
 abbrev pub names_meaning : List (List ℕ) → List code.Name → List Name
 names_meaning names found = map (name_meaning names) found
@@ -30,10 +30,10 @@ unfoldable pub patterns_build : List (List ℕ) → List Pattern → List Name
 patterns_build names ps = constructors (patterns_meaning names ps)
 
 unfoldable pub operands_bind : List (List ℕ) → List ConstructorItem → List Name
-operands_bind names items = variables_behind (rest_meaning names items)
+operands_bind names items = variables_after (rest_meaning names items)
 
 unfoldable pub operands_build : List (List ℕ) → List ConstructorItem → List Name
-operands_build names items = constructors_behind (rest_meaning names items)
+operands_build names items = constructors_after (rest_meaning names items)
 
 unfoldable pub type_binds : List (List ℕ) → TypeTerm → List Name
 type_binds names t = type_variables (type_meaning names t)

@@ -1,4 +1,4 @@
-use Rattle.cu_calculus.proofs.Choosing.{again_takes_fewer, chooses_chosen, chooses_one, chosen_chooses, chosen_looks, narrow_takes_fewer}
+use Rattle.cu_calculus.proofs.Choosing.{again_takes_fewer, chooses_chosen, chooses_one, chosen_chooses, chosen_looks, specialize_takes_fewer}
 use Rattle.cu_calculus.proofs.laws.choosing_is_a_function.Goals as goal
 
 pub returns : goal.returns
@@ -7,5 +7,5 @@ returns c = record {
   one = chooses_one;
   looks = chosen_looks;
   again = again_takes_fewer;
-  narrow = narrow_takes_fewer;
+  specialize = specialize_takes_fewer;
 }

@@ -6,25 +6,25 @@ use Rattle.cu_machine.specs.Listing.{Listing}
 use Rattle.cu_cmd.proofs.search.list.Goals as goal
 
 pub returns-in_err-end-clause-prefix : goal.returns-in_err-end-clause-prefix
-returns-in_err-end-clause-prefix g c = λ wanted has.
+returns-in_err-end-clause-prefix g c = λ sought has.
     part_written _ _ _ _ _
-    (bytes_are _ c.args.problem.now.names.now c.args.problem.now.compiled.now.program c.args.problem.now.compiled.now.flat c.args.problem.now.limits (goal_meaning c.in-Some.goal.now) wanted
+    (bytes_are _ c.args.problem.now.names.now c.args.problem.now.compiled.now.program c.args.problem.now.compiled.now.flat c.args.problem.now.limits (goal_meaning c.in-Some.goal.now) sought
     (record { is = c.in_ok-search.ensures.standing; of_program = c.in-Some.ensures.goal; laid = c.requires.layout }) has)
-    c.in_err-end.ensures.front
+    c.in_err-end.ensures.prefix
 
 pub returns-clause-status : goal.returns-clause-status
-returns-clause-status g c = λ wanted has.
+returns-clause-status g c = λ sought has.
     c.status_of.ensures.status
     ∙ ap report.status_of (
     c.in_ok-end.ensures.end
     ∙ ap (λ (found : Listing). found.end)
-    (left_is _ c.args.problem.now.names.now c.args.problem.now.compiled.now.program c.args.problem.now.compiled.now.flat c.args.problem.now.limits (goal_meaning c.in-Some.goal.now) wanted
+    (left_is _ c.args.problem.now.names.now c.args.problem.now.compiled.now.program c.args.problem.now.compiled.now.flat c.args.problem.now.limits (goal_meaning c.in-Some.goal.now) sought
     (record { is = c.in_ok-search.ensures.standing; of_program = c.in-Some.ensures.goal; laid = c.requires.layout }) has)
     )
 
 pub returns-clause-whole : goal.returns-clause-whole
-returns-clause-whole g c = λ wanted has.
+returns-clause-whole g c = λ sought has.
     all_written _ _ _ _
-    (bytes_are _ c.args.problem.now.names.now c.args.problem.now.compiled.now.program c.args.problem.now.compiled.now.flat c.args.problem.now.limits (goal_meaning c.in-Some.goal.now) wanted
+    (bytes_are _ c.args.problem.now.names.now c.args.problem.now.compiled.now.program c.args.problem.now.compiled.now.flat c.args.problem.now.limits (goal_meaning c.in-Some.goal.now) sought
     (record { is = c.in_ok-search.ensures.standing; of_program = c.in-Some.ensures.goal; laid = c.requires.layout }) has)
     c.in_ok-end.ensures.whole

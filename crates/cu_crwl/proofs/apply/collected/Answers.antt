@@ -3,7 +3,7 @@ use Rattle.std.proofs.Common.{◌+◌, List, ◌++◌, ap, drop, ◌∙◌}
 use Rattle.std.proofs.lemmas.List.{drop_all}
 use Rattle.cu_kernel.specs.Heads.{heads_program}
 use Rattle.cu_values.specs.declared.cell.Cell.{Cell}
-use Rattle.cu_crwl.proofs.ListCells.{all_written, is_one, list_behind, one_written, reads}
+use Rattle.cu_crwl.proofs.ListCells.{all_written, is_one, list_after, one_written, reads}
 use Rattle.cu_crwl.proofs.Pairwise.{left}
 use Rattle.cu_crwl.proofs.apply.collected.Goals as goal
 
@@ -23,7 +23,7 @@ spelled-requires c =
     let special = c.args.heads.now.special.now in
     let values = c.args.values.now in
     let i = c.loop-value.value-index in
-    is_one c.push-2.new.self.items (list_behind c.args.constructor special.nil special.cons values)
+    is_one c.push-2.new.self.items (list_after c.args.constructor special.nil special.cons values)
     (all_written c.args.constructor special.nil special.cons c.loop-value.cells.items c.push-2.new.self.items (drop i values) values
     (drop_all i values c.loop-value-test.false) c.loop-value.invariant c.in_ok-push-3.ensures.items)
 
@@ -34,6 +34,6 @@ returns c =
     let values = c.args.values.now in
     let i = c.loop-value.value-index in
     c.spelled.ensures.read
-    ∙ reads c.push-2.new.self.items (list_behind c.args.constructor special.nil special.cons values)
+    ∙ reads c.push-2.new.self.items (list_after c.args.constructor special.nil special.cons values)
     (all_written c.args.constructor special.nil special.cons c.loop-value.cells.items c.push-2.new.self.items (drop i values) values
     (drop_all i values c.loop-value-test.false) c.loop-value.invariant c.in_ok-push-3.ensures.items)

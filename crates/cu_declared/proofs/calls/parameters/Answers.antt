@@ -10,7 +10,7 @@ use Rattle.cu_syntax.specs.Owners.{ItemIsOf, ModuleIsOf}
 use Rattle.cu_declared.specs.Inside.Items.{items_parameters}
 use Rattle.cu_declared.specs.Inside.Numbers.{Gains}
 use Rattle.cu_declared.specs.Parameters.{built_in_parameters}
-use Rattle.cu_declared.proofs.CallLemmas.{parameters_end, parameters_front}
+use Rattle.cu_declared.proofs.CallLemmas.{parameters_end, parameters_prefix}
 use Rattle.cu_declared.proofs.calls.parameters.Goals as goal
 
 pub loop-m-init : goal.loop-m-init
@@ -26,7 +26,7 @@ loop-m-preserved c after rest =
     let one = subst (λ (o : NameId). IsKnown names o → All (ItemIsOf o names) text → Gains names c.loop-m.numbers (items_parameters names (text_of names o) text) c.add_parameters.new.numbers) c.name.ensures
     (λ known all. c.in_ok-add_parameters.ensures names c.count-count.ensures.differ known all) has.known owned in
     c.loop-m.invariant after
-    (parameters_front names c.args.modules.now c.loop-m.m-index m text c.loop-m.numbers c.add_parameters.new.numbers after c.m-item.is c.loop-m-test.true
+    (parameters_prefix names c.args.modules.now c.loop-m.m-index m text c.loop-m.numbers c.add_parameters.new.numbers after c.m-item.is c.loop-m-test.true
     (c.items-text.ensures.meaning names ∙ ap (λ (s : syntax.Module). (module_meaning names s).items) c.syntax.ensures) one rest)
 
 pub returns : goal.returns

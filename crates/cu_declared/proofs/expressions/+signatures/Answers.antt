@@ -14,7 +14,7 @@ use Rattle.cu_syntax.specs.Owners.{AlternativeIsOf, BodyIsOf, DeclarationIsOf, D
 use Rattle.cu_syntax.specs.Smaller.{alternative_size, declaration_size, expression_size, guard_size, operator_item_size, qualifier_size}
 use Rattle.cu_declared.specs.Inside.Gathered.{Adds, in_alternatives, in_body, in_declarations, in_expressions, in_guards, in_operands, in_qualifiers}
 use Rattle.cu_declared.proofs.AddsLemmas.{adds_both, adds_none, on_ok}
-use Rattle.cu_declared.proofs.UsesLemmas.{alternatives_end, alternatives_front, declaration_found, declarations_end, declarations_front, expression_found, expressions_end, expressions_front, guards_end, guards_front, maybe_none, maybe_some, operands_end, operands_front, qualifier_found, qualifiers_end, qualifiers_front, right_found}
+use Rattle.cu_declared.proofs.UsesLemmas.{alternatives_end, alternatives_prefix, declaration_found, declarations_end, declarations_prefix, expression_found, expressions_end, expressions_prefix, guards_end, guards_prefix, maybe_none, maybe_some, operands_end, operands_prefix, qualifier_found, qualifiers_end, qualifiers_prefix, right_found}
 use Rattle.cu_declared.proofs.expressions.+signatures.Goals as goal
 
 pub expression-returns-in-Variable : goal.expression-returns-in-Variable
@@ -124,7 +124,7 @@ expressions-expression-requires t c = (search (rules, largest expression_size c.
 pub expressions-loop-e-preserved : goal.expressions-loop-e-preserved
 expressions-loop-e-preserved t c owner names after all rest =
     c.loop-e.invariant owner names after all
-    (expressions_front (ExpressionIsOf owner names) owner names c.args.es.now c.loop-e.e-index c.e-item.result c.loop-e.found.items c.expression.new.found.items after c.e-item.is c.loop-e-test.true all
+    (expressions_prefix (ExpressionIsOf owner names) owner names c.args.es.now c.loop-e.e-index c.e-item.result c.loop-e.found.items c.expression.new.found.items after c.e-item.is c.loop-e-test.true all
     (λ of. c.in_ok-expression.ensures owner names of) rest)
 
 pub expressions-returns : goal.expressions-returns
@@ -137,7 +137,7 @@ operands-expression-requires t c = (search (rules, largest operator_item_size c.
 pub operands-loop-item-preserved : goal.operands-loop-item-preserved
 operands-loop-item-preserved t c owner names after all rest =
     c.loop-item.invariant owner names after all
-    (operands_front (OperatorItemIsOf owner names) owner names c.args.items.now c.loop-item.item-index c.item-item.result c.loop-item.found.items c.expression.new.found.items after c.item-item.is c.loop-item-test.true all
+    (operands_prefix (OperatorItemIsOf owner names) owner names c.args.items.now c.loop-item.item-index c.item-item.result c.loop-item.found.items c.expression.new.found.items after c.item-item.is c.loop-item-test.true all
     (λ of. c.in_ok-expression.ensures owner names of.2) rest)
 
 pub operands-returns : goal.operands-returns
@@ -150,7 +150,7 @@ alternatives-right_side-requires t c = (search (rules, largest alternative_size 
 pub alternatives-loop-a-preserved : goal.alternatives-loop-a-preserved
 alternatives-loop-a-preserved t c owner names after all rest =
     c.loop-a.invariant owner names after all
-    (alternatives_front (AlternativeIsOf owner names) owner names c.args.cases.now c.loop-a.a-index c.a-item.result c.loop-a.found.items c.right_side.new.found.items after c.a-item.is c.loop-a-test.true all
+    (alternatives_prefix (AlternativeIsOf owner names) owner names c.args.cases.now c.loop-a.a-index c.a-item.result c.loop-a.found.items c.right_side.new.found.items after c.a-item.is c.loop-a-test.true all
     (λ of. c.in_ok-right_side.ensures owner names of.2) rest)
 
 pub alternatives-returns : goal.alternatives-returns
@@ -163,7 +163,7 @@ qualifiers-qualifier-requires t c = (search (rules, largest qualifier_size c.arg
 pub qualifiers-loop-q-preserved : goal.qualifiers-loop-q-preserved
 qualifiers-loop-q-preserved t c owner names after all rest =
     c.loop-q.invariant owner names after all
-    (qualifiers_front (QualifierIsOf owner names) owner names c.args.qs.now c.loop-q.q-index c.q-item.result c.loop-q.found.items c.qualifier.new.found.items after c.q-item.is c.loop-q-test.true all
+    (qualifiers_prefix (QualifierIsOf owner names) owner names c.args.qs.now c.loop-q.q-index c.q-item.result c.loop-q.found.items c.qualifier.new.found.items after c.q-item.is c.loop-q-test.true all
     (λ of. c.in_ok-qualifier.ensures owner names of) rest)
 
 pub qualifiers-returns : goal.qualifiers-returns
@@ -179,7 +179,7 @@ guards-expression-requires-in-loop-g t c = (search (rules, largest guard_size c.
 pub guards-loop-g-preserved : goal.guards-loop-g-preserved
 guards-loop-g-preserved t c owner names after all rest =
     c.loop-g.invariant owner names after all
-    (guards_front (GuardIsOf owner names) owner names c.args.cases.now c.loop-g.g-index c.g-item.result c.loop-g.found.items c.expression-in-loop-g.new.found.items after c.g-item.is c.loop-g-test.true all
+    (guards_prefix (GuardIsOf owner names) owner names c.args.cases.now c.loop-g.g-index c.g-item.result c.loop-g.found.items c.expression-in-loop-g.new.found.items after c.g-item.is c.loop-g-test.true all
     (λ of. adds_both (c.in_ok-expression.ensures owner names of.1) (c.in_ok-expression-2.ensures owner names of.2)) rest)
 
 pub guards-returns : goal.guards-returns
@@ -192,7 +192,7 @@ declarations-declaration-requires t c = (search (rules, largest declaration_size
 pub declarations-loop-d-preserved : goal.declarations-loop-d-preserved
 declarations-loop-d-preserved t c owner names after all rest =
     c.loop-d.invariant owner names after all
-    (declarations_front (DeclarationIsOf owner names) owner names c.args.ds.now c.loop-d.d-index c.d-item.result c.loop-d.found.items c.declaration.new.found.items after c.d-item.is c.loop-d-test.true all
+    (declarations_prefix (DeclarationIsOf owner names) owner names c.args.ds.now c.loop-d.d-index c.d-item.result c.loop-d.found.items c.declaration.new.found.items after c.d-item.is c.loop-d-test.true all
     (λ of. c.in_ok-declaration.ensures owner names of) rest)
 
 pub declarations-returns : goal.declarations-returns

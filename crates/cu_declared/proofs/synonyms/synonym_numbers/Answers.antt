@@ -2,7 +2,7 @@ use Rattle.std.proofs.Common.{[], get_or}
 use Rattle.std.proofs.lemmas.List.Elements.{All-get_or}
 use Rattle.cu_declared.specs.Inside.Synonyms.{SynonymIsOf}
 use Rattle.cu_declared.proofs.ArityLemmas.{get_or_any}
-use Rattle.cu_declared.proofs.SynonymLemmas.{numbers_end, numbers_front}
+use Rattle.cu_declared.proofs.SynonymLemmas.{numbers_end, numbers_prefix}
 use Rattle.cu_declared.proofs.synonyms.synonym_numbers.Goals as goal
 
 pub loop-number-init : goal.loop-number-init
@@ -14,7 +14,7 @@ loop-number-preserved c owner names after differ known all rest =
     let x = get_or xs c.loop-number.number c.index-synonyms-number.result in
     let of = All-get_or (SynonymIsOf owner names) xs c.loop-number.number c.index-synonyms-number.result c.loop-number-test.true all in
     c.loop-number.invariant owner names after differ known all
-    (numbers_front names c.args.owner xs c.loop-number.number x c.loop-number.numbers c.add.new.self after
+    (numbers_prefix names c.args.owner xs c.loop-number.number x c.loop-number.numbers c.add.new.self after
     (get_or_any xs c.loop-number.number c.index-synonyms-number.result x c.loop-number-test.true) c.loop-number-test.true
     (c.in_ok-add.ensures names differ known of.name) rest)
 

@@ -27,13 +27,13 @@ pub loop-group-preserved : goal.loop-group-preserved
 loop-group-preserved c t owned =
     let P = GroupIsOf t.owner t.names in
     let left = into_iter_items c.loop-group.group-iterator in
-    let behind = into_iter_items c.next.new.self in
+    let after = into_iter_items c.next.new.self in
     let g = c.in-Some.group in
     let split = c.in-Some.ensures.steps.0 in
     let before = c.loop-group.invariant t owned in
     let all = subst (All P) split before.owned in
-    found_one t (groups_in (module_of t.names c.args.module.now)) c.loop-group.texts.items c.push.new.self.items left behind g c.in_ok-text.text split c.in_ok-push.ensures.items c.in_ok-text.ensures.same
-    (c.in_ok-text.ensures.is t (All-head P g behind all)) (All-tail P g behind all) before
+    found_one t (groups_in (module_of t.names c.args.module.now)) c.loop-group.texts.items c.push.new.self.items left after g c.in_ok-text.text split c.in_ok-push.ensures.items c.in_ok-text.ensures.same
+    (c.in_ok-text.ensures.is t (All-head P g after all)) (All-tail P g after all) before
 
 pub returns : goal.returns
 returns c t owned =

@@ -1,11 +1,11 @@
-use Rattle.cu_faults.proofs.RecursiveLemmas.{all_are, all_end, all_front}
+use Rattle.cu_faults.proofs.RecursiveLemmas.{all_are, all_end, all_prefix}
 use Rattle.cu_faults.proofs.ToldLemmas.{told_as}
 use Rattle.cu_faults.proofs.functions.tell_recursive.Goals as goal
 
 pub loop-variable-preserved : goal.loop-variable-preserved
 loop-variable-preserved c nodes after are rest =
     c.loop-variable.invariant nodes after are
-    (all_front nodes c.args.owner c.variables-variable-items.result.now c.loop-variable.variable-index _ c.loop-variable.first c.recursive.new.first after
+    (all_prefix nodes c.args.owner c.variables-variable-items.result.now c.loop-variable.variable-index _ c.loop-variable.first c.recursive.new.first after
     c.loop-variable-test.true (c.in_ok-recursive.ensures nodes are) rest)
 
 pub returns : goal.returns

@@ -1,7 +1,7 @@
 use Rattle.std.proofs.Common.{subst, sym}
 use Rattle.cu_sites.specs.Meaning.{AreNodes}
 use Rattle.cu_translation.specs.Faults.{faults_of}
-use Rattle.cu_faults.proofs.NodeLemmas.{closed, node_end, node_front, opened}
+use Rattle.cu_faults.proofs.NodeLemmas.{closed, node_end, node_prefix, opened}
 use Rattle.cu_faults.proofs.nodes.tell_nodes.Goals as goal
 
 pub loop-node-init : goal.loop-node-init
@@ -12,10 +12,10 @@ loop-node-preserved g c t a nodes tells are =
     let sites = c.args.sites.now in
     let before = c.loop-node.invariant t a nodes tells are in
     let o = opened t sites.entries.items sites.blocks.items c.nodes-node-items.result.now c.loop-node.node-index c.node-item.result before.0 c.node-item.is c.loop-node-test.true before.1 in (
-      o.behind,
+      o.after,
       o.are,
       λ after rest. before.2 after
-          (node_front t.owner (faults_of a) before.0 o.node o.behind c.loop-node.first c.faults_at.new.first after o.left_is (c.in_ok-faults_at.ensures t a o.node tells o.is.spot o.is.site) rest),
+          (node_prefix t.owner (faults_of a) before.0 o.node o.after c.loop-node.first c.faults_at.new.first after o.left_is (c.in_ok-faults_at.ensures t a o.node tells o.is.spot o.is.site) rest),
     )
 
 pub returns : goal.returns

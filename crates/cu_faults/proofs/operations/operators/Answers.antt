@@ -4,7 +4,7 @@ use Rattle.cu_fixity.specs.Owners.{PartIsOf}
 use Rattle.cu_syntax.specs.Owners.{ExpressionIsOf, NameIsOf}
 use Rattle.cu_faults.specs.Inside.Uses.{parts_faults}
 use Rattle.cu_faults.specs.Telling.{Told}
-use Rattle.cu_faults.proofs.UseLemmas.{operator_owned, part_end, part_front}
+use Rattle.cu_faults.proofs.UseLemmas.{operator_owned, part_end, part_prefix}
 use Rattle.cu_faults.proofs.operations.operators.Goals as goal
 
 pub loop-part-preserved : goal.loop-part-preserved
@@ -18,7 +18,7 @@ loop-part-preserved g c w local tells sees all =
       subst (λ o. IfSome o (NameIsOf w.owner w.names)) (sym c.operator_in-before.ensures) (operator_owned w.owner w.names x of),
       λ after rest.
           before.1 after
-          (part_front w local c.loop-part.before parts i x c.loop-part.first c.operator.new.first after c.part-item.is c.loop-part-test.true (c.in_ok-operator.ensures w local tells sees before.0 of)
+          (part_prefix w local c.loop-part.before parts i x c.loop-part.first c.operator.new.first after c.part-item.is c.loop-part-test.true (c.in_ok-operator.ensures w local tells sees before.0 of)
           (subst (λ o. Told w.owner c.operator.new.first (parts_faults w local o (drop (i + 1) parts)) after) c.operator_in-before.ensures rest)),
     )
 

@@ -10,7 +10,7 @@ use Rattle.cu_syntax.specs.Smaller.{constructor_item_size, pattern_size}
 use Rattle.cu_uses.proofs.FoundLemmas.{on_ok}
 use Rattle.cu_faults.specs.Inside.Patterns.{constructed_told, operands_told, operators_told, pattern_told, patterns_told}
 use Rattle.cu_faults.specs.Telling.{Told}
-use Rattle.cu_faults.proofs.PatternLemmas.{operands_end, operands_front, pattern_by, patterns_end, patterns_front}
+use Rattle.cu_faults.proofs.PatternLemmas.{operands_end, operands_prefix, pattern_by, patterns_end, patterns_prefix}
 use Rattle.cu_faults.proofs.ToldLemmas.{told_both, told_none}
 use Rattle.cu_faults.proofs.patterns.+patterns.Goals as goal
 
@@ -20,7 +20,7 @@ operands-pattern-requires g t c = λ κs e. (search (rules, largest constructor_
 pub operands-loop-item-preserved : goal.operands-loop-item-preserved
 operands-loop-item-preserved g t c w after tells all rest =
     c.loop-item.invariant w after tells all
-    (operands_front (ConstructorItemIsOf w.owner w.names) c.args.sought w c.args.items.now c.loop-item.item-index c.item-item.result c.loop-item.first c.pattern.new.first after c.item-item.is c.loop-item-test.true all
+    (operands_prefix (ConstructorItemIsOf w.owner w.names) c.args.sought w c.args.items.now c.loop-item.item-index c.item-item.result c.loop-item.first c.pattern.new.first after c.item-item.is c.loop-item-test.true all
     (λ of. told_both (c.constructed.ensures w tells of.0) (c.in_ok-pattern.ensures w tells of.1)) rest)
 
 pub operands-returns : goal.operands-returns
@@ -33,7 +33,7 @@ patterns-pattern-requires g t c = λ κs e. (search (rules, largest pattern_size
 pub patterns-loop-p-preserved : goal.patterns-loop-p-preserved
 patterns-loop-p-preserved g t c w after tells all rest =
     c.loop-p.invariant w after tells all
-    (patterns_front (PatternIsOf w.owner w.names) c.args.sought w c.args.ps.now c.loop-p.p-index c.p-item.result c.loop-p.first c.pattern.new.first after c.p-item.is c.loop-p-test.true all
+    (patterns_prefix (PatternIsOf w.owner w.names) c.args.sought w c.args.ps.now c.loop-p.p-index c.p-item.result c.loop-p.first c.pattern.new.first after c.p-item.is c.loop-p-test.true all
     (λ of. c.in_ok-pattern.ensures w tells of) rest)
 
 pub patterns-returns : goal.patterns-returns

@@ -2,7 +2,7 @@ use Rattle.std.proofs.Common.{ap, arith, subst, sym, ◌∙◌}
 use Rattle.cu_sites.specs.Meaning.{group_meaning}
 use Rattle.cu_translation.specs.Faults.{rule_faults}
 use Rattle.cu_faults.specs.Telling.{Told}
-use Rattle.cu_faults.proofs.RuleLemmas.{others_end, others_faults, others_found, others_front, place_owned}
+use Rattle.cu_faults.proofs.RuleLemmas.{others_end, others_faults, others_found, others_prefix, place_owned}
 use Rattle.cu_faults.proofs.ToldLemmas.{told_as, told_none}
 use Rattle.cu_faults.proofs.rules.tell_rules.Goals as goal
 
@@ -10,7 +10,7 @@ pub loop-rule-preserved : goal.loop-rule-preserved
 loop-rule-preserved c = record {
   nothing = c.loop-rule.invariant.nothing;
   faults = λ names.
-      others_front names c.args.group.now.first c.deref-rule-items.result.now c.loop-rule.rule-index c.rule-item.result c.rule-item.is c.loop-rule-test.true
+      others_prefix names c.args.group.now.first c.deref-rule-items.result.now c.loop-rule.rule-index c.rule-item.result c.rule-item.is c.loop-rule-test.true
       (omega (arith, c.len.ensures, c.if-len-count.false, c.len-count.ensures))
       ∙ c.loop-rule.invariant.faults names;
 }

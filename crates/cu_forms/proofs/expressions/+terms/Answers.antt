@@ -30,7 +30,7 @@ use Rattle.cu_translation.specs.Meaning.{entries_meaning, referent_meaning}
 use Rattle.cu_translation.specs.Table as table
 use Rattle.cu_translation.specs.Terms.{applied, no_term, referred}
 use Rattle.cu_uses.specs.Inside.Gathered.{pattern_binds}
-use Rattle.cu_forms.specs.Forms.{alternative_form, application_form, behind, block_form, block_term, body_form, free_form, comprehension_form, expression_form, guard_form, inside, let_form, operand_form, operators_term, right_form}
+use Rattle.cu_forms.specs.Forms.{alternative_form, application_form, scope_after, block_form, block_term, body_form, free_form, comprehension_form, expression_form, guard_form, inside, let_form, operand_form, operators_term, right_form}
 use Rattle.cu_forms.specs.Inside.Blocks.{guard_meaning, guards_term, row_meaning}
 use Rattle.cu_forms.specs.Inside.Calls.{built_in_term, referred_on}
 use Rattle.cu_forms.specs.Inside.Expressions.{Opens, alternatives_term, generated_term, is_function_rule}
@@ -289,7 +289,7 @@ alternative-returns g t c w local tells sees of =
     let entries = c.in_ok-entries.ensures (text w.owner w.names sees.differ) of.1 in
     let inner = sees_more w local (variable_entries (pattern_binds w.names c.args.case.pattern)) c.args.scope.now c.inside-inner.result c.as_slice.result.now c.in_ok-entries.entries.items sees c.as_slice.ensures.value
     entries.known entries.meaning c.inside-inner.ensures in
-    ap₂ (λ p u. (p, u)) (c.in_ok-matched.ensures w tells of.1) (c.in_ok-right.ensures w (behind w local c.args.case.pattern) tells inner of.2)
+    ap₂ (λ p u. (p, u)) (c.in_ok-matched.ensures w tells of.1) (c.in_ok-right.ensures w (scope_after w local c.args.case.pattern) tells inner of.2)
 
 pub let_in-returns : goal.let_in-returns
 let_in-returns g t c w local tells sees all is =

@@ -3,7 +3,7 @@ use Rattle.cu_lex.specs.Reading.{position_of}
 use Rattle.cu_locals.specs.Text.{text}
 use Rattle.cu_translation.specs.LocalNames.{variable_entries}
 use Rattle.cu_uses.specs.Inside.Gathered.{pattern_binds}
-use Rattle.cu_forms.specs.Forms.{behind}
+use Rattle.cu_forms.specs.Forms.{scope_after}
 use Rattle.cu_forms.specs.Inside.Functions.{generator_of}
 use Rattle.cu_forms.proofs.CallLemmas.{if_ok}
 use Rattle.cu_forms.proofs.FunctionLemmas.{generator_whole}
@@ -18,5 +18,5 @@ returns g c w local tells sees of is =
     let inner = sees_more w local (variable_entries (pattern_binds w.names p)) c.args.scope.now c.inside-inner.result c.as_slice.result.now c.in_ok-entries.entries.items sees c.as_slice.ensures.value
     entries.known entries.meaning c.inside-inner.ensures in
     if_ok c.generator.result
-    (λ f e. e ∙ ap (generator_of w at p) (c.in_ok-rest.ensures w (behind w local p) tells inner is) ∙ generator_whole w local at p c.args.whole c.args.count)
+    (λ f e. e ∙ ap (generator_of w at p) (c.in_ok-rest.ensures w (scope_after w local p) tells inner is) ∙ generator_whole w local at p c.args.whole c.args.count)
     (c.generator.ensures w tells of)

@@ -14,7 +14,7 @@ returns-in-Comprehension g c w local tells sees is =
     let qs = c.in-Comprehension.qualifiers in
     let n = c.args.count in
     let of = subst (ExpressionNodeIsOf w.owner w.names) c.in-Comprehension.is (c.in_ok-element.ensures.owned w.owner w.names is) in
-    let rest = c.behind-rest.ensures ∙ ap (drop n) c.as_slice.ensures.value in
+    let rest = c.after-rest.ensures ∙ ap (drop n) c.as_slice.ensures.value in
     let all = subst (All Q) (sym rest) (All-drop Q n qs.items of.2) in
     if_ok c.comprehension.result
     (λ t same. same ∙ ap (comprehension_form w local e) rest ∙ rest_is w local c.args.whole c.in_ok-element.field-0 c.in-Comprehension.field-0 e qs n (c.in_ok-element.ensures.meaning w.names) c.in-Comprehension.is)

@@ -14,9 +14,9 @@ pub loop-item-preserved : goal.loop-item-preserved
 loop-item-preserved g c w tells =
     let names = w.around.names in
     let left = map item_meaning c.pop.new.self.items in
-    let behind = map operand_meaning (reverse c.loop-item.stack.items) in
-    ap (operated_on names left) (c.in_ok-place.ensures w tells) ∙ sym (operated_append names left (item_meaning c.in-Some.item ∷ []) behind)
-    ∙ ap (λ xs. operated_on names xs behind) (sym (ap (map item_meaning) c.in-Some.ensures.items ∙ map-append item_meaning c.pop.new.self.items (c.in-Some.item ∷ [])))
+    let after = map operand_meaning (reverse c.loop-item.stack.items) in
+    ap (operated_on names left) (c.in_ok-place.ensures w tells) ∙ sym (operated_append names left (item_meaning c.in-Some.item ∷ []) after)
+    ∙ ap (λ xs. operated_on names xs after) (sym (ap (map item_meaning) c.in-Some.ensures.items ∙ map-append item_meaning c.pop.new.self.items (c.in-Some.item ∷ [])))
     ∙ c.loop-item.invariant w tells
 
 pub returns : goal.returns

@@ -12,7 +12,7 @@ loop-item-init c =
 pub loop-item-preserved : goal.loop-item-preserved
 loop-item-preserved c =
     let left = map item_meaning c.pop.new.self.items in
-    let behind = map pattern_of (reverse c.loop-item.stack.items) in
-    ap (placed_on left) c.in_ok-place.ensures ∙ sym (placed_last left (item_meaning c.in-Some.item) behind)
-    ∙ ap (λ xs. placed_on xs behind) (sym (ap (map item_meaning) c.in-Some.ensures.items ∙ map-append item_meaning c.pop.new.self.items (c.in-Some.item ∷ [])))
+    let after = map pattern_of (reverse c.loop-item.stack.items) in
+    ap (placed_on left) c.in_ok-place.ensures ∙ sym (placed_last left (item_meaning c.in-Some.item) after)
+    ∙ ap (λ xs. placed_on xs after) (sym (ap (map item_meaning) c.in-Some.ensures.items ∙ map-append item_meaning c.pop.new.self.items (c.in-Some.item ∷ [])))
     ∙ c.loop-item.invariant

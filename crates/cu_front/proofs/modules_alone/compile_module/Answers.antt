@@ -5,7 +5,7 @@ use Rattle.cu_names.proofs.Growth.{extends-trans}
 use Rattle.cu_modules.specs.declared.modules.Module.{Module}
 use Rattle.cu_modules.specs.Ordering.{AreOrdered, modules_of}
 use Rattle.cu_modules.specs.Reading.{HasModule}
-use Rattle.cu_front.specs.Compiling.{Held, ModuleCompiles, ModulesRefused}
+use Rattle.cu_front.specs.Compiling.{Folder, RootCompiles, ModulesRefused}
 use Rattle.cu_front.specs.Inside.Stages.{CompileAlone, RefusesModules}
 use Rattle.cu_front.specs.StageFaults.{Tells}
 use Rattle.cu_front.proofs.WalkLemmas.{stage_comes, stage_counts, stage_known, stage_told, walk_counts, walk_known, walk_told}
@@ -31,7 +31,7 @@ returns-in-Ok-alone-clause-program g c =
     subst (λ (xs : List Module). CompileAlone (modules_of old xs) root new found.program found.interface (program_of found.flat)) c.as_slice.ensures.value
     (c.in-Ok-alone.ensures.program root) in
     stage_comes (g.L.Library.holdings c.args.library.now) c.args.asked.folder.now root
-    (λ (held : Held). ModuleCompiles held root new found.program found.interface (program_of found.flat)) ms c.in-Ok.ensures.walked
+    (λ (held : Folder). RootCompiles held root new found.program found.interface (program_of found.flat)) ms c.in-Ok.ensures.walked
     (λ held walked. alone_comes held root ms new found alone walked)
 
 pub returns-in-Ok-alone-clause-names : goal.returns-in-Ok-alone-clause-names
@@ -43,7 +43,7 @@ returns-in-Ok-clause-refused g c =
     let new = c.alone.new.names in
     let root = c.args.asked.root.now in
     let fault = c.in-Err-alone.fault in
-    stage_told new (g.L.Library.holdings c.args.library.now) c.args.asked.folder.now root (λ (held : Held). ModulesRefused held root)
+    stage_told new (g.L.Library.holdings c.args.library.now) c.args.asked.folder.now root (λ (held : Folder). ModulesRefused held root)
     (modules_of old c.in-Ok.modules.items) fault
     c.of_stage.result c.of_stage.ensures c.in-Ok.ensures.walked
     (subst (λ (xs : List Module). Tells new (RefusesModules (modules_of old xs) root) fault) c.as_slice.ensures.value
@@ -65,7 +65,7 @@ returns-in-Ok-clause-count g c =
 pub returns-clause-refused : goal.returns-clause-refused
 returns-clause-refused g c =
     walk_told c.order.new.names (g.L.Library.holdings c.args.library.now) c.args.asked.folder.now c.args.asked.root.now
-    (λ (held : Held). ModulesRefused held c.args.asked.root.now) (walk_refuses_modules c.args.asked.root.now) c.in-Err.fault
+    (λ (held : Folder). ModulesRefused held c.args.asked.root.now) (walk_refuses_modules c.args.asked.root.now) c.in-Err.fault
     c.of_walk.result c.of_walk.ensures c.in-Err.ensures.refused
 
 pub returns-clause-known : goal.returns-clause-known

@@ -5,7 +5,7 @@ use Rattle.cu_names.proofs.Growth.{extends-trans}
 use Rattle.cu_modules.specs.declared.modules.Module.{Module}
 use Rattle.cu_modules.specs.Ordering.{AreOrdered, modules_of}
 use Rattle.cu_modules.specs.Reading.{HasModule}
-use Rattle.cu_front.specs.Compiling.{Compiles, Held, Refuses}
+use Rattle.cu_front.specs.Compiling.{Compiles, Folder, RequestRefused}
 use Rattle.cu_front.specs.Inside.Stages.{CompileBoth, RefusesBoth}
 use Rattle.cu_front.specs.StageFaults.{Tells}
 use Rattle.cu_front.proofs.WalkLemmas.{stage_comes, stage_counts, stage_known, stage_told, walk_counts, walk_known, walk_refuses, walk_told}
@@ -27,7 +27,7 @@ returns-in-Ok-in_modules-clause-program g c =
     let text = c.args.asked.goal.now in
     let found = c.in-Ok-in_modules.found in
     stage_comes (g.L.Library.holdings c.args.library.now) c.args.asked.folder.now root
-    (λ (held : Held). Compiles held root text new found.program (program_of found.flat)) (modules_of old c.in-Ok.modules.items)
+    (λ (held : Folder). Compiles held root text new found.program (program_of found.flat)) (modules_of old c.in-Ok.modules.items)
     c.in-Ok.ensures.walked
     (subst (λ (xs : List Module). CompileBoth (modules_of old xs) root text new found.program (program_of found.flat)) c.as_slice.ensures.value
     c.in-Ok-in_modules.ensures.program)
@@ -42,7 +42,7 @@ returns-in-Ok-clause-refused g c =
     let root = c.args.asked.root.now in
     let text = c.args.asked.goal.now in
     let fault = c.in-Err-in_modules.fault in
-    stage_told new (g.L.Library.holdings c.args.library.now) c.args.asked.folder.now root (λ (held : Held). Refuses held root text)
+    stage_told new (g.L.Library.holdings c.args.library.now) c.args.asked.folder.now root (λ (held : Folder). RequestRefused held root text)
     (modules_of old c.in-Ok.modules.items) fault
     c.of_stage.result c.of_stage.ensures c.in-Ok.ensures.walked
     (subst (λ (xs : List Module). Tells new (RefusesBoth (modules_of old xs) root text) fault) c.as_slice.ensures.value c.in-Err-in_modules.ensures.fault)
@@ -63,7 +63,7 @@ returns-in-Ok-clause-count g c =
 pub returns-clause-refused : goal.returns-clause-refused
 returns-clause-refused g c =
     walk_told c.order.new.names (g.L.Library.holdings c.args.library.now) c.args.asked.folder.now c.args.asked.root.now
-    (λ (held : Held). Refuses held c.args.asked.root.now c.args.asked.goal.now) (walk_refuses c.args.asked.root.now c.args.asked.goal.now) c.in-Err.fault
+    (λ (held : Folder). RequestRefused held c.args.asked.root.now c.args.asked.goal.now) (walk_refuses c.args.asked.root.now c.args.asked.goal.now) c.in-Err.fault
     c.of_walk.result c.of_walk.ensures c.in-Err.ensures.refused
 
 pub returns-clause-known : goal.returns-clause-known

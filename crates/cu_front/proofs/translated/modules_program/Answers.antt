@@ -20,8 +20,8 @@ loop-number-init c =
     let some : 0 < length (named m) = omega (arith, c.requires.some, size m) in
     (omega arith, of_first m.names.now (named m) c.in_ok-so_far.so_far some c.in_ok-so_far.ensures.outcome)
 
-pub behind-requires : goal.behind-requires
-behind-requires c =
+pub followed_by-requires : goal.followed_by-requires
+followed_by-requires c =
     let m = c.args.modules in
     let below : c.loop-number.number < length (named m) = omega (arith, c.loop-number-test.true, c.in-Ok.ensures.1, size m) in
     next_follows c.parts_follow.ensures.modules m.names.now (named m) c.loop-number.number c.loop-number.so_far c.in_ok-next.next

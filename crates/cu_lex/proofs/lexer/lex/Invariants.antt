@@ -15,7 +15,7 @@ invariant-loop-first l = record {
   owned : All (IsTokenOf l.«module» l.names) l.tokens.items;
   written : All (λ t. is_written t.kind ≡ true) l.tokens.items;
   names : Extends l.fn.names l.names;
-  underscore : l.behind_underscore ≡ true → HasNoVariable (left l.rest);
+  underscore : l.after_underscore ≡ true → HasNoVariable (left l.rest);
   differ : AllDiffer l.fn.names → AllDiffer l.names;
 }
 

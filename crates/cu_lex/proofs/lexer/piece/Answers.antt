@@ -7,12 +7,12 @@ use Rattle.cu_lex.proofs.lexer.piece.Goals as goal
 pub mark_at-requires-clause-plain : goal.mark_at-requires-clause-plain
 mark_at-requires-clause-plain c =
     let at : Some 95 ≡ first_of (left c.args.start) = search rules in
-    (mark-at-underscore (left c.args.start) at (c.requires c.if-behind_underscore.true)).plain
+    (mark-at-underscore (left c.args.start) at (c.requires c.if-after_underscore.true)).plain
 
 pub mark_at-requires-clause-words : goal.mark_at-requires-clause-words
 mark_at-requires-clause-words c =
     let at : Some 95 ≡ first_of (left c.args.start) = search rules in
-    (mark-at-underscore (left c.args.start) at (c.requires c.if-behind_underscore.true)).words
+    (mark-at-underscore (left c.args.start) at (c.requires c.if-after_underscore.true)).words
 
 pub returns-then-eq-clause-lexes : goal.returns-then-eq-clause-lexes
 returns-then-eq-clause-lexes c = c.mark_at.ensures c.args.names.now

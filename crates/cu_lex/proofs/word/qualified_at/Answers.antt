@@ -1,6 +1,6 @@
 use Rattle.std.proofs.Common.{refl, sym, subst}
 use Rattle.cu_lex.specs.Scanning.{left, IsWord, con_id_kind}
-use Rattle.cu_lex.proofs.ChainLemmas.{advance, behind, reach-further, reach-ends}
+use Rattle.cu_lex.proofs.ChainLemmas.{advance, after_dot, reach-further, reach-ends}
 use Rattle.cu_lex.proofs.word.qualified_at.Goals as goal
 
 pub loop-next-init : goal.loop-next-init
@@ -21,7 +21,7 @@ loop-next-preserved c =
     let at = c.after-base.ensures.left in
     let w' = subst (λ t. IsWord t c.in-Some.next.kind (left c.in-Some.next.end)) (sym at) linked.word in
     record {
-      begins = behind (left c.args.start) (left c.loop-next.base) (left c.loop-next.word.end) (left c.after-base.result) c.loop-next.dot c.loop-next.invariant.begins w linked.dot at;
+      begins = after_dot (left c.args.start) (left c.loop-next.base) (left c.loop-next.word.end) (left c.after-base.result) c.loop-next.dot c.loop-next.invariant.begins w linked.dot at;
       word = w';
       base = linked.base;
       plain = λ h. cc;

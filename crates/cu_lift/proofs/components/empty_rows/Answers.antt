@@ -1,13 +1,13 @@
 use Rattle.std.proofs.Common.{rules, ◌≡◌, ◌++◌, ◌∷◌, ◌+◌, inl, inr, ℕ, List, [], Some, ap, sym, ◌∙◌, length, length-append, slice_get, subst, arith}
 use Rattle.std.specs.declared.alloc.Global.{Global}
 use Rattle.std.specs.declared.vec.Vec.{Vec}
-use Rattle.cu_lift.proofs.Places.{front_or_last}
+use Rattle.cu_lift.proofs.Places.{prefix_or_last}
 use Rattle.cu_lift.proofs.components.empty_rows.Goals as goal
 
 one_more : (T : Type 0) (rows : List (Vec T Global)) (new : Vec T Global) → new.items ≡ []
     → ((r : ℕ) (row : Vec T Global) → slice_get rows r ≡ Some row → row.items ≡ [])
     → (r : ℕ) (row : Vec T Global) → slice_get (rows ++ new ∷ []) r ≡ Some row → row.items ≡ []
-one_more T rows new none all r row e = elim (front_or_last rows new r row e) [
+one_more T rows new none all r row e = elim (prefix_or_last rows new r row e) [
   | inl old ↦ all r row old
   | inr h ↦ ap (λ (v : Vec T Global). v.items) (sym h.1) ∙ none
 ]

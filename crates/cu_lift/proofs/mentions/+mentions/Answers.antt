@@ -12,15 +12,15 @@ use Rattle.cu_kernel.specs.TermsOf.{alternatives_of, term_of, term_of-Case, term
 use Rattle.cu_kernel.specs.declared.term.Pattern.{Pattern}
 use Rattle.cu_kernel.specs.declared.term.Term.TheVariants as term
 use Rattle.cu_kernel.specs.declared.term.Term.{Term}
-use Rattle.cu_lift.proofs.Places.{nothing_behind}
+use Rattle.cu_lift.proofs.Places.{nothing_after}
 use Rattle.cu_lift.specs.Inside.MentionsOf.{mention_meanings}
 use Rattle.cu_lift.proofs.mentions.+mentions.Goals as goal
 
 variable_mentions : (ms : List claims.Mention) (t : Term) (x : ℕ) → t ≡ term.Var x → ms ≡ ms ++ mentions (term_of t)
-variable_mentions ms t x is = nothing_behind ms ∙ ap (λ (u : clean.Term). ms ++ mentions u) (sym (ap term_of is ∙ term_of-Var x))
+variable_mentions ms t x is = nothing_after ms ∙ ap (λ (u : clean.Term). ms ++ mentions u) (sym (ap term_of is ∙ term_of-Var x))
 
 literal_mentions : (ms : List claims.Mention) (t : Term) (x : Lit) → t ≡ term.Lit x → ms ≡ ms ++ mentions (term_of t)
-literal_mentions ms t x is = nothing_behind ms ∙ ap (λ (u : clean.Term). ms ++ mentions u) (sym (ap term_of is ∙ term_of-Lit x))
+literal_mentions ms t x is = nothing_after ms ∙ ap (λ (u : clean.Term). ms ++ mentions u) (sym (ap term_of is ∙ term_of-Lit x))
 
 case_mentions : (old mid new : List claims.Mention) (t scrutinee : Term) (mode : Mode) (s : Box Term Global) (rows : Vec (Pattern × Term) Global)
     (alternatives : List (Pattern × Term)) → t ≡ term.Case mode s rows → scrutinee ≡ s.value → alternatives ≡ rows.items

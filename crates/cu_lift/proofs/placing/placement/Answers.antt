@@ -5,7 +5,7 @@ use Rattle.std.specs.declared.vec.Vec.{Vec}
 use Rattle.cu_kernel.specs.Captures.{AreCaptured}
 use Rattle.cu_kernel.specs.LocalKernelOf.{local_function_meaning, top_function_meaning}
 use Rattle.cu_kernel.specs.declared.local.LocalFunction.{LocalFunction}
-use Rattle.cu_lift.proofs.LiftedPlacing.{AreLifted, numbers_behind, order_below, placement_made}
+use Rattle.cu_lift.proofs.LiftedPlacing.{AreLifted, numbers_after, order_below, placement_made}
 use Rattle.cu_lift.proofs.Places.{mapped_at}
 use Rattle.cu_lift.specs.Inside.LiftedPlaces.{AreBelow, AreNames, AreRows, entry_of, row_items}
 use Rattle.cu_lift.specs.Lifting.{in_order}
@@ -34,12 +34,12 @@ lifted_numbers-requires-clause-below c =
     subst (λ (xs : List Entry). AreBelow (length xs) xs) (sym c.as_slice-2.ensures.value)
     (order_below c.in_ok-order.order.items (map local_function_meaning locals) sorted)
 
-pub local_names-requires-clause-behind : goal.local_names-requires-clause-behind
-local_names-requires-clause-behind c =
+pub local_names-requires-clause-after : goal.local_names-requires-clause-after
+local_names-requires-clause-after c =
     let locals = c.args.function.now.locals.items in
     let sorted = sorted_in c.in_ok-order.order.items c.as_slice-locals.result.now locals c.as_slice-locals.ensures.value c.in_ok-order.ensures in
     let lifted = subst (λ (xs : List Entry). AreLifted c.in_ok-numbers.numbers.items xs (c.args.number + 1)) c.as_slice-2.ensures.value c.in_ok-numbers.ensures in
-    λ k n at. numbers_behind c.in_ok-order.order.items (map local_function_meaning locals) c.args.number c.in_ok-numbers.numbers.items sorted lifted k n
+    λ k n at. numbers_after c.in_ok-order.order.items (map local_function_meaning locals) c.args.number c.in_ok-numbers.numbers.items sorted lifted k n
     (subst (λ (xs : List ℕ). slice_get xs k ≡ Some n) c.as_slice-3.ensures.value at)
 
 pub returns-clause-placement : goal.returns-clause-placement

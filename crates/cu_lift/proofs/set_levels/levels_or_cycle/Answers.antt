@@ -1,6 +1,6 @@
 use Rattle.std.proofs.Common.{◌≡◌, ℕ, List, None, Option, Some, ap, sym, ◌∙◌, slice_get, subst}
 use Rattle.cu_kernel.specs.Kernel.{program_of}
-use Rattle.cu_lift.proofs.Outcomes.{collected_within, found_levels, reaches_back, reaches_caller}
+use Rattle.cu_lift.proofs.Outcomes.{collected_within, found_levels, reaches_first, reaches_caller}
 use Rattle.cu_lift.proofs.Recursion.{is_calm, set_recursion}
 use Rattle.cu_lift.specs.Inside.Graph.{Graph, IsWhole}
 use Rattle.cu_lift.specs.Inside.Levelling.{IsFirstCall}
@@ -37,9 +37,9 @@ cycle-requires-clause-to c =
     (first_as c.in_ok-found.found.ranks.items c.as_slice.result.now c.in_ok-calls.calls.items c.as_slice-2.result.now c.in-Some.first _ c.in-Some.call _
     c.as_slice.ensures.value c.as_slice-2.ensures.value c.in-Some.first-is c.in-Some.call-is c.in-Some.ensures.some)
 
-pub cycle-requires-clause-back : goal.cycle-requires-clause-back
-cycle-requires-clause-back c =
-    reaches_back c.as_slice-rows.result.now c.in_ok-found.found.ranks.items c.in_ok-found.found.count c.in_ok-calls.calls.items c.in_ok-found.ensures
+pub cycle-requires-clause-to_first : goal.cycle-requires-clause-to_first
+cycle-requires-clause-to_first c =
+    reaches_first c.as_slice-rows.result.now c.in_ok-found.found.ranks.items c.in_ok-found.found.count c.in_ok-calls.calls.items c.in_ok-found.ensures
     c.in_ok-calls.ensures c.in-Some.first c.in-Some.call
     (first_as c.in_ok-found.found.ranks.items c.as_slice.result.now c.in_ok-calls.calls.items c.as_slice-2.result.now c.in-Some.first _ c.in-Some.call _
     c.as_slice.ensures.value c.as_slice-2.ensures.value c.in-Some.first-is c.in-Some.call-is c.in-Some.ensures.some)

@@ -10,7 +10,7 @@ use Rattle.std.specs.Prelude.{OnOk}
 use Rattle.cu_uses.specs.Inside.Gathered.{operands_bind, patterns_bind}
 use Rattle.cu_uses.proofs.FoundLemmas.{on_ok}
 use Rattle.cu_locals.specs.Places.{Finds, operands_place, patterns_place}
-use Rattle.cu_locals.proofs.PatternLemmas.{finds_both, finds_none, operands_end, operands_front, pattern_found, patterns_end, patterns_front}
+use Rattle.cu_locals.proofs.PatternLemmas.{finds_both, finds_none, operands_end, operands_prefix, pattern_found, patterns_end, patterns_prefix}
 use Rattle.cu_locals.proofs.declared.+patterns.Goals as goal
 
 pub operands-pattern-requires : goal.operands-pattern-requires
@@ -19,7 +19,7 @@ operands-pattern-requires t c = (search (rules, largest constructor_item_size c.
 pub operands-loop-item-preserved : goal.operands-loop-item-preserved
 operands-loop-item-preserved t c w after all rest =
     c.loop-item.invariant w after all
-    (operands_front (ConstructorItemIsOf w.owner w.names) w c.args.items.now c.loop-item.item-index c.item-item.result c.loop-item.found c.pattern.new.found after c.item-item.is c.loop-item-test.true all
+    (operands_prefix (ConstructorItemIsOf w.owner w.names) w c.args.items.now c.loop-item.item-index c.item-item.result c.loop-item.found c.pattern.new.found after c.item-item.is c.loop-item-test.true all
     (λ of. c.in_ok-pattern.ensures w of.1) rest)
 
 pub operands-returns : goal.operands-returns
@@ -94,7 +94,7 @@ patterns-pattern-requires t c = (search (rules, largest pattern_size c.args.ps.n
 pub patterns-loop-p-preserved : goal.patterns-loop-p-preserved
 patterns-loop-p-preserved t c w after all rest =
     c.loop-p.invariant w after all
-    (patterns_front (PatternIsOf w.owner w.names) w c.args.ps.now c.loop-p.p-index c.p-item.result c.loop-p.found c.pattern.new.found after c.p-item.is c.loop-p-test.true all
+    (patterns_prefix (PatternIsOf w.owner w.names) w c.args.ps.now c.loop-p.p-index c.p-item.result c.loop-p.found c.pattern.new.found after c.p-item.is c.loop-p-test.true all
     (λ of. c.in_ok-pattern.ensures w of) rest)
 
 pub patterns-returns : goal.patterns-returns

@@ -1,5 +1,5 @@
 use Rattle.cu_uses.proofs.ListLemmas.{no_name}
-use Rattle.cu_locals.proofs.EntryLemmas.{gathered_none, variables_end, variables_front, variables_of}
+use Rattle.cu_locals.proofs.EntryLemmas.{gathered_none, variables_end, variables_prefix, variables_of}
 use Rattle.cu_locals.proofs.entries.variable_entries.Goals as goal
 
 pub loop-name-init : goal.loop-name-init
@@ -8,7 +8,7 @@ loop-name-init c t all = gathered_none t (variables_of t.names c.args.names.now)
 pub loop-name-preserved : goal.loop-name-preserved
 loop-name-preserved c t all =
     let here = all c.loop-name.name-index no_name c.loop-name-test.true in
-    variables_front t (variables_of t.names c.args.names.now) c.args.names.now c.loop-name.name-index c.variable_entry.result c.loop-name.found.items c.push.new.self.items c.loop-name-test.true
+    variables_prefix t (variables_of t.names c.args.names.now) c.args.names.now c.loop-name.name-index c.variable_entry.result c.loop-name.found.items c.push.new.self.items c.loop-name-test.true
     (c.loop-name.invariant t all) (c.variable_entry.ensures t here) c.in_ok-push.ensures.items
 
 pub returns : goal.returns

@@ -4,14 +4,14 @@ use Rattle.cu_names.specs.Texts.{text_of}
 use Rattle.cu_syntax.specs.Items.{import_meaning}
 use Rattle.cu_modules.specs.Known.{AreEntities}
 use Rattle.cu_modules.specs.Scopes.{exports_of, imported}
-use Rattle.cu_modules.proofs.BroughtLemmas.{brought_also, brought_behind, slice_known}
+use Rattle.cu_modules.proofs.BroughtLemmas.{brought_also, brought_after, slice_known}
 use Rattle.cu_modules.proofs.importing.bind_import.Goals as goal
 
 pub returns-then-import : goal.returns-then-import
 returns-then-import c = λ owner names mine before bindings differ own is are has.
     let i = import_meaning names c.args.import.now in
     let taken = c.in_ok-taken.ensures owner names (exports_of before (text_of names c.args.import.now.name.text)) differ own.3 (c.of-exports.ensures names before own.1.text are) in
-    brought_behind names bindings mine before i c.qualifier_of.result c.as_slice.result.now c.in_ok-taken.taken.items c.bind_all.new.self c.if-import.true (c.qualifier_of.ensures.text names)
+    brought_after names bindings mine before i c.qualifier_of.result c.as_slice.result.now c.in_ok-taken.taken.items c.bind_all.new.self c.if-import.true (c.qualifier_of.ensures.text names)
     c.as_slice.ensures.value taken
     (c.in_ok-bind_all.ensures names bindings differ (c.qualifier_of.ensures.known owner names own) (slice_known names (imported before i) c.as_slice.result.now c.in_ok-taken.taken.items c.as_slice.ensures.value taken) has)
 

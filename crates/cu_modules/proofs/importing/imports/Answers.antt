@@ -4,7 +4,7 @@ use Rattle.cu_syntax.specs.declared.items.Import.{Import}
 use Rattle.cu_modules.specs.BuiltInEntities.{prelude_name}
 use Rattle.cu_modules.specs.Inside.Imported.{AreImportsOf}
 use Rattle.cu_modules.specs.Scopes.{prelude_import}
-use Rattle.cu_modules.proofs.ImportedLemmas.{behind_prelude, no_imports, written_alone}
+use Rattle.cu_modules.proofs.ImportedLemmas.{after_prelude, no_imports, written_alone}
 use Rattle.cu_modules.proofs.ImportLemmas.{says_so}
 use Rattle.cu_modules.proofs.importing.imports.Goals as goal
 
@@ -28,7 +28,7 @@ returns c = λ differ.
     let known = known_at names id prelude_name c.found-prelude.ensures in
     let told = says_so names m id c.in_ok-written.written.items c.as_slice.result.now c.says_so.result differ c.requires.has (record { known = known; text = text })
     (c.in_ok-written.ensures names c.requires.has) c.as_slice.ensures.value c.says_so.ensures in
-    behind_prelude names m c.add_imports-2.new.imports.items c.says_so.result c.if-says_so.false told
+    after_prelude names m c.add_imports-2.new.imports.items c.says_so.result c.if-says_so.false told
     (c.in_ok-add_imports-2.ensures names (prelude_import ∷ []) c.requires.has
     (subst (λ (found : List Import). AreImportsOf m.name names (prelude_import ∷ []) found)
     (sym (c.in_ok-push.ensures.items ∙ ap (λ old. old ++ c.prelude_import.result ∷ []) c.new-imports.ensures.items)) (c.prelude_import.ensures names known text)))

@@ -17,5 +17,5 @@ returns-in-All c = λ owner names es differ are own.
 
 pub returns-in-Only : goal.returns-in-Only
 returns-in-Only c = λ owner names es differ are own.
-    only_told owner names es c.args.constructors.now c.in-Only.wanted c.as_slice.result.now c.args.first.now c.tell_missing.new.first c.in-Only.is c.as_slice.ensures.value own
+    only_told owner names es c.args.constructors.now c.in-Only.listed c.as_slice.result.now c.args.first.now c.tell_missing.new.first c.in-Only.is c.as_slice.ensures.value own
     (λ owned. c.tell_missing.ensures owner names es differ are owned)

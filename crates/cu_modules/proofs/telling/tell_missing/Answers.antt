@@ -8,21 +8,21 @@ use Rattle.cu_modules.specs.Scopes.{is_called}
 use Rattle.cu_modules.proofs.ToldLemmas.{missing_one, no_name, told_more, told_none, told_whole}
 use Rattle.cu_modules.proofs.telling.tell_missing.Goals as goal
 
-pub wanted-init : goal.wanted-init
-wanted-init c = λ owner names es differ are owned. told_none owner names c.args.first.now
+pub listed-init : goal.listed-init
+listed-init c = λ owner names es differ are owned. told_none owner names c.args.first.now
 
-pub wanted-preserved : goal.wanted-preserved
-wanted-preserved c = λ owner names es differ are owned.
+pub listed-preserved : goal.listed-preserved
+listed-preserved c = λ owner names es differ are owned.
     let missing : Name → List Fault = λ (n : Name). unless (list_any (is_called n) es) n in
-    let xs = c.args.wanted.now in
-    let i = c.wanted.name-index in
+    let xs = c.args.listed.now in
+    let i = c.listed.name-index in
     let x = get_or xs i no_name in
-    let own = owned i no_name c.wanted-test.true in
-    told_more owner names missing (name_meaning names) xs i x no_name c.args.first.now c.wanted.first c.tell_unless.new.first c.wanted-test.true refl
-    (missing_one owner names es c.args.entities.now x c.is_name_of.result c.wanted.first c.tell_unless.new.first differ own are c.is_name_of.ensures (c.tell_unless.ensures owner names own))
-    (c.wanted.invariant owner names es differ are owned)
+    let own = owned i no_name c.listed-test.true in
+    told_more owner names missing (name_meaning names) xs i x no_name c.args.first.now c.listed.first c.tell_unless.new.first c.listed-test.true refl
+    (missing_one owner names es c.args.entities.now x c.is_name_of.result c.listed.first c.tell_unless.new.first differ own are c.is_name_of.ensures (c.tell_unless.ensures owner names own))
+    (c.listed.invariant owner names es differ are owned)
 
 pub returns : goal.returns
 returns c = λ owner names es differ are owned.
-    told_whole owner names (λ (n : Name). unless (list_any (is_called n) es) n) (name_meaning names) c.args.wanted.now c.wanted.name-index (map (name_meaning names) c.args.wanted.now) c.args.first.now c.wanted.first
-    c.wanted-test.false refl (c.wanted.invariant owner names es differ are owned)
+    told_whole owner names (λ (n : Name). unless (list_any (is_called n) es) n) (name_meaning names) c.args.listed.now c.listed.name-index (map (name_meaning names) c.args.listed.now) c.args.first.now c.listed.first
+    c.listed-test.false refl (c.listed.invariant owner names es differ are owned)

@@ -12,6 +12,6 @@ use Rattle.cu_modules.specs.Known.{AreEntities}
 use Rattle.cu_modules.specs.Scopes.{is_called}
 use Rattle.cu_modules.proofs.telling.tell_missing.Given as goal
 
-abbrev pub invariant-wanted : goal.invariant-wanted
-invariant-wanted l = (owner : NameId) (names : List (List ℕ)) (es : List meant.Entity) → AllDiffer names → AreEntities names es l.entities → All (NameIsOf owner names) l.wanted
-    → Told owner names l.fn.first (flat_map (λ (n : Name). unless (list_any (is_called n) es) n) (map (name_meaning names) (take l.name-index l.wanted))) l.first
+abbrev pub invariant-listed : goal.invariant-listed
+invariant-listed l = (owner : NameId) (names : List (List ℕ)) (es : List meant.Entity) → AllDiffer names → AreEntities names es l.entities → All (NameIsOf owner names) l.listed
+    → Told owner names l.fn.first (flat_map (λ (n : Name). unless (list_any (is_called n) es) n) (map (name_meaning names) (take l.name-index l.listed))) l.first

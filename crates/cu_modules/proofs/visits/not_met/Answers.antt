@@ -15,4 +15,4 @@ returns-clause-met c = λ names differ has known.
     let path = c.args.path.now in
     met_there names path c.extend_from_slice.new.self.items c.args.name c.position.result c.in-Some.met differ has known
     (position_from_yields_List (is_it c.args.name) _ _ c.position.result c.position.ensures.ran (YieldsList-from_slice path cc) (λ x b q k. search (rules, tests))) c.in-Some.is
-    (c.in_ok-extend_from_slice.ensures.items ∙ ap (λ front. front ++ take (length path - c.in-Some.met) (drop c.in-Some.met path)) c.new-cycle.ensures.items)
+    (c.in_ok-extend_from_slice.ensures.items ∙ ap (λ prefix. prefix ++ take (length path - c.in-Some.met) (drop c.in-Some.met path)) c.new-cycle.ensures.items)

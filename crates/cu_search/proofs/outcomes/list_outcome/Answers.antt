@@ -4,7 +4,7 @@ use Rattle.cu_machine.specs.Listing.{Answered, Waiting}
 use Rattle.cu_step.specs.Outcome.{reading_of}
 use Rattle.cu_search.specs.Stands.{notation_of}
 use Rattle.cu_search.proofs.OneOutcome.{round_of-Answer, round_of-Fails, round_of-Go, round_of-Stops, round_of-Waits}
-use Rattle.cu_search.proofs.RoundLemmas.{one_line_front}
+use Rattle.cu_search.proofs.RoundLemmas.{one_line_prefix}
 use Rattle.cu_search.proofs.WrittenLemmas.{Adds-nothing}
 use Rattle.cu_search.proofs.outcomes.list_outcome.Goals as goal
 
@@ -14,13 +14,13 @@ returns-in-Go-clause-whole g c = rw (c.in-Go.is, round_of-Go) (Adds-nothing (g.K
 pub returns-in-Answer-clause-whole : goal.returns-in-Answer-clause-whole
 returns-in-Answer-clause-whole g c = rw (c.in-Answer.is, round_of-Answer, append-nil) c.list_answer.ensures.whole
 
-pub returns-in-Answer-clause-front : goal.returns-in-Answer-clause-front
-returns-in-Answer-clause-front g c =
+pub returns-in-Answer-clause-prefix : goal.returns-in-Answer-clause-prefix
+returns-in-Answer-clause-prefix g c =
     let written = g.K.Sink.written in
     rw (c.in-Answer.is, round_of-Answer)
     (on_err_weaker c.list_answer.result
-    (one_line_front (notation_of c.args.turn.now.wording) (written c.args.sink.now) (written c.list_answer.new.sink) (Answered c.args.turn.now.round (reading_of c.in-Answer.reading)))
-    c.list_answer.ensures.front)
+    (one_line_prefix (notation_of c.args.turn.now.wording) (written c.args.sink.now) (written c.list_answer.new.sink) (Answered c.args.turn.now.round (reading_of c.in-Answer.reading)))
+    c.list_answer.ensures.prefix)
 
 pub returns-in-Fail-clause-whole : goal.returns-in-Fail-clause-whole
 returns-in-Fail-clause-whole g c = rw (c.in-Fail.is, round_of-Fails) (Adds-nothing (g.K.Sink.written c.args.sink.now))
@@ -28,13 +28,13 @@ returns-in-Fail-clause-whole g c = rw (c.in-Fail.is, round_of-Fails) (Adds-nothi
 pub returns-in-Wait-clause-whole : goal.returns-in-Wait-clause-whole
 returns-in-Wait-clause-whole g c = rw (c.in-Wait.is, round_of-Waits, append-nil, ← c.as_slice.ensures.value) c.list_wait.ensures.whole
 
-pub returns-in-Wait-clause-front : goal.returns-in-Wait-clause-front
-returns-in-Wait-clause-front g c =
+pub returns-in-Wait-clause-prefix : goal.returns-in-Wait-clause-prefix
+returns-in-Wait-clause-prefix g c =
     let written = g.K.Sink.written in
     rw (c.in-Wait.is, round_of-Waits, ← c.as_slice.ensures.value)
     (on_err_weaker c.list_wait.result
-    (one_line_front (notation_of c.args.turn.now.wording) (written c.args.sink.now) (written c.list_wait.new.sink) (Waiting c.args.turn.now.round c.as_slice.result.now))
-    c.list_wait.ensures.front)
+    (one_line_prefix (notation_of c.args.turn.now.wording) (written c.args.sink.now) (written c.list_wait.new.sink) (Waiting c.args.turn.now.round c.as_slice.result.now))
+    c.list_wait.ensures.prefix)
 
 pub returns-in-Stop-clause-whole : goal.returns-in-Stop-clause-whole
 returns-in-Stop-clause-whole g c = rw (c.in-Stop.is, round_of-Stops) (Adds-nothing (g.K.Sink.written c.args.sink.now))

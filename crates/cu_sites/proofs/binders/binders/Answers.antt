@@ -4,7 +4,7 @@ use Rattle.cu_translation.specs.Numbering.{all_binders}
 use Rattle.cu_sites.specs.declared.sites.Node.{Node}
 use Rattle.cu_sites.specs.Inside.Counting.{Counts}
 use Rattle.cu_sites.specs.Meaning.{AreNodes}
-use Rattle.cu_sites.proofs.CountLemmas.{counts_all, binders_end, binders_front, node_at}
+use Rattle.cu_sites.proofs.CountLemmas.{counts_all, binders_end, binders_prefix, node_at}
 use Rattle.cu_sites.proofs.binders.binders.Goals as goal
 
 pub loop-node-init : goal.loop-node-init
@@ -17,7 +17,7 @@ loop-node-preserved c t nodes after stands rest =
     let are = subst (λ (found : List Node). AreNodes t s.entries.items s.blocks.items found nodes) (sym c.deref-node-items.ensures.value) stands.are in
     let at = node_at t s.entries.items s.blocks.items xs nodes c.loop-node.node-index c.node-item.result c.node-item.is c.loop-node-test.true are in
     c.loop-node.invariant t nodes after stands
-    (binders_front t s.entries.items s.blocks.items xs nodes c.loop-node.node-index c.node-item.result c.loop-node.found.items c.push_binders.new.found.items after at
+    (binders_prefix t s.entries.items s.blocks.items xs nodes c.loop-node.node-index c.node-item.result c.loop-node.found.items c.push_binders.new.found.items after at
     (c.in_ok-push_binders.ensures t s.blocks.items at.n.site at.is.site) rest)
 
 pub returns : goal.returns

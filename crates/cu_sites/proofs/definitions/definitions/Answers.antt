@@ -16,7 +16,7 @@ loop-place-preserved c t nodes stands used =
     (c.node-item.is ∙ ap (λ (ys : List Node). get_or ys i x) c.deref-node-items.ensures.value) (omega arith) stands.are
     (λ n is.
     c.in_ok-push_definitions.ensures t s.entries.items s.blocks.items n (drop (i + 1) nodes) is
-    (inside_usages t s.entries.items s.blocks.items x n i nodes c.args.usages.now c.behind-inside.result.now is used c.behind-inside.ensures))
+    (inside_usages t s.entries.items s.blocks.items x n i nodes c.args.usages.now c.after-inside.result.now is used c.after-inside.ensures))
     (c.loop-place.invariant t nodes stands used)
 
 pub returns : goal.returns

@@ -16,8 +16,8 @@ pub returns-in_ok-push-in-Bound : goal.returns-in_ok-push-in-Bound
 returns-in_ok-push-in-Bound c t entries blocks n others is inner =
     let d : Definition = record { variable = binder.Whole c.of-in-Bound.result; used = c.in_ok-used-in-Bound.used } in
     on_ok c.push_selections.result
-    (λ behind.
+    (λ after.
     bound_found t entries blocks c.args.node.now n others c.in-Bound.p c.in-Bound.field-1 c.of-in-Bound.result (usages_meaning c.args.right_side.now) d
     c.args.found.now.items c.push-in-Bound.new.self.items c.push_selections.new.found.items is c.in-Bound.is inner c.in_ok-used-in-Bound.ensures refl
-    (c.of-in-Bound.ensures ∙ c.place.ensures.position t.names) c.in_ok-push-in-Bound.ensures.items behind)
+    (c.of-in-Bound.ensures ∙ c.place.ensures.position t.names) c.in_ok-push-in-Bound.ensures.items after)
     (c.push_selections.ensures t (bound_owned t blocks c.args.node.now.site n.site c.in-Bound.p c.in-Bound.field-1 is.site c.in-Bound.is))

@@ -1,5 +1,5 @@
 -- An expression after a sign, or guards.
-use Rattle.cu_syntax.specs.Declarations.{Behind, Guards, body_meaning, guards_in, right_of}
+use Rattle.cu_syntax.specs.Declarations.{RightBody, Guards, body_meaning, guards_in, right_of}
 use Rattle.cu_syntax.specs.Reading.{place, right_as}
 use Rattle.cu_syntax.specs.SubtreeMeaning.{tree_of}
 use Rattle.cu_syntax.proofs.DeclarationLemmas.{guarded_alternative_is, guarded_rule_is, ok_through, plain_alternative_is, plain_rule_is, right_nodes}
@@ -25,13 +25,13 @@ returns-in-PlainAlt-clause-meaning c = λ names local.
 pub returns-in-GuardedRhs-clause-meaning : goal.returns-in-GuardedRhs-clause-meaning
 returns-in-GuardedRhs-clause-meaning c = λ names local.
     let tree = tree_of names c.args.tree in
-    ok_through (body_meaning names) (λ (b : Behind). right_of (place tree) b local) c.guards.result (Guards (guards_in tree)) (right_as c.args.tree.symbol tree local)
+    ok_through (body_meaning names) (λ (b : RightBody). right_of (place tree) b local) c.guards.result (Guards (guards_in tree)) (right_as c.args.tree.symbol tree local)
     (c.guards.ensures.meaning names) (guarded_rule_is c.args.tree.symbol tree local c.in-GuardedRhs.is (c.args.tree.fits names))
 
 pub returns-in-GuardedAlts-clause-meaning : goal.returns-in-GuardedAlts-clause-meaning
 returns-in-GuardedAlts-clause-meaning c = λ names local.
     let tree = tree_of names c.args.tree in
-    ok_through (body_meaning names) (λ (b : Behind). right_of (place tree) b local) c.guards-in-GuardedAlts.result (Guards (guards_in tree)) (right_as c.args.tree.symbol tree local)
+    ok_through (body_meaning names) (λ (b : RightBody). right_of (place tree) b local) c.guards-in-GuardedAlts.result (Guards (guards_in tree)) (right_as c.args.tree.symbol tree local)
     (c.guards-in-GuardedAlts.ensures.meaning names) (guarded_alternative_is c.args.tree.symbol tree local c.in-GuardedAlts.is (c.args.tree.fits names))
 
 pub returns-in-PlainRhs-clause-owned : goal.returns-in-PlainRhs-clause-owned

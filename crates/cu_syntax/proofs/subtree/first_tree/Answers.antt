@@ -11,9 +11,9 @@ split_at-requires c =
 pub returns-clause-first : goal.returns-clause-first
 returns-clause-first c =
     let k = cut c.args.nodes.now _ refl c.requires.some c.requires.trees in
-    c.split_at.ensures.front ∙ ap (λ n. take n c.args.nodes.now) (k.begins.number _) ∙ k.begins.front
+    c.split_at.ensures.front ∙ ap (λ n. take n c.args.nodes.now) (k.begins.number _) ∙ k.begins.prefix
 
 pub returns-clause-others : goal.returns-clause-others
 returns-clause-others c =
     let k = cut c.args.nodes.now _ refl c.requires.some c.requires.trees in
-    c.split_at.ensures.back ∙ ap (λ n. drop n c.args.nodes.now) (k.begins.number _) ∙ k.begins.behind
+    c.split_at.ensures.back ∙ ap (λ n. drop n c.args.nodes.now) (k.begins.number _) ∙ k.begins.suffix

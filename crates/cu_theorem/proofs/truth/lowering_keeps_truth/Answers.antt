@@ -16,7 +16,7 @@ returns c =
       there = λ claims f vs v known given.
           c.calls_have_proofs.ensures.concluded flat claims f vs v
           ((c.lowering_keeps_meaning.ensures program flat claims f vs v valid flattens).0 (c.calls_have_proofs.ensures.proved program claims f vs v valid known given));
-      back = λ claims f vs v known given.
+      converse = λ claims f vs v known given.
           c.calls_have_proofs.ensures.concluded program claims f vs v
           ((c.lowering_keeps_meaning.ensures program flat claims f vs v valid flattens).1 (c.calls_have_proofs.ensures.proved flat claims f vs v ok known given));
     } in

@@ -20,7 +20,7 @@ functions-init c = λ names r is.
 
 pub functions-preserved : goal.functions-preserved
 functions-preserved c = λ names r is.
-    let front : List Mark = only_in_prelude r.m.name (map (external_mark r) externals) in
+    let prefix : List Mark = only_in_prelude r.m.name (map (external_mark r) externals) in
     let f : FunctionHead → Mark = λ h. head_mark r (head_meaning names h) in
     let d : FunctionHead = record { name = record { 0 = 0 }; arity = 0; place = record { «module» = record { 0 = 0 }; line = 0; column = 0 } } in
     let i = c.functions.head-index in
@@ -31,16 +31,16 @@ functions-preserved c = λ names r is.
     let all = subst (All (HeadIsOf owner names)) (sym c.as_slice-head-items.ensures.value) are.owned in
     let signed = subst (λ (n : Named). AreSignatures owner names (λ text. signature_of text n.syntax.items) c.in_ok-signatures.signatures) (sym is.is)
     (c.in_ok-signatures.ensures names differ is.has) in
-    pushed mark_meaning f front c.functions.marks.items c.push.new.self.items c.in_ok-function_mark.field-0 heads i d c.functions-test.true
+    pushed mark_meaning f prefix c.functions.marks.items c.push.new.self.items c.in_ok-function_mark.field-0 heads i d c.functions-test.true
     (c.in_ok-function_mark.ensures names r is (all i d c.functions-test.true) signed) c.in_ok-push.ensures.items (c.functions.invariant names r is)
 
 pub returns : goal.returns
 returns c = λ names r is.
-    let front : List Mark = only_in_prelude r.m.name (map (external_mark r) externals) in
+    let prefix : List Mark = only_in_prelude r.m.name (map (external_mark r) externals) in
     let f : FunctionHead → Mark = λ h. head_mark r (head_meaning names h) in
     let heads = c.as_slice-head-items.result.now in
     let are = c.in_ok-functions.ensures names is.top.entities.differ is.has in
-    all_pushed mark_meaning f front c.functions.marks.items heads c.functions.head-index c.functions-test.false (c.functions.invariant names r is)
-    ∙ ap (λ marks. front ++ marks)
+    all_pushed mark_meaning f prefix c.functions.marks.items heads c.functions.head-index c.functions-test.false (c.functions.invariant names r is)
+    ∙ ap (λ marks. prefix ++ marks)
     (ap (map f) c.as_slice-head-items.ensures.value ∙ marks_of names r c.in_ok-functions.functions.items _ are.are
     ∙ ap (λ (n : Named). map (function_mark r) (groups_in n)) (sym is.is))

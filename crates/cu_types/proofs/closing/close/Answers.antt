@@ -1,7 +1,7 @@
 use Rattle.std.proofs.Common.{◌≡◌, ℕ, List, [], ◌∷◌, length, map, sym, ◌∙◌, subst, arith}
 use Rattle.std.proofs.lemmas.Option.{MatchOption-at_none, MatchOption-at_some}
-use Rattle.cu_types.proofs.ClosingLemmas.{closing_starts, each_back}
-use Rattle.cu_types.proofs.Joins.{each_within_back, no_items, none_of}
+use Rattle.cu_types.proofs.ClosingLemmas.{closing_starts, each_suffix}
+use Rattle.cu_types.proofs.Joins.{each_within_converse, no_items, none_of}
 use Rattle.cu_types.proofs.TableLemmas.{mapped_length}
 use Rattle.cu_types.proofs.closing.close.Goals as goal
 use Rattle.cu_types.specs.Inside.Closing.{Each, IsApart, IsClosing, IsWithin}
@@ -22,7 +22,7 @@ loop-pair-init c = record {
 
 pub join-requires-clause-pair : goal.join-requires-clause-pair
 join-requires-clause-pair c =
-    (each_back (IsWithin (length c.args.nodes.now)) c.pop.new.self.items (c.in-Some.pair ∷ [])
+    (each_suffix (IsWithin (length c.args.nodes.now)) c.pop.new.self.items (c.in-Some.pair ∷ [])
     (subst (Each (IsWithin (length c.args.nodes.now))) c.in-Some.ensures.items c.loop-pair.invariant.within)).0
 
 pub returns-in-Some-2 : goal.returns-in-Some-2
@@ -37,7 +37,7 @@ pub loop-pair-preserved : goal.loop-pair-preserved
 loop-pair-preserved c = record {
   sized = c.in_ok-apart.ensures.sized;
   forest = c.in_ok-apart.ensures.forest;
-  within = each_within_back c.args.nodes.now c.join.new.pending.items c.in_ok-apart.ensures.joined.within;
+  within = each_within_converse c.args.nodes.now c.join.new.pending.items c.in_ok-apart.ensures.joined.within;
   closing = λ equations sound.
       let before = c.loop-pair.invariant.closing equations sound in
       MatchOption-at_none ((class : ℕ → ℕ) × IsClosing equations (map shape_of c.args.nodes.now) c.args.pending.items c.join.new.pending.items c.join.new.self.parents.items class)

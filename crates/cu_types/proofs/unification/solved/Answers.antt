@@ -1,6 +1,6 @@
 use Rattle.std.proofs.Common.{◌<◌, ℕ, length, map, nat_eq, subst}
 use Rattle.indexmap.specs.IndexMap.{get}
-use Rattle.cu_types.proofs.Joins.{each_within_back}
+use Rattle.cu_types.proofs.Joins.{each_within_converse}
 use Rattle.cu_types.proofs.ReadTypes.{most_general_places, pairs_equal, stand_within}
 use Rattle.cu_types.proofs.TableLemmas.{mapped_length, place_within}
 use Rattle.cu_types.proofs.unification.solved.Goals as goal
@@ -13,7 +13,7 @@ solve-requires-clause-table c = c.requires.reader.table
 
 pub solve-requires-clause-pairs : goal.solve-requires-clause-pairs
 solve-requires-clause-pairs c =
-    each_within_back c.args.reader.nodes.items c.args.pairs.items
+    each_within_converse c.args.reader.nodes.items c.args.pairs.items
     (stand_within (shapes c.args.reader) c.args.pairs.items c.requires.stand.0 c.requires.stand.1)
 
 pub returns-in-Solution : goal.returns-in-Solution

@@ -24,7 +24,7 @@ use Rattle.cu_uses.specs.Inside.Scopes.{Brings, Opens, is_local, or_among}
 use Rattle.cu_uses.specs.Inside.Worlds.{Told}
 use Rattle.cu_uses.proofs.FoundLemmas.{adds_none, on_ok}
 use Rattle.cu_uses.proofs.ToldLemmas.{told_both, told_none}
-use Rattle.cu_uses.proofs.WalkLemmas.{alternatives_end, alternatives_front, below_max, if_ok, sees_reached, declaration_told, declarations_end, declarations_front, expression_told, expressions_end, expressions_front, guards_end, guards_front, maybe_none, maybe_some, more_variables, operands_end, operands_front, qualifier_brings, qualifiers_end, qualifiers_front, right_told, sees_added, sees_inside}
+use Rattle.cu_uses.proofs.WalkLemmas.{alternatives_end, alternatives_prefix, below_max, if_ok, sees_reached, declaration_told, declarations_end, declarations_prefix, expression_told, expressions_end, expressions_prefix, guards_end, guards_prefix, maybe_none, maybe_some, more_variables, operands_end, operands_prefix, qualifier_brings, qualifiers_end, qualifiers_prefix, right_told, sees_added, sees_inside}
 use Rattle.cu_uses.proofs.expressions.+uses.Goals as goal
 
 pub expression-returns-in-Variable : goal.expression-returns-in-Variable
@@ -133,7 +133,7 @@ expressions-expression-requires t c = (search (rules, largest expression_size c.
 pub expressions-loop-e-preserved : goal.expressions-loop-e-preserved
 expressions-loop-e-preserved t c w local after sees all rest =
     c.loop-e.invariant w local after sees all
-    (expressions_front (ExpressionIsOf w.owner w.names) w local c.args.es.now c.loop-e.e-index c.e-item.result c.loop-e.first c.expression.new.first after c.e-item.is c.loop-e-test.true all
+    (expressions_prefix (ExpressionIsOf w.owner w.names) w local c.args.es.now c.loop-e.e-index c.e-item.result c.loop-e.first c.expression.new.first after c.e-item.is c.loop-e-test.true all
     (λ of. c.in_ok-expression.ensures w local sees of) rest)
 
 pub expressions-returns : goal.expressions-returns
@@ -146,7 +146,7 @@ operands-expression-requires t c = (search (rules, largest operator_item_size c.
 pub operands-loop-item-preserved : goal.operands-loop-item-preserved
 operands-loop-item-preserved t c w local after sees all rest =
     c.loop-item.invariant w local after sees all
-    (operands_front (OperatorItemIsOf w.owner w.names) w local c.args.items.now c.loop-item.item-index c.item-item.result c.loop-item.first c.expression.new.first after c.item-item.is c.loop-item-test.true all
+    (operands_prefix (OperatorItemIsOf w.owner w.names) w local c.args.items.now c.loop-item.item-index c.item-item.result c.loop-item.first c.expression.new.first after c.item-item.is c.loop-item-test.true all
     (λ of. told_both (c.use_value.ensures w local sees of.0) (c.in_ok-expression.ensures w local sees of.2)) rest)
 
 pub operands-returns : goal.operands-returns
@@ -159,7 +159,7 @@ alternatives-alternative-requires t c = (search (rules, largest alternative_size
 pub alternatives-loop-a-preserved : goal.alternatives-loop-a-preserved
 alternatives-loop-a-preserved t c w local after sees all rest =
     c.loop-a.invariant w local after sees all
-    (alternatives_front (AlternativeIsOf w.owner w.names) w local c.args.cases.now c.loop-a.a-index c.a-item.result c.loop-a.first c.alternative.new.first after c.a-item.is c.loop-a-test.true all
+    (alternatives_prefix (AlternativeIsOf w.owner w.names) w local c.args.cases.now c.loop-a.a-index c.a-item.result c.loop-a.first c.alternative.new.first after c.a-item.is c.loop-a-test.true all
     (λ of. c.in_ok-alternative.ensures w local sees of) rest)
 
 pub alternatives-returns : goal.alternatives-returns
@@ -172,7 +172,7 @@ guards-expression-requires t c = (search (rules, largest guard_size c.args.cases
 pub guards-loop-g-preserved : goal.guards-loop-g-preserved
 guards-loop-g-preserved t c w local after sees all rest =
     c.loop-g.invariant w local after sees all
-    (guards_front (GuardIsOf w.owner w.names) w local c.args.cases.now c.loop-g.g-index c.g-item.result c.loop-g.first c.expression-in-loop-g.new.first after c.g-item.is c.loop-g-test.true all
+    (guards_prefix (GuardIsOf w.owner w.names) w local c.args.cases.now c.loop-g.g-index c.g-item.result c.loop-g.first c.expression-in-loop-g.new.first after c.g-item.is c.loop-g-test.true all
     (λ of. told_both (c.in_ok-expression.ensures w local sees of.1) (c.in_ok-expression-2.ensures w local sees of.2)) rest)
 
 pub guards-returns : goal.guards-returns
@@ -185,7 +185,7 @@ declarations-declaration-requires t c = (search (rules, largest declaration_size
 pub declarations-loop-d-preserved : goal.declarations-loop-d-preserved
 declarations-loop-d-preserved t c w local after sees all rest =
     c.loop-d.invariant w local after sees all
-    (declarations_front (DeclarationIsOf w.owner w.names) w local c.args.ds.now c.loop-d.d-index c.d-item.result c.loop-d.first c.declaration.new.first after c.d-item.is c.loop-d-test.true all
+    (declarations_prefix (DeclarationIsOf w.owner w.names) w local c.args.ds.now c.loop-d.d-index c.d-item.result c.loop-d.first c.declaration.new.first after c.d-item.is c.loop-d-test.true all
     (λ of. c.in_ok-declaration.ensures w local sees of) rest)
 
 pub declarations-returns : goal.declarations-returns
@@ -268,7 +268,7 @@ comprehension-loop-q-preserved t c w local sees all =
       more.0,
       more.1,
       λ after rest.
-          before.3 after (qualifiers_front w before.0 c.args.element c.args.qualifiers.now c.loop-q.q-index c.q-item.result c.loop-q.first c.qualifier.new.first after c.q-item.is c.loop-q-test.true brought.told rest),
+          before.3 after (qualifiers_prefix w before.0 c.args.element c.args.qualifiers.now c.loop-q.q-index c.q-item.result c.loop-q.first c.qualifier.new.first after c.q-item.is c.loop-q-test.true brought.told rest),
     )
 
 pub comprehension-returns : goal.comprehension-returns

@@ -8,7 +8,7 @@ use Rattle.cu_syntax.specs.Owners.{ConstructorItemIsOf, PatternIsOf, PatternNode
 use Rattle.cu_syntax.specs.Smaller.{constructor_item_size, pattern_size}
 use Rattle.std.specs.Prelude.{OnOk}
 use Rattle.cu_uses.specs.Inside.Gathered.{Finds, operands_bind, operands_build, patterns_bind, patterns_build}
-use Rattle.cu_uses.proofs.FoundLemmas.{finds_both, on_ok, operands_end, operands_front, pattern_bare, pattern_found, patterns_end, patterns_front}
+use Rattle.cu_uses.proofs.FoundLemmas.{finds_both, on_ok, operands_end, operands_prefix, pattern_bare, pattern_found, patterns_end, patterns_prefix}
 use Rattle.cu_uses.proofs.found.+patterns.Goals as goal
 
 pub operands-pattern-requires : goal.operands-pattern-requires
@@ -17,7 +17,7 @@ operands-pattern-requires t c = (search (rules, largest constructor_item_size c.
 pub operands-loop-item-preserved : goal.operands-loop-item-preserved
 operands-loop-item-preserved t c owner names after all rest =
     c.loop-item.invariant owner names after all
-    (operands_front (ConstructorItemIsOf owner names) owner names c.args.items.now c.loop-item.item-index c.item-item.result c.loop-item.found c.pattern.new.found after c.item-item.is c.loop-item-test.true all
+    (operands_prefix (ConstructorItemIsOf owner names) owner names c.args.items.now c.loop-item.item-index c.item-item.result c.loop-item.found c.pattern.new.found after c.item-item.is c.loop-item-test.true all
     (λ of. finds_both (c.in_ok-constructor.ensures owner names of.0) (c.in_ok-pattern.ensures owner names of.1)) rest)
 
 pub operands-returns : goal.operands-returns
@@ -83,7 +83,7 @@ patterns-pattern-requires t c = (search (rules, largest pattern_size c.args.ps.n
 pub patterns-loop-p-preserved : goal.patterns-loop-p-preserved
 patterns-loop-p-preserved t c owner names after all rest =
     c.loop-p.invariant owner names after all
-    (patterns_front (PatternIsOf owner names) owner names c.args.ps.now c.loop-p.p-index c.p-item.result c.loop-p.found c.pattern.new.found after c.p-item.is c.loop-p-test.true all
+    (patterns_prefix (PatternIsOf owner names) owner names c.args.ps.now c.loop-p.p-index c.p-item.result c.loop-p.found c.pattern.new.found after c.p-item.is c.loop-p-test.true all
     (λ of. c.in_ok-pattern.ensures owner names of) rest)
 
 pub patterns-returns : goal.patterns-returns

@@ -7,7 +7,7 @@ use Rattle.cu_syntax.specs.declared.types.TypeTerm.{TypeTerm}
 use Rattle.cu_syntax.specs.Owners.{TypeIsOf, TypeNodeIsOf}
 use Rattle.cu_syntax.specs.Smaller.{type_size}
 use Rattle.cu_uses.specs.Inside.Gathered.{Finds, types_bind, types_build}
-use Rattle.cu_uses.proofs.FoundLemmas.{finds_both, on_ok, type_found, types_end, types_front}
+use Rattle.cu_uses.proofs.FoundLemmas.{finds_both, on_ok, type_found, types_end, types_prefix}
 use Rattle.cu_uses.proofs.found.+types.Goals as goal
 
 pub types-type_term-requires : goal.types-type_term-requires
@@ -16,7 +16,7 @@ types-type_term-requires t c = (search (rules, largest type_size c.args.ts.now c
 pub types-loop-t-preserved : goal.types-loop-t-preserved
 types-loop-t-preserved t c owner names after all rest =
     c.loop-t.invariant owner names after all
-    (types_front (TypeIsOf owner names) owner names c.args.ts.now c.loop-t.t-index c.t-item.result c.loop-t.found c.type_term.new.found after c.t-item.is c.loop-t-test.true all
+    (types_prefix (TypeIsOf owner names) owner names c.args.ts.now c.loop-t.t-index c.t-item.result c.loop-t.found c.type_term.new.found after c.t-item.is c.loop-t-test.true all
     (λ of. c.in_ok-type_term.ensures owner names of) rest)
 
 pub types-returns : goal.types-returns

@@ -1,10 +1,10 @@
-use Rattle.cu_uses.proofs.TopLemmas.{items_end, items_front}
+use Rattle.cu_uses.proofs.TopLemmas.{items_end, items_prefix}
 use Rattle.cu_uses.proofs.item_uses.items_uses.Goals as goal
 
 pub loop-item-preserved : goal.loop-item-preserved
 loop-item-preserved c w after sees all rest =
     c.loop-item.invariant w after sees all
-    (items_front w c.args.items.now c.loop-item.item-index c.item-item.result c.loop-item.first c.item_uses.new.first after c.item-item.is c.loop-item-test.true all
+    (items_prefix w c.args.items.now c.loop-item.item-index c.item-item.result c.loop-item.first c.item_uses.new.first after c.item-item.is c.loop-item-test.true all
     (λ of. c.in_ok-item_uses.ensures w sees of) rest)
 
 pub returns : goal.returns

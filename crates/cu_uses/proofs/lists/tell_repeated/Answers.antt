@@ -6,7 +6,7 @@ use Rattle.cu_uses.specs.Demands.{Repeats}
 use Rattle.cu_uses.specs.Inside.Gathered.{names_meaning}
 use Rattle.cu_uses.specs.Inside.Worlds.{Told}
 use Rattle.cu_uses.specs.Telling.{HasTexts}
-use Rattle.cu_uses.proofs.ListLemmas.{more_first, name_at, no_name, repeated_end, repeated_front_again, repeated_front_new}
+use Rattle.cu_uses.proofs.ListLemmas.{more_first, name_at, no_name, repeated_end, repeated_prefix_again, repeated_prefix_new}
 use Rattle.cu_uses.proofs.lists.tell_repeated.Goals.{then-has, else-has+in_ok-add}
 use Rattle.cu_uses.proofs.lists.tell_repeated.Goals as goal
 
@@ -19,7 +19,7 @@ loop-name-preserved c w differ all =
         before.0,
         subst (HasTexts w.names before.0) (sym s.seen-is) before.1,
         λ after rest.
-            before.2 after (repeated_front_again w before.0 c.args.names.now c.loop-name.name-index c.loop-name.first s.tell.new.first after c.loop-name-test.true
+            before.2 after (repeated_prefix_again w before.0 c.args.names.now c.loop-name.name-index c.loop-name.first s.tell.new.first after c.loop-name-test.true
             (sym (c.has.ensures w.names before.0 here.text before.1) ∙ s.if-has.true)
             (s.tell.ensures w (Repeats (name_meaning w.names (name_at c.args.names.now c.loop-name.name-index))) here refl)
             (subst (λ f. Told w f (map Repeats (repeated before.0 (names_meaning w.names (drop (c.loop-name.name-index + 1) c.args.names.now)))) after) s.first-is rest)),
@@ -28,7 +28,7 @@ loop-name-preserved c w differ all =
         text_of w.names (name_at c.args.names.now c.loop-name.name-index).text ∷ before.0,
         more_first w.names before.0 (text_of w.names (name_at c.args.names.now c.loop-name.name-index).text) c.if-has.seen
             (subst (HasTexts w.names _) (sym s.seen-is) (s.in_ok-add.ensures w.names before.0 differ here.text before.1)),
-        λ after rest. before.2 after (repeated_front_new w before.0 c.args.names.now c.loop-name.name-index c.loop-name.first after c.loop-name-test.true
+        λ after rest. before.2 after (repeated_prefix_new w before.0 c.args.names.now c.loop-name.name-index c.loop-name.first after c.loop-name-test.true
             (sym (c.has.ensures w.names before.0 here.text before.1) ∙ s.if-has.false)
             (subst (λ f. Told w f (map Repeats (repeated (text_of w.names (name_at c.args.names.now c.loop-name.name-index).text ∷ before.0) (names_meaning w.names (drop (c.loop-name.name-index + 1) c.args.names.now)))) after) s.first-is rest)),
       )

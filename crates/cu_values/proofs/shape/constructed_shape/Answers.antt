@@ -14,4 +14,4 @@ returns-else-arity-eq2 c vs h =
       | else-arity-eq2-via-then-arity-eq2+else-eq-2 w ↦ inr (search (rules, tests))
       | else-arity-eq2-via-else-arity-eq2 w ↦ inl (omega arith)
     ] in
-    c.other_shape-other.ensures ∙ other_is labels c.args.constructor c.args.arity vs c.args.behind.now h (omega arith) c.requires differs
+    c.other_shape-other.ensures ∙ other_is labels c.args.constructor c.args.arity vs c.args.after.now h (omega arith) c.requires differs

@@ -8,7 +8,7 @@ use Rattle.cu_values.proofs.shape.find_shapes.Given as goal
 abbrev pub invariant-loop-at : goal.invariant-loop-at
 invariant-loop-at l = record {
   within : l.at ≤ length l.cells;
-  behind : l.behind.items ≡ stacked (labels_meaning l.names) (read_all (drop l.at l.cells));
+  after : l.after.items ≡ stacked (labels_meaning l.names) (read_all (drop l.at l.cells));
   found : reverse l.shapes.items ≡ shapes_at (labels_meaning l.names) (drop l.at l.cells);
 }
 

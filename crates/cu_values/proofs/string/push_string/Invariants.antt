@@ -1,7 +1,7 @@
 -- What is written, and the text of the characters that are left, are the whole.
 use Rattle.std.proofs.Common.{◌≡◌, ◌++◌, ◌<◌, ◌≤◌, ◌-◌, true, drop, length}
 use Rattle.std.specs.String.{string_bytes}
-use Rattle.cu_values.specs.Cells.{back, first, read_all, IsSpelled}
+use Rattle.cu_values.specs.Cells.{suffix, first, read_all, IsSpelled}
 use Rattle.cu_values.specs.Display.{characters, string_text}
 use Rattle.cu_values.specs.Tasks.{are_characters}
 use Rattle.cu_values.proofs.StringLemmas.{string_after}
@@ -13,7 +13,7 @@ invariant-loop-c l = record {
   within : l.at < length l.cells;
   spelled : IsSpelled (drop l.at l.cells);
   letters : are_characters (first (read_all (drop l.at l.cells))) ≡ true;
-  others : back 1 (read_all (drop l.at l.cells)) ≡ back 1 (read_all (drop l.start l.cells));
+  others : suffix 1 (read_all (drop l.at l.cells)) ≡ suffix 1 (read_all (drop l.start l.cells));
   text : string_bytes l.text ++ string_after l.after_number (characters (first (read_all (drop l.at l.cells))))
       ≡ string_bytes l.initial.text ++ string_text (characters (first (read_all (drop l.start l.cells))));
 }

@@ -5,7 +5,7 @@ use Rattle.cu_cycles.proofs.components.Search.join.Goals as goal
 pub loop-self-preserved : goal.loop-self-preserved
 loop-self-preserved c =
     let s = c.loop-self.self in
-    let found = c.begins_behind.ensures.behind c.loop-self-test.true in
+    let found = c.begins_after.ensures.after c.loop-self-test.true in
     let n = Rattle.std.specs.Vec.vec_len s.parts in
     let size : Rattle.std.specs.Vec.vec_len s.parts ≡ length s.parts.items = search rules in (
       only_step c.args.self.now s c.pop.new.self n found.0 found.1 size c.pop.ensures.rest c.loop-self.invariant.0,

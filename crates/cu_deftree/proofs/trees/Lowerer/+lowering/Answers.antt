@@ -3,7 +3,7 @@ use Rattle.cu_calculus.specs.Term as clean
 use Rattle.cu_deftree.specs.declared.tasks.Manner.TheVariants as manner
 use Rattle.cu_deftree.specs.declared.patterns.Choice.{Choice}
 use Rattle.cu_deftree.specs.Inside.NamesOf.{names_of}
-use Rattle.cu_deftree.specs.Inside.RowsOf.{all_rows, demand_meaning, wants}
+use Rattle.cu_deftree.specs.Inside.RowsOf.{all_rows, demand_meaning, demands_choice}
 use Rattle.cu_deftree.specs.Inside.Tasks.{BranchLowers, TermLowers, both_of, both_size, branch_of, branch_pattern, branch_size, branches_of, terms_in, total}
 use Rattle.cu_deftree.specs.LoweredProgram.{size}
 use Rattle.cu_deftree.specs.Inside.Ready.{program_in}
@@ -13,7 +13,7 @@ use Rattle.cu_deftree.proofs.TaskSteps.{both_done, first_stops, in_terms, second
 use Rattle.std.proofs.Common.{get_or, take, ◌-◌}
 use Rattle.std.specs.Prelude.{true, false}
 use Rattle.cu_deftree.specs.Lowering.{goes_on, literal_case}
-use Rattle.cu_calculus.specs.Choose.{wants_literal}
+use Rattle.cu_calculus.specs.Choose.{demands_literal}
 use Rattle.cu_deftree.specs.Inside.Tasks.{mode_of}
 use Rattle.cu_deftree.proofs.RowSteps.{some_rows}
 use Rattle.cu_deftree.proofs.TreeExits.{no_rows, failing_tree, failing_cases, cases_less, variable_case_in, term_case_in, case_written, literal_in, other_literals_less, all_case_in, body_lighter, demanding_less, demands_first, first_case_in, left_at, mixed_first, never_nothing, opened_common, opened_first, opened_lighter, opened_mixed, others_less, overlap_in, rest_is, rest_lighter, some_mixed, split_first, tree_case_in, as_case_out, branch_in, first_in, get_at, is_free, rule_in, some_free, split_in}
@@ -59,7 +59,7 @@ branch-returns-in_err-pattern t c =
 
 pub branch-lower-requires : goal.branch-lower-requires
 branch-lower-requires t c =
-    (let l = opened_lighter c.args.matrix.now.rows.now c.as_slice-3.result.now c.in_ok-opened.opened.rows.items c.args.position c.in_ok-opened.opened.arguments.items (goes_on c.args.has_variables (wants c.args.choice)) c.requires.opened c.as_slice-3.ensures.value c.in_ok-opened.ensures.rows in omega (arith, l, c.decreases), search rules)
+    (let l = opened_lighter c.args.matrix.now.rows.now c.as_slice-3.result.now c.in_ok-opened.opened.rows.items c.args.position c.in_ok-opened.opened.arguments.items (goes_on c.args.has_variables (demands_choice c.args.choice)) c.requires.opened c.as_slice-3.ensures.value c.in_ok-opened.ensures.rows in omega (arith, l, c.decreases), search rules)
 
 pub branch-returns-in_err-body : goal.branch-returns-in_err-body
 branch-returns-in_err-body t c =
@@ -328,7 +328,7 @@ literal_test-returns-in_err-spend t c =
 
 pub literal_test-two-requires : goal.literal_test-two-requires
 literal_test-two-requires t c =
-    (let l = opened_lighter c.args.matrix.now.rows.now c.as_slice-2.result.now c.in_ok-opened.opened.rows.items c.args.position c.in_ok-opened.opened.arguments.items (goes_on true (wants_literal c.args.literal)) (opened_mixed c.args.position (all_rows c.args.matrix.now.rows.now) c.requires.mixed) c.as_slice-2.ensures.value c.in_ok-opened.ensures.rows in let m = other_literals_less (all_rows c.args.matrix.now.rows.now) c.as_slice-3.result.now c.in_ok-others.others.items c.args.position c.args.literal c.requires.literal c.as_slice-3.ensures.value c.in_ok-others.ensures in omega (arith, l, m, c.decreases), search rules)
+    (let l = opened_lighter c.args.matrix.now.rows.now c.as_slice-2.result.now c.in_ok-opened.opened.rows.items c.args.position c.in_ok-opened.opened.arguments.items (goes_on true (demands_literal c.args.literal)) (opened_mixed c.args.position (all_rows c.args.matrix.now.rows.now) c.requires.mixed) c.as_slice-2.ensures.value c.in_ok-opened.ensures.rows in let m = other_literals_less (all_rows c.args.matrix.now.rows.now) c.as_slice-3.result.now c.in_ok-others.others.items c.args.position c.args.literal c.requires.literal c.as_slice-3.ensures.value c.in_ok-others.ensures in omega (arith, l, m, c.decreases), search rules)
 
 pub literal_test-returns-in_err-both : goal.literal_test-returns-in_err-both
 literal_test-returns-in_err-both t c =

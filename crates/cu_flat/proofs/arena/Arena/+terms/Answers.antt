@@ -228,15 +228,15 @@ push_term-returns-in_ok-body-in-Let t c =
     let b = term_of c.deref-in-Let-2.result.now in
     let first = c.in_ok-bound-in-Let.bound in
     let second = c.in_ok-body-in-Let.body in
-    let behind : ℕ → Bool = λ y. beside (x ∷ []) y && uses b y in
+    let after : ℕ → Bool = λ y. beside (x ∷ []) y && uses b y in
     laid-pair c.push_over-in-Let.result scope (binding (x ∷ []) scope) (term_of c.args.term.now) (clean.Let x a b) a b
     (map entry_meaning c.args.self.now.entries.items) (map entry_meaning c.push_term-in-Let.new.self.entries.items)
     (map entry_meaning c.push_under.new.self.entries.items) (map entry_meaning c.push_over-in-Let.new.self.entries.items)
-    first.place second.place first.used.items (filter (λ y. uses a y || behind y) scope) (code.Let x)
+    first.place second.place first.used.items (filter (λ y. uses a y || after y) scope) (code.Let x)
     (let-is c.args.term.now x c.in-Let.bound c.in-Let.body c.deref-in-Let.result.now c.deref-in-Let-2.result.now c.in-Let.is
     c.deref-in-Let.ensures c.deref-in-Let-2.ensures)
     c.in_ok-bound-in-Let.ensures c.in_ok-body-in-Let.ensures.place c.in_ok-body-in-Let.ensures.written
-    (c.push_over-in-Let.ensures.used (uses a) behind c.in_ok-bound-in-Let.ensures.used_of c.in_ok-body-in-Let.ensures.used_of)
+    (c.push_over-in-Let.ensures.used (uses a) after c.in_ok-bound-in-Let.ensures.used_of c.in_ok-body-in-Let.ensures.used_of)
     c.push_over-in-Let.ensures.pushed refl (omega arith) refl
 
 pub push_term-returns-in_ok-body-in-Free : goal.push_term-returns-in_ok-body-in-Free

@@ -20,10 +20,10 @@ loop-x-preserved c =
       next = omega (arith, c.in_ok-before.ensures.next, inv.next);
       wording = c.in_ok-before.ensures.wording ∙ inv.wording;
       tasks = λ program code n.
-          let back : numbered x before (numbers_of c.bind.new.self.numbers) ≡ numbers =
+          let restored : numbered x before (numbers_of c.bind.new.self.numbers) ≡ numbers =
           ap (λ (v : Numbers). numbered x before v) c.in_ok-before.ensures.numbers
           ∙ ap (λ (b : ℕ). numbered x b (numbered x k numbers)) c.in_ok-before.ensures.before ∙ rebound x k numbers in
           number_restored program code c.loop-x.self.tasks.items c.push.new.self.items x before n (numbers_of c.bind.new.self.numbers) numbers
-          (c.in_ok-push.ensures.items ∙ ap (λ (us : List Task). us ++ task.Number x before ∷ []) c.in_ok-before.ensures.tasks) back
+          (c.in_ok-push.ensures.items ∙ ap (λ (us : List Task). us ++ task.Number x before ∷ []) c.in_ok-before.ensures.tasks) restored
           ∙ inv.tasks program code n;
     }

@@ -1,7 +1,7 @@
 use Rattle.std.proofs.Common.{ℕ, List, [], OnOk, ap, get_or, subst}
 use Rattle.std.proofs.lemmas.Result.{on_ok_weaker}
 use Rattle.cu_types.specs.declared.node.TypeHead.TheVariants as head
-use Rattle.cu_flattext.specs.Inside.InferredTasks.{inferred_left, inferred_left_behind, text_of_type, type_at, type_with}
+use Rattle.cu_flattext.specs.Inside.InferredTasks.{inferred_left, inferred_left_after, text_of_type, type_at, type_with}
 use Rattle.cu_flattext.specs.Inside.Tasks.{Writes}
 use Rattle.cu_flattext.specs.TypeTexts.{type_variables}
 use Rattle.cu_flattext.proofs.InferredLemmas.{not_two, text_written, two_items}
@@ -19,7 +19,7 @@ returns-then-arguments-ne2 c =
 pub returns : goal.returns
 returns c =
     let self = c.args.self.now in
-    subst (λ (text : List ℕ). OnOk c.functions.result (Writes c.args.page.now.text.items (inferred_left_behind text self)
+    subst (λ (text : List ℕ). OnOk c.functions.result (Writes c.args.page.now.text.items (inferred_left_after text self)
     c.functions.new.page.text.items (inferred_left c.functions.new.self)))
     (ap (λ (ps : List ℕ). text_of_type self (type_with self head.Arrow ps))
     (two_items c.args.arguments.now c.if-arguments-ne2.false))

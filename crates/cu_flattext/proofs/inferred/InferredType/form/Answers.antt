@@ -1,6 +1,6 @@
 use Rattle.std.proofs.Common.{ℕ, List, [], OnOk, get_or, subst}
 use Rattle.std.proofs.lemmas.Result.{on_ok_weaker}
-use Rattle.cu_flattext.specs.Inside.InferredTasks.{inferred_left, inferred_left_behind, text_at}
+use Rattle.cu_flattext.specs.Inside.InferredTasks.{inferred_left, inferred_left_after, text_at}
 use Rattle.cu_flattext.specs.Inside.Stands.{lowered_of}
 use Rattle.cu_flattext.specs.Inside.Tasks.{Writes}
 use Rattle.cu_flattext.specs.TypeTexts.{type_variables}
@@ -10,7 +10,7 @@ use Rattle.cu_flattext.proofs.inferred.InferredType.form.Goals as goal
 pub returns-in-Some : goal.returns-in-Some
 returns-in-Some c =
     let self = c.args.self.now in
-    subst (λ (text : List ℕ). OnOk c.node.result (Writes c.args.page.now.text.items (inferred_left_behind text self)
+    subst (λ (text : List ℕ). OnOk c.node.result (Writes c.args.page.now.text.items (inferred_left_after text self)
     c.node.new.page.text.items (inferred_left c.node.new.self)))
     (text_of_node (lowered_of self.wording) self.count self.table c.args.place c.in-Some.node.now c.in-Some.ensures)
     c.node.ensures

@@ -20,7 +20,7 @@ returns c =
     let many = mapped_length type_of x.fields.items in
     let count : c.len.result ≡ length (map type_of x.fields.items) = omega (arith, c.len.ensures, x.fields.ok.0, many) in
     head_written c.args.page.now.text.items comma c.push_counted.new.page.text.items c.push_str.new.self.text.items
-    (comma_text c.args.behind) (codes "Cons ") name (entity_text (entity_of program self.module x.name))
+    (comma_text c.args.follows) (codes "Cons ") name (entity_text (entity_of program self.module x.name))
     (decimal (length (map type_of x.fields.items))) (visibility_text x.public)
     (separated (map (type_text program (expanded program) (type_variables c.args.arity)) (map type_of x.fields.items)))
     (work_left c.in_ok-work.work) (codes " [") (codes "]") (lines_left self) (line_parts program self.module (reverse c.push.new.self.items))

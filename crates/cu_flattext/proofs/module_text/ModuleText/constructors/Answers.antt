@@ -14,7 +14,7 @@ returns-in_ok-work-in-len1-up c =
     let xs = c.args.constructors.now in
     let text = constructor_text program self.module c.args.arity in
     element_read (c.constructor.new.page.text.items ++ (work_left c.in_ok-work-in-len1-up.work ++ lines_left c.constructor.new.self))
-    c.args.page.now.text.items c.args.behind (text (constructor_meaning c.first-item.result))
+    c.args.page.now.text.items c.args.follows (text (constructor_meaning c.first-item.result))
     (map text (map constructor_meaning (take (length xs - 1) (drop 1 xs)))) (map text (map constructor_meaning xs)) (lines_left self)
     (line_parts program self.module (reverse c.push.new.self.items))
     (ap (λ (zs : List Constructor). map text (map constructor_meaning zs)) (all_others xs c.first-item.result c.in-len1-up.len_at_least c.first-item.is))

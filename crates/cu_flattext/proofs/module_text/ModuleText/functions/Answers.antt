@@ -12,8 +12,8 @@ pub returns-then-k-function_count : goal.returns-then-k-function_count
 returns-then-k-function_count c =
     let self = c.args.self.now in
     let page = c.args.page.now.text.items in
-    ap (λ (t : List ℕ). page ++ (t ++ lines_left self)) (sym (elements_none c.args.behind))
-    ∙ ap (λ (xs : List (List ℕ)). page ++ (elements c.args.behind xs ++ lines_left self))
+    ap (λ (t : List ℕ). page ++ (t ++ lines_left self)) (sym (elements_none c.args.follows))
+    ∙ ap (λ (xs : List (List ℕ)). page ++ (elements c.args.follows xs ++ lines_left self))
     (sym (no_function (lowered_of self.wording) self.module c.args.k
     (lacks_function self.wording.flat.now c.function_count.result c.args.k c.function_count.ensures c.if-k-function_count.true)))
 
@@ -21,8 +21,8 @@ pub returns-in_default : goal.returns-in_default
 returns-in_default c =
     let self = c.args.self.now in
     let page = c.args.page.now.text.items in
-    ap (λ (t : List ℕ). page ++ (t ++ lines_left self)) (sym (elements_none c.args.behind))
-    ∙ ap (λ (xs : List (List ℕ)). page ++ (elements c.args.behind xs ++ lines_left self))
+    ap (λ (t : List ℕ). page ++ (t ++ lines_left self)) (sym (elements_none c.args.follows))
+    ∙ ap (λ (xs : List (List ℕ)). page ++ (elements c.args.follows xs ++ lines_left self))
     (sym (no_mark (lowered_of self.wording) self.module c.args.k (sym c.in_default.ensures)))
 
 pub returns-in_ok-work : goal.returns-in_ok-work
@@ -33,7 +33,7 @@ returns-in_ok-work c =
     let program = lowered_of self.wording in
     let mark = mark_meaning c.in-Some.mark.now in
     let next : c.in_ok-next.next ≡ k + 1 = search rules in
-    element_read (c.function.new.page.text.items ++ (work_left c.in_ok-work.work ++ lines_left c.function.new.self)) c.args.page.now.text.items c.args.behind
+    element_read (c.function.new.page.text.items ++ (work_left c.in_ok-work.work ++ lines_left c.function.new.self)) c.args.page.now.text.items c.args.follows
     (on_a_line (function_at program (record { 0 = k }) mark.public)) (function_lines program m (k + 1)) (function_lines program m k)
     (lines_left self) (line_parts program m (reverse c.push.new.self.items))
     (own_function program m k mark
@@ -53,8 +53,8 @@ returns-in_ok-push-2 c =
     let next : c.in_ok-next.next ≡ k + 1 = search rules in
     ap (λ (t : List ℕ). c.args.page.now.text.items ++ t)
     (line_pushed program m self.lines.items c.push-else-mark-self.new.self.items _ c.in_ok-push-2.ensures.items
-    ∙ ap (λ n. elements c.args.behind (function_lines program m n) ++ lines_left self) next
-    ∙ ap (λ (xs : List (List ℕ)). elements c.args.behind xs ++ lines_left self)
+    ∙ ap (λ n. elements c.args.follows (function_lines program m n) ++ lines_left self) next
+    ∙ ap (λ (xs : List (List ℕ)). elements c.args.follows xs ++ lines_left self)
     (sym (other_function program m k mark
     (has_function self.wording.flat.now c.function_count.result k c.function_count.ensures c.if-k-function_count.false)
     (sym c.in-Some.ensures) (ne_eqb mark.module m c.if-mark-self.false))))

@@ -15,7 +15,7 @@ returns c =
     let s = c.args.s.now in
     let name = entity_text (entity_meaning c.entity-entity.result) in
     head_written c.args.page.now.text.items c.push_comma.new.self.text.items c.push_type_head.new.page.text.items c.push_str.new.self.text.items
-    (comma_text c.args.behind) (codes "\nTypeSyn ") name (entity_text (entity_of program s.module s.name))
+    (comma_text c.args.follows) (codes "\nTypeSyn ") name (entity_text (entity_of program s.module s.name))
     (visibility_text s.public) (parameters_text s.arity) (type_text program (as_written program) (type_variables s.arity) (type_of s.body))
     (work_left c.in_ok-work.work) (codes " (") (codes ")") (lines_left self) (line_parts program self.module (reverse c.push.new.self.items))
     (ap (λ (e : naming.Entity). entity_text e) c.entity-entity.ensures) c.in_ok-push_comma.ensures c.in_ok-push_type_head.ensures

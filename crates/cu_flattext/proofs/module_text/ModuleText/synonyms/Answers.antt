@@ -17,7 +17,7 @@ returns-in_ok-work-in-len1-up c =
     let first = synonym_meaning c.first-item.result in
     let others = map synonym_meaning (take (length xs - 1) (drop 1 xs)) in
     element_read (c.synonym.new.page.text.items ++ (work_left c.in_ok-work-in-len1-up.work ++ lines_left c.synonym.new.self))
-    c.args.page.now.text.items c.args.behind (on_a_line (synonym_text program first)) (map on_a_line (synonym_texts program m others))
+    c.args.page.now.text.items c.args.follows (on_a_line (synonym_text program first)) (map on_a_line (synonym_texts program m others))
     (map on_a_line (synonym_texts program m (map synonym_meaning xs))) (lines_left self) (line_parts program m (reverse c.push.new.self.items))
     (ap (λ (zs : List Synonym). map on_a_line (synonym_texts program m (map synonym_meaning zs)))
     (all_others xs c.first-item.result c.in-len1-up.len_at_least c.first-item.is)

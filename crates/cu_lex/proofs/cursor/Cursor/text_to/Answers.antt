@@ -19,6 +19,6 @@ range-requires-clause-end_boundary c =
 
 pub returns : goal.returns
 unfolding left
-returns c = λ front whole.
-    c.range.ensures.value ∙ taken (encodes (characters front)) c.args.self.text.now c.args.end.text.now
-    (before front (position c.args.self) (position c.args.end) c.args.self.text.now c.args.end.text.now c.args.self.utf8 c.args.end.utf8 whole)
+returns c = λ prefix whole.
+    c.range.ensures.value ∙ taken (encodes (characters prefix)) c.args.self.text.now c.args.end.text.now
+    (before prefix (position c.args.self) (position c.args.end) c.args.self.text.now c.args.end.text.now c.args.self.utf8 c.args.end.utf8 whole)

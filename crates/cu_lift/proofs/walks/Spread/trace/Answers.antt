@@ -13,7 +13,7 @@ loop-at-preserved c =
     let low : at < length found = c.loop-at.invariant.0 in
     let e : slice_get found at ≡ Some f = slice_get_read found (length found) at f refl low c.index.ensures in
     let more : 0 < at = omega arith in
-    let back : f.from < at = c.requires.falls at f e more in
+    let earlier : f.from < at = c.requires.falls at f e more in
     let under : f.from < length found = omega arith in
     let source : slice_get found f.from ≡ Some c.index-in-loop-at.result.now =
     slice_get_read found (length found) f.from c.index-in-loop-at.result.now refl under c.index-in-loop-at.ensures in

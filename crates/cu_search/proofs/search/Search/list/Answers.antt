@@ -6,16 +6,16 @@ use Rattle.cu_search.specs.Rounds.{Leaves, Writes}
 use Rattle.cu_search.specs.Standing.{left_of}
 use Rattle.cu_search.specs.Stands.{standing_of}
 use Rattle.cu_search.proofs.ListingLemmas.{listing-goes_on}
-use Rattle.cu_search.proofs.WrittenLemmas.{OnErr-always, ends, front}
+use Rattle.cu_search.proofs.WrittenLemmas.{OnErr-always, ends, prefix}
 use Rattle.cu_search.proofs.search.Search.list.Goals as goal
 
-pub returns-in_err-end-clause-front : goal.returns-in_err-end-clause-front
-returns-in_err-end-clause-front g c =
+pub returns-in_err-end-clause-prefix : goal.returns-in_err-end-clause-prefix
+returns-in_err-end-clause-prefix g c =
     let written = g.K.Sink.written in
     let first = standing_of g.S.Store.content c.args.self.now in
     let s = standing_of g.S.Store.content c.loop-end.self in
     OnErr-always c.from_residual.result
-    (front (written c.args.sink.now) (written c.loop-end.sink) (written c.round.new.sink) (listing_bytes first.notation (left_of first)) (listing_bytes s.notation (left_of s))
+    (prefix (written c.args.sink.now) (written c.loop-end.sink) (written c.round.new.sink) (listing_bytes first.notation (left_of first)) (listing_bytes s.notation (left_of s))
     c.loop-end.invariant.left.written c.in_err-end.ensures.written)
 
 pub loop-end-preserved : goal.loop-end-preserved

@@ -9,10 +9,10 @@ use Rattle.cu_step.specs.Outcome.{next_of, state_of}
 use Rattle.cu_search.specs.Lines.{lines_bytes}
 use Rattle.cu_search.specs.Standing.{left_of, outcomes_of, round_at}
 use Rattle.cu_search.specs.Stands.{standing_of}
-use Rattle.cu_search.specs.Written.{Adds, AddsFront}
+use Rattle.cu_search.specs.Written.{Adds, AddsPrefix}
 use Rattle.cu_search.proofs.BranchLemmas.{all-follow, all-of_map, states-follow}
-use Rattle.cu_search.proofs.ListingLemmas.{Listed, end-front, end-written, last-is, left-ends, left-goes_on, lines-front, next-going, next-is, writes-err}
-use Rattle.cu_search.proofs.WrittenLemmas.{whole_front}
+use Rattle.cu_search.proofs.ListingLemmas.{Listed, end-prefix, end-written, last-is, left-ends, left-goes_on, lines-prefix, next-going, next-is, writes-err}
+use Rattle.cu_search.proofs.WrittenLemmas.{whole_prefix}
 use Rattle.cu_search.proofs.search.Search.round.Given.{Over}
 use Rattle.cu_search.proofs.search.Search.round.Goals as goal
 use Rattle.cu_search.proofs.search.Search.round.Goals.{After-or, In_ok-listed, In_ok-outcomes}
@@ -35,9 +35,9 @@ returns-in_err-listed-clause-written g c =
     let s = standing_of content c.args.self.now in
     let same = ap (map (next_of content)) c.as_slice.ensures.value ∙ outcomes g (goal.at.returns-in_err-listed-clause-written g c).In_ok-outcomes in
     writes-err c.from_residual-in_err-listed.result s (written c.args.sink.now) (written c.list_outcomes.new.sink) c.from_residual-in_err-listed.ensures.0
-    (lines-front s (written c.args.sink.now) (written c.list_outcomes.new.sink) c.requires.going.within
-    (subst (λ xs. AddsFront (written c.args.sink.now) (written c.list_outcomes.new.sink) (lines_bytes s.notation (round_of s.round s.limits.answers s.tally xs).lines))
-    same c.in_err-listed.ensures.front))
+    (lines-prefix s (written c.args.sink.now) (written c.list_outcomes.new.sink) c.requires.going.within
+    (subst (λ xs. AddsPrefix (written c.args.sink.now) (written c.list_outcomes.new.sink) (lines_bytes s.notation (round_of s.round s.limits.answers s.tally xs).lines))
+    same c.in_err-listed.ensures.prefix))
 
 -- the lines of the round were written
 lines : (g : Over) (c : In_ok-listed g)
@@ -81,8 +81,8 @@ returns-in_err-self-clause-written g c =
     let s = standing_of g.S.Store.content c.args.self.now in
     let all = lines g (goal.at.returns-in_err-self-clause-written g c).In_ok-listed in
     writes-err c.from_residual-in_err-self.result s (written c.args.sink.now) (written c.list_outcomes.new.sink) c.from_residual-in_err-self.ensures.0
-    (lines-front s (written c.args.sink.now) (written c.list_outcomes.new.sink) c.requires.going.within
-    (whole_front (written c.args.sink.now) (written c.list_outcomes.new.sink) (lines_bytes s.notation (round_at s).lines) all))
+    (lines-prefix s (written c.args.sink.now) (written c.list_outcomes.new.sink) c.requires.going.within
+    (whole_prefix (written c.args.sink.now) (written c.list_outcomes.new.sink) (lines_bytes s.notation (round_at s).lines) all))
 
 pub returns-in_err-write_end-clause-written : goal.returns-in_err-write_end-clause-written
 returns-in_err-write_end-clause-written g c =
@@ -90,8 +90,8 @@ returns-in_err-write_end-clause-written g c =
     let s = standing_of g.S.Store.content c.args.self.now in
     let it = done g (goal.at.returns-in_err-write_end-clause-written g c).After-or in
     writes-err c.from_residual-in_err-write_end.result s (written c.args.sink.now) (written c.write_end.new.sink) c.from_residual-in_err-write_end.ensures.0
-    (end-front s c.in-Some.end (written c.args.sink.now) (written c.list_outcomes.new.sink) (written c.write_end.new.sink) c.requires.going.within
-    (sym (last-is it) ∙ c.in-Some.is) it.written c.in_err-write_end.ensures.front)
+    (end-prefix s c.in-Some.end (written c.args.sink.now) (written c.list_outcomes.new.sink) (written c.write_end.new.sink) c.requires.going.within
+    (sym (last-is it) ∙ c.in-Some.is) it.written c.in_err-write_end.ensures.prefix)
 
 pub returns-in-Some-clause-standing : goal.returns-in-Some-clause-standing
 returns-in-Some-clause-standing g c =

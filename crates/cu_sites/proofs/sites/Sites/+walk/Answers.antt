@@ -26,7 +26,7 @@ use Rattle.cu_locals.specs.BegunFound.{begun_meaning}
 use Rattle.cu_sites.specs.Inside.Entering.{Enters, Notes, Writes}
 use Rattle.cu_sites.specs.Inside.Walked.{IsComprehension, alternatives_have, applied_has, block_of, body_has, comprehension_has, declarations_have, expressions_have, guards_have, let_has, operands_have, qualifiers_have, qualifiers_of, right_has}
 use Rattle.cu_sites.proofs.SpotLemmas.{at_after, block_after, definition_written, writes_both, writes_none, written_start}
-use Rattle.cu_sites.proofs.WalkLemmas.{alternatives_end, alternatives_front, applied_to_nothing, applied_writes, bound_node_has, declaration_walks, declarations_end, declarations_front, declarations_start, expressions_end, expressions_front, follow_is, guards_end, guards_front, maybe_none, maybe_some, operands_end, operands_front, past_block, qualifier_writes, qualifiers_end, qualifiers_front, qualifiers_start, right_writes, rule_node_has}
+use Rattle.cu_sites.proofs.WalkLemmas.{alternatives_end, alternatives_prefix, applied_to_nothing, applied_writes, bound_node_has, declaration_walks, declarations_end, declarations_prefix, declarations_start, expressions_end, expressions_prefix, follow_is, guards_end, guards_prefix, maybe_none, maybe_some, operands_end, operands_prefix, past_block, qualifier_writes, qualifiers_end, qualifiers_prefix, qualifiers_start, right_writes, rule_node_has}
 use Rattle.cu_sites.proofs.PartLemmas.{alternative_written, at_pushed, begun_next, begun_none, bound_inside, comprehension_is, defined_inside, enters_names, enters_patterns, free_written, generator_written, inner_is, inner_rule_written, lambda_written, no_elements, operation_written, rule_begins, rule_defines, rule_goes_on, some_elements}
 use Rattle.cu_sites.proofs.sites.Sites.+walk.Goals as goal
 
@@ -150,7 +150,7 @@ expressions-loop-e-init t c w spot at all =
 pub expressions-loop-e-preserved : goal.expressions-loop-e-preserved
 expressions-loop-e-preserved t c w spot at all =
     let before = c.loop-e.invariant w spot at all in
-    expressions_front (ExpressionIsOf w.owner w.names) w spot (expressions_have w.names spot c.args.es.now) c.args.es.now c.loop-e.e-index c.e-item.result c.args.self.now c.loop-e.self c.expression.new.self c.e-item.is c.loop-e-test.true all before
+    expressions_prefix (ExpressionIsOf w.owner w.names) w spot (expressions_have w.names spot c.args.es.now) c.args.es.now c.loop-e.e-index c.e-item.result c.args.self.now c.loop-e.self c.expression.new.self c.e-item.is c.loop-e-test.true all before
     (λ of. c.in_ok-expression.ensures w spot (at_after before.writes at) of)
 
 pub expressions-returns : goal.expressions-returns
@@ -168,7 +168,7 @@ operands-loop-item-init t c w spot at all =
 pub operands-loop-item-preserved : goal.operands-loop-item-preserved
 operands-loop-item-preserved t c w spot at all =
     let before = c.loop-item.invariant w spot at all in
-    operands_front (OperatorItemIsOf w.owner w.names) w spot (operands_have w.names spot c.args.items.now) c.args.items.now c.loop-item.item-index c.item-item.result c.args.self.now c.loop-item.self c.expression.new.self c.item-item.is c.loop-item-test.true all before
+    operands_prefix (OperatorItemIsOf w.owner w.names) w spot (operands_have w.names spot c.args.items.now) c.args.items.now c.loop-item.item-index c.item-item.result c.args.self.now c.loop-item.self c.expression.new.self c.item-item.is c.loop-item-test.true all before
     (λ of. c.in_ok-expression.ensures w spot (at_after before.writes at) of.2)
 
 pub operands-returns : goal.operands-returns
@@ -186,7 +186,7 @@ alternatives-loop-a-init t c w spot at all =
 pub alternatives-loop-a-preserved : goal.alternatives-loop-a-preserved
 alternatives-loop-a-preserved t c w spot at all =
     let before = c.loop-a.invariant w spot at all in
-    alternatives_front (AlternativeIsOf w.owner w.names) w spot (alternatives_have w.names spot c.args.cases.now) c.args.cases.now c.loop-a.a-index c.a-item.result c.args.self.now c.loop-a.self c.alternative.new.self c.a-item.is c.loop-a-test.true all before
+    alternatives_prefix (AlternativeIsOf w.owner w.names) w spot (alternatives_have w.names spot c.args.cases.now) c.args.cases.now c.loop-a.a-index c.a-item.result c.args.self.now c.loop-a.self c.alternative.new.self c.a-item.is c.loop-a-test.true all before
     (λ of. c.in_ok-alternative.ensures w spot (at_after before.writes at) of)
 
 pub alternatives-returns : goal.alternatives-returns
@@ -208,7 +208,7 @@ guards-expression-requires-in-loop-g t c =
 pub guards-loop-g-preserved : goal.guards-loop-g-preserved
 guards-loop-g-preserved t c w spot at all =
     let before = c.loop-g.invariant w spot at all in
-    guards_front (GuardIsOf w.owner w.names) w spot (guards_have w.names spot c.args.cases.now) c.args.cases.now c.loop-g.g-index c.g-item.result c.args.self.now c.loop-g.self c.expression-in-loop-g.new.self c.g-item.is c.loop-g-test.true all before
+    guards_prefix (GuardIsOf w.owner w.names) w spot (guards_have w.names spot c.args.cases.now) c.args.cases.now c.loop-g.g-index c.g-item.result c.args.self.now c.loop-g.self c.expression-in-loop-g.new.self c.g-item.is c.loop-g-test.true all before
     (λ of. let first = c.in_ok-expression.ensures w spot (at_after before.writes at) of.1 in
     writes_both first (c.in_ok-expression-2.ensures w spot (at_after first (at_after before.writes at)) of.2))
 
@@ -273,10 +273,10 @@ qualifiers-loop-i-init t c w spot element at is =
 pub qualifiers-loop-i-preserved : goal.qualifiers-loop-i-preserved
 qualifiers-loop-i-preserved t c w spot element at is =
     let of = subst (QualifierIsOf w.owner w.names) (sym c.index-qualifiers-i.is) (All-get_or (QualifierIsOf w.owner w.names) c.args.qualifiers.now c.loop-i.i c.index-qualifiers-i.result c.loop-i-test.true is.qualifiers) in
-    qualifiers_front w element (qualifiers_have w.names spot element c.args.qualifiers.now) c.args.qualifiers.now c.loop-i.i c.index-qualifiers-i.result c.loop-i.before c.in_ok-behind.behind c.args.self.now c.loop-i.self c.past.new.self c.qualifier.new.self c.index-qualifiers-i.is c.loop-i-test.true
-    (c.loop-i.invariant w spot element at is) (λ reached here. c.in_ok-behind.ensures w reached here of)
+    qualifiers_prefix w element (qualifiers_have w.names spot element c.args.qualifiers.now) c.args.qualifiers.now c.loop-i.i c.index-qualifiers-i.result c.loop-i.before c.in_ok-after.after c.args.self.now c.loop-i.self c.past.new.self c.qualifier.new.self c.index-qualifiers-i.is c.loop-i-test.true
+    (c.loop-i.invariant w spot element at is) (λ reached here. c.in_ok-after.ensures w reached here of)
     (λ reached here there. c.in_ok-qualifier.ensures w reached element (qualifiers_of w.names (drop (c.loop-i.i + 1) c.args.qualifiers.now))
-    (record { before = here; behind_it = there; of = is.of; follow = follow_is w c.args.whole element c.args.qualifiers.now (c.loop-i.i + 1) is; element_is = is.element_is }) of)
+    (record { before = here; after_it = there; of = is.of; follow = follow_is w c.args.whole element c.args.qualifiers.now (c.loop-i.i + 1) is; element_is = is.element_is }) of)
 
 pub qualifiers-returns : goal.qualifiers-returns
 qualifiers-returns t c w spot element at is =
@@ -293,7 +293,7 @@ qualifier-returns-in_ok-block-in-Declarations t c w spot element others step is 
     let of = subst (QualifierIsOf w.owner w.names) c.in-Declarations.is is in
     let ds = c.in-Declarations.ds.items in
     let noted = subst (λ (xs : List Declaration). All (DeclarationIsOf w.owner w.names) xs → Notes w c.args.self.now (block_of w.names xs) c.in_ok-block-in-Declarations.block c.note_block.new.self) c.as_slice.ensures.value (c.in_ok-block-in-Declarations.ensures w) of.1 in
-    let there = past_block w c.args.self.now c.args.step.behind spot c.args.q.now c.in-Declarations.field-0 c.in-Declarations.ds c.in-Declarations.is step.behind_it in
+    let there = past_block w c.args.self.now c.args.step.after spot c.args.q.now c.in-Declarations.field-0 c.in-Declarations.ds c.in-Declarations.is step.after_it in
     on_ok c.declarations.result
     (λ last. qualifier_writes w spot element others c.args.q.now (qualifier.Declarations c.in-Declarations.field-0 c.in-Declarations.ds) c.args.self.now c.declarations.new.self c.in-Declarations.is (writes_both noted.writes last))
     (subst (λ (xs : List Declaration). All (DeclarationIsOf w.owner w.names) xs → OnOk c.declarations.result (Writes w c.note_block.new.self (declarations_have w.names (in_block (block_of w.names ds) spot) (block_of w.names ds) None xs) c.declarations.new.self))
@@ -343,7 +343,7 @@ declarations-loop-i-preserved t c w spot block is all =
     let follow = take_rest c.args.ds.now (c.loop-i.i + 1) in
     let others = subst (All (DeclarationIsOf w.owner w.names)) (sym follow) (All-drop (DeclarationIsOf w.owner w.names) (c.loop-i.i + 1) c.args.ds.now all) in
     let of = subst (DeclarationIsOf w.owner w.names) (sym c.index-ds-i.is) (All-get_or (DeclarationIsOf w.owner w.names) c.args.ds.now c.loop-i.i c.index-ds-i.result c.loop-i-test.true all) in
-    declarations_front w spot block c.args.ds.now _ c.loop-i.i c.index-ds-i.result c.loop-i.begun c.in_ok-begun.begun c.args.self.now c.loop-i.self c.declaration.new.self c.index-ds-i.is c.loop-i-test.true follow before
+    declarations_prefix w spot block c.args.ds.now _ c.loop-i.i c.index-ds-i.result c.loop-i.begun c.in_ok-begun.begun c.args.self.now c.loop-i.self c.declaration.new.self c.index-ds-i.is c.loop-i-test.true follow before
     (c.in_ok-begun.ensures w spot block (inner_is (at_after before.written.writes is.at) (block_after before.written.writes is.block_is)) before.is_before.known others of)
 
 pub declarations-returns : goal.declarations-returns

@@ -5,7 +5,7 @@ use Rattle.cu_peg.specs.Spelling.{read, read_all}
 use Rattle.cu_syntax.specs.Subtrees.{parts_in}
 use Rattle.cu_syntax.specs.Table.{rule_of}
 use Rattle.cu_syntax.proofs.NodeLemmas.{reads_all}
-use Rattle.cu_syntax.proofs.RepeatLemmas.{count_behind, count_end, count_small, count_trees, counted, fewer_left, others_spelled, parts_spelled, repeated_no_choice, repeated_no_leaf}
+use Rattle.cu_syntax.proofs.RepeatLemmas.{count_after, count_end, count_small, count_trees, counted, fewer_left, others_spelled, parts_spelled, repeated_no_choice, repeated_no_leaf}
 use Rattle.cu_syntax.proofs.SplitLemmas.{lexemes}
 use Rattle.cu_syntax.proofs.subtree.Subtree.count.Goals as goal
 
@@ -28,7 +28,7 @@ overflow_add-count c =
     let h = c.is_empty.ensures in
     let k = c.loop-left-test.true in
     let some : ¬ (c.loop-left.left.now ≡ []) = search rules in
-    let step = count_behind c.loop-left.left.now c.first_tree.result.1.now some c.loop-left.invariant.spelled c.first_tree.ensures.others in
+    let step = count_after c.loop-left.left.now c.first_tree.result.1.now some c.loop-left.invariant.spelled c.first_tree.ensures.others in
     let small = count_small c.args.self.nodes.now c.args.self.spelled in
     let total = c.loop-left.invariant.total in
     search (rules, arith)
@@ -45,7 +45,7 @@ loop-left-preserved c =
     let h = c.is_empty.ensures in
     let k = c.loop-left-test.true in
     let some : ¬ (c.loop-left.left.now ≡ []) = search rules in
-    let step = count_behind c.loop-left.left.now c.first_tree.result.1.now some c.loop-left.invariant.spelled c.first_tree.ensures.others in
+    let step = count_after c.loop-left.left.now c.first_tree.result.1.now some c.loop-left.invariant.spelled c.first_tree.ensures.others in
     record {
       spelled = others_spelled c.loop-left.left.now c.first_tree.result.1.now c.first_tree.ensures.others;
       total = omega (arith, step, c.loop-left.invariant.total);

@@ -5,7 +5,7 @@ use Rattle.cu_peg.specs.Spelling.{read}
 use Rattle.cu_syntax.specs.Table.{rule_of}
 use Rattle.cu_syntax.specs.Subtrees.{parts_in, sequence}
 use Rattle.cu_syntax.proofs.FitLemmas.{earlier, next_left, part_found, part_left}
-use Rattle.cu_syntax.proofs.NodeLemmas.{behind_trees}
+use Rattle.cu_syntax.proofs.NodeLemmas.{after_trees}
 use Rattle.cu_syntax.proofs.SplitLemmas.{lexemes}
 use Rattle.cu_syntax.proofs.subtree.Subtree.part.Goals as goal
 
@@ -40,19 +40,19 @@ invariant_of-result c =
     let same : c.loop.counter ≡ c.args.number = omega (arith, c.loop.auto.counter-end, c.loop-test.false) in
     record {
       spelled = (part_found c.args.self.symbol (lexemes [] c.args.self.tokens.now) c.args.self.nodes.now c.loop.left.now c.first_tree-2.result.0.now c.args.number c.args.symbol c.requires c.args.self.spelled (c.args.self.fits [])
-          (c.loop.invariant ∙ ap (λ k. spelled_all (behind_trees k (parts_in (read c.args.self.nodes.now)))) same) c.first_tree-2.ensures.first).spelled;
+          (c.loop.invariant ∙ ap (λ k. spelled_all (after_trees k (parts_in (read c.args.self.nodes.now)))) same) c.first_tree-2.ensures.first).spelled;
       fits = λ names. (part_found c.args.self.symbol (lexemes names c.args.self.tokens.now) c.args.self.nodes.now c.loop.left.now c.first_tree-2.result.0.now c.args.number c.args.symbol c.requires c.args.self.spelled (c.args.self.fits names)
-          (c.loop.invariant ∙ ap (λ k. spelled_all (behind_trees k (parts_in (read c.args.self.nodes.now)))) same) c.first_tree-2.ensures.first).fit;
+          (c.loop.invariant ∙ ap (λ k. spelled_all (after_trees k (parts_in (read c.args.self.nodes.now)))) same) c.first_tree-2.ensures.first).fit;
     }
 
 pub returns-clause-tree : goal.returns-clause-tree
 returns-clause-tree c = λ names.
     let same : c.loop.counter ≡ c.args.number = omega (arith, c.loop.auto.counter-end, c.loop-test.false) in
     (part_found c.args.self.symbol (lexemes names c.args.self.tokens.now) c.args.self.nodes.now c.loop.left.now c.first_tree-2.result.0.now c.args.number c.args.symbol c.requires c.args.self.spelled (c.args.self.fits names)
-    (c.loop.invariant ∙ ap (λ k. spelled_all (behind_trees k (parts_in (read c.args.self.nodes.now)))) same) c.first_tree-2.ensures.first).part
+    (c.loop.invariant ∙ ap (λ k. spelled_all (after_trees k (parts_in (read c.args.self.nodes.now)))) same) c.first_tree-2.ensures.first).part
 
 pub returns-clause-smaller : goal.returns-clause-smaller
 returns-clause-smaller c =
     let same : c.loop.counter ≡ c.args.number = omega (arith, c.loop.auto.counter-end, c.loop-test.false) in
     (part_found c.args.self.symbol (lexemes [] c.args.self.tokens.now) c.args.self.nodes.now c.loop.left.now c.first_tree-2.result.0.now c.args.number c.args.symbol c.requires c.args.self.spelled (c.args.self.fits [])
-    (c.loop.invariant ∙ ap (λ k. spelled_all (behind_trees k (parts_in (read c.args.self.nodes.now)))) same) c.first_tree-2.ensures.first).smaller
+    (c.loop.invariant ∙ ap (λ k. spelled_all (after_trees k (parts_in (read c.args.self.nodes.now)))) same) c.first_tree-2.ensures.first).smaller

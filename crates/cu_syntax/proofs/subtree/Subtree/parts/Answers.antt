@@ -10,4 +10,4 @@ use Rattle.cu_syntax.proofs.subtree.Subtree.parts.Goals as goal
 pub returns : goal.returns
 returns c =
     let h = parts_by c.args.self.symbol (rule_of c.args.self.symbol) (lexemes [] c.args.self.tokens.now) (read c.args.self.nodes.now) refl c.requires.leaf c.requires.choice (c.args.self.fits []) in
-    take_rest c.args.self.nodes.now 1 ∙ ap (drop 1) (sym c.args.self.spelled) ∙ h.behind
+    take_rest c.args.self.nodes.now 1 ∙ ap (drop 1) (sym c.args.self.spelled) ∙ h.after

@@ -1,5 +1,5 @@
 use Rattle.std.proofs.Common.{◌<◌, ◌≤◌, length, map, refl, arith}
-use Rattle.cu_types.proofs.BuiltInLemmas.{front_within, functions_end, functions_step, last_within, read_nothing, reads_over}
+use Rattle.cu_types.proofs.BuiltInLemmas.{prefix_within, functions_end, functions_step, last_within, read_nothing, reads_over}
 use Rattle.cu_types.proofs.Unfolding.{longer}
 use Rattle.cu_types.proofs.reader.Reader.functions.Goals as goal
 use Rattle.cu_types.specs.BuiltInTypes.{arrows}
@@ -29,7 +29,7 @@ arrow-requires-clause-right c = c.loop-argument.invariant.read.within
 pub loop-argument-preserved : goal.loop-argument-preserved
 loop-argument-preserved c = record {
   reader = c.in_ok-whole.ensures.reader;
-  within = front_within c.loop-argument.left.items c.pop.new.self.items c.in-Some.argument (length (shapes c.args.self.now))
+  within = prefix_within c.loop-argument.left.items c.pop.new.self.items c.in-Some.argument (length (shapes c.args.self.now))
       c.in-Some.ensures.items c.loop-argument.invariant.within;
   read = reads_over (shapes c.args.self.now) (shapes c.loop-argument.self) (shapes c.arrow.new.self) c.loop-argument.invariant.read.more
       (at (trees (shapes c.arrow.new.self)) c.in_ok-whole.whole) (at (trees (shapes c.arrow.new.self)) c.in_ok-whole.whole)

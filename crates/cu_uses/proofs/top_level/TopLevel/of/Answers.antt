@@ -1,11 +1,11 @@
 use Rattle.cu_uses.specs.Inside.Tops.{items_top}
-use Rattle.cu_uses.proofs.TopLemmas.{all_read, top_end, top_front}
+use Rattle.cu_uses.proofs.TopLemmas.{all_read, top_end, top_prefix}
 use Rattle.cu_uses.proofs.top_level.TopLevel.of.Goals as goal
 
 pub loop-item-preserved : goal.loop-item-preserved
 loop-item-preserved c owner names after differ all rest =
     c.loop-item.invariant owner names after differ all
-    (top_front owner names c.args.items.now c.loop-item.item-index c.item-item.result c.loop-item.declared c.item.new.self after c.item-item.is c.loop-item-test.true all
+    (top_prefix owner names c.args.items.now c.loop-item.item-index c.item-item.result c.loop-item.declared c.item.new.self after c.item-item.is c.loop-item-test.true all
     (λ of. c.in_ok-item.ensures owner names differ of) rest)
 
 pub returns : goal.returns

@@ -15,7 +15,7 @@ use Rattle.cu_calculus.specs.Below.{Below}
 use Rattle.cu_calculus.specs.Builtin as builtin
 use Rattle.cu_calculus.specs.Builtin.{Answers, on_literals, truth_of}
 use Rattle.cu_calculus.specs.Choose as choose
-use Rattle.cu_calculus.specs.Choose.{ALiteral, AConstructor, Again, Chooses, look, look_from, narrow, narrowed, not_literal, rows_from, same_type, wants_nothing, Demand, alternative_at, arguments_of, demand_of, is_demanding, leftmost, spliced, wants_constructor, wants_literal}
+use Rattle.cu_calculus.specs.Choose.{ALiteral, AConstructor, Again, Chooses, look, look_from, specialized_look, specialized_row, not_literal, rows_from, same_type, demands_nothing, Demand, alternative_at, arguments_of, demand_of, is_demanding, leftmost, spliced, demands_constructor, demands_literal}
 use Rattle.cu_calculus.specs.Gives as gives
 use Rattle.cu_calculus.specs.Gives.{AllGive, Applied, Claim, Gives}
 use Rattle.cu_calculus.specs.Match.{Bindings, Environment, bind, bind_all, matched}
@@ -32,7 +32,7 @@ use Rattle.cu_calculus.proofs.ValuesOf.{fits_part, fits_whole}
 use Rattle.cu_deftree.specs.Lowering as lowering
 use Rattle.cu_deftree.specs.Lowering.{AllLower, Branches, Cases, Distinguishes, IsOperation, Lowers, Tree, failure, goes_on, variables}
 use Rattle.cu_deftree.specs.Rows.{Names, Row, constructor_arity, constructor_ids, constructors_at, rows_of, siblings, demand_at, demands, literals_at, name_of, numbers, specialize, specialized}
-use Rattle.cu_deftree.proofs.Alternatives.{Alike, FoundAmong, Tested, a_constructor, a_literal, alike_filter, alike_narrowed, alternative_gives, alternatives_alike, alternatives_fit, found_again, goes_same, goes_too, kept_at, look_constructor_all, look_constructor_other, look_constructor_some, look_literal_all, look_literal_other, look_literal_same, map_at, passes_at, same_type_swaps, test_shown, tests_agree}
+use Rattle.cu_deftree.proofs.Alternatives.{Alike, FoundAmong, Tested, a_constructor, a_literal, alike_filter, alike_specialized, alternative_gives, alternatives_alike, alternatives_fit, found_again, goes_same, goes_too, kept_at, look_constructor_all, look_constructor_other, look_constructor_some, look_literal_all, look_literal_other, look_literal_same, map_at, passes_at, same_type_swaps, test_shown, tests_agree}
 use Rattle.cu_deftree.proofs.Meets.{AllFit, AllMeet, Meets, all_matched_binds, all_matched_fits, bound_agrees, bound_in, built_fits, literal_fits, literal_binds, others_stay}
 use Rattle.cu_deftree.proofs.Opening.{AllLow, At, Low, SameBelow, at_place, at_put, at_same, inner, inner_all, low_cons, low_more, low_put, put, spliced_put}
 use Rattle.cu_deftree.proofs.Shows as shows
@@ -305,20 +305,20 @@ unless_bottom program claims E t v given = by (bottom_or v)
 
 -- ---- alternatives
 
-found_narrowed : (program : Program) (claims : List Claim) (positions : List ℕ) (next k position : ℕ) (new : List ℕ) (test other : Demand → Bool)
+found_specialized : (program : Program) (claims : List Claim) (positions : List ℕ) (next k position : ℕ) (new : List ℕ) (test other : Demand → Bool)
     (rows : List Row) (twins : List choose.Row) (env inside : Environment) (vs : List Value) (args : List Value) (v : Value)
     → slice_get positions k ≡ Some position
     → ((p : Pattern) → test (demand_of p) ≡ true → IsTrue (fits_pattern program p) → Opens (length new) p (env position) args)
     → At inside new args → SameBelow next env inside → Ready program positions next rows env vs → Alike rows twins
-    → ((d : Demand) → other d ≡ test d) → look program twins vs ≡ narrow k other twins args vs
+    → ((d : Demand) → other d ≡ test d) → look program twins vs ≡ specialized_look k other twins args vs
     → FoundAmong program claims inside (put k args vs) v (specialize k new test rows)
-    (map (narrowed k (length args)) (filter (λ one. other (choose.demand_at k one)) twins))
+    (map (specialized_row k (length args)) (filter (λ one. other (choose.demand_at k one)) twins))
     → FoundAmong program claims env vs v rows twins
-found_narrowed program claims positions next k position new test other rows twins env inside vs args v e opens at same ready alike agree looked found =
+found_specialized program claims positions next k position new test other rows twins env inside vs args v e opens at same ready alike agree looked found =
     let passes = λ (r : Row). test (demand_at k r) in
     let passes_too = λ (one : choose.Row). other (choose.demand_at k one) in
     let one = map_at (specialized k new) (filter passes rows) found.place found.row found.there in
-    let two = map_at (narrowed k (length args)) (filter passes_too twins) found.place found.twin found.twin_there in
+    let two = map_at (specialized_row k (length args)) (filter passes_too twins) found.place found.twin found.twin_there in
     let before = kept_at rows twins passes passes_too found.place one.0 two.0 (tests_agree k test other agree) alike one.1 two.1 in
     let row = one.0 in
     let fits = row_fits program positions next rows before.place row ready.fit before.there in
@@ -327,7 +327,7 @@ found_narrowed program claims positions next k position new test other rows twin
     let wanted : test (demand_of p) ≡ true = ap test (sym (demand_is k row p there.1)) ∙ before.passes in
     let whole : found.row ≡ opened k new p row = one.2 ∙ specialized_is k new p row there.1 in
     let value_there = at_place env k positions vs position e ready.at in
-    let fewer = map (narrowed k (length args)) (filter passes_too twins) in
+    let fewer = map (specialized_row k (length args)) (filter passes_too twins) in
     let chosen : Chooses program fewer (spliced k args vs) found.twin.choice =
     subst (λ (ws : List Value). Chooses program fewer ws found.twin.choice) (sym (spliced_put k args vs (env position) value_there)) found.chosen in
     let choice : found.twin.choice ≡ two.0.choice = ap (λ (one : choose.Row). one.choice) two.2 in
@@ -340,21 +340,21 @@ found_narrowed program claims positions next k position new test other rows twin
       suits = suits_closed program claims next k new p row env inside vs (env position) args v there.1 value_there
           (opens p wanted (pattern_fits program row.patterns k p fits.known there.1)) at same fits.low
           (subst (λ (r : Row). Suits program claims inside (put k args vs) v r) whole found.suits);
-      chosen = choose.narrower twins fewer vs (spliced k args vs) two.0.choice looked
+      chosen = choose.specialized_rows twins fewer vs (spliced k args vs) two.0.choice looked
           (subst (λ (n : ℕ). Chooses program fewer (spliced k args vs) n) choice chosen);
     }
 
 -- what is left by a look at what stands at a position, in a branch for each constructor and literal
 pub record Looks (program : Program) (b : Bool) (k : ℕ) (twins : List choose.Row) (vs : List Value) (w : Value) (cs : List ConId) (ls : List Lit) : Type 0 where
   pub con : (i : ℕ) (c : ConId) (us : Values) → slice_get cs i ≡ Some c → w ≡ value.Constructed c us
-      → look program twins vs ≡ narrow k (goes_too b (wants_constructor c)) twins (list_of us) vs
+      → look program twins vs ≡ specialized_look k (goes_too b (demands_constructor c)) twins (list_of us) vs
   pub lit : (i : ℕ) (l : Lit) → slice_get ls i ≡ Some l → w ≡ value.Literal l
-      → look program twins vs ≡ narrow k (goes_too b (wants_literal l)) twins [] vs
+      → look program twins vs ≡ specialized_look k (goes_too b (demands_literal l)) twins [] vs
 
-goes_by : (b : Bool) (test : Demand → Bool) (d : Demand) → goes_on b test d ≡ true → (test d ≡ true) ⊎ (wants_nothing d ≡ true)
+goes_by : (b : Bool) (test : Demand → Bool) (d : Demand) → goes_on b test d ≡ true → (test d ≡ true) ⊎ (demands_nothing d ≡ true)
 goes_by b test d e = by (test d) b refl e
   where
-    by : (c a : Bool) → test d ≡ c → (c || (a && wants_nothing d)) ≡ true → (test d ≡ true) ⊎ (wants_nothing d ≡ true)
+    by : (c a : Bool) → test d ≡ c → (c || (a && demands_nothing d)) ≡ true → (test d ≡ true) ⊎ (demands_nothing d ≡ true)
     by true a f g = inl f
     by false true f g = inr g
     by false false f g = let no : ⊥ = cc in absurd no
@@ -365,29 +365,29 @@ module _ (program : Program) (claims : List Claim) (ordered : program.special.fa
   no_bindings (x ∷ b) e = let no : ⊥ = cc in absurd no
 
   pub count_at : (c : ConId) (xs : List ℕ) (p : Pattern) (n : ℕ) → length xs ≡ n → n ≡ constructor_arity program c
-      → wants_constructor c (demand_of p) ≡ true → IsTrue (fits_pattern program p) → length (arguments_of (length xs) p) ≡ length xs
+      → demands_constructor c (demand_of p) ≡ true → IsTrue (fits_pattern program p) → length (arguments_of (length xs) p) ≡ length xs
   count_at c xs p n many count w f = built_count program c p (length xs) w f (many ∙ count)
 
   pub opens_at : (c : ConId) (xs : List ℕ) (u : Value) (us : Values) (p : Pattern) (n : ℕ) → length xs ≡ n → n ≡ constructor_arity program c
-      → u ≡ value.Constructed c us → length (list_of us) ≡ n → wants_constructor c (demand_of p) ≡ true → IsTrue (fits_pattern program p)
+      → u ≡ value.Constructed c us → length (list_of us) ≡ n → demands_constructor c (demand_of p) ≡ true → IsTrue (fits_pattern program p)
       → Opens (length xs) p u (list_of us)
   opens_at c xs u us p n many count is as_many w f =
       subst (λ (x : Value). Opens (length xs) p x (list_of us)) (sym is)
       (opens_built program c p us (length xs) w f (many ∙ count) (as_many ∙ sym many))
 
   pub goes_at : (b : Bool) (c : ConId) (xs : List ℕ) (u : Value) (us : Values) (p : Pattern) (n : ℕ) → length xs ≡ n → n ≡ constructor_arity program c
-      → u ≡ value.Constructed c us → length (list_of us) ≡ n → goes_on b (wants_constructor c) (demand_of p) ≡ true → IsTrue (fits_pattern program p)
+      → u ≡ value.Constructed c us → length (list_of us) ≡ n → goes_on b (demands_constructor c) (demand_of p) ≡ true → IsTrue (fits_pattern program p)
       → Opens (length xs) p u (list_of us)
-  goes_at b c xs u us p n many count is as_many w f = by (goes_by b (wants_constructor c) (demand_of p) w)
+  goes_at b c xs u us p n many count is as_many w f = by (goes_by b (demands_constructor c) (demand_of p) w)
     where
-      by : (wants_constructor c (demand_of p) ≡ true) ⊎ (wants_nothing (demand_of p) ≡ true) → Opens (length xs) p u (list_of us)
+      by : (demands_constructor c (demand_of p) ≡ true) ⊎ (demands_nothing (demand_of p) ≡ true) → Opens (length xs) p u (list_of us)
       by (inl wanted) = opens_at c xs u us p n many count is as_many wanted f
       by (inr none) = opens_any p u (length xs) (list_of us) none (as_many ∙ sym many)
 
-  pub goes_literal : (b : Bool) (l : Lit) (u : Value) (p : Pattern) → u ≡ value.Literal l → goes_on b (wants_literal l) (demand_of p) ≡ true → Opens 0 p u []
-  goes_literal b l u p is w = by (goes_by b (wants_literal l) (demand_of p) w)
+  pub goes_literal : (b : Bool) (l : Lit) (u : Value) (p : Pattern) → u ≡ value.Literal l → goes_on b (demands_literal l) (demand_of p) ≡ true → Opens 0 p u []
+  goes_literal b l u p is w = by (goes_by b (demands_literal l) (demand_of p) w)
     where
-      by : (wants_literal l (demand_of p) ≡ true) ⊎ (wants_nothing (demand_of p) ≡ true) → Opens 0 p u []
+      by : (demands_literal l (demand_of p) ≡ true) ⊎ (demands_nothing (demand_of p) ≡ true) → Opens 0 p u []
       by (inl wanted) = subst (λ (x : Value). Opens 0 p x []) (sym is) (opens_literal p l wanted)
       by (inr none) = opens_any p u 0 [] none refl
 
@@ -447,60 +447,60 @@ module _ (program : Program) (claims : List Claim) (ordered : program.special.fa
       subst (λ (b : Bindings). Shows program claims (bind_all env b) s v) e (subst (λ (r : Term). Shows program claims (bind_all env bindings) r v) (sym f) shown)
 
   mutual
-    pub lowers_back : (names : Names) (next : ℕ) (t u : Term) → Lowers program names next t u → (E env : Environment) (v : Value)
+    pub lowers_converse : (names : Names) (next : ℕ) (t u : Term) → Lowers program names next t u → (E env : Environment) (v : Value)
         → ((x : ℕ) → E x ≡ env (name_of names x)) → Low next names → IsTrue (fits_term program any t) → Shows program claims env u v
         → Gives program claims E t v
-    lowers_back _ _ _ _ (lowering.variable names next x) E env v same low fits (shows.bottom _ _) = gives.bottom E (term.Variable x)
-    lowers_back _ _ _ _ (lowering.variable names next x) E env v same low fits (shows.variable _ _ _ p) =
+    lowers_converse _ _ _ _ (lowering.variable names next x) E env v same low fits (shows.bottom _ _) = gives.bottom E (term.Variable x)
+    lowers_converse _ _ _ _ (lowering.variable names next x) E env v same low fits (shows.variable _ _ _ p) =
         gives.variable E x v (subst (λ (w : Value). Below v w) (sym (same x)) p)
-    lowers_back _ _ _ _ (lowering.literal names next l) E env v same low fits (shows.bottom _ _) = gives.bottom E (term.Literal l)
-    lowers_back _ _ _ _ (lowering.literal names next l) E env v same low fits (shows.literal _ _) = gives.literal E l
-    lowers_back _ _ _ _ (lowering.whole names next h ts us p) E env v same low fits (shows.bottom _ _) = gives.bottom E (term.Whole h ts)
-    lowers_back _ _ _ _ (lowering.whole names next h ts us p) E env v same low fits (shows.whole _ _ _ ws _ q called) =
-        gives.whole E h ts ws v (all_lower_back names next ts us p E env ws same low (fits_whole program h ts fits).1 q) called
-    lowers_back _ _ _ _ (lowering.part names next h ts us p) E env v same low fits (shows.bottom _ _) = gives.bottom E (term.Part h ts)
-    lowers_back _ _ _ _ (lowering.part names next h ts us p) E env v same low fits (shows.part _ _ _ ws q) =
-        gives.part E h ts ws (all_lower_back names next ts us p E env ws same low (fits_part program h ts fits).1 q)
-    lowers_back _ _ _ _ (lowering.applied names next f a g b p q) E env v same low fits (shows.bottom _ _) = gives.bottom E (term.Apply f a)
-    lowers_back _ _ _ _ (lowering.applied names next f a g b p q) E env v same low fits (shows.applied _ _ _ w u _ r s called) =
+    lowers_converse _ _ _ _ (lowering.literal names next l) E env v same low fits (shows.bottom _ _) = gives.bottom E (term.Literal l)
+    lowers_converse _ _ _ _ (lowering.literal names next l) E env v same low fits (shows.literal _ _) = gives.literal E l
+    lowers_converse _ _ _ _ (lowering.whole names next h ts us p) E env v same low fits (shows.bottom _ _) = gives.bottom E (term.Whole h ts)
+    lowers_converse _ _ _ _ (lowering.whole names next h ts us p) E env v same low fits (shows.whole _ _ _ ws _ q called) =
+        gives.whole E h ts ws v (all_lower_converse names next ts us p E env ws same low (fits_whole program h ts fits).1 q) called
+    lowers_converse _ _ _ _ (lowering.part names next h ts us p) E env v same low fits (shows.bottom _ _) = gives.bottom E (term.Part h ts)
+    lowers_converse _ _ _ _ (lowering.part names next h ts us p) E env v same low fits (shows.part _ _ _ ws q) =
+        gives.part E h ts ws (all_lower_converse names next ts us p E env ws same low (fits_part program h ts fits).1 q)
+    lowers_converse _ _ _ _ (lowering.applied names next f a g b p q) E env v same low fits (shows.bottom _ _) = gives.bottom E (term.Apply f a)
+    lowers_converse _ _ _ _ (lowering.applied names next f a g b p q) E env v same low fits (shows.applied _ _ _ w u _ r s called) =
         let parts = and_parts (fits_term program any f) (fits_term program any a) fits in
-        gives.applied E f a w u v (lowers_back names next f g p E env w same low parts.0 r) (lowers_back names next a b q E env u same low parts.1 s)
+        gives.applied E f a w u v (lowers_converse names next f g p E env w same low parts.0 r) (lowers_converse names next a b q E env u same low parts.1 s)
         called
-    lowers_back _ _ _ _ (lowering.bound names next x a b c d p q) E env v same low fits (shows.bottom _ _) = gives.bottom E (term.Let x a b)
-    lowers_back _ _ _ _ (lowering.bound names next x a b c d p q) E env v same low fits (shows.bound _ _ _ _ w _ r s) =
+    lowers_converse _ _ _ _ (lowering.bound names next x a b c d p q) E env v same low fits (shows.bottom _ _) = gives.bottom E (term.Let x a b)
+    lowers_converse _ _ _ _ (lowering.bound names next x a b c d p q) E env v same low fits (shows.bound _ _ _ _ w _ r s) =
         let parts = fits_bound program x a b fits in
-        gives.bound E x a b w v (lowers_back names next a c p E env w same low parts.0 r)
-        (lowers_back ((x, next) ∷ names) (suc next) b d q (bind E x w) (bind env next w) v (named_bind E env names next x w same low)
+        gives.bound E x a b w v (lowers_converse names next a c p E env w same low parts.0 r)
+        (lowers_converse ((x, next) ∷ names) (suc next) b d q (bind E x w) (bind env next w) v (named_bind E env names next x w same low)
         (low_bound next x names low) parts.1 s)
-    lowers_back _ _ _ _ (lowering.free names next x a b p) E env v same low fits (shows.bottom _ _) = gives.bottom E (term.Free x a)
-    lowers_back _ _ _ _ (lowering.free names next x a b p) E env v same low fits (shows.free _ _ _ w _ total known r) =
+    lowers_converse _ _ _ _ (lowering.free names next x a b p) E env v same low fits (shows.bottom _ _) = gives.bottom E (term.Free x a)
+    lowers_converse _ _ _ _ (lowering.free names next x a b p) E env v same low fits (shows.free _ _ _ w _ total known r) =
         gives.free E x a w v total known
-        (lowers_back ((x, next) ∷ names) (suc next) a b p (bind E x w) (bind env next w) v (named_bind E env names next x w same low)
+        (lowers_converse ((x, next) ∷ names) (suc next) a b p (bind E x w) (bind env next w) v (named_bind E env names next x w same low)
         (low_bound next x names low) (fits_any program (also x any) a fits) r)
-    lowers_back _ _ _ _ (lowering.either names next a b c d p q) E env v same low fits (shows.bottom _ _) = gives.bottom E (term.Or a b)
-    lowers_back _ _ _ _ (lowering.either names next a b c d p q) E env v same low fits (shows.left _ _ _ _ r) =
+    lowers_converse _ _ _ _ (lowering.either names next a b c d p q) E env v same low fits (shows.bottom _ _) = gives.bottom E (term.Or a b)
+    lowers_converse _ _ _ _ (lowering.either names next a b c d p q) E env v same low fits (shows.left _ _ _ _ r) =
         gives.left E a b v
-        (lowers_back names next a c p E env v same low (and_parts (fits_term program any a) (fits_term program any b) fits).0 r)
-    lowers_back _ _ _ _ (lowering.either names next a b c d p q) E env v same low fits (shows.right _ _ _ _ r) =
+        (lowers_converse names next a c p E env v same low (and_parts (fits_term program any a) (fits_term program any b) fits).0 r)
+    lowers_converse _ _ _ _ (lowering.either names next a b c d p q) E env v same low fits (shows.right _ _ _ _ r) =
         gives.right E a b v
-        (lowers_back names next b d q E env v same low (and_parts (fits_term program any a) (fits_term program any b) fits).1 r)
-    lowers_back _ _ _ u (lowering.on_variable names next x mode alternatives _ p) E env v same low fits shown =
+        (lowers_converse names next b d q E env v same low (and_parts (fits_term program any a) (fits_term program any b) fits).1 r)
+    lowers_converse _ _ _ u (lowering.on_variable names next x mode alternatives _ p) E env v same low fits shown =
         unless_bottom program claims E (term.Case mode (term.Variable x) alternatives) v (λ some.
         let position = name_of names x in
         alternative_gives program claims names position alternatives E env (term.Variable x) v mode fits same
         (gives.variable E x (env position) (subst (λ (w : Value). Below (env position) w) (sym (same x)) (below_itself (env position))))
-        (distinguishes_back mode (position ∷ []) next (rows_of names position alternatives) u p env (env position ∷ []) v some
+        (distinguishes_converse mode (position ∷ []) next (rows_of names position alternatives) u p env (env position ∷ []) v some
         (record { at = (refl, tt); low = (low x, tt); fit = alternatives_fit program names position next alternatives (low x) low fits }) shown
         (rows_from 0 alternatives) (alternatives_alike names position 0 alternatives)))
-    lowers_back _ _ _ _ (lowering.on_term names next mode a b alternatives t is p q) E env v same low fits (shows.bottom _ _) =
+    lowers_converse _ _ _ _ (lowering.on_term names next mode a b alternatives t is p q) E env v same low fits (shows.bottom _ _) =
         gives.bottom E (term.Case mode a alternatives)
-    lowers_back _ _ _ _ (lowering.on_term names next mode a b alternatives t is p q) E env v same low fits (shows.bound _ _ _ _ w _ r s) =
+    lowers_converse _ _ _ _ (lowering.on_term names next mode a b alternatives t is p q) E env v same low fits (shows.bound _ _ _ _ w _ r s) =
         unless_bottom program claims E (term.Case mode a alternatives) v (λ some.
         let parts = and_parts (fits_term program any a) (fit_alternatives program any alternatives) fits in
         let inside = bind env next w in
         alternative_gives program claims names next alternatives E inside a v mode parts.1 (still_named E env names next w same low)
-        (subst (λ (u : Value). Gives program claims E a u) (sym (bound_here env next w)) (lowers_back names next a b p E env w same low parts.0 r))
-        (distinguishes_back mode (next ∷ []) (suc next) (rows_of names next alternatives) t q inside (inside next ∷ []) v some
+        (subst (λ (u : Value). Gives program claims E a u) (sym (bound_here env next w)) (lowers_converse names next a b p E env w same low parts.0 r))
+        (distinguishes_converse mode (next ∷ []) (suc next) (rows_of names next alternatives) t q inside (inside next ∷ []) v some
         (record {
           at = (refl, tt);
           low = (next_low next, tt);
@@ -508,83 +508,83 @@ module _ (program : Program) (claims : List Claim) (ordered : program.special.fa
         }) s
         (rows_from 0 alternatives) (alternatives_alike names next 0 alternatives)))
 
-    pub all_lower_back : (names : Names) (next : ℕ) (ts us : Terms) → AllLower program names next ts us → (E env : Environment) (vs : Values)
+    pub all_lower_converse : (names : Names) (next : ℕ) (ts us : Terms) → AllLower program names next ts us → (E env : Environment) (vs : Values)
         → ((x : ℕ) → E x ≡ env (name_of names x)) → Low next names → IsTrue (fit_terms program any ts) → AllShow program claims env us vs
         → AllGive program claims E ts vs
-    all_lower_back _ _ _ _ (lowering.no_term names next) E env _ same low fits (shows.none _) = gives.none E
-    all_lower_back _ _ _ _ (lowering.more_terms names next t u ts us p ps) E env _ same low fits (shows.more _ _ _ v vs q qs) =
+    all_lower_converse _ _ _ _ (lowering.no_term names next) E env _ same low fits (shows.none _) = gives.none E
+    all_lower_converse _ _ _ _ (lowering.more_terms names next t u ts us p ps) E env _ same low fits (shows.more _ _ _ v vs q qs) =
         let parts = and_parts (fits_term program any t) (fit_terms program any ts) fits in
-        gives.more E t ts v vs (lowers_back names next t u p E env v same low parts.0 q)
-        (all_lower_back names next ts us ps E env vs same low parts.1 qs)
+        gives.more E t ts v vs (lowers_converse names next t u p E env v same low parts.0 q)
+        (all_lower_converse names next ts us ps E env vs same low parts.1 qs)
 
-    pub tree_back : (positions : List ℕ) (next : ℕ) (rows : List Row) (t : Term) → Tree program positions next rows t → (env : Environment)
+    pub tree_converse : (positions : List ℕ) (next : ℕ) (rows : List Row) (t : Term) → Tree program positions next rows t → (env : Environment)
         (vs : List Value) (v : Value) → v ≢ value.Bottom → Ready program positions next rows env vs → Shows program claims env t v
         → FoundIn program claims env vs v rows
-    tree_back _ _ _ _ (lowering.no_rules positions next f is) env vs v some ready (shows.bottom _ _) = absurd (some refl)
-    tree_back _ _ _ _ (lowering.no_rules positions next f is) env vs v some ready (shows.whole _ _ _ us _ p called) =
+    tree_converse _ _ _ _ (lowering.no_rules positions next f is) env vs v some ready (shows.bottom _ _) = absurd (some refl)
+    tree_converse _ _ _ _ (lowering.no_rules positions next f is) env vs v some ready (shows.whole _ _ _ us _ p called) =
         absurd (never_applied program claims f us v is called)
-    tree_back _ _ _ t (lowering.rule positions next row _ e p) env vs v some ready shown = record {
+    tree_converse _ _ _ t (lowering.rule positions next row _ e p) env vs v some ready shown = record {
       place = 0;
       row = row;
       there = refl;
       suits = leaf_suits program claims positions next env vs v row e ready.at ready.fit.0
-          (λ E same. lowers_back row.names next row.body t p E env v same ready.fit.0.low ready.fit.0.right shown);
+          (λ E same. lowers_converse row.names next row.body t p E env v same ready.fit.0.low ready.fit.0.right shown);
     }
-    tree_back _ _ _ _ (lowering.overlap positions next row other rows a b e p q) env vs v some ready (shows.bottom _ _) = absurd (some refl)
-    tree_back _ _ _ _ (lowering.overlap positions next row other rows a b e p q) env vs v some ready (shows.left _ _ _ _ shown) = record {
+    tree_converse _ _ _ _ (lowering.overlap positions next row other rows a b e p q) env vs v some ready (shows.bottom _ _) = absurd (some refl)
+    tree_converse _ _ _ _ (lowering.overlap positions next row other rows a b e p q) env vs v some ready (shows.left _ _ _ _ shown) = record {
       place = 0;
       row = row;
       there = refl;
       suits = leaf_suits program claims positions next env vs v row e ready.at ready.fit.0
-          (λ E same. lowers_back row.names next row.body a p E env v same ready.fit.0.low ready.fit.0.right shown);
+          (λ E same. lowers_converse row.names next row.body a p E env v same ready.fit.0.low ready.fit.0.right shown);
     }
-    tree_back _ _ _ _ (lowering.overlap positions next row other rows a b e p q) env vs v some ready (shows.right _ _ _ _ shown) =
-        let rest = tree_back positions next (other ∷ rows) b q env vs v some (record { at = ready.at; low = ready.low; fit = ready.fit.1 }) shown in
+    tree_converse _ _ _ _ (lowering.overlap positions next row other rows a b e p q) env vs v some ready (shows.right _ _ _ _ shown) =
+        let rest = tree_converse positions next (other ∷ rows) b q env vs v some (record { at = ready.at; low = ready.low; fit = ready.fit.1 }) shown in
         record { place = suc rest.place; row = rest.row; there = rest.there; suits = rest.suits }
-    tree_back _ _ _ _ (lowering.branch positions next k x row rows a e f p) env vs v some ready (shows.bottom _ _) = absurd (some refl)
-    tree_back _ _ _ _ (lowering.branch positions next k x row rows a e f p) env vs v some ready (shows.looked _ _ _ t _ j q bindings _ g m shown) =
-        branches_back positions next k (row ∷ rows) (constructors_at program k (row ∷ rows)) (literals_at k (row ∷ rows)) a p x env vs v some f ready
+    tree_converse _ _ _ _ (lowering.branch positions next k x row rows a e f p) env vs v some ready (shows.bottom _ _) = absurd (some refl)
+    tree_converse _ _ _ _ (lowering.branch positions next k x row rows a e f p) env vs v some ready (shows.looked _ _ _ t _ j q bindings _ g m shown) =
+        branches_converse positions next k (row ∷ rows) (constructors_at program k (row ∷ rows)) (literals_at k (row ∷ rows)) a p x env vs v some f ready
         j q t bindings g m shown
-    tree_back _ _ _ _ (lowering.branch positions next k x row rows a e f p) env vs v some ready (shows.chosen _ _ _ t _ j q bindings u _ is d g m shown) =
+    tree_converse _ _ _ _ (lowering.branch positions next k x row rows a e f p) env vs v some ready (shows.chosen _ _ _ t _ j q bindings u _ is d g m shown) =
         absurd (true≢false is)
-    tree_back _ _ _ _ (lowering.split positions next k row rows a b e f p q) env vs v some ready (shows.bottom _ _) = absurd (some refl)
-    tree_back _ _ _ _ (lowering.split positions next k row rows a b e f p q) env vs v some ready (shows.left _ _ _ _ shown) =
+    tree_converse _ _ _ _ (lowering.split positions next k row rows a b e f p q) env vs v some ready (shows.bottom _ _) = absurd (some refl)
+    tree_converse _ _ _ _ (lowering.split positions next k row rows a b e f p q) env vs v some ready (shows.left _ _ _ _ shown) =
         found_kept program claims env vs v (demands k) (row ∷ rows)
-        (tree_back positions next (filter (demands k) (row ∷ rows)) a p env vs v some
+        (tree_converse positions next (filter (demands k) (row ∷ rows)) a p env vs v some
         (record { at = ready.at; low = ready.low; fit = filter_fits program positions next (demands k) (row ∷ rows) ready.fit }) shown)
-    tree_back _ _ _ _ (lowering.split positions next k row rows a b e f p q) env vs v some ready (shows.right _ _ _ _ shown) =
+    tree_converse _ _ _ _ (lowering.split positions next k row rows a b e f p q) env vs v some ready (shows.right _ _ _ _ shown) =
         found_kept program claims env vs v (λ (other : Row). not (demands k other)) (row ∷ rows)
-        (tree_back positions next (filter (λ (other : Row). not (demands k other)) (row ∷ rows)) b q env vs v some
+        (tree_converse positions next (filter (λ (other : Row). not (demands k other)) (row ∷ rows)) b q env vs v some
         (record {
           at = ready.at;
           low = ready.low;
           fit = filter_fits program positions next (λ (other : Row). not (demands k other)) (row ∷ rows) ready.fit;
         }) shown)
 
-    pub branches_back : (positions : List ℕ) (next k : ℕ) (rows : List Row) (cs : List ConId) (ls : List Lit) (a : Alternatives)
+    pub branches_converse : (positions : List ℕ) (next k : ℕ) (rows : List Row) (cs : List ConId) (ls : List Lit) (a : Alternatives)
         → Branches program positions next k rows cs ls a → (position : ℕ) (env : Environment) (vs : List Value) (v : Value) → v ≢ value.Bottom
         → slice_get positions k ≡ Some position → Ready program positions next rows env vs → (j : ℕ) (q : Pattern) (t : Term) (bindings : Bindings)
         → alternative_at a j ≡ Some (q, t) → matched q (env position) ≡ Some bindings → Shows program claims (bind_all env bindings) t v
         → FoundIn program claims env vs v rows
-    branches_back _ _ _ _ _ _ _ (lowering.no_branch positions next k rows) position env vs v some place ready j q t bindings e m shown =
+    branches_converse _ _ _ _ _ _ _ (lowering.no_branch positions next k rows) position env vs v some place ready j q t bindings e m shown =
         let no : ⊥ = cc in absurd no
-    branches_back _ _ _ _ _ _ _ (lowering.constructor_branch positions next k n xs rows c cs ls s a count is p rest) position env vs v some place ready
+    branches_converse _ _ _ _ _ _ _ (lowering.constructor_branch positions next k n xs rows c cs ls s a count is p rest) position env vs v some place ready
         zero q t bindings e m shown =
         let pair = some_pair_parts (term.Built c (variables xs)) q s t e in
         let inside = bind_all env bindings in
         let after = after_match env next n xs c (env position) bindings is (subst (λ (r : Pattern). matched r (env position) ≡ Some bindings) (sym pair.0) m) in
         let many : length xs ≡ n = ap length is ∙ numbers_count next n in
         let low = subst (λ (zs : List ℕ). AllLow (next + n) zs) (sym is) (numbers_low next (next + n) n (omega arith)) in
-        found_opened program claims positions next k position xs (wants_constructor c) rows env inside vs (list_of after.us) v place
+        found_opened program claims positions next k position xs (demands_constructor c) rows env inside vs (list_of after.us) v place
         (λ r w f. opens_at c xs (env position) after.us r n many count after.is after.many w f) after.at after.same ready
-        (tree_back (spliced k xs positions) (next + n) (specialize k xs (wants_constructor c) rows) s p inside (put k (list_of after.us) vs) v some
-        (ready_opened program positions next (next + n) k position xs (wants_constructor c) rows env inside vs (list_of after.us) (omega arith) low place
+        (tree_converse (spliced k xs positions) (next + n) (specialize k xs (demands_constructor c) rows) s p inside (put k (list_of after.us) vs) v some
+        (ready_opened program positions next (next + n) k position xs (demands_constructor c) rows env inside vs (list_of after.us) (omega arith) low place
         (λ r w f. count_at c xs r n many count w f) after.at after.same ready)
         (subst (λ (r : Term). Shows program claims inside r v) (sym pair.1) shown))
-    branches_back _ _ _ _ _ _ _ (lowering.constructor_branch positions next k n xs rows c cs ls s a count is p rest) position env vs v some place ready
+    branches_converse _ _ _ _ _ _ _ (lowering.constructor_branch positions next k n xs rows c cs ls s a count is p rest) position env vs v some place ready
         (suc j) q t bindings e m shown =
-        branches_back positions next k rows cs ls a rest position env vs v some place ready j q t bindings e m shown
-    branches_back _ _ _ _ _ _ _ (lowering.literal_branch positions next k rows l ls s a p rest) position env vs v some place ready zero q t bindings e m shown =
+        branches_converse positions next k rows cs ls a rest position env vs v some place ready j q t bindings e m shown
+    branches_converse _ _ _ _ _ _ _ (lowering.literal_branch positions next k rows l ls s a p rest) position env vs v some place ready zero q t bindings e m shown =
         let pair = some_pair_parts (term.Exactly l) q s t e in
         let here : matched (term.Exactly l) (env position) ≡ Some bindings =
         subst (λ (r : Pattern). matched r (env position) ≡ Some bindings) (sym pair.0) m in
@@ -593,67 +593,67 @@ module _ (program : Program) (claims : List Claim) (ordered : program.special.fa
         let shown_here : Shows program claims env s v =
         subst (λ (b : Bindings). Shows program claims (bind_all env b) s v) none
         (subst (λ (r : Term). Shows program claims (bind_all env bindings) r v) (sym pair.1) shown) in
-        found_opened program claims positions next k position [] (wants_literal l) rows env env vs [] v place
+        found_opened program claims positions next k position [] (demands_literal l) rows env env vs [] v place
         (λ r w f. subst (λ (u : Value). Opens 0 r u []) (sym same) (opens_literal r l w)) tt (λ x b. refl) ready
-        (tree_back (spliced k [] positions) next (specialize k [] (wants_literal l) rows) s p env (put k [] vs) v some
-        (ready_opened program positions next next k position [] (wants_literal l) rows env env vs [] (omega arith) tt place
+        (tree_converse (spliced k [] positions) next (specialize k [] (demands_literal l) rows) s p env (put k [] vs) v some
+        (ready_opened program positions next next k position [] (demands_literal l) rows env env vs [] (omega arith) tt place
         (λ r w f. (opens_literal r l w).many) tt (λ x b. refl) ready) shown_here)
-    branches_back _ _ _ _ _ _ _ (lowering.literal_branch positions next k rows l ls s a p rest) position env vs v some place ready (suc j) q t bindings e m shown =
-        branches_back positions next k rows [] ls a rest position env vs v some place ready j q t bindings e m shown
+    branches_converse _ _ _ _ _ _ _ (lowering.literal_branch positions next k rows l ls s a p rest) position env vs v some place ready (suc j) q t bindings e m shown =
+        branches_converse positions next k rows [] ls a rest position env vs v some place ready j q t bindings e m shown
 
-    pub distinguishes_back : (mode : Mode) (positions : List ℕ) (next : ℕ) (rows : List Row) (t : Term)
+    pub distinguishes_converse : (mode : Mode) (positions : List ℕ) (next : ℕ) (rows : List Row) (t : Term)
         → Distinguishes program mode positions next rows t → (env : Environment) (vs : List Value) (v : Value) → v ≢ value.Bottom
         → Ready program positions next rows env vs → Shows program claims env t v → (twins : List choose.Row) → Alike rows twins
         → FoundAmong program claims env vs v rows twins
-    distinguishes_back _ _ _ _ _ (lowering.no_alternatives mode positions next f is) env vs v some ready (shows.bottom _ _) twins alike =
+    distinguishes_converse _ _ _ _ _ (lowering.no_alternatives mode positions next f is) env vs v some ready (shows.bottom _ _) twins alike =
         absurd (some refl)
-    distinguishes_back _ _ _ _ _ (lowering.no_alternatives mode positions next f is) env vs v some ready (shows.whole _ _ _ us _ p called) twins alike =
+    distinguishes_converse _ _ _ _ _ (lowering.no_alternatives mode positions next f is) env vs v some ready (shows.whole _ _ _ us _ p called) twins alike =
         absurd (never_applied program claims f us v is called)
-    distinguishes_back _ _ _ _ t (lowering.taken mode positions next row rows _ e p) env vs v some ready shown [] alike = absurd alike
-    distinguishes_back _ _ _ _ t (lowering.taken mode positions next row rows _ e p) env vs v some ready shown (twin ∷ twins) alike = record {
+    distinguishes_converse _ _ _ _ t (lowering.taken mode positions next row rows _ e p) env vs v some ready shown [] alike = absurd alike
+    distinguishes_converse _ _ _ _ t (lowering.taken mode positions next row rows _ e p) env vs v some ready shown (twin ∷ twins) alike = record {
       place = 0;
       row = row;
       twin = twin;
       there = refl;
       twin_there = refl;
       suits = leaf_suits program claims positions next env vs v row e ready.at ready.fit.0
-          (λ E same. lowers_back row.names next row.body t p E env v same ready.fit.0.low ready.fit.0.right shown);
+          (λ E same. lowers_converse row.names next row.body t p E env v same ready.fit.0.low ready.fit.0.right shown);
       chosen = choose.taken (twin ∷ twins) vs twin.choice (ap (look_from program twin (twin ∷ twins) vs) (ap leftmost alike.0 ∙ e));
     }
-    distinguishes_back _ _ _ _ _ (lowering.all_demand mode positions next k x row rows a e f g p) env vs v some ready shown [] alike = absurd alike
-    distinguishes_back _ _ _ _ _ (lowering.all_demand mode positions next k x row rows a e f g p) env vs v some ready (shows.bottom _ _) (twin ∷ twins)
+    distinguishes_converse _ _ _ _ _ (lowering.all_demand mode positions next k x row rows a e f g p) env vs v some ready shown [] alike = absurd alike
+    distinguishes_converse _ _ _ _ _ (lowering.all_demand mode positions next k x row rows a e f g p) env vs v some ready (shows.bottom _ _) (twin ∷ twins)
         alike = absurd (some refl)
-    distinguishes_back _ _ _ _ _ (lowering.all_demand mode positions next k x row rows a e f g p) env vs v some ready
+    distinguishes_converse _ _ _ _ _ (lowering.all_demand mode positions next k x row rows a e f g p) env vs v some ready
         (shows.chosen _ _ _ t _ j q bindings u _ is d i m shown) (twin ∷ twins) alike = absurd (true≢false is)
-    distinguishes_back _ _ _ _ _ (lowering.all_demand mode positions next k x row rows a e f g p) env vs v some ready
+    distinguishes_converse _ _ _ _ _ (lowering.all_demand mode positions next k x row rows a e f g p) env vs v some ready
         (shows.looked _ _ _ t _ j q bindings _ i m shown) (twin ∷ twins) alike =
         let place = at_place env k positions vs x f ready.at in
-        cases_back mode false positions next k (row ∷ rows) (constructors_at program k (row ∷ rows)) (literals_at k (row ∷ rows)) a p x env vs v some f ready
+        cases_converse mode false positions next k (row ∷ rows) (constructors_at program k (row ∷ rows)) (literals_at k (row ∷ rows)) a p x env vs v some f ready
         (twin ∷ twins) alike
         (record {
           con = λ n c us there is. look_constructor_all program k row rows twin twins vs alike e c us (place ∙ ap Some is) g;
           lit = λ n l there is. look_literal_all program k row rows twin twins vs alike e l (place ∙ ap Some is) g;
         }) j q t bindings i m shown
-    distinguishes_back _ _ _ _ _ (lowering.first_constructor mode positions next k x c row rows a e f g h p) env vs v some ready shown [] alike =
+    distinguishes_converse _ _ _ _ _ (lowering.first_constructor mode positions next k x c row rows a e f g h p) env vs v some ready shown [] alike =
         absurd alike
-    distinguishes_back _ _ _ _ _ (lowering.first_constructor mode positions next k x c row rows a e f g h p) env vs v some ready (shows.bottom _ _)
+    distinguishes_converse _ _ _ _ _ (lowering.first_constructor mode positions next k x c row rows a e f g h p) env vs v some ready (shows.bottom _ _)
         (twin ∷ twins) alike = absurd (some refl)
-    distinguishes_back _ _ _ _ _ (lowering.first_constructor mode positions next k x c row rows a e f g h p) env vs v some ready
+    distinguishes_converse _ _ _ _ _ (lowering.first_constructor mode positions next k x c row rows a e f g h p) env vs v some ready
         (shows.chosen _ _ _ t _ j q bindings u _ is d i m shown) (twin ∷ twins) alike = absurd (true≢false is)
-    distinguishes_back _ _ _ _ _ (lowering.first_constructor mode positions next k x c row rows a e f g h p) env vs v some ready
+    distinguishes_converse _ _ _ _ _ (lowering.first_constructor mode positions next k x c row rows a e f g h p) env vs v some ready
         (shows.looked _ _ _ t _ j q bindings _ i m shown) (twin ∷ twins) alike =
         let place = at_place env k positions vs x f ready.at in
-        cases_back mode true positions next k (row ∷ rows) (siblings program c) [] a p x env vs v some f ready (twin ∷ twins) alike
+        cases_converse mode true positions next k (row ∷ rows) (siblings program c) [] a p x env vs v some f ready (twin ∷ twins) alike
         (record {
           con = λ n d us there is. look_constructor_some program k row rows twin twins vs alike e d c us (place ∙ ap Some is) g h
               (same_type_swaps program c d (passes_at (same_type program c) (constructor_ids program) n d there));
           lit = λ n l there is. let no : ⊥ = cc in absurd no;
         }) j q t bindings i m shown
-    distinguishes_back _ _ _ _ _ (lowering.first_literal mode positions next k x equal l row rows a b e f g h is p q) env vs v some ready shown [] alike =
+    distinguishes_converse _ _ _ _ _ (lowering.first_literal mode positions next k x equal l row rows a b e f g h is p q) env vs v some ready shown [] alike =
         absurd alike
-    distinguishes_back _ _ _ _ _ (lowering.first_literal mode positions next k x equal l row rows a b e f g h is p q) env vs v some ready (shows.bottom _ _)
+    distinguishes_converse _ _ _ _ _ (lowering.first_literal mode positions next k x equal l row rows a b e f g h is p q) env vs v some ready (shows.bottom _ _)
         (twin ∷ twins) alike = absurd (some refl)
-    distinguishes_back _ _ _ _ _ (lowering.first_literal mode positions next k x equal l row rows a b e f g h is p q) env vs v some ready
+    distinguishes_converse _ _ _ _ _ (lowering.first_literal mode positions next k x equal l row rows a b e f g h is p q) env vs v some ready
         (shows.chosen _ _ _ t _ zero r bindings u _ not_it d i m shown) (twin ∷ twins) alike =
         let pair = some_pair_parts (term.Built program.special.truth term.NoPattern) r a t i in
         let here : matched (term.Built program.special.truth term.NoPattern) u ≡ Some bindings =
@@ -662,20 +662,20 @@ module _ (program : Program) (claims : List Claim) (ordered : program.special.fa
         let taken = truth_taken tested.answer u bindings tested.is here in
         let literal = is_the_literal (env x) l tested.answer tested.tested taken.0 in
         let place = at_place env k positions vs x f ready.at in
-        let test = goes_on true (wants_literal l) in
-        found_narrowed program claims positions next k x [] test (goes_too true (wants_literal l)) (row ∷ rows) (twin ∷ twins) env env vs [] v f
-        (λ y w fit. goes_literal true l (env x) y literal w) tt (λ y low. refl) ready alike (goes_same true (wants_literal l))
+        let test = goes_on true (demands_literal l) in
+        found_specialized program claims positions next k x [] test (goes_too true (demands_literal l)) (row ∷ rows) (twin ∷ twins) env env vs [] v f
+        (λ y w fit. goes_literal true l (env x) y literal w) tt (λ y low. refl) ready alike (goes_same true (demands_literal l))
         (look_literal_same program k row rows twin twins vs alike e l (place ∙ ap Some literal) g h)
-        (distinguishes_back mode (spliced k [] positions) next (specialize k [] test (row ∷ rows)) a p env (put k [] vs) v some
+        (distinguishes_converse mode (spliced k [] positions) next (specialize k [] test (row ∷ rows)) a p env (put k [] vs) v some
         (ready_opened program positions next next k x [] test (row ∷ rows) env env vs [] (omega arith) tt f
         (λ y w fit. (goes_literal true l (value.Literal l) y refl w).many) tt (λ y low. refl) ready)
         (shown_inside env bindings a t v taken.1 pair.1 shown)
-        (map (narrowed k 0) (filter (λ one. goes_too true (wants_literal l) (choose.demand_at k one)) (twin ∷ twins)))
-        (alike_narrowed k 0 [] (filter (λ one. test (demand_at k one)) (row ∷ rows))
-        (filter (λ one. goes_too true (wants_literal l) (choose.demand_at k one)) (twin ∷ twins)) refl
-        (alike_filter (λ one. test (demand_at k one)) (λ one. goes_too true (wants_literal l) (choose.demand_at k one)) (row ∷ rows) (twin ∷ twins)
-        (tests_agree k test (goes_too true (wants_literal l)) (goes_same true (wants_literal l))) alike)))
-    distinguishes_back _ _ _ _ _ (lowering.first_literal mode positions next k x equal l row rows a b e f g h is p q) env vs v some ready
+        (map (specialized_row k 0) (filter (λ one. goes_too true (demands_literal l) (choose.demand_at k one)) (twin ∷ twins)))
+        (alike_specialized k 0 [] (filter (λ one. test (demand_at k one)) (row ∷ rows))
+        (filter (λ one. goes_too true (demands_literal l) (choose.demand_at k one)) (twin ∷ twins)) refl
+        (alike_filter (λ one. test (demand_at k one)) (λ one. goes_too true (demands_literal l) (choose.demand_at k one)) (row ∷ rows) (twin ∷ twins)
+        (tests_agree k test (goes_too true (demands_literal l)) (goes_same true (demands_literal l))) alike)))
+    distinguishes_converse _ _ _ _ _ (lowering.first_literal mode positions next k x equal l row rows a b e f g h is p q) env vs v some ready
         (shows.chosen _ _ _ t _ (suc zero) r bindings u _ not_it d i m shown) (twin ∷ twins) alike =
         let pair = some_pair_parts (term.Built program.special.falsity term.NoPattern) r b t i in
         let here : matched (term.Built program.special.falsity term.NoPattern) u ≡ Some bindings =
@@ -688,67 +688,67 @@ module _ (program : Program) (claims : List Claim) (ordered : program.special.fa
         let agree = tests_agree k (not_literal l) (not_literal l) (λ y. refl) in
         found_again program claims env vs v test other (row ∷ rows) (twin ∷ twins) agree alike
         (look_other k x l row rows twin twins env vs alike e place g h tested.answer tested.tested taken.0)
-        (distinguishes_back mode positions next (filter test (row ∷ rows)) b q env vs v some
+        (distinguishes_converse mode positions next (filter test (row ∷ rows)) b q env vs v some
         (record { at = ready.at; low = ready.low; fit = filter_fits program positions next test (row ∷ rows) ready.fit })
         (shown_inside env bindings b t v taken.1 pair.1 shown) (filter other (twin ∷ twins))
         (alike_filter test other (row ∷ rows) (twin ∷ twins) agree alike))
-    distinguishes_back _ _ _ _ _ (lowering.first_literal mode positions next k x equal l row rows a b e f g h is p q) env vs v some ready
+    distinguishes_converse _ _ _ _ _ (lowering.first_literal mode positions next k x equal l row rows a b e f g h is p q) env vs v some ready
         (shows.chosen _ _ _ t _ (suc (suc j)) r bindings u _ not_it d i m shown) (twin ∷ twins) alike = let no : ⊥ = cc in absurd no
 
-    pub cases_back : (mode : Mode) (b : Bool) (positions : List ℕ) (next k : ℕ) (rows : List Row) (cs : List ConId) (ls : List Lit) (a : Alternatives)
+    pub cases_converse : (mode : Mode) (b : Bool) (positions : List ℕ) (next k : ℕ) (rows : List Row) (cs : List ConId) (ls : List Lit) (a : Alternatives)
         → Cases program mode b positions next k rows cs ls a → (position : ℕ) (env : Environment) (vs : List Value) (v : Value) → v ≢ value.Bottom
         → slice_get positions k ≡ Some position → Ready program positions next rows env vs → (twins : List choose.Row) → Alike rows twins
         → Looks program b k twins vs (env position) cs ls → (j : ℕ) (q : Pattern) (t : Term) (bindings : Bindings)
         → alternative_at a j ≡ Some (q, t) → matched q (env position) ≡ Some bindings → Shows program claims (bind_all env bindings) t v
         → FoundAmong program claims env vs v rows twins
-    cases_back _ _ _ _ _ _ _ _ _ (lowering.no_case mode b positions next k rows) position env vs v some place ready twins alike looks j q t bindings e m
+    cases_converse _ _ _ _ _ _ _ _ _ (lowering.no_case mode b positions next k rows) position env vs v some place ready twins alike looks j q t bindings e m
         shown = let no : ⊥ = cc in absurd no
-    cases_back _ _ _ _ _ _ _ _ _ (lowering.constructor_case mode b positions next k n xs rows c cs ls s a count is p rest) position env vs v some place
+    cases_converse _ _ _ _ _ _ _ _ _ (lowering.constructor_case mode b positions next k n xs rows c cs ls s a count is p rest) position env vs v some place
         ready twins alike looks zero q t bindings e m shown =
         let pair = some_pair_parts (term.Built c (variables xs)) q s t e in
         let inside = bind_all env bindings in
         let after = after_match env next n xs c (env position) bindings is (subst (λ (r : Pattern). matched r (env position) ≡ Some bindings) (sym pair.0) m) in
         let many : length xs ≡ n = ap length is ∙ numbers_count next n in
         let low = subst (λ (zs : List ℕ). AllLow (next + n) zs) (sym is) (numbers_low next (next + n) n (omega arith)) in
-        let test = goes_on b (wants_constructor c) in
+        let test = goes_on b (demands_constructor c) in
         let args = list_of after.us in
         let as_many : length xs ≡ length args = many ∙ sym after.many in
-        found_narrowed program claims positions next k position xs test (goes_too b (wants_constructor c)) rows twins env inside vs args v place
+        found_specialized program claims positions next k position xs test (goes_too b (demands_constructor c)) rows twins env inside vs args v place
         (λ r w f. goes_at b c xs (env position) after.us r n many count after.is after.many w f) after.at after.same ready alike
-        (goes_same b (wants_constructor c)) (looks.con 0 c after.us refl after.is)
-        (distinguishes_back mode (spliced k xs positions) (next + n) (specialize k xs test rows) s p inside (put k args vs) v some
+        (goes_same b (demands_constructor c)) (looks.con 0 c after.us refl after.is)
+        (distinguishes_converse mode (spliced k xs positions) (next + n) (specialize k xs test rows) s p inside (put k args vs) v some
         (ready_opened program positions next (next + n) k position xs test rows env inside vs args (omega arith) low place
         (λ r w f. (goes_at b c xs (value.Constructed c after.us) after.us r n many count refl after.many w f).many ∙ sym as_many) after.at after.same ready)
         (subst (λ (r : Term). Shows program claims inside r v) (sym pair.1) shown)
-        (map (narrowed k (length args)) (filter (λ one. goes_too b (wants_constructor c) (choose.demand_at k one)) twins))
-        (alike_narrowed k (length args) xs (filter (λ one. test (demand_at k one)) rows)
-        (filter (λ one. goes_too b (wants_constructor c) (choose.demand_at k one)) twins) as_many
-        (alike_filter (λ one. test (demand_at k one)) (λ one. goes_too b (wants_constructor c) (choose.demand_at k one)) rows twins
-        (tests_agree k test (goes_too b (wants_constructor c)) (goes_same b (wants_constructor c))) alike)))
-    cases_back _ _ _ _ _ _ _ _ _ (lowering.constructor_case mode b positions next k n xs rows c cs ls s a count is p rest) position env vs v some place
+        (map (specialized_row k (length args)) (filter (λ one. goes_too b (demands_constructor c) (choose.demand_at k one)) twins))
+        (alike_specialized k (length args) xs (filter (λ one. test (demand_at k one)) rows)
+        (filter (λ one. goes_too b (demands_constructor c) (choose.demand_at k one)) twins) as_many
+        (alike_filter (λ one. test (demand_at k one)) (λ one. goes_too b (demands_constructor c) (choose.demand_at k one)) rows twins
+        (tests_agree k test (goes_too b (demands_constructor c)) (goes_same b (demands_constructor c))) alike)))
+    cases_converse _ _ _ _ _ _ _ _ _ (lowering.constructor_case mode b positions next k n xs rows c cs ls s a count is p rest) position env vs v some place
         ready twins alike looks (suc j) q t bindings e m shown =
-        cases_back mode b positions next k rows cs ls a rest position env vs v some place ready twins alike
+        cases_converse mode b positions next k rows cs ls a rest position env vs v some place ready twins alike
         (record { con = λ i d us there. looks.con (suc i) d us there; lit = looks.lit }) j q t bindings e m shown
-    cases_back _ _ _ _ _ _ _ _ _ (lowering.literal_of_case mode b positions next k rows l ls s a p rest) position env vs v some place ready twins alike
+    cases_converse _ _ _ _ _ _ _ _ _ (lowering.literal_of_case mode b positions next k rows l ls s a p rest) position env vs v some place ready twins alike
         looks zero q t bindings e m shown =
         let pair = some_pair_parts (term.Exactly l) q s t e in
         let here : matched (term.Exactly l) (env position) ≡ Some bindings =
         subst (λ (r : Pattern). matched r (env position) ≡ Some bindings) (sym pair.0) m in
         let literal = literal_fits l (env position) bindings here in
         let none = no_bindings bindings (literal_binds l (env position) bindings here) in
-        let test = goes_on b (wants_literal l) in
-        found_narrowed program claims positions next k position [] test (goes_too b (wants_literal l)) rows twins env env vs [] v place
-        (λ r w f. goes_literal b l (env position) r literal w) tt (λ x low. refl) ready alike (goes_same b (wants_literal l)) (looks.lit 0 l refl literal)
-        (distinguishes_back mode (spliced k [] positions) next (specialize k [] test rows) s p env (put k [] vs) v some
+        let test = goes_on b (demands_literal l) in
+        found_specialized program claims positions next k position [] test (goes_too b (demands_literal l)) rows twins env env vs [] v place
+        (λ r w f. goes_literal b l (env position) r literal w) tt (λ x low. refl) ready alike (goes_same b (demands_literal l)) (looks.lit 0 l refl literal)
+        (distinguishes_converse mode (spliced k [] positions) next (specialize k [] test rows) s p env (put k [] vs) v some
         (ready_opened program positions next next k position [] test rows env env vs [] (omega arith) tt place
         (λ r w f. (goes_literal b l (value.Literal l) r refl w).many) tt (λ x low. refl) ready)
         (shown_inside env bindings s t v none pair.1 shown)
-        (map (narrowed k 0) (filter (λ one. goes_too b (wants_literal l) (choose.demand_at k one)) twins))
-        (alike_narrowed k 0 [] (filter (λ one. test (demand_at k one)) rows)
-        (filter (λ one. goes_too b (wants_literal l) (choose.demand_at k one)) twins) refl
-        (alike_filter (λ one. test (demand_at k one)) (λ one. goes_too b (wants_literal l) (choose.demand_at k one)) rows twins
-        (tests_agree k test (goes_too b (wants_literal l)) (goes_same b (wants_literal l))) alike)))
-    cases_back _ _ _ _ _ _ _ _ _ (lowering.literal_of_case mode b positions next k rows l ls s a p rest) position env vs v some place ready twins alike
+        (map (specialized_row k 0) (filter (λ one. goes_too b (demands_literal l) (choose.demand_at k one)) twins))
+        (alike_specialized k 0 [] (filter (λ one. test (demand_at k one)) rows)
+        (filter (λ one. goes_too b (demands_literal l) (choose.demand_at k one)) twins) refl
+        (alike_filter (λ one. test (demand_at k one)) (λ one. goes_too b (demands_literal l) (choose.demand_at k one)) rows twins
+        (tests_agree k test (goes_too b (demands_literal l)) (goes_same b (demands_literal l))) alike)))
+    cases_converse _ _ _ _ _ _ _ _ _ (lowering.literal_of_case mode b positions next k rows l ls s a p rest) position env vs v some place ready twins alike
         looks (suc j) q t bindings e m shown =
-        cases_back mode b positions next k rows [] ls a rest position env vs v some place ready twins alike
+        cases_converse mode b positions next k rows [] ls a rest position env vs v some place ready twins alike
         (record { con = looks.con; lit = λ i d there. looks.lit (suc i) d there }) j q t bindings e m shown

@@ -1,6 +1,6 @@
 use Rattle.cu_kernel.specs.TermsOf.{patterns_of}
 use Rattle.cu_lift.proofs.LiftedCopies.{patterns_put}
-use Rattle.cu_lift.proofs.renaming.behind_parameters.Goals as goal
+use Rattle.cu_lift.proofs.renaming.after_parameters.Goals as goal
 
 pub returns : goal.returns
 returns c =

@@ -1,5 +1,5 @@
 use Rattle.cu_forms.proofs.BlockLemmas.{let_is}
-use Rattle.cu_forms.proofs.blocks.behind.Goals as goal
+use Rattle.cu_forms.proofs.blocks.scope_after.Goals as goal
 
 pub returns : goal.returns
 returns g c w tells =

@@ -1,5 +1,5 @@
 use Rattle.cu_lift.proofs.LiftedCopies.{terms_put}
-use Rattle.cu_lift.proofs.renaming.behind_variables.Goals as goal
+use Rattle.cu_lift.proofs.renaming.after_variables.Goals as goal
 
 pub returns : goal.returns
 returns c =

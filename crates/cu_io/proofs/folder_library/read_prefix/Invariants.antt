@@ -1,7 +1,7 @@
 -- The text is what was read so far.
 use Rattle.std.proofs.Common.{◌-◌, ◌≤◌, vec_len}
 use Rattle.std.specs.Io.KnownBytes.{Consumes}
-use Rattle.cu_io.proofs.folder_library.read_front.Given as goal
+use Rattle.cu_io.proofs.folder_library.read_prefix.Given as goal
 
 abbrev pub invariant-loop-text : goal.invariant-loop-text
 invariant-loop-text g l =

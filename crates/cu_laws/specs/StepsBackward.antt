@@ -31,10 +31,10 @@ claims_of_end _ = []
 -- Some assignment is good for the state, over the claims and over further ones, each of which a
 -- search finds and whose functions have levels below this one. It says at least what `later` does,
 -- at every node.
-pub record StepsBack (program : Code) (limits : Limits) (levels : List ℕ) (level : ℕ)
+pub record StepsBackward (code : Code) (limits : Limits) (levels : List ℕ) (level : ℕ)
     (claims further : List Claim) (state : State) (later : Assignment) : Type 0 where
-  pub found : AreFound program limits further
+  pub found : AreFound code limits further
   pub below : AreBelow levels level further
   pub earlier : Assignment
-  pub good : Good program (claims ++ further) (graph_of state) earlier
+  pub good : Good code (claims ++ further) (graph_of state) earlier
   pub rises : RisesTo later earlier

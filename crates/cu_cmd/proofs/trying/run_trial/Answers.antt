@@ -4,7 +4,7 @@ use Rattle.cu_cmd.specs.Trials.{trial_goal}
 use Rattle.cu_theorem.specs.Listed.{listing_of}
 use Rattle.cu_cmd.proofs.ReportLemmas.{refusal_ends_whole, totals_end, totals_end_whole, trial_compiles, trial_refusal_ends, trial_tells}
 use Rattle.cu_words.specs.Words.{Trying, trial_of}
-use Rattle.cu_cmd.proofs.trying.try_search.Goals as goal
+use Rattle.cu_cmd.proofs.trying.run_trial.Goals as goal
 
 pub returns-in-Ok-clause-ends : goal.returns-in-Ok-clause-ends
 returns-in-Ok-clause-ends g c =

@@ -1,6 +1,6 @@
 use Rattle.std.proofs.Common.{◌≡◌, map, take}
 use Rattle.cu_kernel.specs.declared.term.Term.TheVariants as term
-use Rattle.cu_lift.proofs.renaming.behind_variables.Given as goal
+use Rattle.cu_lift.proofs.renaming.after_variables.Given as goal
 
 -- the variables so far
 abbrev pub invariant-loop-variable : goal.invariant-loop-variable

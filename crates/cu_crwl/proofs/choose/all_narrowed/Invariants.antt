@@ -1,7 +1,0 @@
-use Rattle.std.proofs.Common.{◌≡◌, ◌++◌, drop, map}
-use Rattle.cu_calculus.specs.Choose.{narrowed}
-use Rattle.cu_crwl.specs.Rows.{rows_meaning}
-use Rattle.cu_crwl.proofs.choose.all_narrowed.Given as goal
-
-abbrev pub invariant-loop-row : goal.invariant-loop-row
-invariant-loop-row l = rows_meaning l.all.items ++ map (narrowed l.position l.count) (rows_meaning (drop l.row-index l.rows)) ≡ map (narrowed l.position l.count) (rows_meaning l.rows)
