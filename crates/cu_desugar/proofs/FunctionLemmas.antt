@@ -44,7 +44,7 @@ use Rattle.cu_translation.specs.Rules.{pattern_count}
 use Rattle.cu_translation.specs.Sites.{Bound, Function, Generated, Lambda, Node, Site}
 use Rattle.cu_translation.specs.Table.{term}
 use Rattle.cu_uses.specs.Binders.{pattern_variables}
-use Rattle.cu_uses.specs.Inside.Gathered.{names_meaning, pattern_binds, patterns_bind}
+use Rattle.cu_uses.specs.Gathered.{names_meaning, pattern_binds, patterns_bind}
 use Rattle.cu_sites.proofs.CountLemmas.{NodeAt}
 
 -- ---- scopes

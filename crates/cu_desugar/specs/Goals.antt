@@ -9,7 +9,7 @@ use Rattle.cu_syntax.specs.Owners.{NameIsOf}
 use Rattle.cu_syntax.specs.Syntax.{Goal}
 use Rattle.cu_translation.specs.Functions.{goal_nodes}
 use Rattle.cu_translation.specs.Numbering.{all_binders, all_functions, at_name}
-use Rattle.cu_uses.specs.Inside.Gathered.{names_meaning}
+use Rattle.cu_uses.specs.Gathered.{names_meaning}
 use Rattle.cu_desugar.specs.declared.goals.GoalParts.{GoalParts}
 
 -- What the code knows of a goal's text is right: its variables, sites, numbers and dependencies.

@@ -16,7 +16,7 @@ ghost use Rattle.cu_translation.specs.Functions.{around_goal, goal_function, goa
 ghost use Rattle.cu_translation.specs.Meaning.{binder_meaning};
 ghost use Rattle.cu_translation.specs.ModuleNames.{id_of};
 ghost use Rattle.cu_translation.specs.Numbering.{at_name};
-ghost use Rattle.cu_uses.specs.Inside.Gathered.{names_meaning};
+ghost use Rattle.cu_uses.specs.Gathered.{names_meaning};
 
 use crate::around::Around;
 use crate::functions::arity;

@@ -9,7 +9,7 @@ use Rattle.cu_syntax.specs.declared.patterns.Pattern.{Pattern}
 use Rattle.cu_syntax.specs.Names.{name_meaning}
 use Rattle.cu_translation.specs.FaultOrder.{NonLinear, at_name, fault}
 use Rattle.cu_translation.specs.Meaning.{Setting}
-use Rattle.cu_uses.specs.Inside.Gathered.{patterns_bind}
+use Rattle.cu_uses.specs.Gathered.{patterns_bind}
 use Rattle.cu_uses.specs.Binders.{is_among, repeated}
 use Rattle.cu_faults.specs.declared.first.First.{First}
 use Rattle.cu_faults.specs.Inside.Patterns.{repeats, variables_told}

@@ -40,30 +40,6 @@ pub fn first_clash<A: Surroundings>(
     Ok(first.fault())
 }
 
-/// The first fault of a function of top level, clashes of operators apart.
-///
-/// # Errors
-///
-/// An allocation failure.
-pub fn first_fault<A: Surroundings>(
-    alloc: Global,
-    around: &A,
-    group: &Group<'_>,
-    sites: &Sites<'_>,
-    dependencies: &Dependencies,
-) -> Result<Option<Fault>, AllocError>
-    ensures { (t : Text) (names : Names)
-        → A.tells around.now (setting t (around_group names (group_meaning t.names group.now)))
-        → GroupIsOf t.owner t.names group.now
-        → Stands t (group_nodes (group_meaning t.names group.now)) sites.now
-        → AreDependencies (group_nodes (group_meaning t.names group.now)) dependencies.now
-        → IfOk result (IsFirst t.owner (group_faults names (group_meaning t.names group.now))) }
-{
-    let mut first = First::new();
-    tell_function(alloc, around, group, sites, dependencies, &mut first)?;
-    Ok(first.fault())
-}
-
 /// The first fault of a goal of this module, clashes of operators apart.
 ///
 /// # Errors

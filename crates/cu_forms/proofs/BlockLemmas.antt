@@ -24,7 +24,7 @@ use Rattle.cu_syntax.specs.declared.declarations.DeclarationNode.{DeclarationNod
 use Rattle.cu_syntax.specs.declared.declarations.DeclarationNode.TheVariants as node
 use Rattle.cu_syntax.specs.declared.name.Name.{Name}
 use Rattle.cu_syntax.specs.declared.patterns.Pattern.{Pattern}
-use Rattle.cu_uses.specs.Inside.Gathered.{names_meaning, pattern_binds}
+use Rattle.cu_uses.specs.Gathered.{names_meaning, pattern_binds}
 use Rattle.cu_translation.specs.Around.{Around, Names}
 use Rattle.cu_translation.specs.Blocks as definitions
 use Rattle.cu_translation.specs.Blocks.{bound, depends_on_none, first_and_others, free_in, frees, is_other, ordered, ordered_within, selection, with_free, with_lets}

@@ -37,7 +37,7 @@ use Rattle.cu_translation.specs.Meaning.{Setting, referent_meaning}
 use Rattle.cu_translation.specs.Table as table
 use Rattle.cu_translation.specs.declared.referents.Referent as referents
 use Rattle.cu_translation.specs.Terms.{Operand, applied, by_name, called, referred, terms_of}
-use Rattle.cu_uses.specs.Inside.Gathered.{pattern_binds}
+use Rattle.cu_uses.specs.Gathered.{pattern_binds}
 use Rattle.cu_forms.specs.Forms.{alternative_form, application_form, scope_after, block_form, block_term, body_form, comprehension_form, enumeration_form, expression_form, free_form, guard_form, guards_form, inside, let_form, lets_form, name_alone_form, number_alone_form, operand_form, operators_term, pattern_form, right_form}
 use Rattle.cu_forms.specs.Inside.Blocks.{guards_term, row_meaning}
 use Rattle.cu_forms.specs.Inside.Calls.{built_in_term, referred_on}

@@ -2,7 +2,6 @@
 use Rattle.std.proofs.Common.{◌≡◌, ◌∙◌, ◌-◌, ◌≤◌, ℕ, zero, suc, true, false, List, [], ◌∷◌, ◌++◌, Option, None, length, drop, map, refl, sym, ap, ap₂, take}
 use Rattle.std.proofs.Math.Seq.{take-length}
 use Rattle.std.proofs.lemmas.List.{drop_all, length-drop, length-map}
-use Rattle.std.specs.Option.{option_map}
 use Rattle.std.specs.declared.alloc.Global.{Global}
 use Rattle.std.specs.declared.boxed.Box.{Box}
 use Rattle.std.specs.declared.vec.Vec.{Vec}
@@ -13,14 +12,11 @@ use Rattle.cu_kernel.specs.LocalKernelOf.{local_function_meaning, local_rule_mea
 use Rattle.cu_kernel.specs.LocalTerm as terms
 use Rattle.cu_kernel.specs.LocalTermsOf.{local_alternatives_of, local_term_of, local_term_of-Case}
 use Rattle.cu_kernel.specs.TermsOf.{pattern_of}
-use Rattle.cu_kernel.specs.TypeExpr.{TypeExpr}
-use Rattle.cu_kernel.specs.TypesOf.{type_of}
 use Rattle.cu_kernel.specs.declared.local.LocalFunction as code_function
 use Rattle.cu_kernel.specs.declared.local.LocalRule as code_rule
 use Rattle.cu_kernel.specs.declared.local.LocalTerm.{LocalTerm}
 use Rattle.cu_kernel.specs.declared.local.LocalTerm.TheVariants as boxed
 use Rattle.cu_kernel.specs.declared.term.Pattern as boxed_pattern
-use Rattle.cu_kernel.specs.declared.type_term.TypeTerm.{TypeTerm}
 use Rattle.cu_lex.specs.Located.{Position}
 use Rattle.cu_lex.specs.Reading.{position_of}
 use Rattle.cu_names.specs.declared.names.NameId.{NameId}
@@ -28,7 +24,7 @@ use Rattle.cu_names.specs.declared.place.Place.{Place}
 use Rattle.cu_syntax.specs.ExpressionMeaning.{expression_meaning}
 use Rattle.cu_syntax.specs.Expressions.{expression_node, qualifiers_meaning}
 use Rattle.cu_syntax.specs.Names.{name_meaning}
-use Rattle.cu_syntax.specs.Patterns.{pattern_meaning, pattern_node, patterns_meaning}
+use Rattle.cu_syntax.specs.Patterns.{pattern_meaning, pattern_node}
 use Rattle.cu_syntax.specs.Syntax as syntax
 use Rattle.cu_syntax.specs.Syntax.{pattern_position}
 use Rattle.cu_syntax.specs.declared.declarations.RightSide.{RightSide}
@@ -47,11 +43,9 @@ use Rattle.cu_translation.specs.LocalNames.{At, Otherwise, Scope, Selected, Whol
 use Rattle.cu_translation.specs.Meaning.{Setting}
 use Rattle.cu_translation.specs.PatternTable as table
 use Rattle.cu_translation.specs.PatternTable.{patterns_of}
-use Rattle.cu_translation.specs.Rules.{pattern_count}
-use Rattle.cu_uses.specs.Inside.Gathered.{names_meaning, pattern_binds, patterns_bind}
-use Rattle.cu_forms.specs.declared.local_functions.RuleText.{RuleText}
+use Rattle.cu_uses.specs.Gathered.{names_meaning, pattern_binds, patterns_bind}
 use Rattle.cu_forms.specs.Forms.{scope_after, comprehension_form, expression_form, pattern_form, right_form}
-use Rattle.cu_forms.specs.Functions.{after_first, element_in, function_form, generator_form, goal_form, lambda_form, qualifiers_in, rule_form, selectors_of, text_form}
+use Rattle.cu_forms.specs.Functions.{after_first, element_in, generator_form, goal_form, lambda_form, qualifiers_in, rule_form, selectors_of}
 use Rattle.cu_forms.specs.Inside.Functions.{generator_of, is_variable, matched_term, parameter_of, rest_form, selector_of}
 use Rattle.cu_forms.specs.Inside.Lists.{list_term}
 use Rattle.cu_forms.proofs.PatternLemmas.{count_is, forms_are, patterns_are}
@@ -104,17 +98,6 @@ lambda_is w local at ps e qs t matched same =
     ap₂ (functions.new_function w.around at) matched same
     ∙ ap₂ (λ m rs. function_on (place_at w.around.names at) m (rule_on rs (expression_form w (variable_entries (patterns_bind w.names ps) ++ local) e) ∷ []))
     (length-map ps (pattern_form w At) ∙ sym (count_is w.names ps)) (forms_are w At ps)
-
-abbrev declared_as : Option TypeExpr → Place → ℕ → List kernel.LocalRule → kernel.LocalFunction
-declared_as declared p m rs = record { place = p; declared = declared; arity = m; rules = rs }
-
-pub function_is : (w : Setting) (local : Scope) (at : Position) (declared : Option TypeTerm) (first : RuleText) (others : List RuleText) (place : Place) (n : ℕ) (rules : Vec code_rule.LocalRule Global)
-    → place ≡ place_at w.around.names at → n ≡ length first.parameters.now → map local_rule_meaning rules.items ≡ text_form w local first ∷ map (text_form w local) others
-    → local_function_meaning (record { place = place; declared = declared; arity = n; rules = rules }) ≡ function_form w local at (option_map type_of declared) first others
-unfolding function_form
-function_is w local at declared first others place n rules placed size same =
-    ap₂ (λ (p : Place) (m : ℕ). declared_as (option_map type_of declared) p m (map local_rule_meaning rules.items)) placed (size ∙ sym (count_is w.names first.parameters.now))
-    ∙ ap (declared_as (option_map type_of declared) (place_at w.around.names at) (pattern_count (patterns_meaning w.names first.parameters.now))) same
 
 -- ---- qualifiers
 

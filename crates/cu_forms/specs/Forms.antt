@@ -20,7 +20,7 @@ use Rattle.cu_syntax.specs.ExpressionMeaning.{expression_meaning}
 use Rattle.cu_syntax.specs.Expressions.{items_meaning, qualifiers_meaning}
 use Rattle.cu_syntax.specs.Patterns.{pattern_meaning}
 use Rattle.cu_syntax.specs.Syntax.{Name}
-use Rattle.cu_uses.specs.Inside.Gathered.{pattern_binds}
+use Rattle.cu_uses.specs.Gathered.{pattern_binds}
 use Rattle.cu_locals.specs.Entries.{block_brings}
 use Rattle.cu_forms.specs.declared.pattern_forms.Binders.{Binders}
 use Rattle.cu_forms.specs.declared.pattern_forms.Binders.TheVariants.{Own, Selecting}

@@ -1,27 +1,20 @@
 -- What rules and local functions stand for, under a table of names.
-use Rattle.std.specs.Prelude.{ℕ, zero, suc, List, ◌∷◌, ◌++◌, Option, map}
-use Rattle.std.specs.List.{All}
+use Rattle.std.specs.Prelude.{ℕ, zero, suc, List, ◌++◌, map}
 use Rattle.cu_kernel.specs.LocalKernel.{LocalFunction, LocalRule}
-use Rattle.cu_kernel.specs.TypeExpr.{TypeExpr}
 use Rattle.cu_lex.specs.Located.{Position}
-use Rattle.cu_names.specs.declared.names.NameId.{NameId}
 use Rattle.cu_syntax.specs.declared.declarations.RightSide.{RightSide}
 use Rattle.cu_syntax.specs.declared.expressions.Expression.{Expression}
 use Rattle.cu_syntax.specs.declared.name.Name as code
 use Rattle.cu_syntax.specs.declared.patterns.Pattern.{Pattern}
 use Rattle.cu_syntax.specs.ExpressionMeaning.{expression_meaning}
-use Rattle.cu_syntax.specs.Owners.{PatternIsOf, RightSideIsOf}
 use Rattle.cu_syntax.specs.Patterns.{pattern_meaning, patterns_meaning}
 use Rattle.cu_syntax.specs.Syntax as syntax
-use Rattle.cu_translation.specs.Around.{place_at}
 use Rattle.cu_translation.specs.Functions.{goal_parameter}
 use Rattle.cu_translation.specs.LocalFunctions as functions
 use Rattle.cu_translation.specs.LocalNames.{At, Scope, variable_entries}
 use Rattle.cu_translation.specs.Meaning.{Setting}
 use Rattle.cu_translation.specs.PatternTable.{patterns, patterns_of}
-use Rattle.cu_translation.specs.Rules.{pattern_count}
-use Rattle.cu_uses.specs.Inside.Gathered.{names_meaning, pattern_binds, patterns_bind}
-use Rattle.cu_forms.specs.declared.local_functions.RuleText.{RuleText}
+use Rattle.cu_uses.specs.Gathered.{names_meaning, pattern_binds, patterns_bind}
 use Rattle.cu_forms.specs.Forms.{scope_after, expression_form, right_form}
 
 -- ---- rules
@@ -32,13 +25,6 @@ rule_form w local ps right = record {
   body = right_form w (variable_entries (patterns_bind w.names ps) ++ local) right;
 }
 
-abbrev pub text_form : Setting → Scope → RuleText → LocalRule
-text_form w local r = rule_form w local r.parameters.now r.right
-
-abbrev pub RuleTextIsOf : NameId → List (List ℕ) → RuleText → Type 0
-RuleTextIsOf owner names r =
-    All (PatternIsOf owner names) r.parameters.now × RightSideIsOf owner names r.right
-
 -- the rule of a goal with these variables
 unfoldable pub goal_form : Setting → List code.Name → Expression → LocalRule
 goal_form w xs e = record {
@@ -47,16 +33,6 @@ goal_form w xs e = record {
 }
 
 -- ---- local functions
-
--- a function of a block, by its declared type and its rules
-unfoldable pub function_form : Setting → Scope → Position → Option TypeExpr → RuleText
-    → List RuleText → LocalFunction
-function_form w local at declared first others = record {
-  place = place_at w.around.names at;
-  declared = declared;
-  arity = pattern_count (patterns_meaning w.names first.parameters.now);
-  rules = map (text_form w local) (first ∷ others);
-}
 
 unfoldable pub lambda_form : Setting → Scope → Position → List Pattern → Expression → LocalFunction
 lambda_form w local at ps e =

@@ -10,7 +10,7 @@ ghost use Rattle.cu_syntax.specs.Syntax.{pattern_position};
 ghost use Rattle.cu_syntax.specs.Syntax as syntax;
 ghost use Rattle.cu_translation.specs.Blocks as definitions;
 ghost use Rattle.cu_translation.specs.Meaning.{Setting, binder_meaning};
-ghost use Rattle.cu_uses.specs.Inside.Gathered.{names_meaning};
+ghost use Rattle.cu_uses.specs.Gathered.{names_meaning};
 ghost use Rattle.cu_forms.specs.Forms.{block_term, selections_form};
 ghost use Rattle.cu_forms.specs.Inside.Blocks.{bound_meaning, bounds_meaning, chosen, depends_on_none, is_of_other, with_free_names};
 

@@ -7,7 +7,7 @@ ghost use Rattle.cu_syntax.specs.Declarations.{declaration_meaning};
 ghost use Rattle.cu_syntax.specs.Owners.{PatternIsOf};
 ghost use Rattle.cu_translation.specs.Blocks.{free_in};
 ghost use Rattle.cu_translation.specs.LocalNames.{variable_entries};
-ghost use Rattle.cu_uses.specs.Inside.Gathered.{names_meaning, pattern_binds, patterns_bind};
+ghost use Rattle.cu_uses.specs.Gathered.{names_meaning, pattern_binds, patterns_bind};
 ghost use Rattle.cu_forms.specs.Forms.{free_form};
 
 use cu_locals::{pattern_variables, variable_entries, variables};

@@ -1,11 +1,9 @@
 //! Rules, and the local functions that forms of the source become.
-ghost use Rattle.std.specs.Prelude.{◌≡◌, ◌∷◌, [], IfOk, List, ℕ, drop, map};
+ghost use Rattle.std.specs.Prelude.{◌≡◌, [], IfOk, List, ℕ, drop, map};
 ghost use Rattle.std.specs.List.{All};
-ghost use Rattle.std.specs.Option.{option_map};
 ghost use Rattle.cu_kernel.specs.LocalKernelOf.{local_function_meaning, local_rule_meaning};
 ghost use Rattle.cu_kernel.specs.LocalTermsOf.{local_term_of};
 ghost use Rattle.cu_kernel.specs.TermsOf.{pattern_of};
-ghost use Rattle.cu_kernel.specs.TypesOf.{type_of};
 ghost use Rattle.cu_lex.specs.Reading.{position_of};
 ghost use Rattle.cu_names.specs.Texts.{AllDiffer};
 ghost use Rattle.cu_syntax.specs.Names.{name_meaning};
@@ -16,7 +14,7 @@ ghost use Rattle.cu_translation.specs.LocalFunctions as functions;
 ghost use Rattle.cu_translation.specs.LocalNames as definitions;
 ghost use Rattle.cu_translation.specs.Meaning.{Setting, position_meaning};
 ghost use Rattle.cu_forms.specs.Scopes.{Sees};
-ghost use Rattle.cu_forms.specs.Functions.{RuleTextIsOf, function_form, generator_form, goal_form, lambda_form, rule_form, selectors_of, text_form};
+ghost use Rattle.cu_forms.specs.Functions.{generator_form, goal_form, lambda_form, rule_form, selectors_of};
 ghost use Rattle.cu_forms.specs.Inside.Functions.{generator_of, is_variable, matched_term, parameter_of, rest_form, selector_of};
 
 use crate::entries::{parameter_entries, pattern_entries};
@@ -24,20 +22,12 @@ use crate::expressions::{comprehension, right_side, term};
 use crate::lists::list;
 use crate::pattern_forms::{Binders, pattern, patterns};
 use crate::scope::Scope;
-use cu_kernel::{LocalFunction, LocalRule, LocalTerm, Mode, Pattern as KernelPattern, TypeTerm};
+use cu_kernel::{LocalFunction, LocalRule, LocalTerm, Mode, Pattern as KernelPattern};
 use cu_locals::{pattern_variables, variable_entries};
 use cu_names::Place;
 use cu_syntax::{Expression, ExpressionNode, Name, Pattern, PatternNode, Qualifier, RightSide};
 use cu_translation::{Binder, Position, Surroundings};
 use std::alloc::{AllocError, Global};
-
-/// A rule of a function as it is written: its parameters, and its right-hand
-/// side.
-#[derive(Clone, Copy)]
-pub struct RuleText<'t> {
-    pub parameters: &'t [Pattern<'t>],
-    pub right: RightSide<'t>,
-}
 
 /// The rule of a function: its patterns, and the term of the right-hand side in
 /// which their variables are in scope.
@@ -133,59 +123,6 @@ pub fn lambda_function<A: Surroundings>(
     let inner = Scope::inside(entries.as_slice(), &*scope);
     let found = term(alloc, around, &inner, body)?;
     new_function(alloc, around, place, params, found)
-}
-
-/// A function of a block, by the place of its first token, its declared type,
-/// if it has one, and its rules.
-///
-/// # Errors
-///
-/// An allocation failure, also for more parameters than 32 bits count.
-pub fn block_function<A: Surroundings>(
-    alloc: Global,
-    around: &A,
-    scope: &Scope<'_>,
-    place: Place,
-    declared: Option<TypeTerm>,
-    first: RuleText<'_>,
-    others: &[RuleText<'_>],
-) -> Result<LocalFunction, AllocError>
-    ensures { (w : Setting) (local : definitions.Scope) → A.tells around.now w
-        → Sees w local scope.now → RuleTextIsOf w.owner w.names first.entry
-        → All (RuleTextIsOf w.owner w.names) others.now
-        → IfOk result (λ f. local_function_meaning f
-        ≡ function_form w local (position_of place) (option_map type_of declared) first.entry
-        others.now) }
-{
-    let arity = counted(first.parameters.len())?;
-    let rules = rules(alloc, around, scope, first, others)?;
-    Ok(LocalFunction {
-        place: in_module(around, place),
-        declared,
-        arity,
-        rules,
-    })
-}
-
-/// The rules of a function.
-fn rules<A: Surroundings>(
-    alloc: Global,
-    around: &A,
-    scope: &Scope<'_>,
-    first: RuleText<'_>,
-    others: &[RuleText<'_>],
-) -> Result<Vec<LocalRule>, AllocError>
-    ensures { (w : Setting) (local : definitions.Scope) → A.tells around.now w
-        → Sees w local scope.now → RuleTextIsOf w.owner w.names first.entry
-        → All (RuleTextIsOf w.owner w.names) others.now
-        → IfOk result (λ found. map local_rule_meaning found.items
-        ≡ text_form w local first.entry ∷ map (text_form w local) others.now) }
-{
-    let mut found = vec![in alloc; rule(alloc, around, scope, first.parameters, first.right)?]?;
-    for other in others {
-        found.push(rule(alloc, around, scope, other.parameters, other.right)?)?;
-    }
-    Ok(found)
 }
 
 /// The function of a qualifier with a list, by the place of the qualifier's

@@ -22,12 +22,13 @@ use Rattle.cu_translation.specs.declared.fault.DesugarFault.TheVariants as desug
 use Rattle.cu_translation.specs.FaultOrder.{Arity, Fault, FixityClash, NonLinear, RecursiveLocal, SetName, TooLong, Wrong, fault}
 use Rattle.cu_translation.specs.ModuleNames.{id_of, module_at}
 use Rattle.cu_translation.specs.Translation.{Outcome, Refused}
+use Rattle.cu_translation.specs.Functions.{goal_name}
 use Rattle.cu_desugar.specs.Translated.{goal_translated, translated}
 use Rattle.cu_toplevel.proofs.ReadingLemmas.{number_known}
 use Rattle.cu_toplevel.proofs.TopLemmas.{id_is}
 use Rattle.cu_front.specs.declared.fault.StageFault.{StageFault}
 use Rattle.cu_front.specs.Inside.Outcomes.{fault_of_functions, is_clash}
-use Rattle.cu_front.specs.Refusal.{InFunctions, Refusal, Walked, goal_name, in_functions, in_functions_at}
+use Rattle.cu_front.specs.Refusal.{InFunctions, Refusal, Walked, in_functions, in_functions_at}
 use Rattle.cu_front.specs.StageFaults.{Tells}
 use Rattle.cu_front.proofs.ClashLemmas as clashes
 use Rattle.cu_front.proofs.TableLemmas.{module_at_is, module_has}

@@ -18,6 +18,7 @@ use Rattle.cu_modules.specs.Scopes.{Named}
 use Rattle.cu_modules.specs.Walk.{Walk}
 use Rattle.cu_toplevel.proofs.TopLemmas.{id_is}
 use Rattle.cu_translation.specs.ModuleNames.{id_of}
+use Rattle.cu_translation.specs.Functions.{goal_name}
 use Rattle.cu_front.specs.Compiling.{root_in}
 use Rattle.cu_front.specs.declared.fault.StageFault.{StageFault}
 use Rattle.cu_front.specs.GoalTexts.{GoalIsRead}
@@ -26,7 +27,6 @@ use Rattle.cu_front.specs.declared.programs.Programs.{Programs}
 use Rattle.cu_front.specs.declared.runnable.Compiled.{Compiled}
 use Rattle.cu_front.specs.Inside.Stages.{ArePrograms, CompileBoth, IsGoalRead, RefusesBoth, RefusesModules}
 use Rattle.cu_front.proofs.RunLemmas.{tells_weaker}
-use Rattle.cu_front.specs.Refusal.{goal_name}
 use Rattle.cu_front.specs.StageFaults.{IsUnread, Tells}
 use Rattle.cu_front.proofs.TableLemmas.{called, same_places}
 

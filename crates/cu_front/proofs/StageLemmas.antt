@@ -22,6 +22,7 @@ use Rattle.cu_translation.specs.Faults.{goal_clashes, goal_faults}
 use Rattle.cu_translation.specs.Parts.{goal_names, goal_part, module_part}
 use Rattle.cu_translation.specs.Translation as translation
 use Rattle.cu_translation.specs.Translation.{goal_translation, outcome}
+use Rattle.cu_translation.specs.Functions.{goal_name}
 use Rattle.cu_desugar.specs.Translated.{goal_translated}
 use Rattle.cu_uses.specs.Faults as uses
 use Rattle.cu_front.specs.Compiling as meant
@@ -34,7 +35,7 @@ use Rattle.cu_front.specs.GoalTexts.{GoalIsRead}
 use Rattle.cu_front.specs.Inside.Outcomes.{Follow, IsOutcome, followed_by, kept}
 use Rattle.cu_front.specs.Inside.Stages.{IsInNames, IsInTypes, IsWhole, RefusesModules, fault_of_goal_types, fault_of_scope, fault_of_types, goal_told, part_of_goal, told_by}
 use Rattle.cu_front.specs.Names.{IsGoalTable, IsTable}
-use Rattle.cu_front.specs.Refusal.{InNames, Refusal, goal_name, in_functions, in_types}
+use Rattle.cu_front.specs.Refusal.{InNames, Refusal, in_functions, in_types}
 use Rattle.cu_front.specs.RefusalMeaning.{refusal_meaning}
 use Rattle.cu_front.specs.StageFaults.{IsUnread, Tells}
 use Rattle.cu_front.specs.Translated.{modules_program, translation_refusal}

@@ -24,9 +24,9 @@ use Rattle.cu_toplevel.proofs.ReadingLemmas.{same_number}
 use Rattle.cu_toplevel.proofs.TopLemmas.{id_is}
 use Rattle.cu_translation.specs.ModuleNames.{id_of, module_at, no_module}
 use Rattle.cu_translation.specs.Numbered.{Declared, all_constructors, all_functions, all_synonyms, all_types}
+use Rattle.cu_translation.specs.Functions.{goal_name}
 use Rattle.cu_uses.specs.Binders.{texts}
 use Rattle.cu_front.specs.Names.{IsGoalTable, IsTable, declared_names}
-use Rattle.cu_front.specs.Refusal.{goal_name}
 
 known_text : (names : List (List ℕ)) (id : NameId) → IsKnown names id → Contains names (text_of names id)
 known_text names id known = Contains-get_or names id.0 [] known

@@ -17,11 +17,12 @@ use Rattle.cu_translation.specs.FaultOrder.{Fault}
 use Rattle.cu_translation.specs.Parts.{goal_part}
 use Rattle.cu_translation.specs.Translation as translation
 use Rattle.cu_translation.specs.Translation.{goal_translation}
+use Rattle.cu_translation.specs.Functions.{goal_name}
 use Rattle.cu_uses.specs.Faults as uses
 use Rattle.cu_front.specs.GoalTexts.{GoalIsRead}
 use Rattle.cu_front.specs.Names.{IsGoalTable, IsTable}
 use Rattle.cu_front.specs.Programs.{CanRun, CannotRun, IsLifted}
-use Rattle.cu_front.specs.Refusal.{InNames, Refusal, Walked, goal_name, in_functions, in_types}
+use Rattle.cu_front.specs.Refusal.{InNames, Refusal, Walked, in_functions, in_types}
 use Rattle.cu_front.specs.Translated.{modules_program, translation_refusal}
 
 -- a folder of modules: the text of the module of a name, where the folder has one

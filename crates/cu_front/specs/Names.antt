@@ -5,8 +5,8 @@ use Rattle.cu_syntax.specs.Syntax.{Goal}
 use Rattle.cu_names.specs.Texts.{AllDiffer}
 use Rattle.cu_modules.specs.Scopes.{Named}
 use Rattle.cu_translation.specs.Numbered.{Declared, all_constructors, all_functions, all_synonyms, all_types}
+use Rattle.cu_translation.specs.Functions.{goal_name}
 use Rattle.cu_uses.specs.Binders.{texts}
-use Rattle.cu_front.specs.Refusal.{goal_name}
 
 -- the names of what is declared
 abbrev pub declared_names : List Declared → List (List ℕ)

@@ -1,5 +1,5 @@
 -- Why modules or a goal are refused.
-use Rattle.std.specs.Prelude.{ℕ, List, codes}
+use Rattle.std.specs.Prelude.{ℕ, List}
 use Rattle.cu_lex.specs.Located.{Position}
 use Rattle.cu_syntax.specs.Parsing as parsing
 use Rattle.cu_modules.specs.Texts as texts
@@ -32,10 +32,6 @@ pub data Refusal : Type 0 where
   TreeTooBig : List ℕ → Refusal
   -- The type of the goal, or of a variable of it, holds functions.
   GoalFunctional : Refusal
-
--- the name of the module for which a goal's text stands
-abbrev pub goal_name : List ℕ
-goal_name = codes "goal"
 
 -- ---- types
 

@@ -20,7 +20,6 @@ ghost use Rattle.cu_front.specs.Inside.Stages.{
   goal_told,
   part_of_goal,
 };
-ghost use Rattle.cu_front.specs.Refusal.{goal_name};
 ghost use Rattle.cu_front.specs.StageFaults.{Tells};
 ghost use Rattle.cu_front.specs.Translated.{translation_refusal};
 ghost use Rattle.cu_front.specs.declared.fault.StageFault.TheVariants.{NoMemory};
@@ -34,6 +33,7 @@ ghost use Rattle.cu_syntax.specs.Answer.{goal_meaning};
 ghost use Rattle.cu_syntax.specs.Owners.{GoalIsOf};
 ghost use Rattle.cu_toplevel.specs.EntityTables.{AreEntities};
 ghost use Rattle.cu_translation.specs.ModuleNames.{id_of};
+ghost use Rattle.cu_translation.specs.Functions.{goal_name};
 ghost use Rattle.cu_uses.specs.Binders.{texts};
 
 use crate::fault::StageFault;

@@ -28,7 +28,7 @@ use Rattle.cu_translation.specs.declared.position.Position.{Position}
 use Rattle.cu_translation.specs.LocalNames.{At, Entry, LocalFunction, LocalVariable, Scope, declaration_entries, entries_after, entry, variable_entries, variable_entry}
 use Rattle.cu_translation.specs.Meaning.{entry_meaning, position_meaning}
 use Rattle.cu_translation.specs.Rules.{Begun, begun_by, begun_in, goes_on, pattern_count}
-use Rattle.cu_uses.specs.Inside.Gathered.{Adds, names_meaning, pattern_binds}
+use Rattle.cu_uses.specs.Gathered.{Adds, names_meaning, pattern_binds}
 use Rattle.cu_uses.proofs.FoundLemmas.{prefix, nothing_left}
 use Rattle.cu_uses.proofs.ListLemmas.{name_at, no_name}
 use Rattle.cu_locals.specs.declared.begun.Begun as begun

@@ -19,7 +19,7 @@ use Rattle.cu_translation.specs.declared.position.Position.{Position}
 use Rattle.cu_translation.specs.Meaning.{position_meaning}
 use Rattle.cu_translation.specs.Numbering.{declared_places}
 use Rattle.cu_uses.specs.Binders.{pattern_variables}
-use Rattle.cu_uses.specs.Inside.Gathered.{Adds, operands_bind, pattern_binds, patterns_bind}
+use Rattle.cu_uses.specs.Gathered.{Adds, operands_bind, pattern_binds, patterns_bind}
 use Rattle.cu_uses.proofs.FoundLemmas.{adds_both, adds_none, adds_one, prefix, nothing_left}
 use Rattle.cu_locals.specs.declared.declared.Declared.{Declared}
 use Rattle.cu_locals.specs.Text.{Text}

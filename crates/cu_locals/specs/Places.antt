@@ -8,7 +8,7 @@ use Rattle.cu_syntax.specs.Syntax.{Name}
 use Rattle.cu_translation.specs.declared.position.Position.{Position}
 use Rattle.cu_translation.specs.Meaning.{position_meaning}
 use Rattle.cu_translation.specs.Numbering.{all_places, declared_places, places_after}
-use Rattle.cu_uses.specs.Inside.Gathered.{Adds}
+use Rattle.cu_uses.specs.Gathered.{Adds}
 use Rattle.cu_locals.specs.declared.declared.Declared.{Declared}
 use Rattle.cu_locals.specs.Text.{Text}
 

@@ -5,7 +5,7 @@ ghost use Rattle.cu_lex.specs.Reading.{position_of};
 ghost use Rattle.cu_names.specs.declared.place.Place.{Place};
 ghost use Rattle.cu_syntax.specs.Names.{name_meaning};
 ghost use Rattle.cu_syntax.specs.Owners.{ConstructorItemIsOf, NameIsOf, PatternIsOf};
-ghost use Rattle.cu_uses.specs.Inside.Gathered.{Adds, operands_bind, pattern_binds, patterns_bind};
+ghost use Rattle.cu_uses.specs.Gathered.{Adds, operands_bind, pattern_binds, patterns_bind};
 ghost use Rattle.cu_locals.specs.Text.{Text};
 ghost use Rattle.cu_locals.specs.Places.{Finds, operands_place, pattern_places, patterns_place, positions_meaning};
 

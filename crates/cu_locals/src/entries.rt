@@ -7,7 +7,7 @@ ghost use Rattle.cu_syntax.specs.Owners.{DeclarationIsOf, NameIsOf};
 ghost use Rattle.cu_translation.specs.LocalNames.{variable_entries, variable_entry};
 ghost use Rattle.cu_translation.specs.Rules.{begun_by};
 ghost use Rattle.cu_lex.specs.Reading.{position_of};
-ghost use Rattle.cu_uses.specs.Inside.Gathered.{names_meaning};
+ghost use Rattle.cu_uses.specs.Gathered.{names_meaning};
 ghost use Rattle.cu_locals.specs.Text.{Text};
 ghost use Rattle.cu_locals.specs.Entries.{AreEntries, BlockIsKnown, Brings, Declares, IsEntryOf, block_brings, rule_brings, rule_enters};
 ghost use Rattle.cu_locals.specs.BegunFound.{begun_meaning};

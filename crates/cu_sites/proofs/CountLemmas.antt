@@ -23,7 +23,7 @@ use Rattle.cu_translation.specs.Meaning.{binder_meaning, position_meaning}
 use Rattle.cu_translation.specs.Numbering.{all_binders, all_functions, all_places, at_name, binders_at, binders_of, declared_places, functions_at, functions_of, generated, selected}
 use Rattle.cu_translation.specs.Sites.{Node, Site}
 use Rattle.cu_uses.specs.Binders.{pattern_variables}
-use Rattle.cu_uses.specs.Inside.Gathered.{Adds, names_meaning, pattern_binds}
+use Rattle.cu_uses.specs.Gathered.{Adds, names_meaning, pattern_binds}
 use Rattle.cu_uses.proofs.FoundLemmas.{prefix, nothing_left}
 use Rattle.cu_locals.specs.Places.{pattern_places, patterns_place, positions_meaning}
 use Rattle.cu_locals.specs.Text.{Text}

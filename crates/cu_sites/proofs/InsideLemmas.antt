@@ -20,7 +20,7 @@ use Rattle.cu_syntax.specs.Owners.{PatternIsOf}
 use Rattle.cu_syntax.specs.Names.{name_meaning}
 use Rattle.cu_syntax.specs.Patterns.{pattern_meaning}
 use Rattle.cu_syntax.specs.Syntax.{Pattern, pattern_position}
-use Rattle.cu_uses.specs.Inside.Gathered.{Adds, names_meaning, pattern_binds}
+use Rattle.cu_uses.specs.Gathered.{Adds, names_meaning, pattern_binds}
 use Rattle.cu_locals.specs.Text.{Text}
 use Rattle.cu_translation.specs.declared.local_names.Binder as code
 use Rattle.cu_translation.specs.declared.local_names.Local as locals_found

@@ -26,7 +26,7 @@ use Rattle.cu_syntax.specs.Patterns.{pattern_meaning, patterns_meaning}
 use Rattle.cu_syntax.specs.Syntax as syntax
 use Rattle.cu_translation.specs.Rules.{Begun, begun_by, goes_on, leading, rules_in}
 use Rattle.cu_translation.specs.Sites.{Bound, Defined, Free, Generated, Lambda, Matched, Operation, Spot, in_function, node, past, with}
-use Rattle.cu_uses.specs.Inside.Gathered.{Adds, names_meaning, pattern_binds, patterns_bind}
+use Rattle.cu_uses.specs.Gathered.{Adds, names_meaning, pattern_binds, patterns_bind}
 use Rattle.cu_uses.proofs.FoundLemmas.{on_ok}
 use Rattle.cu_locals.specs.declared.begun.Begun as begun
 use Rattle.cu_locals.specs.Text.{Text}

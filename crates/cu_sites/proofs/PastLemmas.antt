@@ -11,7 +11,7 @@ use Rattle.cu_syntax.specs.declared.expressions.Qualifier.TheVariants as qualifi
 use Rattle.cu_syntax.specs.declared.name.Name as code
 use Rattle.cu_syntax.specs.declared.patterns.Pattern.{Pattern}
 use Rattle.cu_translation.specs.Sites.{Spot, in_block, in_function, past}
-use Rattle.cu_uses.specs.Inside.Gathered.{Adds, names_meaning, pattern_binds}
+use Rattle.cu_uses.specs.Gathered.{Adds, names_meaning, pattern_binds}
 use Rattle.cu_locals.specs.Text.{Text}
 use Rattle.cu_sites.specs.declared.sites.Sites.{Sites}
 use Rattle.cu_sites.specs.declared.sites.Spot as spots

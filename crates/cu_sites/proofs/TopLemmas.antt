@@ -20,7 +20,7 @@ use Rattle.cu_translation.specs.LocalNames.{Scope, variable_entries}
 use Rattle.cu_translation.specs.Meaning.{entries_meaning, entry_meaning}
 use Rattle.cu_translation.specs.declared.local_names.Entry as entries
 use Rattle.cu_translation.specs.Sites.{Node, Spot, nodes_on, rule_nodes, rules_nodes, with}
-use Rattle.cu_uses.specs.Inside.Gathered.{names_meaning, patterns_bind}
+use Rattle.cu_uses.specs.Gathered.{names_meaning, patterns_bind}
 use Rattle.cu_uses.proofs.FoundLemmas.{on_ok}
 use Rattle.cu_sites.specs.declared.rules.Group as groups
 use Rattle.cu_sites.specs.declared.rules.Rule as rules

@@ -35,7 +35,7 @@ use Rattle.cu_uses.specs.Binders.{variables}
 use Rattle.std.specs.declared.alloc.Global.{Global}
 use Rattle.std.specs.declared.vec.Vec.{Vec}
 use Rattle.cu_translation.specs.Sites.{Bound, Defined, Function, Use, Generated, Matched, Node, Operation, Spot, all_nodes, declaration_nodes, in_block, in_function, node, nodes_on, past, rest_nodes, right_nodes}
-use Rattle.cu_uses.specs.Inside.Gathered.{pattern_binds, patterns_bind}
+use Rattle.cu_uses.specs.Gathered.{pattern_binds, patterns_bind}
 use Rattle.cu_uses.proofs.FoundLemmas.{prefix, nothing_left}
 use Rattle.cu_locals.specs.declared.begun.Begun as begun
 use Rattle.cu_sites.specs.declared.rules.Group as groups

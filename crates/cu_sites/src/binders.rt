@@ -10,7 +10,7 @@ ghost use Rattle.cu_translation.specs.Meaning.{position_meaning};
 ghost use Rattle.cu_translation.specs.Numbering.{all_binders, all_functions, at_name, binders_at, functions_at, generated};
 ghost use Rattle.cu_translation.specs.Sites as text;
 ghost use Rattle.cu_translation.specs.Sites.{Node};
-ghost use Rattle.cu_uses.specs.Inside.Gathered.{names_meaning};
+ghost use Rattle.cu_uses.specs.Gathered.{names_meaning};
 ghost use Rattle.cu_sites.specs.Meaning.{IsSite, Stands};
 ghost use Rattle.cu_locals.specs.Text.{Text};
 ghost use Rattle.cu_sites.specs.Inside.Counting.{Counts, Lists, binders_meaning, bound_binders, name_places};

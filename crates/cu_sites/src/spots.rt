@@ -6,7 +6,7 @@ ghost use Rattle.cu_syntax.specs.Owners.{DeclarationIsOf, NameIsOf, QualifierIsO
 ghost use Rattle.cu_translation.specs.LocalNames.{Scope};
 ghost use Rattle.cu_translation.specs.Sites as sites;
 ghost use Rattle.cu_translation.specs.Sites.{in_block, in_function, past, past_all, with};
-ghost use Rattle.cu_uses.specs.Inside.Gathered.{names_meaning};
+ghost use Rattle.cu_uses.specs.Gathered.{names_meaning};
 ghost use Rattle.cu_sites.specs.Meaning.{IsScope};
 ghost use Rattle.cu_locals.specs.Text.{Text};
 ghost use Rattle.cu_translation.specs.Meaning.{entry_meaning};

@@ -74,6 +74,7 @@ goal_rule names goal = record {
   body = term (around_goal names goal) (goal_scope goal) goal.expression;
 }
 
+-- the name of the module for which a goal's text stands
 abbrev pub goal_name : List ℕ
 goal_name = codes "goal"
 

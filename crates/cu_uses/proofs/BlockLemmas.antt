@@ -26,7 +26,7 @@ use Rattle.cu_uses.specs.declared.first_fault.FirstFault.{FirstFault}
 use Rattle.cu_uses.specs.Binders.{Declared, Names, Rule, continues, declared_names, declared_once, function_of, has_parameters, missing, names_by, names_of, once, repeated, second, signed_by, texts}
 use Rattle.cu_uses.specs.Demands.{Demand, Lacks, Repeats}
 use Rattle.cu_uses.specs.Inside.Blocks.{Gathers, IsBlockOf, IsEmpty, IsOfModule, block_asks, block_declares, block_signs, declares, function_text, is_function, signs}
-use Rattle.cu_uses.specs.Inside.Gathered.{Adds, names_meaning, pattern_binds}
+use Rattle.cu_uses.specs.Gathered.{Adds, names_meaning, pattern_binds}
 use Rattle.cu_uses.specs.Inside.Worlds.{Told, World}
 use Rattle.cu_uses.proofs.FoundLemmas.{adds_both, adds_none, adds_one, prefix, nothing_left}
 use Rattle.cu_uses.proofs.ToldLemmas.{told_both}

@@ -22,7 +22,7 @@ use Rattle.cu_syntax.specs.Syntax as syntax
 use Rattle.cu_syntax.specs.Types.{function_type, type_meaning, type_node, types_meaning}
 use Rattle.cu_uses.specs.declared.found.Found.{Found}
 use Rattle.cu_uses.specs.Binders.{all_type_constructors, all_type_variables, pattern_constructors, pattern_variables, type_constructors, type_variables}
-use Rattle.cu_uses.specs.Inside.Gathered.{Adds, Finds, operands_bind, operands_build, pattern_binds, pattern_builds, patterns_bind, patterns_build, type_binds, type_builds, types_bind, types_build}
+use Rattle.cu_uses.specs.Gathered.{Adds, Finds, operands_bind, operands_build, pattern_binds, pattern_builds, patterns_bind, patterns_build, type_binds, type_builds, types_bind, types_build}
 
 -- ---- results
 

@@ -20,7 +20,7 @@ use Rattle.cu_uses.specs.declared.text_set.TextSet.{TextSet}
 use Rattle.cu_uses.specs.Binders.{is_among, missing, once, repeated, texts}
 use Rattle.cu_uses.specs.Demands.{Demand, Lacks, Repeats, Uses, use_of, used}
 use Rattle.cu_uses.specs.Telling.{HasTexts}
-use Rattle.cu_uses.specs.Inside.Gathered.{Adds, names_meaning}
+use Rattle.cu_uses.specs.Gathered.{Adds, names_meaning}
 use Rattle.cu_uses.specs.Inside.Worlds.{Told, World}
 use Rattle.cu_uses.proofs.TextLemmas.{among_more}
 use Rattle.cu_uses.proofs.ToldLemmas.{told_both, told_none}

@@ -29,7 +29,7 @@ use Rattle.cu_uses.specs.Binders.{Declared, Names, Rule, declared_once, missing,
 use Rattle.cu_uses.specs.Demands.{Demand, Lacks, Repeats, item_demands, items_demands, used}
 use Rattle.cu_uses.specs.Inside.Asked.{declaration_asks}
 use Rattle.cu_uses.specs.Inside.Blocks.{Gathers, IsBlockOf, IsEmpty, signs}
-use Rattle.cu_uses.specs.Inside.Gathered.{Adds, names_meaning, types_bind, types_build}
+use Rattle.cu_uses.specs.Gathered.{Adds, names_meaning, types_bind, types_build}
 use Rattle.cu_uses.specs.Inside.Tops.{IsTop, Reads, Top, both, constructor_names, fields_ask, item_asks, item_top, items_ask, items_top, nothing, top, top_by, top_declares, types_ask}
 use Rattle.cu_uses.specs.Inside.Worlds.{Told, World}
 use Rattle.cu_uses.proofs.BlockLemmas.{gathered_block, gathers_both, gathers_none, node_signs, signs_node}

@@ -43,7 +43,7 @@ use Rattle.cu_uses.specs.Binders.{declared_names, is_among, repeated, texts}
 use Rattle.cu_uses.specs.Demands.{Demand, Repeats, Uses, scope_after, goal_demands, declaration_demands, expression_demands, qualifier_demands, qualifier_names, qualifiers_demands, right_demands, use_of, used, with}
 use Rattle.cu_uses.specs.Inside.Asked.{alternative_asks, alternatives_ask, body_asks, declaration_asks, declarations_ask, enumeration_asks, expression_asks, expressions_ask, guards_ask, in_block, lambda_asks, let_asks, maybe_asks, operands_ask, qualifier_asks, qualifier_binds, qualifiers_ask, right_asks}
 use Rattle.cu_uses.specs.Inside.Blocks.{block_asks, block_declares}
-use Rattle.cu_uses.specs.Inside.Gathered.{Adds, names_meaning, pattern_binds, pattern_builds, patterns_bind, patterns_build, type_builds}
+use Rattle.cu_uses.specs.Gathered.{Adds, names_meaning, pattern_binds, pattern_builds, patterns_bind, patterns_build, type_builds}
 use Rattle.cu_uses.specs.Inside.Scopes.{Brings, Sees, has_text, is_local, or_among, table_in}
 use Rattle.cu_uses.specs.Inside.Worlds.{Told, World}
 use Rattle.cu_uses.proofs.FoundLemmas.{prefix, nothing_left}

@@ -1,8 +1,5 @@
--- What private contracts and invariants of loops say. Contracts of other crates speak of
--- `Gathered`. In the order in which to read them.
+-- What private contracts and invariants of loops say, in the order in which to read them.
 
--- The names that patterns and types have, and what the code finds of them.
-pub mod Gathered
 -- What declarations declare, and what the code gathers of it.
 pub mod Blocks
 -- What the views of a text ask of its scopes.

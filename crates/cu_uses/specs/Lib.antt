@@ -9,5 +9,7 @@ pub mod Faults
 -- What the first fault that the code holds stands for, and its sets of texts, under a table of
 -- names.
 pub mod Telling
+-- The names that patterns and types have, and what the code finds of them.
+pub mod Gathered
 -- What private contracts and invariants of loops say.
 pub mod Inside

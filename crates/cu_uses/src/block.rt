@@ -8,7 +8,7 @@ ghost use Rattle.cu_syntax.specs.Names.{name_meaning};
 ghost use Rattle.cu_syntax.specs.Owners.{DeclarationIsOf, NameIsOf, PatternIsOf};
 ghost use Rattle.cu_uses.specs.Binders.{Names, Rule, once};
 ghost use Rattle.cu_uses.specs.Inside.Blocks.{Gathers, IsBlockOf, IsEmpty, block_asks, block_declares, block_signs, declares, is_function, signs};
-ghost use Rattle.cu_uses.specs.Inside.Gathered.{Adds, names_meaning, pattern_binds};
+ghost use Rattle.cu_uses.specs.Gathered.{Adds, names_meaning, pattern_binds};
 ghost use Rattle.cu_uses.specs.Inside.Tops.{top_declares};
 ghost use Rattle.cu_uses.specs.Inside.Worlds.{Told, World};
 

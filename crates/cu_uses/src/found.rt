@@ -4,7 +4,7 @@ ghost use Rattle.std.specs.List.{All};
 ghost use Rattle.cu_names.specs.declared.names.NameId.{NameId};
 ghost use Rattle.cu_syntax.specs.Names.{name_meaning};
 ghost use Rattle.cu_syntax.specs.Owners.{ConstructorItemIsOf, NameIsOf, PatternIsOf, TypeIsOf};
-ghost use Rattle.cu_uses.specs.Inside.Gathered.{Finds, operands_bind, operands_build, pattern_binds, pattern_builds, patterns_bind, patterns_build, type_binds, type_builds, types_bind, types_build};
+ghost use Rattle.cu_uses.specs.Gathered.{Finds, operands_bind, operands_build, pattern_binds, pattern_builds, patterns_bind, patterns_build, type_binds, type_builds, types_bind, types_build};
 
 use cu_syntax::{ConstructorItem, Name, Pattern, PatternNode, TypeNode, TypeTerm};
 use std::alloc::{AllocError, Global};

@@ -8,7 +8,7 @@ ghost use Rattle.cu_syntax.specs.Syntax as syntax;
 ghost use Rattle.cu_uses.specs.Binders.{repeated, texts};
 ghost use Rattle.cu_uses.specs.Demands.{Repeats};
 ghost use Rattle.cu_uses.specs.Telling.{HasTexts};
-ghost use Rattle.cu_uses.specs.Inside.Gathered.{names_meaning};
+ghost use Rattle.cu_uses.specs.Gathered.{names_meaning};
 ghost use Rattle.cu_uses.specs.Inside.Scopes.{Sees};
 ghost use Rattle.cu_uses.specs.Inside.Tops.{fields_ask, item_asks, items_ask, types_ask};
 ghost use Rattle.cu_uses.specs.Inside.Worlds.{Told, World};

@@ -6,7 +6,7 @@ ghost use Rattle.cu_syntax.specs.Owners.{NameIsOf};
 ghost use Rattle.cu_names.specs.declared.names.NameId.{NameId};
 ghost use Rattle.cu_uses.specs.Binders.{missing, once, repeated, texts};
 ghost use Rattle.cu_uses.specs.Demands.{Lacks, Repeats};
-ghost use Rattle.cu_uses.specs.Inside.Gathered.{Adds, names_meaning};
+ghost use Rattle.cu_uses.specs.Gathered.{Adds, names_meaning};
 ghost use Rattle.cu_uses.specs.Inside.Worlds.{Told, World};
 ghost use Rattle.cu_uses.specs.Telling.{HasTexts};
 

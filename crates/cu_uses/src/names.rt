@@ -8,7 +8,7 @@ ghost use Rattle.cu_names.specs.Texts.{text_of};
 ghost use Rattle.cu_uses.specs.Binders.{is_among};
 ghost use Rattle.cu_uses.specs.Demands.{Demand, Uses, use_of, used};
 ghost use Rattle.cu_uses.specs.Faults.{demand_fault, wrong_name};
-ghost use Rattle.cu_uses.specs.Inside.Gathered.{names_meaning};
+ghost use Rattle.cu_uses.specs.Gathered.{names_meaning};
 ghost use Rattle.cu_uses.specs.Inside.Scopes.{Sees};
 ghost use Rattle.cu_uses.specs.Inside.Worlds.{Told, World};
 

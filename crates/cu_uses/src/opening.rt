@@ -5,7 +5,7 @@ ghost use Rattle.std.specs.List.{All};
 ghost use Rattle.cu_entities.specs.Entities.{Types};
 ghost use Rattle.cu_syntax.specs.Owners.{PatternIsOf, TypeIsOf};
 ghost use Rattle.cu_uses.specs.Demands.{used};
-ghost use Rattle.cu_uses.specs.Inside.Gathered.{pattern_binds, pattern_builds, patterns_bind, patterns_build, type_builds};
+ghost use Rattle.cu_uses.specs.Gathered.{pattern_binds, pattern_builds, patterns_bind, patterns_build, type_builds};
 ghost use Rattle.cu_uses.specs.Inside.Scopes.{Opens, Sees};
 ghost use Rattle.cu_uses.specs.Inside.Worlds.{Told, World};
 

@@ -9,7 +9,7 @@ ghost use Rattle.cu_uses.specs.Binders.{Names, missing, repeated, second};
 ghost use Rattle.cu_uses.specs.Demands.{Lacks, Repeats};
 ghost use Rattle.cu_uses.specs.Telling.{HasTexts};
 ghost use Rattle.cu_uses.specs.Inside.Blocks.{IsEmpty};
-ghost use Rattle.cu_uses.specs.Inside.Gathered.{names_meaning};
+ghost use Rattle.cu_uses.specs.Gathered.{names_meaning};
 ghost use Rattle.cu_uses.specs.Inside.Tops.{IsTop, Reads, Top, constructor_names, item_top, items_top, top};
 ghost use Rattle.cu_uses.specs.Inside.Worlds.{Told, World};
 

@@ -8,7 +8,7 @@ use Rattle.cu_kernel.specs.TermsOf.{pattern_of}
 use Rattle.cu_kernel.specs.declared.local.LocalTerm.{LocalTerm}
 use Rattle.cu_kernel.specs.declared.term.Pattern.{Pattern}
 use Rattle.cu_syntax.specs.declared.name.Name.{Name}
-use Rattle.cu_uses.specs.Inside.Gathered.{names_meaning}
+use Rattle.cu_uses.specs.Gathered.{names_meaning}
 use Rattle.cu_translation.specs.Around.{Names}
 use Rattle.cu_translation.specs.Blocks as definitions
 use Rattle.cu_translation.specs.Blocks.{with_free}

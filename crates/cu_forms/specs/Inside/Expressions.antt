@@ -20,7 +20,7 @@ use Rattle.cu_translation.specs.LocalNames.{Scope}
 use Rattle.cu_translation.specs.Meaning.{Setting, entries_meaning}
 use Rattle.cu_translation.specs.Rules.{Begun, begun_in}
 use Rattle.cu_translation.specs.Table as table
-use Rattle.cu_uses.specs.Inside.Gathered.{names_meaning}
+use Rattle.cu_uses.specs.Gathered.{names_meaning}
 use Rattle.cu_forms.specs.declared.blocks.Bound.{Bound}
 use Rattle.cu_forms.specs.declared.expressions.LocalBlock.{LocalBlock}
 use Rattle.cu_forms.specs.Scopes.{EntryIsKnown}

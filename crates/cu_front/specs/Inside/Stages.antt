@@ -25,6 +25,7 @@ use Rattle.cu_declared.specs.TypeFaults.{AreRight, IsGoalRight}
 use Rattle.cu_translation.specs.Parts.{goal_part}
 use Rattle.cu_translation.specs.Translation as translation
 use Rattle.cu_translation.specs.Translation.{goal_translation}
+use Rattle.cu_translation.specs.Functions.{goal_name}
 use Rattle.cu_uses.specs.Faults as uses
 use Rattle.cu_front.specs.Compiling.{Compiles, GoalRefused, Folder, ModulesCompile}
 use Rattle.cu_front.specs.Compiling.{ModulesRefused, RequestRefused, whole_program}
@@ -39,7 +40,7 @@ use Rattle.cu_front.specs.declared.refusal.Refusal as code
 use Rattle.cu_front.specs.declared.refusal.Refusal.TheVariants as told
 use Rattle.cu_front.specs.GoalTexts.{GoalIsRead}
 use Rattle.cu_front.specs.Names.{IsGoalTable, IsTable}
-use Rattle.cu_front.specs.Refusal.{InNames, Refusal, goal_name, in_functions, in_types}
+use Rattle.cu_front.specs.Refusal.{InNames, Refusal, in_functions, in_types}
 use Rattle.cu_front.specs.RefusalMeaning.{PlaceIsKnown, RefusalIsKnown, refusal_meaning}
 use Rattle.cu_front.specs.StageFaults.{IsUnread, Tells}
 use Rattle.cu_front.specs.Translated.{modules_program, translation_refusal}

@@ -33,7 +33,7 @@ use Rattle.cu_locals.specs.Text.{Text}
 use Rattle.cu_sites.specs.Meaning.{qualifiers_after, element_in, qualifiers_in, rule_meaning}
 use Rattle.cu_sites.specs.Inside.Entering.{IsAt, IsBlock, Writes}
 use Rattle.cu_locals.specs.BegunFound.{IsBefore}
-use Rattle.cu_uses.specs.Inside.Gathered.{pattern_binds, patterns_bind}
+use Rattle.cu_uses.specs.Gathered.{pattern_binds, patterns_bind}
 
 unfoldable pub block_of : List (List ℕ) → List Declaration → syntax.Declarations
 block_of names ds = declarations_meaning names ds

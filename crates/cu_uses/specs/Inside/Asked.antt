@@ -19,7 +19,7 @@ use Rattle.cu_syntax.specs.Syntax.{Name}
 use Rattle.cu_uses.specs.Binders.{declared_names}
 use Rattle.cu_uses.specs.Demands.{Demand, all_demands, alternatives_demands, scope_after, declaration_demands, declarations_demands, expression_demands, guards_demands, maybe_demands, qualifier_demands, qualifier_names, qualifiers_demands, rest_demands, right_demands, used, with}
 use Rattle.cu_uses.specs.Inside.Blocks.{block_asks, block_declares}
-use Rattle.cu_uses.specs.Inside.Gathered.{pattern_binds, pattern_builds, patterns_bind, patterns_build}
+use Rattle.cu_uses.specs.Gathered.{pattern_binds, pattern_builds, patterns_bind, patterns_build}
 
 unfoldable pub expression_asks : List (List ℕ) → List (List ℕ) → Expression → List Demand
 expression_asks names local e = expression_demands local (expression_meaning names e)

@@ -11,7 +11,7 @@ use Rattle.cu_syntax.specs.declared.declarations.Declaration.{Declaration}
 use Rattle.cu_uses.specs.declared.block.Block.{Block}
 use Rattle.cu_uses.specs.Binders.{Declared, declared_in, declared_names, declared_once, names_by, signed, signed_by}
 use Rattle.cu_uses.specs.Demands.{Demand, block_demands}
-use Rattle.cu_uses.specs.Inside.Gathered.{Adds, names_meaning}
+use Rattle.cu_uses.specs.Gathered.{Adds, names_meaning}
 
 unfoldable pub declares : List (List ℕ) → Declaration → Declared
 declares names d = names_by (declaration_meaning names d)

@@ -19,7 +19,7 @@ use Rattle.cu_syntax.specs.Syntax as syntax
 use Rattle.cu_entities.specs.Entities.{Values}
 use Rattle.cu_uses.specs.declared.first_fault.FirstFault.{FirstFault}
 use Rattle.cu_uses.specs.Demands.{Demand, used}
-use Rattle.cu_uses.specs.Inside.Gathered.{Adds}
+use Rattle.cu_uses.specs.Gathered.{Adds}
 use Rattle.cu_uses.specs.Inside.Worlds.{Told, World}
 
 abbrev pub has_text : NameId → Name → Bool

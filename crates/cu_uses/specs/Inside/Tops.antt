@@ -17,7 +17,7 @@ use Rattle.cu_uses.specs.declared.top_level.TopLevel.{TopLevel}
 use Rattle.cu_uses.specs.Binders.{Declared, fixed_in, signed_in, types_by, values_by}
 use Rattle.cu_uses.specs.Demands.{Demand, item_demands, type_demands}
 use Rattle.cu_uses.specs.Inside.Blocks.{Gathers, IsBlockOf}
-use Rattle.cu_uses.specs.Inside.Gathered.{Adds}
+use Rattle.cu_uses.specs.Gathered.{Adds}
 
 -- what items declare at top level: functions and constructors, names of signatures, types, and
 -- operators with a fixity

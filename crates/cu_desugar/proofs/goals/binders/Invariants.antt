@@ -2,7 +2,7 @@ use Rattle.std.proofs.Common.{◌≡◌, ◌++◌, List, drop, map, ℕ}
 use Rattle.cu_syntax.specs.Names.{name_meaning}
 use Rattle.cu_translation.specs.Meaning.{binder_meaning}
 use Rattle.cu_translation.specs.Numbering.{at_name}
-use Rattle.cu_uses.specs.Inside.Gathered.{names_meaning}
+use Rattle.cu_uses.specs.Gathered.{names_meaning}
 use Rattle.cu_desugar.proofs.goals.binders.Given as goal
 
 abbrev pub invariant-loop-name : goal.invariant-loop-name

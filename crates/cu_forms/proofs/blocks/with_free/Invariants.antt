@@ -2,7 +2,7 @@ use Rattle.std.proofs.Common.{◌≡◌, take}
 use Rattle.cu_kernel.specs.LocalTermsOf.{local_term_of}
 use Rattle.cu_translation.specs.Blocks.{with_free}
 use Rattle.cu_translation.specs.Meaning.{Setting}
-use Rattle.cu_uses.specs.Inside.Gathered.{names_meaning}
+use Rattle.cu_uses.specs.Gathered.{names_meaning}
 use Rattle.cu_forms.specs.Inside.Blocks.{with_free_names}
 use Rattle.cu_forms.proofs.blocks.with_free.Given as goal
 

@@ -1,5 +1,5 @@
 use Rattle.std.proofs.Common.{◌≡◌, ◌++◌, ℕ, List, drop}
-use Rattle.cu_uses.specs.Inside.Gathered.{names_meaning}
+use Rattle.cu_uses.specs.Gathered.{names_meaning}
 use Rattle.cu_forms.specs.Forms.{free_form}
 use Rattle.cu_forms.proofs.BlockLemmas.{frees_of}
 use Rattle.cu_forms.proofs.entries.free_names.Given as goal

@@ -6,7 +6,7 @@ use Rattle.cu_locals.specs.Entries.{AreEntries}
 use Rattle.cu_syntax.specs.Owners.{NameIsOf}
 use Rattle.cu_syntax.specs.Syntax.{Name}
 use Rattle.cu_translation.specs.LocalNames.{variable_entries}
-use Rattle.cu_uses.specs.Inside.Gathered.{names_meaning}
+use Rattle.cu_uses.specs.Gathered.{names_meaning}
 use Rattle.cu_forms.proofs.entries.pattern_entries.Goals as goal
 
 pub returns : goal.returns

@@ -29,7 +29,7 @@ use Rattle.cu_translation.specs.Blocks.{bound}
 use Rattle.cu_translation.specs.Meaning.{entries_meaning, referent_meaning}
 use Rattle.cu_translation.specs.Table as table
 use Rattle.cu_translation.specs.Terms.{applied, no_term, referred}
-use Rattle.cu_uses.specs.Inside.Gathered.{pattern_binds}
+use Rattle.cu_uses.specs.Gathered.{pattern_binds}
 use Rattle.cu_forms.specs.Forms.{alternative_form, application_form, scope_after, block_form, block_term, body_form, free_form, comprehension_form, expression_form, guard_form, inside, let_form, operand_form, operators_term, right_form}
 use Rattle.cu_forms.specs.Inside.Blocks.{guard_meaning, guards_term, row_meaning}
 use Rattle.cu_forms.specs.Inside.Calls.{built_in_term, referred_on}

@@ -1,6 +1,6 @@
 use Rattle.std.proofs.Common.{◌∙◌, ap}
 use Rattle.cu_kernel.specs.LocalTermsOf.{local_term_of}
-use Rattle.cu_uses.specs.Inside.Gathered.{names_meaning}
+use Rattle.cu_uses.specs.Gathered.{names_meaning}
 use Rattle.cu_forms.specs.Forms.{block_term}
 use Rattle.cu_forms.specs.Inside.Blocks.{bounds_meaning}
 use Rattle.cu_forms.proofs.CallLemmas.{if_ok}

@@ -1,7 +1,7 @@
 use Rattle.std.proofs.Common.{◌∙◌, List, ap, map, sym}
 use Rattle.cu_kernel.specs.LocalTermsOf.{local_term_of}
 use Rattle.cu_syntax.specs.declared.name.Name.{Name}
-use Rattle.cu_uses.specs.Inside.Gathered.{names_meaning}
+use Rattle.cu_uses.specs.Gathered.{names_meaning}
 use Rattle.cu_forms.specs.Forms.{block_term}
 use Rattle.cu_forms.specs.Inside.Blocks.{bounds_meaning, layer_around}
 use Rattle.cu_forms.specs.Inside.Lists.{distinction, list_term}

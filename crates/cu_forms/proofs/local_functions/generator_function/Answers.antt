@@ -2,7 +2,7 @@ use Rattle.std.proofs.Common.{◌∙◌, ap}
 use Rattle.cu_lex.specs.Reading.{position_of}
 use Rattle.cu_locals.specs.Text.{text}
 use Rattle.cu_translation.specs.LocalNames.{variable_entries}
-use Rattle.cu_uses.specs.Inside.Gathered.{pattern_binds}
+use Rattle.cu_uses.specs.Gathered.{pattern_binds}
 use Rattle.cu_forms.specs.Forms.{scope_after}
 use Rattle.cu_forms.specs.Inside.Functions.{generator_of}
 use Rattle.cu_forms.proofs.CallLemmas.{if_ok}

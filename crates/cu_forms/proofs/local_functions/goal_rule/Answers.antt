@@ -1,6 +1,6 @@
 use Rattle.cu_locals.specs.Text.{text}
 use Rattle.cu_translation.specs.LocalNames.{variable_entries}
-use Rattle.cu_uses.specs.Inside.Gathered.{names_meaning}
+use Rattle.cu_uses.specs.Gathered.{names_meaning}
 use Rattle.cu_forms.proofs.FunctionLemmas.{goal_is}
 use Rattle.cu_forms.proofs.QualifierLemmas.{sees_outermost}
 use Rattle.cu_forms.proofs.local_functions.goal_rule.Goals as goal

@@ -4,7 +4,7 @@ use Rattle.cu_kernel.specs.TermsOf.{pattern_of}
 use Rattle.cu_lex.specs.Reading.{position_of}
 use Rattle.cu_locals.specs.Text.{text}
 use Rattle.cu_translation.specs.LocalNames.{variable_entries}
-use Rattle.cu_uses.specs.Inside.Gathered.{patterns_bind}
+use Rattle.cu_uses.specs.Gathered.{patterns_bind}
 use Rattle.cu_forms.proofs.CallLemmas.{if_ok}
 use Rattle.cu_forms.proofs.FunctionLemmas.{lambda_is}
 use Rattle.cu_forms.proofs.QualifierLemmas.{sees_more}

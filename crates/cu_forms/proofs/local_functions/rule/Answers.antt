@@ -1,7 +1,7 @@
 use Rattle.std.proofs.Common.{◌++◌}
 use Rattle.cu_locals.specs.Text.{text}
 use Rattle.cu_translation.specs.LocalNames.{variable_entries}
-use Rattle.cu_uses.specs.Inside.Gathered.{patterns_bind}
+use Rattle.cu_uses.specs.Gathered.{patterns_bind}
 use Rattle.cu_forms.proofs.FunctionLemmas.{rule_is}
 use Rattle.cu_forms.proofs.QualifierLemmas.{sees_more}
 use Rattle.cu_forms.proofs.local_functions.rule.Goals as goal

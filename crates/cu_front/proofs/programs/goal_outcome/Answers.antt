@@ -6,10 +6,11 @@ use Rattle.cu_names.proofs.Growth.{known_at, text_of-at}
 use Rattle.cu_names.specs.Texts.{text_of}
 use Rattle.cu_syntax.specs.Answer.{goal_meaning}
 use Rattle.cu_translation.specs.ModuleNames.{id_of}
+use Rattle.cu_translation.specs.Functions.{goal_name}
 use Rattle.cu_front.specs.declared.fault.StageFault.{StageFault}
 use Rattle.cu_front.specs.declared.outcome.Outcome.{Outcome}
 use Rattle.cu_front.specs.Inside.Stages.{IsWhole}
-use Rattle.cu_front.specs.Refusal.{Refusal, goal_name}
+use Rattle.cu_front.specs.Refusal.{Refusal}
 use Rattle.cu_front.specs.StageFaults.{Tells}
 use Rattle.cu_front.specs.Translated.{translation_refusal}
 use Rattle.cu_front.proofs.ModuleLemmas.{kept_tells}

@@ -3,12 +3,12 @@ use Rattle.cu_names.proofs.Growth.{text_of-at}
 use Rattle.cu_names.specs.Texts.{text_of}
 use Rattle.cu_syntax.specs.Answer.{goal_meaning}
 use Rattle.cu_desugar.specs.Modules.{named}
+use Rattle.cu_translation.specs.Functions.{goal_name}
 use Rattle.cu_front.specs.declared.fault.StageFault.{StageFault}
 use Rattle.cu_front.specs.declared.fault.StageFault.TheVariants.{NoMemory}
 use Rattle.cu_front.specs.declared.outcome.Outcome.{Outcome}
 use Rattle.cu_front.specs.Inside.Outcomes.{IsOutcome, is_clash}
 use Rattle.cu_front.specs.Inside.Stages.{goal_told, part_of_goal}
-use Rattle.cu_front.specs.Refusal.{goal_name}
 use Rattle.cu_front.proofs.FunctionLemmas as functions
 use Rattle.cu_front.proofs.StageLemmas.{goal_part_is, goal_refused, kept_memory}
 use Rattle.cu_front.proofs.programs.goal_part.Goals as goal

@@ -4,8 +4,8 @@ use Rattle.cu_names.specs.Texts.{Extends}
 use Rattle.cu_modules.proofs.InternLemmas.{built_in_kept}
 use Rattle.cu_modules.proofs.MeaningLemmas.{all_have}
 use Rattle.cu_modules.specs.Ordering.{modules_of}
+use Rattle.cu_translation.specs.Functions.{goal_name}
 use Rattle.cu_front.specs.Inside.Stages.{RefusesBoth}
-use Rattle.cu_front.specs.Refusal.{goal_name}
 use Rattle.cu_front.specs.StageFaults.{Tells}
 use Rattle.cu_front.proofs.ReadLemmas.{both_refused, goal_is_read, goal_owned, grows, programs_at, same_compiled, same_refused, stays_at, still_ordered}
 use Rattle.cu_front.proofs.RunLemmas.{err_same}

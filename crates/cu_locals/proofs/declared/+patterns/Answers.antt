@@ -7,7 +7,7 @@ use Rattle.cu_syntax.specs.declared.patterns.Pattern.{Pattern}
 use Rattle.cu_syntax.specs.Owners.{ConstructorItemIsOf, PatternIsOf, PatternNodeIsOf}
 use Rattle.cu_syntax.specs.Smaller.{constructor_item_size, pattern_size}
 use Rattle.std.specs.Prelude.{OnOk}
-use Rattle.cu_uses.specs.Inside.Gathered.{operands_bind, patterns_bind}
+use Rattle.cu_uses.specs.Gathered.{operands_bind, patterns_bind}
 use Rattle.cu_uses.proofs.FoundLemmas.{on_ok}
 use Rattle.cu_locals.specs.Places.{Finds, operands_place, patterns_place}
 use Rattle.cu_locals.proofs.PatternLemmas.{finds_both, finds_none, operands_end, operands_prefix, pattern_found, patterns_end, patterns_prefix}

@@ -3,7 +3,7 @@ use denote.Param.Weighed.{most}
 use Rattle.std.specs.List.{All}
 use Rattle.cu_syntax.specs.Owners.{ConstructorItemIsOf, PatternIsOf}
 use Rattle.cu_syntax.specs.Smaller.{constructor_item_size, pattern_size}
-use Rattle.cu_uses.specs.Inside.Gathered.{operands_bind, patterns_bind}
+use Rattle.cu_uses.specs.Gathered.{operands_bind, patterns_bind}
 use Rattle.cu_locals.specs.declared.declared.Declared.{Declared}
 use Rattle.cu_locals.specs.Text.{Text}
 use Rattle.cu_locals.specs.Places.{Finds, operands_place, patterns_place}

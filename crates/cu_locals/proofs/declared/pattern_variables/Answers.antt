@@ -1,4 +1,4 @@
-use Rattle.cu_uses.specs.Inside.Gathered.{pattern_binds}
+use Rattle.cu_uses.specs.Gathered.{pattern_binds}
 use Rattle.cu_locals.specs.Places.{pattern_places}
 use Rattle.cu_locals.proofs.PatternLemmas.{names_found}
 use Rattle.cu_locals.proofs.declared.pattern_variables.Goals as goal

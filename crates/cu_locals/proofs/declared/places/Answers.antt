@@ -1,4 +1,4 @@
-use Rattle.cu_uses.specs.Inside.Gathered.{patterns_bind}
+use Rattle.cu_uses.specs.Gathered.{patterns_bind}
 use Rattle.cu_locals.specs.Places.{patterns_place}
 use Rattle.cu_locals.proofs.PatternLemmas.{places_found}
 use Rattle.cu_locals.proofs.declared.places.Goals as goal

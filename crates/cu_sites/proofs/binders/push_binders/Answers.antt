@@ -8,7 +8,7 @@ use Rattle.cu_syntax.specs.declared.name.Name.{Name}
 use Rattle.cu_translation.specs.LocalNames.{At}
 use Rattle.cu_translation.specs.Numbering.{at_name}
 use Rattle.cu_uses.proofs.FoundLemmas.{on_ok}
-use Rattle.cu_uses.specs.Inside.Gathered.{names_meaning}
+use Rattle.cu_uses.specs.Gathered.{names_meaning}
 use Rattle.cu_sites.specs.Inside.Counting.{Counts}
 use Rattle.cu_sites.specs.Meaning.{IsSite}
 use Rattle.cu_sites.proofs.CountLemmas.{counts_as, counts_none, counts_one, matched_counted}

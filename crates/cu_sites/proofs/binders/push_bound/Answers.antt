@@ -7,7 +7,7 @@ use Rattle.cu_translation.specs.LocalNames.{Selected}
 use Rattle.cu_translation.specs.Meaning.{position_meaning}
 use Rattle.cu_translation.specs.Numbering.{at_name, selected}
 use Rattle.cu_uses.proofs.ListLemmas.{name_at, no_name}
-use Rattle.cu_uses.specs.Inside.Gathered.{Adds, names_meaning, pattern_binds}
+use Rattle.cu_uses.specs.Gathered.{Adds, names_meaning, pattern_binds}
 use Rattle.cu_locals.specs.Places.{positions_meaning}
 use Rattle.cu_sites.specs.Inside.Counting.{Counts}
 use Rattle.cu_sites.proofs.CountLemmas.{bound_counted, counts_end, counts_next, selected_all, selected_counted}

@@ -3,7 +3,7 @@ use Rattle.cu_syntax.specs.Owners.{PatternIsOf}
 use Rattle.cu_syntax.specs.Patterns.{pattern_meaning}
 use Rattle.cu_translation.specs.Numbering.{selected}
 use Rattle.cu_translation.specs.declared.local_names.Binder as code
-use Rattle.cu_uses.specs.Inside.Gathered.{names_meaning}
+use Rattle.cu_uses.specs.Gathered.{names_meaning}
 use Rattle.cu_locals.specs.Text.{Text}
 use Rattle.cu_sites.specs.Inside.Counting.{Counts, bound_binders}
 use Rattle.cu_sites.proofs.binders.push_bound.Given as goal

@@ -2,7 +2,7 @@ use Rattle.std.proofs.Common.{List, [], subst, sym}
 use Rattle.cu_lex.specs.Reading.{position_of}
 use Rattle.cu_syntax.specs.declared.name.Name.{Name}
 use Rattle.cu_uses.proofs.FoundLemmas.{on_ok}
-use Rattle.cu_uses.specs.Inside.Gathered.{Adds, pattern_binds}
+use Rattle.cu_uses.specs.Gathered.{Adds, pattern_binds}
 use Rattle.cu_sites.specs.Meaning.{IsSite}
 use Rattle.cu_sites.proofs.CountLemmas.{bound_functions, lists_as, lists_none, lists_one}
 use Rattle.cu_sites.proofs.binders.push_functions.Goals as goal

@@ -1,7 +1,7 @@
 use Rattle.std.proofs.Common.{refl}
 use Rattle.cu_syntax.specs.Names.{name_meaning}
 use Rattle.cu_uses.proofs.ListLemmas.{no_name}
-use Rattle.cu_uses.specs.Inside.Gathered.{names_meaning}
+use Rattle.cu_uses.specs.Gathered.{names_meaning}
 use Rattle.cu_sites.specs.Inside.Counting.{name_places}
 use Rattle.cu_sites.proofs.CountLemmas.{lists_end, lists_pushed}
 use Rattle.cu_sites.proofs.binders.push_name_places.Goals as goal

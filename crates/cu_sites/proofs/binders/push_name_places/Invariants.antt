@@ -1,6 +1,6 @@
 use Rattle.std.proofs.Common.{List, drop}
 use Rattle.cu_translation.specs.declared.position.Position.{Position}
-use Rattle.cu_uses.specs.Inside.Gathered.{names_meaning}
+use Rattle.cu_uses.specs.Gathered.{names_meaning}
 use Rattle.cu_locals.specs.Text.{Text}
 use Rattle.cu_sites.specs.Inside.Counting.{Lists, name_places}
 use Rattle.cu_sites.proofs.binders.push_name_places.Given as goal

@@ -4,7 +4,7 @@ use Rattle.cu_translation.specs.declared.local_names.Binder.TheVariants as binde
 use Rattle.cu_translation.specs.LocalNames.{At}
 use Rattle.cu_translation.specs.Numbering.{at_name}
 use Rattle.cu_uses.proofs.ListLemmas.{no_name}
-use Rattle.cu_uses.specs.Inside.Gathered.{names_meaning}
+use Rattle.cu_uses.specs.Gathered.{names_meaning}
 use Rattle.cu_sites.proofs.CountLemmas.{counts_end, counts_pushed}
 use Rattle.cu_sites.proofs.binders.push_names.Goals as goal
 

@@ -1,7 +1,7 @@
 use Rattle.std.proofs.Common.{List, drop, map}
 use Rattle.cu_translation.specs.Numbering.{at_name}
 use Rattle.cu_translation.specs.declared.local_names.Binder as code
-use Rattle.cu_uses.specs.Inside.Gathered.{names_meaning}
+use Rattle.cu_uses.specs.Gathered.{names_meaning}
 use Rattle.cu_locals.specs.Text.{Text}
 use Rattle.cu_sites.specs.Inside.Counting.{Counts}
 use Rattle.cu_sites.proofs.binders.push_names.Given as goal

@@ -19,7 +19,7 @@ use Rattle.cu_uses.specs.Binders.{declared_names}
 use Rattle.cu_uses.specs.Demands.{with}
 use Rattle.cu_uses.specs.Inside.Asked.{alternatives_ask, body_asks, declarations_ask, expressions_ask, guards_ask, in_block, lambda_asks, let_asks, operands_ask, qualifier_asks, qualifier_binds, qualifiers_ask, rule_asks}
 use Rattle.cu_uses.specs.Inside.Blocks.{IsBlockOf, block_declares, block_signs}
-use Rattle.cu_uses.specs.Inside.Gathered.{Adds, pattern_binds, pattern_builds, patterns_bind}
+use Rattle.cu_uses.specs.Gathered.{Adds, pattern_binds, pattern_builds, patterns_bind}
 use Rattle.cu_uses.specs.Inside.Scopes.{Brings, Opens, is_local, or_among}
 use Rattle.cu_uses.specs.Inside.Worlds.{Told}
 use Rattle.cu_uses.proofs.FoundLemmas.{adds_none, on_ok}

@@ -7,7 +7,7 @@ use Rattle.cu_syntax.specs.declared.patterns.Pattern.{Pattern}
 use Rattle.cu_syntax.specs.Owners.{ConstructorItemIsOf, PatternIsOf, PatternNodeIsOf}
 use Rattle.cu_syntax.specs.Smaller.{constructor_item_size, pattern_size}
 use Rattle.std.specs.Prelude.{OnOk}
-use Rattle.cu_uses.specs.Inside.Gathered.{Finds, operands_bind, operands_build, patterns_bind, patterns_build}
+use Rattle.cu_uses.specs.Gathered.{Finds, operands_bind, operands_build, patterns_bind, patterns_build}
 use Rattle.cu_uses.proofs.FoundLemmas.{finds_both, on_ok, operands_end, operands_prefix, pattern_bare, pattern_found, patterns_end, patterns_prefix}
 use Rattle.cu_uses.proofs.found.+patterns.Goals as goal
 

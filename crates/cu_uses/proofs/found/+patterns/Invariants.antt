@@ -5,7 +5,7 @@ use Rattle.cu_names.specs.declared.names.NameId.{NameId}
 use Rattle.cu_syntax.specs.Owners.{ConstructorItemIsOf, PatternIsOf}
 use Rattle.cu_syntax.specs.Smaller.{constructor_item_size, pattern_size}
 use Rattle.cu_uses.specs.declared.found.Found.{Found}
-use Rattle.cu_uses.specs.Inside.Gathered.{Finds, operands_bind, operands_build, patterns_bind, patterns_build}
+use Rattle.cu_uses.specs.Gathered.{Finds, operands_bind, operands_build, patterns_bind, patterns_build}
 use Rattle.cu_uses.proofs.found.+patterns.Given as goal
 
 abbrev pub decreases-pattern : goal.decreases-pattern

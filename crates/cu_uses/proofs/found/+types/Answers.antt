@@ -6,7 +6,7 @@ use Rattle.cu_syntax.specs.declared.types.TypeNode.TheVariants as type_term
 use Rattle.cu_syntax.specs.declared.types.TypeTerm.{TypeTerm}
 use Rattle.cu_syntax.specs.Owners.{TypeIsOf, TypeNodeIsOf}
 use Rattle.cu_syntax.specs.Smaller.{type_size}
-use Rattle.cu_uses.specs.Inside.Gathered.{Finds, types_bind, types_build}
+use Rattle.cu_uses.specs.Gathered.{Finds, types_bind, types_build}
 use Rattle.cu_uses.proofs.FoundLemmas.{finds_both, on_ok, type_found, types_end, types_prefix}
 use Rattle.cu_uses.proofs.found.+types.Goals as goal
 

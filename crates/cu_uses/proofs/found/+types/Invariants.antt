@@ -5,7 +5,7 @@ use Rattle.cu_names.specs.declared.names.NameId.{NameId}
 use Rattle.cu_syntax.specs.Owners.{TypeIsOf}
 use Rattle.cu_syntax.specs.Smaller.{type_size}
 use Rattle.cu_uses.specs.declared.found.Found.{Found}
-use Rattle.cu_uses.specs.Inside.Gathered.{Finds, types_bind, types_build}
+use Rattle.cu_uses.specs.Gathered.{Finds, types_bind, types_build}
 use Rattle.cu_uses.proofs.found.+types.Given as goal
 
 abbrev pub decreases-type_term : goal.decreases-type_term

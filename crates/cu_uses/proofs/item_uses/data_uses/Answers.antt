@@ -1,4 +1,4 @@
-use Rattle.cu_uses.specs.Inside.Gathered.{names_meaning}
+use Rattle.cu_uses.specs.Gathered.{names_meaning}
 use Rattle.cu_uses.proofs.FoundLemmas.{on_ok}
 use Rattle.cu_uses.proofs.ToldLemmas.{told_both}
 use Rattle.cu_uses.proofs.item_uses.data_uses.Goals as goal

@@ -4,7 +4,7 @@ use Rattle.cu_syntax.specs.declared.items.ConstructorDeclaration.{ConstructorDec
 use Rattle.cu_syntax.specs.declared.items.ItemNode.TheVariants as item
 use Rattle.cu_syntax.specs.declared.name.Name.{Name}
 use Rattle.cu_syntax.specs.Owners.{ConstructorDeclarationIsOf, ItemNodeIsOf, NameIsOf}
-use Rattle.cu_uses.specs.Inside.Gathered.{names_meaning}
+use Rattle.cu_uses.specs.Gathered.{names_meaning}
 use Rattle.cu_uses.specs.Inside.Tops.{fields_ask, types_ask}
 use Rattle.cu_uses.specs.Inside.Worlds.{Told}
 use Rattle.cu_uses.proofs.FoundLemmas.{on_ok}

@@ -1,7 +1,7 @@
 use Rattle.std.proofs.Common.{[], ◌∷◌}
 use Rattle.std.proofs.lemmas.List.Elements.{All-cons, All-nil}
 use Rattle.cu_syntax.specs.Owners.{TypeIsOf}
-use Rattle.cu_uses.specs.Inside.Gathered.{names_meaning}
+use Rattle.cu_uses.specs.Gathered.{names_meaning}
 use Rattle.cu_uses.proofs.FoundLemmas.{on_ok}
 use Rattle.cu_uses.proofs.ToldLemmas.{told_both}
 use Rattle.cu_uses.proofs.item_uses.synonym_uses.Goals as goal

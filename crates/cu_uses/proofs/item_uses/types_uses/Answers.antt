@@ -1,7 +1,7 @@
 use Rattle.cu_entities.specs.Entities.{Types}
 use Rattle.cu_uses.specs.Binders.{texts}
 use Rattle.cu_uses.specs.Demands.{used}
-use Rattle.cu_uses.specs.Inside.Gathered.{types_bind, types_build}
+use Rattle.cu_uses.specs.Gathered.{types_bind, types_build}
 use Rattle.cu_uses.proofs.TopLemmas.{from_empty, lacks, told_added, types_told}
 use Rattle.cu_uses.proofs.item_uses.types_uses.Goals as goal
 

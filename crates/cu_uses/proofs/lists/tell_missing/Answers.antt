@@ -2,7 +2,7 @@ use Rattle.std.proofs.Common.{map, refl, subst, sym, ◌∙◌, drop, ◌+◌}
 use Rattle.cu_syntax.specs.Names.{name_meaning}
 use Rattle.cu_uses.specs.Binders.{missing}
 use Rattle.cu_uses.specs.Demands.{Lacks}
-use Rattle.cu_uses.specs.Inside.Gathered.{names_meaning}
+use Rattle.cu_uses.specs.Gathered.{names_meaning}
 use Rattle.cu_uses.specs.Inside.Worlds.{Told}
 use Rattle.cu_uses.proofs.ListLemmas.{missing_prefix_has, missing_prefix_lacks, name_at, no_name}
 use Rattle.cu_uses.proofs.lists.tell_missing.Goals.{then-not-has, else-not-has}

@@ -4,7 +4,7 @@ use Rattle.cu_syntax.specs.Owners.{NameIsOf}
 use Rattle.cu_uses.specs.declared.first_fault.FirstFault.{FirstFault}
 use Rattle.cu_uses.specs.Binders.{missing}
 use Rattle.cu_uses.specs.Demands.{Lacks}
-use Rattle.cu_uses.specs.Inside.Gathered.{names_meaning}
+use Rattle.cu_uses.specs.Gathered.{names_meaning}
 use Rattle.cu_uses.specs.Inside.Worlds.{Told, World}
 use Rattle.cu_uses.specs.Telling.{HasTexts}
 use Rattle.cu_uses.proofs.lists.tell_missing.Given as goal

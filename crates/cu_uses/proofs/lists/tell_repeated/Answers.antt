@@ -3,7 +3,7 @@ use Rattle.cu_names.specs.Texts.{text_of}
 use Rattle.cu_syntax.specs.Names.{name_meaning}
 use Rattle.cu_uses.specs.Binders.{repeated}
 use Rattle.cu_uses.specs.Demands.{Repeats}
-use Rattle.cu_uses.specs.Inside.Gathered.{names_meaning}
+use Rattle.cu_uses.specs.Gathered.{names_meaning}
 use Rattle.cu_uses.specs.Inside.Worlds.{Told}
 use Rattle.cu_uses.specs.Telling.{HasTexts}
 use Rattle.cu_uses.proofs.ListLemmas.{more_first, name_at, no_name, repeated_end, repeated_prefix_again, repeated_prefix_new}

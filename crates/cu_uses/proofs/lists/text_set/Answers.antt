@@ -1,7 +1,7 @@
 use Rattle.std.proofs.Common.{ap, subst}
 use Rattle.std.proofs.lemmas.List.{take_all}
 use Rattle.cu_uses.specs.Binders.{texts}
-use Rattle.cu_uses.specs.Inside.Gathered.{names_meaning}
+use Rattle.cu_uses.specs.Gathered.{names_meaning}
 use Rattle.cu_uses.specs.Telling.{HasTexts}
 use Rattle.std.proofs.Common.{take}
 use Rattle.cu_uses.proofs.ListLemmas.{no_name, texts_more}

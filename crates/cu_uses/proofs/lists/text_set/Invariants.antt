@@ -4,7 +4,7 @@ use Rattle.cu_names.specs.Texts.{AllDiffer}
 use Rattle.cu_names.specs.declared.names.NameId.{NameId}
 use Rattle.cu_syntax.specs.Owners.{NameIsOf}
 use Rattle.cu_uses.specs.Binders.{texts}
-use Rattle.cu_uses.specs.Inside.Gathered.{names_meaning}
+use Rattle.cu_uses.specs.Gathered.{names_meaning}
 use Rattle.cu_uses.specs.Telling.{HasTexts}
 use Rattle.cu_uses.proofs.lists.text_set.Given as goal
 

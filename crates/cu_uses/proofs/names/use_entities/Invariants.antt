@@ -4,7 +4,7 @@ use Rattle.cu_entities.specs.EntityMeaning.{space_meaning}
 use Rattle.cu_syntax.specs.Owners.{NameIsOf}
 use Rattle.cu_uses.specs.declared.first_fault.FirstFault.{FirstFault}
 use Rattle.cu_uses.specs.Demands.{used}
-use Rattle.cu_uses.specs.Inside.Gathered.{names_meaning}
+use Rattle.cu_uses.specs.Gathered.{names_meaning}
 use Rattle.cu_uses.specs.Inside.Scopes.{Sees}
 use Rattle.cu_uses.specs.Inside.Worlds.{Told, World}
 use Rattle.cu_uses.proofs.names.use_entities.Given as goal

@@ -1,7 +1,7 @@
 use Rattle.std.proofs.Common.{[], List, subst}
 use Rattle.cu_entities.specs.Entities.{Values}
 use Rattle.cu_syntax.specs.declared.name.Name.{Name}
-use Rattle.cu_uses.specs.Inside.Gathered.{Adds, patterns_bind, patterns_build}
+use Rattle.cu_uses.specs.Gathered.{Adds, patterns_bind, patterns_build}
 use Rattle.cu_uses.proofs.BlockLemmas.{found_owned}
 use Rattle.cu_uses.proofs.ListLemmas.{used_found}
 use Rattle.cu_uses.proofs.opening.open_patterns.Goals as goal

@@ -1,5 +1,5 @@
 use Rattle.cu_entities.specs.Entities.{Types}
-use Rattle.cu_uses.specs.Inside.Gathered.{type_builds}
+use Rattle.cu_uses.specs.Gathered.{type_builds}
 use Rattle.cu_uses.proofs.BlockLemmas.{found_owned}
 use Rattle.cu_uses.proofs.ListLemmas.{used_found}
 use Rattle.cu_uses.proofs.opening.use_type.Goals as goal

@@ -8,7 +8,7 @@ use Rattle.cu_syntax.specs.Answer.{goal_meaning}
 use Rattle.cu_syntax.specs.Names.{name_meaning}
 use Rattle.cu_syntax.specs.Owners.{NameIsOf}
 use Rattle.cu_translation.specs.Functions.{around_goal, goal_nodes}
-use Rattle.cu_uses.specs.Inside.Gathered.{names_meaning}
+use Rattle.cu_uses.specs.Gathered.{names_meaning}
 use Rattle.cu_desugar.proofs.FunctionLemmas.{goal_rule_is}
 use Rattle.cu_desugar.proofs.goals.GoalParts.function.Goals as goal
 

@@ -5,7 +5,7 @@ use Rattle.cu_translation.specs.Functions.{goal_nodes}
 use Rattle.cu_translation.specs.LocalNames.{Binder}
 use Rattle.cu_translation.specs.Meaning.{binder_meaning}
 use Rattle.cu_translation.specs.Numbering.{all_binders, all_functions, at_name}
-use Rattle.cu_uses.specs.Inside.Gathered.{names_meaning}
+use Rattle.cu_uses.specs.Gathered.{names_meaning}
 use Rattle.cu_desugar.proofs.goals.GoalParts.of.Goals as goal
 
 pub returns : goal.returns

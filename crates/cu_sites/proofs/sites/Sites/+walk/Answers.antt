@@ -20,7 +20,7 @@ use Rattle.cu_syntax.specs.Owners.{AlternativeIsOf, BodyIsOf, DeclarationIsOf, D
 use Rattle.cu_syntax.specs.Patterns.{pattern_meaning}
 use Rattle.cu_syntax.specs.Smaller.{alternative_size, declaration_size, expression_size, guard_size, operator_item_size, qualifier_size}
 use Rattle.cu_translation.specs.Sites.{Bound, Defined, in_block, in_function, past_all, with}
-use Rattle.cu_uses.specs.Inside.Gathered.{pattern_binds, patterns_bind}
+use Rattle.cu_uses.specs.Gathered.{pattern_binds, patterns_bind}
 use Rattle.cu_uses.proofs.FoundLemmas.{on_ok}
 use Rattle.cu_locals.specs.BegunFound.{begun_meaning}
 use Rattle.cu_sites.specs.Inside.Entering.{Enters, Notes, Writes}

@@ -1,7 +1,7 @@
 use Rattle.std.proofs.Common.{◌≡◌, ◌+◌, Some, refl, rules}
 use Rattle.cu_lex.specs.Reading.{position_of}
 use Rattle.cu_translation.specs.LocalNames.{variable_entries}
-use Rattle.cu_uses.specs.Inside.Gathered.{names_meaning}
+use Rattle.cu_uses.specs.Gathered.{names_meaning}
 use Rattle.cu_sites.proofs.SpotLemmas.{enters_function}
 use Rattle.cu_sites.proofs.sites.Sites.in_function.Goals as goal
 

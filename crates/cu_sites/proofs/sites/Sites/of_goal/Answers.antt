@@ -2,7 +2,7 @@ use Rattle.std.proofs.Common.{None, refl, subst, sym}
 use Rattle.std.specs.List.{All}
 use Rattle.cu_syntax.specs.Owners.{NameIsOf}
 use Rattle.cu_translation.specs.Sites.{with}
-use Rattle.cu_uses.specs.Inside.Gathered.{names_meaning}
+use Rattle.cu_uses.specs.Gathered.{names_meaning}
 use Rattle.cu_locals.specs.Text.{text}
 use Rattle.cu_sites.proofs.TopLemmas.{at_top, goal_stands, top}
 use Rattle.cu_sites.proofs.sites.Sites.of_goal.Goals as goal

@@ -7,7 +7,7 @@ use Rattle.cu_syntax.specs.declared.declarations.Declaration.{Declaration}
 use Rattle.cu_syntax.specs.declared.name.Name.{Name}
 use Rattle.cu_syntax.specs.Owners.{DeclarationIsOf, NameIsOf, QualifierIsOf}
 use Rattle.cu_translation.specs.Sites.{in_block, in_function, past}
-use Rattle.cu_uses.specs.Inside.Gathered.{Adds, names_meaning, pattern_binds}
+use Rattle.cu_uses.specs.Gathered.{Adds, names_meaning, pattern_binds}
 use Rattle.cu_sites.specs.Inside.Entering.{Enters}
 use Rattle.cu_sites.specs.Inside.Walked.{block_of, qualifier_of}
 use Rattle.cu_sites.proofs.PastLemmas.{past_block, past_condition, past_generator}

@@ -1,6 +1,6 @@
 use Rattle.std.proofs.Common.{◌∙◌, None, refl}
 use Rattle.cu_translation.specs.Sites.{with}
-use Rattle.cu_uses.specs.Inside.Gathered.{patterns_bind}
+use Rattle.cu_uses.specs.Gathered.{patterns_bind}
 use Rattle.cu_sites.proofs.PartLemmas.{enters_patterns}
 use Rattle.cu_sites.proofs.TopLemmas.{at_top, top, top_written}
 use Rattle.cu_sites.proofs.sites.Sites.top_rule.Goals as goal

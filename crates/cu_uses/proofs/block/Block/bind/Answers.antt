@@ -3,7 +3,7 @@ use Rattle.std.specs.List.{All}
 use Rattle.cu_syntax.specs.Owners.{NameIsOf}
 use Rattle.cu_uses.specs.Binders.{Names}
 use Rattle.cu_uses.specs.Inside.Blocks.{Gathers}
-use Rattle.cu_uses.specs.Inside.Gathered.{names_meaning, pattern_binds}
+use Rattle.cu_uses.specs.Gathered.{names_meaning, pattern_binds}
 use Rattle.cu_uses.proofs.BlockLemmas.{bound_once, found_owned}
 use Rattle.cu_uses.proofs.FoundLemmas.{on_ok}
 use Rattle.cu_uses.proofs.block.Block.bind.Goals as goal

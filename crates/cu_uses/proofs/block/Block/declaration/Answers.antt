@@ -6,7 +6,7 @@ use Rattle.cu_syntax.specs.Names.{name_meaning}
 use Rattle.cu_syntax.specs.Owners.{DeclarationNodeIsOf, NameIsOf}
 use Rattle.cu_uses.specs.Binders.{Names, Rule}
 use Rattle.cu_uses.specs.Inside.Blocks.{Gathers}
-use Rattle.cu_uses.specs.Inside.Gathered.{names_meaning}
+use Rattle.cu_uses.specs.Gathered.{names_meaning}
 use Rattle.cu_uses.proofs.BlockLemmas.{declaration_gathered, gathers_both, with_parameters}
 use Rattle.cu_uses.proofs.FoundLemmas.{on_ok}
 use Rattle.cu_uses.proofs.block.Block.declaration.Goals as goal

@@ -4,7 +4,7 @@ use Rattle.cu_syntax.specs.declared.name.Name.{Name}
 use Rattle.cu_syntax.specs.Owners.{NameIsOf}
 use Rattle.cu_uses.specs.Binders.{missing, repeated, texts}
 use Rattle.cu_uses.specs.Demands.{Lacks, Repeats}
-use Rattle.cu_uses.specs.Inside.Gathered.{names_meaning}
+use Rattle.cu_uses.specs.Gathered.{names_meaning}
 use Rattle.cu_uses.specs.Inside.Worlds.{Told}
 use Rattle.cu_uses.specs.Telling.{HasTexts}
 use Rattle.cu_uses.proofs.BlockLemmas.{block_told}

@@ -4,7 +4,7 @@ use Rattle.cu_syntax.specs.declared.declarations.DeclarationNode.TheVariants as 
 use Rattle.cu_syntax.specs.declared.name.Name.{Name}
 use Rattle.cu_syntax.specs.Owners.{DeclarationNodeIsOf, NameIsOf}
 use Rattle.cu_uses.specs.Inside.Blocks.{Gathers}
-use Rattle.cu_uses.specs.Inside.Gathered.{names_meaning}
+use Rattle.cu_uses.specs.Gathered.{names_meaning}
 use Rattle.cu_uses.proofs.BlockLemmas.{gathers_both}
 use Rattle.cu_uses.proofs.FoundLemmas.{on_ok}
 use Rattle.cu_uses.proofs.TopLemmas.{top_gathered}

@@ -4,7 +4,7 @@ use Rattle.cu_syntax.specs.declared.name.Name.{Name}
 use Rattle.cu_syntax.specs.Owners.{NameIsOf}
 use Rattle.cu_uses.specs.Binders.{Names}
 use Rattle.cu_uses.specs.Inside.Blocks.{Gathers}
-use Rattle.cu_uses.specs.Inside.Gathered.{names_meaning}
+use Rattle.cu_uses.specs.Gathered.{names_meaning}
 use Rattle.cu_uses.proofs.FoundLemmas.{adds_none, adds_one}
 use Rattle.cu_uses.proofs.TopLemmas.{constructors_owned}
 use Rattle.cu_uses.proofs.top_level.TopLevel.data.Goals as goal

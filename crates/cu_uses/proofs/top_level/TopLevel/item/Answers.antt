@@ -8,7 +8,7 @@ use Rattle.cu_syntax.specs.Owners.{ConstructorDeclarationIsOf, ItemNodeIsOf, Nam
 use Rattle.cu_uses.specs.declared.top_level.TopLevel.{TopLevel}
 use Rattle.cu_uses.specs.Binders.{Names}
 use Rattle.cu_uses.specs.Inside.Blocks.{signs}
-use Rattle.cu_uses.specs.Inside.Gathered.{names_meaning}
+use Rattle.cu_uses.specs.Gathered.{names_meaning}
 use Rattle.cu_uses.specs.Inside.Tops.{Reads, constructor_names, top, top_declares}
 use Rattle.cu_uses.proofs.FoundLemmas.{on_ok}
 use Rattle.cu_uses.proofs.TopLemmas.{item_read, reads_values}
