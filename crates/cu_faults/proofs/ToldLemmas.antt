@@ -1,5 +1,5 @@
 -- Faults that were told, one after another.
-use Rattle.std.proofs.Common.{◌≡◌, ◌∙◌, ◌<◌, ◌≤◌, ◌+◌, ℕ, List, [], ◌∷◌, ◌++◌, Some, length, drop, get_or, sym, ap, subst}
+use Rattle.std.proofs.Common.{◌≡◌, ◌∙◌, ◌<◌, ◌≤◌, ◌+◌, ℕ, IfSome, List, [], ◌∷◌, ◌++◌, Some, length, drop, get_or, sym, ap, subst}
 use Rattle.std.proofs.lemmas.List.{append-nil, append_assoc}
 use Rattle.std.proofs.lemmas.List.Elements.{All-get_or}
 use Rattle.std.specs.List.{All}
@@ -14,21 +14,15 @@ use Rattle.cu_faults.specs.declared.first.First.{First}
 use Rattle.cu_faults.specs.Telling.{AreTold, Told}
 use Rattle.cu_faults.proofs.OrderLemmas.{one_more}
 
--- a fault in this module
-abbrev placed : NameId → code.Fault → code.Fault
-placed owner f = record {
-  wrong = f.wrong;
-  place = record { «module» = owner; line = f.place.line; column = f.place.column };
-}
-
-pub told_more : (owner : NameId) (a : First) (f first : code.Fault) → PlaceIsOf owner f.place
+pub told_more : (owner : NameId) (a : First) (f first : code.Fault)
     → fault_meaning first ≡ earlier (fault_meaning f) (option_map fault_meaning a.fault)
-    → Told owner a (fault_meaning f ∷ []) (record { fault = Some (placed f.place.«module» first) })
-told_more owner a f first of is = record {
+    → (IfSome a.fault (λ g. PlaceIsOf owner g.place) → PlaceIsOf owner first.place)
+    → Told owner a (fault_meaning f ∷ []) (record { fault = Some first })
+told_more owner a f first is owned = record {
   told = λ others before. record {
     first = record {
       meaning = ap Some (is ∙ ap (earlier (fault_meaning f)) before.first.meaning) ∙ sym (one_more others (fault_meaning f));
-      owned = of;
+      owned = owned before.first.owned;
     };
   };
 }

@@ -6,7 +6,6 @@ ghost use Rattle.cu_translation.specs.Answer.{fault_meaning};
 ghost use Rattle.cu_translation.specs.FaultOrder as faults;
 ghost use Rattle.cu_faults.specs.Telling.{AreTold, IsFirst, Told};
 
-use cu_names::Place;
 use cu_translation::Fault;
 
 /// The first of the faults that were told, which are those of one text.
@@ -28,12 +27,7 @@ impl First {
         ensures { (owner : NameId) → PlaceIsOf owner fault.place
             → Told owner self.old (fault_meaning fault ∷ []) self.new }
     {
-        let first = fault.earlier(self.fault);
-        let place = Place {
-            module: fault.place.module,
-            ..first.place
-        };
-        self.fault = Some(Fault { place, ..first });
+        self.fault = Some(fault.earlier(self.fault));
     }
 
     /// The first fault, if one was told.

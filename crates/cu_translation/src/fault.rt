@@ -1,6 +1,8 @@
 //! Why a module or a goal isn't translated.
-ghost use Rattle.std.specs.Prelude.{◌≡◌};
+ghost use Rattle.std.specs.Prelude.{◌≡◌, IfSome};
 ghost use Rattle.std.specs.Option.{option_map};
+ghost use Rattle.cu_names.specs.declared.names.NameId.{NameId};
+ghost use Rattle.cu_syntax.specs.Owners.{PlaceIsOf};
 ghost use Rattle.cu_translation.specs.declared.fault.DesugarFault.TheVariants.{NoMemory};
 ghost use Rattle.cu_translation.specs.Answer.{Tells, fault_meaning, wrong_meaning};
 ghost use Rattle.cu_translation.specs.FaultOrder as faults;
@@ -98,8 +100,10 @@ impl Fault {
 
     /// The earlier of this fault and one that was told already, if one was.
     pub fn earlier(self, told: Option<Fault>) -> Fault
-        ensures { fault_meaning result
+        ensures first { fault_meaning result
             ≡ earlier (fault_meaning self) (option_map fault_meaning told) }
+        ensures owned { (owner : NameId) → PlaceIsOf owner self.place
+            → IfSome told (λ f. PlaceIsOf owner f.place) → PlaceIsOf owner result.place }
     {
         match told {
             Some(other) => { if other.is_before(&self) { other } else { self } }
