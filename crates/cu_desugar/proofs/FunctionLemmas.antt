@@ -87,7 +87,7 @@ unfolding lambda_form
 lambda_is t a local place slice ps body s same is =
     ap (λ qs. lambda_form (setting t a) local (position_of place) qs body ∷ []) same ∙ sym (ap (functions_at a local) is)
 
--- what a comprehension has behind so many qualifiers
+-- what a comprehension has after so many qualifiers
 
 same_qualifiers : (e : syntax.Expression) → form.qualifiers_in e ≡ site.qualifiers_in e
 same_qualifiers (syntax.Variable at name) = refl

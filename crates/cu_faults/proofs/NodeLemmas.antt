@@ -104,7 +104,7 @@ fault_in_function a n block g owner x y z is one two = fault_told a n (Function 
 
 -- ---- a walk over nodes
 
--- the node that the code has come to, and those behind it
+-- the node that the code has come to, and those after it
 pub record Opened (t : Text) (es : List ScopeEntry) (bs : List (Vec Declaration Global)) (found : nodes.Node) (others : List nodes.Node) (left : List Node) : Type 0 where
   pub node : Node
   pub after : List Node

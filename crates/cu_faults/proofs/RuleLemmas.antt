@@ -22,7 +22,7 @@ differs_by : (names : List (List ℕ)) (f r : rules.Rule)
     → differs_from (rule_meaning names f) (rule_meaning names r) ≡ not (nat_eq (length r.parameters.items) (length f.parameters.items))
 differs_by names f r = ap₂ (λ m n. not (nat_eq m n)) (counted names r.parameters.items) (counted names f.parameters.items)
 
--- the faults of rules behind one
+-- the faults of rules after one
 abbrev pub others_faults : List (List ℕ) → rules.Rule → List rules.Rule → List Fault
 others_faults names f rs = first_rule (filter (differs_from (rule_meaning names f)) (map (rule_meaning names) rs))
 

@@ -19,7 +19,7 @@ use Rattle.cu_fixity.proofs.OneTree.{place, split_alike}
 use Rattle.cu_fixity.proofs.RangeLemmas.{piece_at, range_end, range_step}
 use Rattle.cu_fixity.proofs.Roots.{fitting, root_found, top_at}
 
--- a range is what stands before a piece, the piece, and what stands behind it
+-- a range is what stands before a piece, the piece, and what stands after it
 pub range_split : (pieces : List Piece) (k from n to : ℕ) (p : Piece) → n ≡ from + k → n < to → to ≤ length pieces → slice_get pieces n ≡ Some p
     → between from to (items_of pieces) ≡ between from n (items_of pieces) ++ item_of n p ∷ between (n + 1) to (items_of pieces)
 range_split pieces zero from n to p e h w s =

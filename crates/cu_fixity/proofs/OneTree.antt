@@ -7,7 +7,7 @@ use Rattle.cu_fixity.specs.Grouping.{Applied, Between, Infix, Leaf, Tree, fits_a
 use Rattle.cu_fixity.specs.Ranges.{Candidate, root}
 use Rattle.cu_fixity.proofs.Roots.{fitting, root_found}
 
--- lists that are alike, with fronts of one length
+-- lists that are alike, with prefixes of one length
 pub split_alike : {A : Type 0} (xs us ys vs : List A) → length xs ≡ length us → xs ++ ys ≡ us ++ vs → (xs ≡ us) × (ys ≡ vs)
 split_alike [] [] ys vs n e = (refl, e)
 split_alike [] (u ∷ us) ys vs n e = absurd (omega (arith, n))

@@ -110,7 +110,7 @@ after_none : (n : ℕ) → syntax.NoQualifier ≡ after_first n syntax.NoQualifi
 after_none zero = refl
 after_none (suc n) = refl
 
--- the rest behind so many qualifiers of an expression
+-- the rest after so many qualifiers of an expression
 abbrev rest_in : Setting → Scope → ℕ → syntax.Expression → terms.LocalTerm
 rest_in w local n e = functions.rest_of w.around local (element_in e) (after_first n (qualifiers_in e))
 

@@ -235,7 +235,7 @@ none_placed w binder items ps all found e seen h = if_none _ _ found (λ none. n
 pub top_of : {T X : Type 0} (f : T → X) (before after : List T) (x : T) → after ≡ before ++ x ∷ [] → map f (reverse after) ≡ f x ∷ map f (reverse before)
 top_of f before after x e = ap (λ xs. map f (reverse xs)) e ∙ ap (map f) (reverse-append before (x ∷ []))
 
--- what parts make of patterns behind them
+-- what parts make of patterns after them
 abbrev pub placed_on : List (Item calculus.Pattern Referent) → List calculus.Pattern → List calculus.Pattern
 placed_on [] ps = ps
 placed_on (i ∷ items) ps = placed i (placed_on items ps)

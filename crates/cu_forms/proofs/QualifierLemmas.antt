@@ -76,11 +76,11 @@ unfolded_element w local e = refl
 
 -- ---- layers
 
--- what is in scope behind some qualifiers
+-- what is in scope after some qualifiers
 abbrev pub reached : Setting → definitions.Scope → List Entry → definitions.Scope
 reached w local entries = entries_meaning w.names entries ++ local
 
--- Qualifiers that stand around the others of a comprehension, in the scope behind them.
+-- Qualifiers that stand around the others of a comprehension, in the scope after them.
 pub record Wraps (w : Setting) (local : definitions.Scope) (e : Expression) (entries : List Entry) (layers : List Layer) (left all : List Qualifier) : Type 0 where
   pub known : All (EntryIsKnown w.names) entries
   pub wraps : layers_around w layers (comprehension_form w (reached w local entries) e left) ≡ comprehension_form w local e all

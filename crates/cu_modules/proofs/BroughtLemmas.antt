@@ -30,7 +30,7 @@ rebound names bindings p q meant slice items s same is are has =
 pub slice_known : (names : List (List ℕ)) (meant : List Entity) (slice items : List code.Entity) → slice ≡ items → AreEntities names meant items → All (EntityIsKnown names) slice
 slice_known names meant slice items is are = subst (All (EntityIsKnown names)) (sym is) are.known
 
--- an import that binds behind its qualifier alone
+-- an import that binds after its qualifier alone
 pub brought_after : (names : List (List ℕ)) (bindings : List Binding) (mine : List Entity) (before : List Interface) (i : syntax.Import) (q : NameId) (slice items : List code.Entity) (s : ModuleScope)
     → i.qualified ≡ true → text_of names q ≡ qualifier_of i.alias i.name → slice ≡ items → AreEntities names (imported before i) items
     → IsScope names (bindings ++ map (binding (Some (text_of names q))) (entities_meaning names slice)) s → IsScope names (bindings ++ import_bindings mine before i) s

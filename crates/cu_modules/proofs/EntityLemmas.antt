@@ -160,7 +160,7 @@ of_another names owner new not_prelude not_sets none =
 pub none_yet : (names : List (List ℕ)) (new : List code.Entity) → new ≡ [] → AreEntities names [] new
 none_yet names new none = subst (λ (es : List code.Entity). AreEntities names [] es) (sym none) (record { are = refl; known = All-nil (EntityIsKnown names) })
 
--- the entities that the Prelude has without a declaration, one group behind another
+-- the entities that the Prelude has without a declaration, one group after another
 pub first_added : (names : List (List ℕ)) (before : List Entity) (owner : NameId) (result : Result (Unit {0}) AllocError) (a b : List code.Entity) → text_of names owner ≡ prelude_name
     → AreEntities names (((before ++ list_type) ++ flat_map single_type single_names) ++ map (entity (text_of names owner) DataType) literal_names) a
     → ((all : List Entity) → AreEntities names all a → OnOk result (AreEntities names (all ++ map (entity (text_of names owner) Function) external_names) b))

@@ -51,7 +51,7 @@ pub finishes_first : (held : List ℕ → Option (List ℕ)) (base : List (List 
 finishes_first held base before m outcome begun (inl stops) = subst (λ (o : Result (List Named) Refusal). Visits held base before m.name o) (sym stops.is) (all_refused held base before m stops.refusal begun stops.refused)
 finishes_first held base before m outcome begun (inr ends) = subst (λ (o : Result (List Named) Refusal). Visits held base before m.name o) (sym ends.rest) (all_visited held base before ends.after m begun ends.visited)
 
--- an import that isn't done, behind those that are
+-- an import that isn't done, after those that are
 import_refused : (held : List ℕ → Option (List ℕ)) (path : List (List ℕ)) (before : List Named) (all prefix later : List (List ℕ)) (name : List ℕ) (refusal : Refusal) → all ≡ prefix ++ name ∷ later
     → All (λ text. is_there before text ≡ true) prefix → Visits held path before name (Err refusal) → VisitAll held path before all (Err refusal)
 import_refused held path before all prefix later name refusal whole there h =

@@ -98,7 +98,7 @@ pub every_chosen : (names : List (List ℕ)) (test : Entity → Bool) (bs : List
     → AreEntities names (filter test (entities_of (map (bound_meaning names) (take i bs)))) found → AreEntities names (filter test (entities_of (map (bound_meaning names) bs))) found
 every_chosen names test bs i found done has = subst (λ (xs : List Bound). AreEntities names (filter test (entities_of (map (bound_meaning names) xs))) found) (take_all i bs done) has
 
--- ---- lists one behind another
+-- ---- lists one after another
 
 pub no_entities : (names : List (List ℕ)) (found : List code.Entity) → found ≡ [] → AreEntities names [] found
 no_entities names found none = subst (λ (es : List code.Entity). AreEntities names [] es) (sym none) (record { are = refl; known = All-nil (EntityIsKnown names) })

@@ -92,7 +92,7 @@ own_anyway name found none = λ text is. absurd (no_text name text none is)
 pub is_fetched : (name : List ℕ) (count : ℕ) → built_in name ≡ None → count + 1 ≡ fetched_with name count
 is_fetched name count none = sym (ap (λ b. if b then count else count + 1) (not_built name none))
 
--- ---- what a text that is cut behind its limit is read as
+-- ---- what a text that is cut after its limit is read as
 
 layout_alike : (text other : List ℕ) (laid : List Lexeme) → tokens.tokens other ≡ tokens.tokens text → HasLayout text laid → HasLayout other laid
 layout_alike text other laid same has = record { found = has.found; has_tokens = same ∙ has.has_tokens; has_layout = has.has_layout }
@@ -114,7 +114,7 @@ below a b c first second = omega arith
 at_most : (a b : ℕ) → a < b → a ≤ b
 at_most a b first = omega arith
 
--- cut behind a limit that is above that of a text
+-- cut after a limit that is above that of a text
 cut_alike : (limit : ℕ) (text : List ℕ) → tokens.max_text_bytes < limit → tokens.tokens text ≡ tokens.tokens (take limit text)
 cut_alike limit text above = by (nat_lt limit (length text)) refl
   where
@@ -165,7 +165,7 @@ missing_lacks names id shown o dir count answered at none free is told =
     absent None f e h = refl
     absent (Some text) f e h = let no : ⊥ = subst (io.Fetches (Some text)) e h in absurd no
 
--- the front of what is held
+-- a prefix of what is held
 prefix_of : (text : Option (List ℕ)) (f : Fetched) (bytes : Vec ℕ Global) → f ≡ fetched.Text bytes → io.Fetches text f → (whole : List ℕ) × (text ≡ Some whole) × (bytes.items ≡ take io.max_fetched_bytes whole)
 prefix_of None f bytes e h = let no : ⊥ = subst (io.Fetches None) e h in absurd no
 prefix_of (Some whole) f bytes e h = (whole, refl, subst (io.Fetches (Some whole)) e h)

@@ -31,7 +31,7 @@ is_own names m = is_built_in (text_of names m.name)
 abbrev pub is_other : List (List ℕ) → Module → Bool
 is_other names m = not (is_own names m)
 
--- What is left, sorted behind what was found, is the whole, sorted.
+-- What is left, sorted after what was found, is the whole, sorted.
 pub record Sorts (names : List (List ℕ)) (whole left built others : List Module) : Type 0 where
   pub known : All (HasModule names) left
   pub built_known : All (HasModule names) built
@@ -93,7 +93,7 @@ sorted names whole left built others all none sorts is =
 pub sorted_known : (names : List (List ℕ)) (whole left built others all : List Module) → Sorts names whole left built others → all ≡ built ++ others → All (HasModule names) all
 sorted_known names whole left built others all sorts is = subst (All (HasModule names)) (sym is) (All-append (HasModule names) built others sorts.built_known sorts.others_known)
 
--- one module that is moved from the front of a list to the end of another
+-- one module that is moved from the beginning of a list to the end of another
 pub moved : (built after left later : List Module) (m : Module) → after ≡ built ++ m ∷ [] → left ≡ m ∷ later → after ++ later ≡ built ++ left
 moved built after left later m is here = ap (λ after. after ++ later) is ∙ append_assoc built (m ∷ []) later ∙ ap (λ left. built ++ left) (sym here)
 
@@ -138,7 +138,7 @@ or_true : (b : Bool) → (b || true) ≡ true
 or_true true = refl
 or_true false = refl
 
--- names that are met in one list and in another behind which the same name comes
+-- names that are met in one list and in another after which the same name comes
 among_same : (xs ys : List (List ℕ)) (name text : List ℕ) → (is_among xs text ≡ false → is_among ys text ≡ false) → is_among (xs ++ name ∷ []) text ≡ false → is_among (ys ++ name ∷ []) text ≡ false
 among_same xs ys name text go h = by (is_among xs text) refl (sym (among_push xs name text) ∙ h)
   where
@@ -153,7 +153,7 @@ among_prefix xs name text h = by (is_among xs text) refl (sym (among_push xs nam
     by true e f = absurd (both_ways (is_among xs text || bytes_eq text name) f (ap (λ b. b || bytes_eq text name) e))
     by false e f = e
 
--- modules whose names pass a test, behind others
+-- modules whose names pass a test, after others
 new_filtered : (test : List ℕ → Bool) (before others : List (List ℕ)) (ms : List Named) → ((text : List ℕ) → test text ≡ true → is_among before text ≡ false → is_among others text ≡ false) → AllNew before ms
     → AllNew others (filter (λ (m : Named). test m.name) ms)
 new_filtered test before others [] go new = tt

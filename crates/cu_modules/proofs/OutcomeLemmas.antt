@@ -55,7 +55,7 @@ pushed_at (x ∷ xs) y (suc k) t at = by (pushed_at xs y k t at)
     by (inl h) = inl h
     by (inr h) = inr (omega (arith, h.0), h.1)
 
--- a list is what stands before an element, that element, and what stands behind it
+-- a list is what stands before an element, that element, and what stands after it
 pub split : {A : Type 0} (xs : List A) (i : ℕ) (x : A) → slice_get xs i ≡ Some x → (others : List A) × (xs ≡ take i xs ++ x ∷ others)
 split [] i x at = let no' : ⊥ = cc in absurd no'
 split (y ∷ ys) zero x at = (ys, ap (λ y. y ∷ ys) cc)
@@ -124,7 +124,7 @@ other_name known name text there new = by (bytes_eq name text) refl
     by false is = refl
     by true is = absurd (true≢false (sym there ∙ ap (is_among known) (sym ((bytes_eq-Decides name text).0 is)) ∙ new))
 
--- modules behind others add nothing to what those export
+-- modules after others add nothing to what those export
 later_add_none : (known : List (List ℕ)) (before : List Interface) (ms : List Named) (text : List ℕ) → AllNew known ms → is_among known text ≡ true
     → exports_of (interfaces before ms) text ≡ exports_of before text
 later_add_none known before [] text new there = refl

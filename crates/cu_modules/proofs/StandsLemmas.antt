@@ -147,7 +147,7 @@ all_after_push before [] m after last = (subst (λ (names : List (List ℕ)). Al
 all_after_push before (n ∷ ms) m after last =
     (after.0, all_after_push (before ++ n.name ∷ []) ms m after.1 (subst (λ (names : List (List ℕ)). All (λ name. is_among names name ≡ true) (import_names m)) (sym (append_assoc before (n.name ∷ []) (called ms))) last))
 
--- a module that is new and stands behind all that it imports
+-- a module that is new and stands after all that it imports
 pub ordered_push : (ms : List Named) (m : Named) → AreOrdered ms → is_there ms m.name ≡ false → All (λ name. is_there ms name ≡ true) (import_names m) → IsOwn m → AreOrdered (ms ++ m ∷ [])
 ordered_push ms m ordered new imported own = record {
   differ = all_new_push [] ms m ordered.differ (sym (there_among ms m.name) ∙ new);

@@ -32,7 +32,7 @@ use Rattle.cu_modules.specs.Known.{AreEntities}
 use Rattle.cu_modules.specs.Scopes.{is_called}
 use Rattle.cu_modules.proofs.ListLemmas.{any_alike, called_by}
 
--- ---- faults one behind another
+-- ---- faults one after another
 
 pub told_none : (owner : NameId) (names : List (List ℕ)) (s : FirstFault) → Told owner names s [] s
 told_none owner names s = record { told = λ before is. subst (λ (fs : List Fault). AreTold owner names fs s) (sym (append-nil before)) is }

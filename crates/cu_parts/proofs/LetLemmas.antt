@@ -24,7 +24,7 @@ module _ (counts : LocalHead → Bool) (x : ℕ) (a : LocalTerm) (itself : uses 
   later : (h : Bool) (xs : List ℕ) (u : Bool) → Stands x xs u → Stands x xs (h || u)
   later h xs u s = record { bound = s.bound; used = or_second h u s.used }
 
-  -- behind a binder of another variable
+  -- after a binder of another variable
   inside : (y : ℕ) (ys xs : List ℕ) (u : Bool) → not (holds y ys) ≡ true → holds x ys ≡ true → Stands x xs u → Stands x xs (not (nat_eq y x) && u)
   inside y ys xs u other at s = record {
     bound = s.bound;

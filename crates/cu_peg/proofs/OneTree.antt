@@ -32,7 +32,7 @@ module _ {T : Type 0} (rows : List Row) (has : Class → T → Bool) where
   chosen_equal : (n k : ℕ) (t u : ParseTree T) → Chosen n t ≡ Chosen k u → Chosen (suc n) t ≡ Chosen (suc k) u
   chosen_equal n k t u e = cc
 
-  -- a separator with a part behind it, of which each is there
+  -- a separator with a part after it, of which each is there
   both_there : (p s : ℕ) (text suffix : List T) → RowFails rows has (row.Sequence (s ∷ p ∷ [])) text → (Fails rows has s text → ⊥)
       → ((rest : List T) (tree : ParseTree T) → Matches rows has s text rest tree → rest ≡ suffix) → (Fails rows has p suffix → ⊥) → ⊥
   both_there p s text suffix (m.part_fails _ _ _ f) no_separator here no_part = no_separator f

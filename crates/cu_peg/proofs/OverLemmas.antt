@@ -84,7 +84,7 @@ module _ (rows : List Row) (text : List Lexeme) where
   held : (c : Class) (k : ℕ) (x : Lexeme) → slice_get text k ≡ Some x → has_at text c k ≡ has c x
   held c k x e = ap (λ (o : Option Lexeme). option_map_or (has c) o false) e
 
-  -- more parts behind one
+  -- more parts after one
   joined_over : (e f : Row) (xs : List Lexeme) (rest : List ℕ) (t : ParseTree ℕ) (ts : ParseTrees ℕ) (u : ParseTree Lexeme) → tree_over text t ≡ Some u → (ys : List Lexeme)
       → PartsOver f ys rest ts → ((left : List Lexeme) (us : ParseTrees Lexeme) → RowMatches rows has f ys left (Parts us) → RowMatches rows has e xs left (Parts (MoreTrees u us)))
       → RowOver e xs rest (Parts (MoreTrees t ts))

@@ -35,7 +35,7 @@ at_drop (x ∷ xs) (suc i) p ps e =
     let h = at_drop xs i p ps e in
     (h.0, ap (λ k. drop k (x ∷ xs)) (add-one (suc i)) ∙ ap (λ k. drop k xs) (sym (add-one i)) ∙ h.1, omega (arith, h.2))
 
--- trees in front of others
+-- trees before others
 pub join : ParseTrees ℕ → ParseTrees ℕ → ParseTrees ℕ
 join NoTree others = others
 join (MoreTrees tree trees) others = MoreTrees tree (join trees others)
@@ -234,7 +234,7 @@ module _ (rows : List Row) (has : Class → ℕ → Bool) (n : ℕ) (table : Lis
   first_open r k is e h (m.ahead p text rest t d) = refl
   first_open r k is e h (m.not_ahead p text f) = refl
 
-  -- the first of some parts, and those behind it
+  -- the first of some parts, and those after it
   pub record Next (c : Cursor) (trees : ParseTrees ℕ) : Type 0 where
     pub owner : Row
     pub owned : slice_get rows c.row ≡ Some owner

@@ -51,7 +51,7 @@ module _ {T : Type 0} (rows : List Row) (has : Class → T → Bool) where
   pub no_more_of : (p : ℕ) (text : List T) → RowFails rows has (row.AtLeastOne p) text → RowMatches rows has (row.Many p) text text (Parts NoTree)
   no_more_of p text (m.not_even_one _ _ f) = m.no_more p text f
 
-  -- a separator with no part behind it
+  -- a separator with no part after it
   pub no_part_after : (p s : ℕ) (text suffix : List T) (separator : ParseTree T) → Matches rows has s text suffix separator
       → RowFails rows has (row.SeparatedBy p s) suffix → RowFails rows has (row.Sequence (s ∷ p ∷ [])) text
   no_part_after p s text suffix separator d (m.no_part _ _ _ f) = m.rest_fails s (p ∷ []) text suffix separator d (m.part_fails p [] suffix f)

@@ -28,7 +28,7 @@ spelling_in name_kind.VarOp (kind.VarOp name) = Some name
 spelling_in name_kind.ConOp (kind.ConOp name) = Some name
 spelling_in _ _ = None
 
--- whether a name is the one wanted of those that mean something in some places
+-- whether a name is this one of those that mean something in some places
 abbrev pub is_special : Special → Option Special → Bool
 is_special expected found = option_map_or (sameb special.the_type expected) found false
 

@@ -55,14 +55,14 @@ pub at_pushed : {t : Text} {a b : Sites} {x found : spots.Spot} {s : sites.Site}
 at_pushed {t = t} {found = found} {spot = spot} pushed at =
     subst (λ es. IsSpot t es found spot) (sym (ap (λ es. es.items) pushed.entries)) at
 
--- behind names that were found
+-- after names that were found
 pub enters_names : (t : Text) (a b : Sites) (F : List syntax.Name → Spot) (bound : List syntax.Name) (found slice : List code.Name) (inner : spots.Spot) → Adds t.owner t.names [] bound found → slice ≡ found
     → (All (NameIsOf t.owner t.names) slice → Enters t a (F (names_meaning t.names slice)) inner b) → Enters t a (F bound) inner b
 enters_names t a b F bound found slice inner adds sliced enters =
     subst (λ xs. Enters t a (F xs) inner b) (ap (names_meaning t.names) sliced ∙ adds.adds)
     (enters (subst (All (NameIsOf t.owner t.names)) (sym sliced) (adds.owned (All-nil (NameIsOf t.owner t.names)))))
 
--- behind the variables of patterns
+-- after the variables of patterns
 pub enters_patterns : (t : Text) (a b : Sites) (F : List syntax.Name → Spot) (ps viewed : List Pattern) (found slice : List code.Name) (inner : spots.Spot) → viewed ≡ ps → All (PatternIsOf t.owner t.names) ps
     → (All (PatternIsOf t.owner t.names) viewed → Adds t.owner t.names [] (patterns_bind t.names viewed) found) → slice ≡ found
     → (All (NameIsOf t.owner t.names) slice → Enters t a (F (names_meaning t.names slice)) inner b) → Enters t a (F (patterns_bind t.names ps)) inner b

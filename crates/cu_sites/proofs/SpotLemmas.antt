@@ -387,7 +387,7 @@ qualifiers_nil : (names : List (List ℕ)) (spot : Spot) → past_all (qualifier
 unfolding qualifiers_of
 qualifiers_nil names spot = refl
 
--- what is reached behind the first qualifiers
+-- what is reached after the first qualifiers
 pub record Past (t : Text) (before : Sites) (whole : Spot) (qs : List Qualifier) (i : ℕ) (found : spots.Spot) (now : Sites) : Type 0 where
   pub reached : Spot
   pub enters : Enters t before reached found now

@@ -406,7 +406,7 @@ pub qualifier_writes : (t : Text) (spot : Spot) (element : syntax.Expression) (o
 qualifier_writes t spot element others v n a b is writes =
     subst (λ q. Writes t a (qualifier_has t.names spot element others q) b) (sym is) (subst (λ ns. Writes t a ns b) (qualifier_node_is t.names spot element others n) writes)
 
--- the scope of a block in a qualifier is what stands behind that
+-- the scope of a block in a qualifier is what stands after that
 pub past_block : (t : Text) (s : Sites) (found : spots.Spot) (spot : Spot) (v : Qualifier) (at : Place) (ds : Vec Declaration Global) → v ≡ qualifier.Declarations at ds → IsAt t s found (past (qualifier_of t.names v) spot)
     → IsAt t s found (in_block (block_of t.names ds.items) spot)
 unfolding qualifier_of block_of

@@ -200,11 +200,11 @@ left_taken_top tree chosen inner h t =
 pub left_taken : (s : Symbol) (tree : Tree) (chosen : Symbol) (inner : Tree) → is_left_side s ≡ true → fits s tree ≡ true → Takes s tree chosen inner → SameLeft s tree chosen inner
 left_taken s tree chosen inner e h t = among_each TakesLeft left_sides s (left_taken_local, (left_taken_top, tt)) e tree chosen inner h t
 
--- the left-hand side with the parameters of a tree behind it
+-- the left-hand side with the parameters of a tree after it
 abbrev pub with_further : List (List ℕ) → Subtree → LeftSide → LeftSide
 with_further names part left = with_arguments left (arguments_in (tree_of names part))
 
--- What stands in parentheses, with the parameters behind them.
+-- What stands in parentheses, with the parameters after them.
 pub left_inside : (names : List (List ℕ)) (s t : Symbol) (tree first chosen : Tree) (c : Symbol) (last : Subtree) (further after : List Subtree) (whole : LeftSide)
     → s ≡ symbol.ParenthesizedLhs → fits s tree ≡ true → tree_of names last ≡ part_of tree 3 → first ≡ part_of tree 1 → t ≡ symbol.Lhs → left_as c chosen ≡ left_choice t first
     → after ≡ further ++ last ∷ [] → folded (with_further names) further (left_as s tree) ≡ whole → folded (with_further names) after (left_as c chosen) ≡ whole
@@ -216,7 +216,7 @@ left_inside names s t tree first chosen c last further after whole e h l f k sam
     ap (λ xs. folded (with_further names) xs (left_as c chosen)) a ∙ folded_push (with_further names) further last (left_as c chosen)
     ∙ sym (ap (folded (with_further names) further) here) ∙ w
 
--- The parameters behind the parentheses are added to the function's.
+-- The parameters after the parentheses are added to the function's.
 pub left_outside : (names : List (List ℕ)) (last : Subtree) (further before : List Subtree) (arguments : List Pattern) (left after whole : LeftSide) → before ≡ further ++ last ∷ []
     → tree_of names last ≡ Parts (trees_from (map (pattern_tree names) arguments)) → All (HasSymbol symbol.APat) arguments → after ≡ with_arguments left (patterns_meaning names arguments)
     → folded (with_further names) before left ≡ whole → folded (with_further names) further after ≡ whole

@@ -165,7 +165,7 @@ part_at (q ∷ parts) text (MoreTrees tree trees) (suc n) p h e =
 pub earlier : {X : Type 0} (xs : List X) (n k : ℕ) (x : X) → slice_get xs n ≡ Some x → k ≤ n → (y : X) × (slice_get xs k ≡ Some y)
 earlier xs n k x e le = let within = slice_get_within xs n x e in (get_or xs k x, slice_get-get_or xs k x (omega (arith, within)))
 
--- What is left behind so many parts of a sequence begins with the tree of the next one.
+-- What is left after so many parts of a sequence begins with the tree of the next one.
 pub record PartLeft (s : Symbol) (text : List Lexeme) (nodes left : List Node) (k : ℕ) (p : Symbol) : Type 0 where
   pub tree : ParseTree ℕ
   pub others : ParseTrees ℕ
@@ -244,7 +244,7 @@ optional_is (SeparatedBy q s) p e = absurd cc
 optional_is (Ahead q) p e = absurd cc
 optional_is (NotAhead q) p e = absurd cc
 
--- The nodes behind the first are one tree.
+-- The nodes after the first are one tree.
 pub record OneTree (text : List Lexeme) (nodes left : List Node) (p : Symbol) : Type 0 where
   pub spelled : spelled (read left) ≡ left
   pub fit : fits p (over text (read left)) ≡ true
@@ -314,7 +314,7 @@ only_choices (declared_rule.SeparatedBy p s) c refuse = never c
 only_choices (declared_rule.Ahead p) c refuse = never c
 only_choices (declared_rule.NotAhead p) c refuse = never c
 
--- The nodes behind the first are those of this alternative.
+-- The nodes after the first are those of this alternative.
 pub record Alternative (s : Symbol) (parts : List Symbol) (text : List Lexeme) (nodes left : List Node) (n : ℕ) (p : Symbol) : Type 0 where
   pub spelled : spelled (read left) ≡ left
   pub fit : fits p (over text (read left)) ≡ true

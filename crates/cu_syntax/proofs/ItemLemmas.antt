@@ -122,7 +122,7 @@ synonym_is names s tree one two last at name parameters t e h a p n q v k l u =
 
 -- constructors
 
--- the constructors behind the equals sign
+-- the constructors after the equals sign
 pub constructors_there : (s : Symbol) (tree inner list : Tree) (found : List syntax.ConstructorDeclaration) → tree ≡ Parts (only inner) → s ≡ symbol.ConDecls → fits s inner ≡ true
     → list ≡ part_of inner 1 → found ≡ each_in constructor_declaration list → found ≡ unwrap_or (optional constructors_of tree) []
 constructors_there s tree inner list found t e h l f =

@@ -17,7 +17,7 @@ use Rattle.cu_syntax.proofs.SplitLemmas.{after_part, header_and_block_open, head
 pub no_block : (names : List (List ℕ)) (tokens : List Token) → first_open (lexemes names tokens) ≡ None → ModuleRead (lexemes names tokens) (Err (Syntax 1))
 no_block names tokens e = ModuleRead.no_block (without_block names 1 tokens e)
 
--- over any front
+-- over any prefix
 
 header_fault : (tokens : List Lexeme) (f : HeaderAndBlock) (fault : Fault) → header_and_block 1 tokens ≡ f → NoHeader f.header fault → ModuleRead tokens (Err fault)
 header_fault tokens f fault e h =
@@ -36,7 +36,7 @@ whole tokens f block found items e b h r =
     ModuleRead.right block found items (ap (λ (g : HeaderAndBlock). g.block) e ∙ b) (subst (λ (g : HeaderAndBlock). HeaderRead g.header found) (sym e) h)
     (subst (λ (g : HeaderAndBlock). PartsRead true (parts g.last block) (Ok items)) (sym e) r)
 
--- over the front up to the first brace
+-- over the prefix up to the first brace
 
 abbrev header_found : List (List ℕ) → Option text.Header → Option Header
 header_found names found = option_map (header_meaning names) found

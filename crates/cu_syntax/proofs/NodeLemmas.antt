@@ -68,7 +68,7 @@ pub reads_all : (trees : ParseTrees ℕ) → read_all (spelled_all trees) ≡ tr
 reads_all NoTree = refl
 reads_all (MoreTrees tree trees) = read_all-spelled tree (spelled_all trees) ∙ ap (MoreTrees tree) (reads_all trees)
 
--- the trees behind so many
+-- the trees after so many
 abbrev pub after_trees : ℕ → ParseTrees ℕ → ParseTrees ℕ
 after_trees zero trees = trees
 after_trees (suc n) NoTree = NoTree

@@ -39,7 +39,7 @@ none_yet P xs e = subst (All P) (sym e) (All-nil P)
 pub one_more : {X : Type 0} (P : X → Type 0) (xs after : List X) (x : X) → after ≡ xs ++ x ∷ [] → All P xs → P x → All P after
 one_more P xs after x e h p = subst (All P) (sym e) (All-append P xs (x ∷ []) h (All-cons P x [] p (All-nil P)))
 
--- the part that is next, and those behind it
+-- the part that is next, and those after it
 
 pub parts_here : (owner : NameId) (names : List (List ℕ)) (left later : List Subtree) (part : Subtree) → left ≡ part ∷ later → All (IsOf owner names) left → IsOf owner names part
 parts_here owner names left later part e h = All-head (IsOf owner names) part later (subst (All (IsOf owner names)) e h)
@@ -55,7 +55,7 @@ same_part owner names part view e h = subst (IsOf owner names) (sym e) h
 pub all_popped : {X : Type 0} (P : X → Type 0) (xs before : List X) (x : X) → xs ≡ before ++ x ∷ [] → All P xs → All P before × P x
 all_popped P xs before x e h = All-pop P xs before (Some x) e h
 
--- the first of a list, and those behind it
+-- the first of a list, and those after it
 pub all_removed : {X : Type 0} (P : X → Type 0) (xs later : List X) (x : X) → (xs ≡ [] → ⊥) → x ≡ slice_index_or xs 0 x → later ≡ take 0 xs ++ drop (0 + 1) xs → All P xs
     → P x × All P later
 all_removed P [] later x some value rest h = absurd (some refl)
@@ -64,7 +64,7 @@ all_removed P (y ∷ xs) later x some value rest h = (subst P (sym value) (All-h
 pub two : {X : Type 0} (P : X → Type 0) (xs : List X) (x y : X) → xs ≡ x ∷ y ∷ [] → P x → P y → All P xs
 two P xs x y e p q = subst (All P) (sym e) (All-cons P x (y ∷ []) p (All-cons P y [] q (All-nil P)))
 
--- a list behind another
+-- a list after another
 pub all_joined : {X : Type 0} (P : X → Type 0) (xs ys taken whole : List X) → whole ≡ xs ++ taken → taken ≡ ys → All P xs → All P ys → All P whole
 all_joined P xs ys taken whole e t h k = subst (All P) (sym e) (All-append P xs taken h (subst (All P) (sym t) k))
 
@@ -75,6 +75,6 @@ not_there {X = X} P found e = subst (λ (o : Option X). IfSome o P) (sym e) tt
 pub same_found : {X : Type 0} (P : X → Type 0) (found whole : Option X) → found ≡ whole → IfSome whole P → IfSome found P
 same_found {X = X} P found whole e h = subst (λ (o : Option X). IfSome o P) (sym e) h
 
--- what stands behind a place
+-- what stands after a place
 pub all_after : {X : Type 0} (P : X → Type 0) (xs later : List X) (n : ℕ) → later ≡ drop n xs → All P xs → All P later
 all_after P xs later n e h = subst (All P) (sym e) (All-drop P n xs h)

@@ -73,7 +73,7 @@ pub after_block : (imports : Bool) (last : ℕ) (tokens : List Lexeme) (fault : 
 after_block imports last [] fault s h = absurd (s refl)
 after_block imports last (t ∷ tokens) fault s h = PartsRead.fault imports (part_with false last (t ∷ tokens)) [] fault h
 
--- Items that were found, and then what the parts behind are read as
+-- Items that were found, and then what the parts after are read as
 
 abbrev pub after_items : List Item → Result (List Item) Fault → Result (List Item) Fault
 after_items done (Ok items) = Ok (done ++ items)
@@ -137,7 +137,7 @@ closed names imports next all last line n left rest before after found e f a l d
     (one_part names imports next all (part_with true last (lexemes names (take n left))) (part_after_block (after_part names last n left) (lexemes names (drop (n + 1) left))) before after found refl f a
     (subst (Reads imports all (items_meaning names before)) (parts_close names last n left e) k)))
 
--- nothing stands behind the block
+-- nothing stands after the block
 pub all_items : (next : Bool) (all : List Part) (done : List Item) (line : ℕ) (tokens : List Lexeme) → tokens ≡ [] → Reads next all done (part_after_block line tokens)
     → PartsRead true all (Ok done)
 all_items next all done line tokens e k =
@@ -247,7 +247,7 @@ and_false : (b : Bool) → (b && false) ≡ false
 and_false true = refl
 and_false false = refl
 
--- whether an import may stand behind an item
+-- whether an import may stand after an item
 pub after_item : (imports : Bool) (s : Symbol) (tree : Tree) → is_item s ≡ true → (imports && is_import s) ≡ imports_after imports (item_read s tree)
 after_item imports symbol.ImportDecl tree h = and_true imports
 after_item imports symbol.Item tree h = and_false imports ∙ sym (no_import imports tree)

@@ -35,7 +35,7 @@ moves_on false false p = inr (refl, omega arith)
 after_before : (c : ℕ) (p : Position) → IsBefore p (position_after c p)
 after_before c p = moves_on (c == byte "\n") (c == byte "\t") p
 
--- what is left of a text behind a front of it
+-- what is left of a text after a prefix of it
 record RightBody (p : Position) (rest : List Located) : Type 0 where
   at : Position
   chars : List ℕ

@@ -166,7 +166,7 @@ count_end left n all none e =
     let zero : count_trees (read_all left) ≡ 0 = ap (λ nodes. count_trees (read_all nodes)) none in
     omega (arith, zero, e)
 
--- what is left of a list of trees, behind the first
+-- what is left of a list of trees, after the first
 pub others_spelled : (left others : List Node) → others ≡ spelled_all (others_of (read_all left)) → spelled_all (read_all others) ≡ others
 others_spelled left others e = ap spelled_all (ap read_all e ∙ reads_all (others_of (read_all left))) ∙ sym e
 
@@ -206,7 +206,7 @@ collects_none s p text nodes left e n f l =
     let h = repeats s p text nodes left e n f l in
     record { have = ap (λ trees. have_parts (Many p) (all_over text trees)) h.restored ∙ h.have; is = h.is ∙ ap (λ trees. Parts (all_over text trees)) (sym h.restored) }
 
--- The first tree of what is left, and what is left behind it.
+-- The first tree of what is left, and what is left after it.
 pub record Collected (p : Symbol) (text : List Lexeme) (tree : Tree) (found : List Tree) (first others : List Node) : Type 0 where
   pub spelled : spelled (read first) ≡ first
   pub fit : fits p (over text (read first)) ≡ true

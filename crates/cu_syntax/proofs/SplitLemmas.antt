@@ -72,7 +72,7 @@ pub parts_missing : (names : List (List ℕ)) (last : ℕ) (tokens : List Token)
     → parts last (lexemes names tokens) ≡ part_with false last (lexemes names tokens) ∷ []
 parts_missing names last tokens e = ap (λ s. part_of last s ∷ s.others) (split_at 0 last (lexemes names tokens) ∙ ap (split_to last (lexemes names tokens)) e)
 
--- the front of a module
+-- the header of a module and its block
 
 one_later : (last : ℕ) (token : Lexeme) (tokens : List Lexeme) (n : ℕ)
     → with_header token (header_and_block_to (after last token) tokens (Some n)) ≡ header_and_block_to last (token ∷ tokens) (Some (suc n))
@@ -96,7 +96,7 @@ header_and_block_at : (last : ℕ) (tokens : List Lexeme) → header_and_block l
 header_and_block_at last [] = refl
 header_and_block_at last (token ∷ tokens) = header_and_block_step last token tokens (opens token.what) (header_and_block (after last token) tokens) (header_and_block_at (after last token) tokens)
 
--- the front of tokens whose first brace has this number
+-- the prefix of tokens whose first brace has this number
 abbrev pub header_and_block_with : List (List ℕ) → ℕ → ℕ → List Token → HeaderAndBlock
 header_and_block_with names last n tokens = record {
   header = lexemes names (take n tokens);

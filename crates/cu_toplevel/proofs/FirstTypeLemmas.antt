@@ -11,7 +11,7 @@ use Rattle.cu_translation.specs.Numbered.{tuple_sizes}
 
 -- ---- type variables
 
--- one variable more stands behind the others
+-- one variable more stands after the others
 after : (n k : ℕ) → variables_from (suc n) k ≡ variables_from n k ++ Variable (k + n) ∷ []
 after zero k = ap (λ m. Variable m ∷ []) (omega arith)
 after (suc n) k = ap (λ ts. Variable k ∷ ts) (after n (k + 1) ∙ ap (λ m. variables_from n (k + 1) ++ Variable m ∷ []) (omega arith))

@@ -61,7 +61,7 @@ never : (b : Bool) → (b ≡ true → ⊥) → b ≡ false
 never true h = absurd (h refl)
 never false h = refl
 
--- not before itself, not before what it is before, and behind what is behind it
+-- not before itself, not before what it is before, and after what is after it
 not_less_inner : (b c : ℕ) → (b < b) ⊎ ((b ≡ b) × (c < c)) → ⊥
 not_less_inner b c (inl l) = omega (arith, l)
 not_less_inner b c (inr p) = let l = p.1 in omega (arith, l)

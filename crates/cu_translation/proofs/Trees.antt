@@ -50,7 +50,7 @@ inside_is taking l o r u a =
     there (taking (Between l o r)) (map (λ left. Between left o r) (on_left_spine taking l))
     (in_map (λ left. Between left o r) u (on_left_spine taking l) a)
 
--- a list that begins alike, where its front isn't empty
+-- a list that begins alike, where its prefix isn't empty
 record Begins {X : Type 0} (xs ys : List X) (y : X) (rest : List X) : Type 0 where
   others : List X
   prefix : xs ≡ y ∷ others
@@ -72,7 +72,7 @@ never_empty (Leaf a) e = cc
 never_empty (Applied o t) e = cc
 never_empty (Between l o r) e = not_empty (flatten l) (Infix o) (flatten r) e
 
--- the tree behind a prefix operator that comes first
+-- the tree after a prefix operator that comes first
 record AfterPrefix {A O : Type 0} (o : O) (rest : List (Item A O)) (t : Tree A O) : Type 0 where
   tree : Tree A O
   flattens : flatten tree ≡ rest
@@ -100,7 +100,7 @@ after_prefix o rest (Applied p t) e =
 after_prefix o rest (Between l p r) e =
     after_prefix_left o p rest l r (begins (flatten l) (Infix p ∷ flatten r) (Prefix o) rest e) (λ others f. after_prefix o others l f)
 
--- the tree behind an operand that comes first, and an operator
+-- the tree after an operand that comes first, and an operator
 record AfterOperand {A O : Type 0} (a : A) (rest : List (Item A O)) (t : Tree A O) : Type 0 where
   operator : O
   others : List (Item A O)

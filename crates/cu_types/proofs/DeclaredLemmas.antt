@@ -163,7 +163,7 @@ mutual
       ap (λ (u : TypeExpr). type.MoreTypes u (apply_all type.Variable ts)) (left_alone t)
       ∙ ap (type.MoreTypes t) (all_left_alone ts)
 
--- ---- a type behind others, with variables of its own
+-- ---- a type after others, with variables of its own
 
 named_by : (t : TypeExpr) (x : ℕ) → t ≡ type.Variable x → t ≡ type.Variable (name_of t)
 named_by t x is = is ∙ ap type.Variable (sym (ap name_of is))
@@ -175,7 +175,7 @@ module _ (cs : List TypeExpr) (e : TypeExpr) (own : Substitution) (next : ℕ)
     (apart : (x : ℕ) → IsTrue (holds x (variables_in e)) → (k : ℕ) (s : TypeExpr) → slice_get cs k ≡ Some s
     → IsTrue (holds (name_of (own x)) (variables_in s)) → ⊥)
     (below : (k : ℕ) (s : TypeExpr) → slice_get cs k ≡ Some s → breadth s ≤ next) where
-  -- from the variables behind the number to those that they become
+  -- from the variables after the number to those that they become
   abbrev shifted : Substitution
   shifted y = cond (nat_lt y next) (type.Variable y) (own (y - next))
 
@@ -210,7 +210,7 @@ module _ (cs : List TypeExpr) (e : TypeExpr) (own : Substitution) (next : ℕ)
       ∙ ap (arrows cs)
       (applied_twice shifted (λ x. type.Variable (next + x)) e ∙ ap (λ (σ : Substitution). apply σ e) (fun_ext shifted_high))
 
-  -- a variable stands in one of the types, or is one of those behind the number
+  -- a variable stands in one of the types, or is one of those after the number
   abbrev Stands : ℕ → Type 0
   Stands y =
       ((k : ℕ) × (s : TypeExpr) × (slice_get cs k ≡ Some s) × IsTrue (holds y (variables_in s)))

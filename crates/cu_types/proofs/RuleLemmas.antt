@@ -172,7 +172,7 @@ external_walks a b c d p first arity right place whole shared operation at_right
 
 -- ---- declared types
 
--- type variables behind the first ones
+-- type variables after the first ones
 variables_dropped : (n x count : ℕ) → drop n (variables_from x count) ≡ variables_from (x + min n count) (count - min n count)
 variables_dropped zero x count =
     let none : x + min 0 count ≡ x = omega arith in

@@ -194,7 +194,7 @@ append_none (x ∷ xs) = ap (λ (ys : List Shape). x ∷ ys) (append_none xs)
 one_shape : (ss : List Shape) (i : ℕ) (s t : Shape) → slice_get ss i ≡ Some s → slice_get ss i ≡ Some t → s ≡ t
 one_shape ss i s t is it = let e : Some s ≡ Some t = sym is ∙ it in cc
 
--- a shape that is placed behind its arguments
+-- a shape that is placed after its arguments
 
 mapped_below : (f : ℕ → ℕ) (m : ℕ) (ps : List ℕ) → ((k a : ℕ) → slice_get ps k ≡ Some a → f a < m)
     → (a k : ℕ) → slice_get (map f ps) k ≡ Some a → a < m
@@ -380,7 +380,7 @@ walk_opened ss classes states solved i r s qs tasks table inside class is unseen
           ]);
     }
 
--- a class is left: it is placed behind its arguments
+-- a class is left: it is placed after its arguments
 pub walk_left : (ss : List Shape) (classes : List ℕ) (states : List State) (solved : List Shape) (r : ℕ) (s : Shape)
     (tasks : List Task) → IsTable ss → AreWithin ss classes → slice_get ss r ≡ Some s
     → IsWalk ss classes states solved (task.Leave r ∷ tasks)

@@ -71,7 +71,7 @@ has_among owner names (x ∷ xs) id differ known of =
     (same_name names x.text id differ (All-head (NameIsOf owner names) x xs of).text known ∙ bytes_turned (text_of names x.text) (text_of names id))
     (has_among owner names xs id differ known (All-tail (NameIsOf owner names) x xs of))
 
--- the variables of a scope with more names in front
+-- the variables of a scope with more names before
 pub more_local : (owner : NameId) (names local : List (List ℕ)) (xs : List code.Name) (around : NameId → Bool) (id : NameId) → AllDiffer names → IsKnown names id → All (NameIsOf owner names) xs
     → around id ≡ is_among local (text_of names id) → or_among xs around id ≡ is_among (texts (names_meaning names xs) ++ local) (text_of names id)
 more_local owner names local xs around id differ known of is =
@@ -337,7 +337,7 @@ qualifier_brings w local v n found a b is adds told = record {
   told = subst (λ ds. Told w a ds b) (qualifier_asked w.names local n ∙ ap (qualifier_asks w.names local) (sym is)) told;
 }
 
--- the variables behind one more qualifier
+-- the variables after one more qualifier
 pub more_variables : (w : World) (inner : List (List ℕ)) (xs : List syntax.Name) (old more new slice : List code.Name) (around : NameId → Bool) → AllDiffer w.names → All (NameIsOf w.owner w.names) old
     → Adds w.owner w.names [] xs more → slice ≡ more → new ≡ old ++ slice → ((id : NameId) → IsKnown w.names id → or_among old around id ≡ is_among inner (text_of w.names id))
     → All (NameIsOf w.owner w.names) new × ((id : NameId) → IsKnown w.names id → or_among new around id ≡ is_among (with xs inner) (text_of w.names id))
