@@ -1,4 +1,4 @@
--- Parsers as functions with several results: what a front of the text says, and the rest of it.
+-- Parsers as functions with several results: what a prefix of the text says, and the rest of it.
 module Parser where
 
 data Expression = Number Int | Plus Expression Expression | Times Expression Expression
@@ -9,8 +9,8 @@ type Parser a = String -> (a, String)
 orElse :: Parser a -> Parser a -> Parser a
 orElse p q s = p s ? q s
 
--- One parser behind another, which depends on what the first has read. The distinction makes the
--- first read its front before the second begins, so that a parser may call itself behind it.
+-- One parser after another, which depends on what the first has read. The distinction makes the
+-- first read its prefix before the second begins, so that a parser may call itself after it.
 andThen :: Parser a -> (a -> Parser b) -> Parser b
 andThen p f s = case p s of (x, rest) -> f x rest
 
