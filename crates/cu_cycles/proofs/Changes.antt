@@ -6,8 +6,8 @@ use Rattle.std.specs.declared.vec.Vec.{Vec}
 use Rattle.cu_cycles.proofs.Lists.{get_prefix, get_last}
 use Rattle.cu_cycles.proofs.Closing.{closed, le_false, le_true, stays_open}
 use Rattle.cu_cycles.proofs.Entering.{entered, part_at}
-use Rattle.cu_cycles.proofs.Joining.{before_or_not, joined, still_reaches}
-use Rattle.cu_cycles.proofs.Places.{last_place, nothing_after, one_element, same_or_not, set_cases, set_elsewhere, set_there, split_last, take_prefix, there, within}
+use Rattle.cu_cycles.proofs.Joining.{joined, still_reaches}
+use Rattle.cu_cycles.proofs.Places.{before_or_not, last_place, nothing_after, one_element, same_or_not, set_cases, set_elsewhere, set_there, split_last, take_prefix, there, within}
 use Rattle.cu_cycles.proofs.Reaching.{by_edge, onward}
 use Rattle.cu_cycles.proofs.Weights.{weigh_opened, weigh_shut}
 use Rattle.cu_cycles.specs.Graph.{Graph, IsWhole, Reach}
@@ -26,16 +26,16 @@ good_as g a x b y c z d w n p q r s good =
 
 -- ---- entering
 
-module _ (g : Graph) (places : List Place) (path pending : List ℕ) (parts : List Part) (count f : ℕ) (row : Vec ℕ Global)
+module _ (g : Graph) (places : List Place) (path pending : List ℕ) (parts : List Part) (count f : ℕ) (row : List ℕ)
     (n m k : ℕ) (path_then pending_then : List ℕ) (parts_then : List Part) (mentioned : List ℕ)
     (is_new : slice_get places f ≡ Some New) (is_row : slice_get g f ≡ Some row)
     (n_is : n ≡ length path) (m_is : m ≡ length pending) (k_is : k ≡ length path)
-    (parts_are : parts_then ≡ parts ++ part_at n m ∷ []) (path_is : path_then ≡ path ++ f ∷ []) (row_is : mentioned ≡ row.items)
+    (parts_are : parts_then ≡ parts ++ part_at n m ∷ []) (path_is : path_then ≡ path ++ f ∷ []) (row_is : mentioned ≡ row)
     (pending_is : pending_then ≡ pending ++ mentioned) where
   pub enters : Good g places path pending parts count → ((t u : ℕ) → slice_get path t ≡ Some u → Reach g u f)
       → Good g (set places f (Open k)) path_then pending_then parts_then count
   enters good reached =
-      good_as g (set places f (Open (length path))) (set places f (Open k)) (path ++ f ∷ []) path_then (pending ++ row.items) pending_then
+      good_as g (set places f (Open (length path))) (set places f (Open k)) (path ++ f ∷ []) path_then (pending ++ row) pending_then
       (parts ++ part_at (length path) (length pending) ∷ []) parts_then count (ap (λ (x : ℕ). set places f (Open x)) (sym k_is)) (sym path_is)
       (sym (pending_is ∙ ap (λ (x : List ℕ). pending ++ x) row_is))
       (sym (parts_are ∙ ap (λ (x : ℕ). parts ++ part_at x m ∷ []) n_is ∙ ap (λ (x : ℕ). parts ++ part_at (length path) x ∷ []) m_is))
@@ -44,9 +44,9 @@ module _ (g : Graph) (places : List Place) (path pending : List ℕ) (parts : Li
   pub enters_falls : weigh two_more g (set places f (Open k)) + length pending_then + length parts_then + 1
       ≡ weigh two_more g places + length pending + length parts
   enters_falls =
-      let lighter : length row.items + 2 + weigh two_more g (set places f (Open k)) ≡ weigh two_more g places = weigh_opened two_more g places f k row is_new is_row in
+      let lighter : length row + 2 + weigh two_more g (set places f (Open k)) ≡ weigh two_more g places = weigh_opened two_more g places f k row is_new is_row in
       let more : length pending_then ≡ length pending + length mentioned = ap length pending_is ∙ length-append pending mentioned in
-      let same : length mentioned ≡ length row.items = ap length row_is in
+      let same : length mentioned ≡ length row = ap length row_is in
       let one_more : length parts_then ≡ length parts + 1 = ap length parts_are ∙ length-append parts (part_at n m ∷ []) in
       omega arith
 

@@ -1,8 +1,8 @@
 -- A part that is closed keeps a search good.
 use Rattle.std.proofs.Common.{◌≡◌, ℕ, zero, suc, ◌+◌, ◌<◌, ◌≤◌, ◌⊎◌, inl, inr, true, false, cond, nat_le, List, [], ◌∷◌, ◌++◌, length, take, Option, None, Some, option_map, slice_get, refl, ap, ◌∙◌, subst, arith}
 use Rattle.cu_cycles.proofs.Lists.{get_prefix, get_last}
-use Rattle.cu_cycles.proofs.Joining.{awaits_below, before_or_not, below_top, own_below, own_top, top_there}
-use Rattle.cu_cycles.proofs.Places.{take_keeps, take_less, within}
+use Rattle.cu_cycles.proofs.Joining.{awaits_below, below_top, own_below, own_top, top_there}
+use Rattle.cu_cycles.proofs.Places.{before_or_not, take_keeps, take_less, within}
 use Rattle.cu_cycles.proofs.Reaching.{onward}
 use Rattle.cu_cycles.proofs.Weights.{weigh_shut}
 use Rattle.cu_cycles.specs.Graph.{Edge, Graph, Reach}
@@ -173,6 +173,16 @@ module _ (g : Graph) (places new : List Place) (path pending : List ℕ) (rest :
       by (before old) = let less = good.closed_below v c old in omega arith
       by (now s old more same) = omega arith
 
+  closed_used : (c : ℕ) → c < count + 1 → (v : ℕ) × (slice_get new v ≡ Some (Closed c))
+  closed_used c less = by (before_or_not c count)
+    where
+      by : (c < count) ⊎ (count ≤ c) → (v : ℕ) × (slice_get new v ≡ Some (Closed c))
+      by (inl low) = let found = good.closed_used c low in (found.0, stays_closed top.start count places new are found.0 c found.1)
+      by (inr high) =
+          let last : count ≡ c = omega arith in
+          let first = top_there g places path pending rest top count good in
+          (first.0, is_shut top.start count places new are first.0 top.start (good.open_at top.start first.0 first.1) (omega arith) ∙ ap (λ (n : ℕ). Some (Closed n)) last)
+
   edges_of_top : (w : ℕ) → Followed places path pending top w → (d : ℕ) × (slice_get new w ≡ Some (Closed d)) × (d ≤ count)
   edges_of_top w (search_.closed d e) =
       let less = good.closed_below w d e in (d, stays_closed top.start count places new are w d e, omega arith)
@@ -227,6 +237,7 @@ module _ (g : Graph) (places new : List Place) (path pending : List ℕ) (rest :
     follows = follows;
     source = source;
     closed_below = closed_below;
+    closed_used = closed_used;
     closed_edges = closed_edges;
     alike = alike;
     room = room;

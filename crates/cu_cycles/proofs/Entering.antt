@@ -1,8 +1,6 @@
 -- A node that is entered keeps a search good.
 use Rattle.std.proofs.Common.{◌≡◌, ◌≢◌, ℕ, ◌+◌, ◌<◌, ◌≤◌, ◌⊎◌, inl, inr, List, [], ◌∷◌, ◌++◌, length, set, slice_get, Some, ap, sym, ◌∙◌, subst, arith, length-append}
 use Rattle.std.proofs.Math.ListN.{length-set}
-use Rattle.std.specs.declared.alloc.Global.{Global}
-use Rattle.std.specs.declared.vec.Vec.{Vec}
 use Rattle.cu_cycles.proofs.Lists.{get_suffix, get_prefix, get_last}
 use Rattle.cu_cycles.proofs.Places.{prefix_or_suffix, prefix_or_last, no_length, not_empty, one_element, set_cases, set_elsewhere, set_there, within}
 use Rattle.cu_cycles.proofs.Reaching.{itself}
@@ -17,7 +15,7 @@ use Rattle.cu_cycles.specs.declared.components.Place.TheVariants.{Closed, New, O
 abbrev pub part_at : ℕ → ℕ → Part
 part_at start pending = record { start = start; pending = pending }
 
-module _ (g : Graph) (places : List Place) (path pending : List ℕ) (parts : List Part) (count f : ℕ) (row : Vec ℕ Global)
+module _ (g : Graph) (places : List Place) (path pending : List ℕ) (parts : List Part) (count f : ℕ) (row : List ℕ)
     (good : Good g places path pending parts count) (is_new : slice_get places f ≡ Some New)
     (reached : (t u : ℕ) → slice_get path t ≡ Some u → Reach g u f) (is_row : slice_get g f ≡ Some row) where
   abbrev fresh : Part
@@ -30,7 +28,7 @@ module _ (g : Graph) (places : List Place) (path pending : List ℕ) (parts : Li
   path_then = path ++ f ∷ []
 
   abbrev pending_then : List ℕ
-  pending_then = pending ++ row.items
+  pending_then = pending ++ row
 
   abbrev parts_then : List Part
   parts_then = parts ++ fresh ∷ []
@@ -39,7 +37,7 @@ module _ (g : Graph) (places : List Place) (path pending : List ℕ) (parts : Li
   longer = length-append path (f ∷ [])
 
   more : length pending ≤ length pending_then
-  more = let e = length-append pending row.items in omega arith
+  more = let e = length-append pending row in omega arith
 
   not_open : (s : ℕ) → slice_get path s ≡ Some f → ⊥
   not_open s e = let at = good.open_at s f e in cc
@@ -151,7 +149,7 @@ module _ (g : Graph) (places : List Place) (path pending : List ℕ) (parts : Li
   stays : (p : Part) (w : ℕ) → Followed places path pending p w → Followed places_then path_then pending_then p w
   stays p w (search_.closed c e) = search_.closed c (stays_closed w c e)
   stays p w (search_.opened s e less) = search_.opened s (get_prefix path (f ∷ []) s w e) less
-  stays p w (search_.awaited j e less) = search_.awaited j (get_prefix pending row.items j w e) less
+  stays p w (search_.awaited j e less) = search_.awaited j (get_prefix pending row j w e) less
 
   follows : (i : ℕ) (p : Part) (t u w : ℕ) → Own parts_then t i p → slice_get path_then t ≡ Some u → Edge g u w
       → Followed places_then path_then pending_then p w
@@ -166,9 +164,9 @@ module _ (g : Graph) (places : List Place) (path pending : List ℕ) (parts : Li
           let same : f ≡ u = is_last t u (omega arith) e in
           let its_row : slice_get g f ≡ Some edge.row = subst (λ (x : ℕ). slice_get g x ≡ Some edge.row) (sym same) edge.is_row in
           let one : edge.row ≡ row = one_element g f edge.row row its_row is_row in
-          let target : slice_get row.items edge.place ≡ Some w =
-          subst (λ (r : Vec ℕ Global). slice_get r.items edge.place ≡ Some w) one edge.is_there in
-          search_.awaited (length pending + edge.place) (get_suffix pending row.items edge.place ∙ target) (omega arith)
+          let target : slice_get row edge.place ≡ Some w =
+          subst (λ (r : List ℕ). slice_get r edge.place ≡ Some w) one edge.is_there in
+          search_.awaited (length pending + edge.place) (get_suffix pending row edge.place ∙ target) (omega arith)
 
   owned_then : (t i : ℕ) (p : Part) (u : ℕ) → Own parts t i p → slice_get path t ≡ Some u → Own parts_then t i p
   owned_then t i p u own e = record {
@@ -185,10 +183,10 @@ module _ (g : Graph) (places : List Place) (path pending : List ℕ) (parts : Li
           omega arith
 
   source : (i : ℕ) (p : Part) (t w : ℕ) → Awaits parts_then t i p → slice_get pending_then t ≡ Some w → Source g path_then parts_then i p w
-  source i p t w awaits e = by (prefix_or_last parts fresh i p awaits.is_part) (prefix_or_suffix pending row.items t w e)
+  source i p t w awaits e = by (prefix_or_last parts fresh i p awaits.is_part) (prefix_or_suffix pending row t w e)
     where
       by : (slice_get parts i ≡ Some p) ⊎ ((i ≡ length parts) × (fresh ≡ p))
-          → (slice_get pending t ≡ Some w) ⊎ ((j : ℕ) × (t ≡ length pending + j) × (slice_get row.items j ≡ Some w))
+          → (slice_get pending t ≡ Some w) ⊎ ((j : ℕ) × (t ≡ length pending + j) × (slice_get row j ≡ Some w))
           → Source g path_then parts_then i p w
       by (inl old) (inl k) =
           let awaits_old : Awaits parts t i p = record {
@@ -252,6 +250,7 @@ module _ (g : Graph) (places : List Place) (path pending : List ℕ) (parts : Li
     follows = follows;
     source = source;
     closed_below = λ v c e. good.closed_below v c (was_closed v c e);
+    closed_used = λ c less. let found = good.closed_used c less in (found.0, stays_closed found.0 c found.1);
     closed_edges = λ v c w e edge.
         let found = good.closed_edges v c w (was_closed v c e) edge in (found.0, stays_closed w found.0 found.1, found.2);
     alike = λ u v c e d. good.alike u v c (was_closed u c e) (was_closed v c d);

@@ -43,6 +43,7 @@ module _ (g : Graph) (places : List Place) (path rest : List ℕ) (target : ℕ)
     follows = λ i p t u w own e edge. passes i p w own.is_part (good.follows i p t u w own e edge);
     source = λ i p t w awaits e. good.source i p t w awaits (get_prefix rest (target ∷ []) t w e);
     closed_below = good.closed_below;
+    closed_used = good.closed_used;
     closed_edges = good.closed_edges;
     alike = good.alike;
     room = good.room;

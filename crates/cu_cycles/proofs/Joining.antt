@@ -1,19 +1,13 @@
 -- Two parts that are joined keep a search good.
-use Rattle.std.proofs.Common.{◌≡◌, ℕ, zero, suc, ◌<◌, ◌≤◌, ◌⊎◌, inl, inr, List, [], ◌∷◌, ◌++◌, length, slice_get, Some, ap, subst, arith, length-append}
+use Rattle.std.proofs.Common.{◌≡◌, ℕ, ◌<◌, ◌≤◌, ◌⊎◌, inl, inr, List, [], ◌∷◌, ◌++◌, length, slice_get, Some, ap, subst, arith, length-append}
 use Rattle.cu_cycles.proofs.Lists.{get_prefix, get_last}
-use Rattle.cu_cycles.proofs.Places.{prefix_or_last, there, within}
+use Rattle.cu_cycles.proofs.Places.{before_or_not, prefix_or_last, there, within}
 use Rattle.cu_cycles.proofs.Reaching.{onward}
 use Rattle.cu_cycles.specs.Graph.{Edge, Graph, Reach}
 use Rattle.cu_cycles.specs.Inside.Search as search_
 use Rattle.cu_cycles.specs.Inside.Search.{Awaits, Followed, Good, IsLast, Own, Source}
 use Rattle.cu_cycles.specs.declared.components.Part.{Part}
 use Rattle.cu_cycles.specs.declared.components.Place.{Place}
-
-pub before_or_not : (s t : ℕ) → (s < t) ⊎ (t ≤ s)
-before_or_not zero zero = inr (omega arith)
-before_or_not zero (suc t) = inl (omega arith)
-before_or_not (suc s) zero = inr (omega arith)
-before_or_not (suc s) (suc t) = elim (before_or_not s t) [ inl h ↦ inl (omega arith) | inr h ↦ inr (omega arith) ]
 
 module _ (g : Graph) (places : List Place) (path pending : List ℕ) (rest : List Part) (top : Part) (count : ℕ)
     (good : Good g places path pending (rest ++ top ∷ []) count) where
@@ -61,7 +55,7 @@ module _ (g : Graph) (places : List Place) (path pending : List ℕ) (rest : Lis
   pub awaits_top : (t : ℕ) → top.pending ≤ t → Awaits parts t (length rest) top
   awaits_top t less = record { is_part = top_is; from = less; until = λ j q more e. absurd (none_after j q more e) }
 
-  -- a part below, where it owns a place behind the last part's start, is the last one below
+  -- a part below, where it owns a place after the last part's start, is the last one below
   last_below : (t i : ℕ) (p : Part) → Own rest t i p → top.start ≤ t → (j : ℕ) (q : Part) → i < j → slice_get rest j ≡ Some q → ⊥
   last_below t i p own high j q more e =
       let low = own.until j q more e in let less = below_top j q e in omega arith
@@ -160,6 +154,7 @@ module _ (g : Graph) (places : List Place) (path pending : List ℕ) (rest : Lis
       follows = follows;
       source = source;
       closed_below = good.closed_below;
+      closed_used = good.closed_used;
       closed_edges = good.closed_edges;
       alike = good.alike;
       room = good.room;

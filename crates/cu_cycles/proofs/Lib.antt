@@ -1,5 +1,6 @@
 pub mod Lists
 pub mod Places
+pub mod Rows
 pub mod Reaching
 pub mod Weights
 pub mod Entering

@@ -1,13 +1,11 @@
 -- A node lies on a cycle where an edge goes from it to a node of its component.
 use Rattle.std.proofs.Common.{◌≡◌, ◌↔◌, ℕ, ◌+◌, ◌<◌, ◌≤◌, inl, inr, Bool, IsTrue, List, [], ◌∷◌, ◌++◌, Some, length, length-append, slice_get, ap, sym, ◌∙◌, subst, arith}
-use Rattle.std.specs.declared.alloc.Global.{Global}
-use Rattle.std.specs.declared.vec.Vec.{Vec}
 use Rattle.cu_cycles.proofs.Places.{prefix_or_last, one_element, there}
+use Rattle.cu_cycles.specs.Components.{AreRanks}
 use Rattle.cu_cycles.specs.Graph as graph
 use Rattle.cu_cycles.specs.Graph.{Edge, Graph, IsWhole, LiesOnCycle, Reach}
-use Rattle.cu_cycles.specs.Inside.Ranks.{AreRanks}
 
-module _ (g : Graph) (ranks : List ℕ) (whole : IsWhole g) (are : AreRanks g ranks) where
+module _ (g : Graph) (ranks : List ℕ) (count : ℕ) (whole : IsWhole g) (are : AreRanks g ranks count) where
   -- each node has a number
   ranked : (u : ℕ) → u < length g → (r : ℕ) × (slice_get ranks u ≡ Some r)
   ranked u low = let size : length ranks ≡ length g = are.sized in there ranks u (omega arith)
@@ -21,16 +19,16 @@ module _ (g : Graph) (ranks : List ℕ) (whole : IsWhole g) (are : AreRanks g ra
       let other : s ≤ next.0 = falls w v next.0 s rest next.1 d in
       omega arith
 
-  pub cycle_from : (u r : ℕ) (row : Vec ℕ Global) → slice_get g u ≡ Some row → slice_get ranks u ≡ Some r
-      → ((k : ℕ) × (v : ℕ) × (slice_get row.items k ≡ Some v) × (slice_get ranks v ≡ Some r)) → LiesOnCycle g u
+  pub cycle_from : (u r : ℕ) (row : List ℕ) → slice_get g u ≡ Some row → slice_get ranks u ≡ Some r
+      → ((k : ℕ) × (v : ℕ) × (slice_get row k ≡ Some v) × (slice_get ranks v ≡ Some r)) → LiesOnCycle g u
   cycle_from u r row at e found = record {
     next = found.1;
     edge = record { row = row; is_row = at; place = found.0; is_there = found.2 };
     closes = are.alike found.1 u r found.3 e;
   }
 
-  pub cycle_to : (u r : ℕ) (row : Vec ℕ Global) → slice_get g u ≡ Some row → slice_get ranks u ≡ Some r
-      → LiesOnCycle g u → (k : ℕ) × (v : ℕ) × (slice_get row.items k ≡ Some v) × (slice_get ranks v ≡ Some r)
+  pub cycle_to : (u r : ℕ) (row : List ℕ) → slice_get g u ≡ Some row → slice_get ranks u ≡ Some r
+      → LiesOnCycle g u → (k : ℕ) × (v : ℕ) × (slice_get row k ≡ Some v) × (slice_get ranks v ≡ Some r)
   cycle_to u r row at e cycle =
       let edge = cycle.edge in
       let next = ranked cycle.next (whole.within u cycle.next edge) in
@@ -40,23 +38,23 @@ module _ (g : Graph) (ranks : List ℕ) (whole : IsWhole g) (are : AreRanks g ra
       let row_is : edge.row ≡ row = one_element g u edge.row row edge.is_row at in (
         edge.place,
         cycle.next,
-        subst (λ (x : Vec ℕ Global). slice_get x.items edge.place ≡ Some cycle.next) row_is edge.is_there,
+        subst (λ (x : List ℕ). slice_get x edge.place ≡ Some cycle.next) row_is edge.is_there,
         subst (λ (n : ℕ). slice_get ranks cycle.next ≡ Some n) same next.1,
       )
 
   -- the targets of a row have numbers
-  pub row_ranked : (u : ℕ) (row : Vec ℕ Global) (slice numbers : List ℕ) → slice_get g u ≡ Some row → slice ≡ row.items → numbers ≡ ranks
+  pub row_ranked : (u : ℕ) (row : List ℕ) (slice numbers : List ℕ) → slice_get g u ≡ Some row → slice ≡ row → numbers ≡ ranks
       → (k v : ℕ) → slice_get slice k ≡ Some v → v < length numbers
   row_ranked u row slice numbers at is are_numbers k v e =
       let size : length ranks ≡ length g = are.sized in
-      let there : slice_get row.items k ≡ Some v = subst (λ (x : List ℕ). slice_get x k ≡ Some v) is e in
+      let there : slice_get row k ≡ Some v = subst (λ (x : List ℕ). slice_get x k ≡ Some v) is e in
       let low : v < length g = whole.within u v (record { row = row; is_row = at; place = k; is_there = there }) in
       let same : length numbers ≡ length ranks = ap length are_numbers in
       omega arith
 
   -- one flag more
-  pub flagged : (n r : ℕ) (row : Vec ℕ Global) (slice numbers : List ℕ) (flag : Bool) (old new : List Bool)
-      → slice_get g n ≡ Some row → slice ≡ row.items → numbers ≡ ranks → slice_get ranks n ≡ Some r → new ≡ old ++ flag ∷ []
+  pub flagged : (n r : ℕ) (row : List ℕ) (slice numbers : List ℕ) (flag : Bool) (old new : List Bool)
+      → slice_get g n ≡ Some row → slice ≡ row → numbers ≡ ranks → slice_get ranks n ≡ Some r → new ≡ old ++ flag ∷ []
       → (IsTrue flag ↔ ((k : ℕ) × (v : ℕ) × (slice_get slice k ≡ Some v) × (slice_get numbers v ≡ Some r)))
       → (length old ≡ n) × ((u : ℕ) (b : Bool) → slice_get old u ≡ Some b → (IsTrue b ↔ LiesOnCycle g u))
       → (length new ≡ n + 1) × ((u : ℕ) (b : Bool) → slice_get new u ≡ Some b → (IsTrue b ↔ LiesOnCycle g u))

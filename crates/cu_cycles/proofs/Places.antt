@@ -1,5 +1,5 @@
 -- Elements of lists, by their places.
-use Rattle.std.proofs.Common.{◌≡◌, ◌≢◌, ℕ, zero, suc, ◌+◌, ◌-◌, ◌<◌, ◌⊎◌, inl, inr, List, [], ◌∷◌, ◌++◌, length, map, set, take, slice_get, Some, refl, ap, sym, ◌∙◌, subst, arith}
+use Rattle.std.proofs.Common.{◌≡◌, ◌≢◌, ℕ, zero, suc, ◌+◌, ◌-◌, ◌<◌, ◌≤◌, ◌⊎◌, inl, inr, List, [], ◌∷◌, ◌++◌, length, map, set, take, slice_get, Some, refl, ap, sym, ◌∙◌, subst, arith}
 
 pub prefix_or_last : {A : Type 0} (xs : List A) (y : A) (k : ℕ) (x : A) → slice_get (xs ++ y ∷ []) k ≡ Some x
     → (slice_get xs k ≡ Some x) ⊎ ((k ≡ length xs) × (y ≡ x))
@@ -42,6 +42,12 @@ same_or_not zero zero = inl refl
 same_or_not zero (suc i) = inr (λ e. omega arith)
 same_or_not (suc k) zero = inr (λ e. omega arith)
 same_or_not (suc k) (suc i) = elim (same_or_not k i) [ inl e ↦ inl (ap suc e) | inr h ↦ inr (λ e. h (omega arith)) ]
+
+pub before_or_not : (s t : ℕ) → (s < t) ⊎ (t ≤ s)
+before_or_not zero zero = inr (omega arith)
+before_or_not zero (suc t) = inl (omega arith)
+before_or_not (suc s) zero = inr (omega arith)
+before_or_not (suc s) (suc t) = elim (before_or_not s t) [ inl h ↦ inl (omega arith) | inr h ↦ inr (omega arith) ]
 
 some_is : {A : Type 0} (x y : A) (found : List A) (k : ℕ) → slice_get found k ≡ Some x → slice_get found k ≡ Some y → x ≡ y
 some_is x y found k e f = cc
@@ -110,6 +116,11 @@ pub take_prefix : {A : Type 0} (xs ys : List A) → take (length xs) (xs ++ ys) 
 take_prefix [] [] = refl
 take_prefix [] (y ∷ ys) = refl
 take_prefix (x ∷ xs) ys = ap (λ zs. x ∷ zs) (take_prefix xs ys)
+
+pub get_map : {A B : Type 0} (f : A → B) (xs : List A) (k : ℕ) (x : A) → slice_get xs k ≡ Some x → slice_get (map f xs) k ≡ Some (f x)
+get_map f [] k x h = let no : ⊥ = cc in absurd no
+get_map f (y ∷ xs) zero x h = let same : y ≡ x = cc in ap (λ z. Some (f z)) same
+get_map f (y ∷ xs) (suc k) x h = get_map f xs k x h
 
 pub mapped_at : {A B : Type 0} (f : A → B) (xs : List A) (k : ℕ) (y : B) → slice_get (map f xs) k ≡ Some y → (x : A) × (slice_get xs k ≡ Some x) × (f x ≡ y)
 mapped_at f [] k y e = let no : ⊥ = cc in absurd no

@@ -2,10 +2,10 @@
 use Rattle.std.proofs.Common.{◌≡◌, ℕ, zero, suc, ◌<◌, ◌≤◌, List, [], ◌∷◌, length, map, replicate, Some, slice_get, refl, ap, sym, ◌∙◌, subst, arith}
 use Rattle.std.proofs.lemmas.List.{length-map}
 use Rattle.cu_cycles.proofs.Changes.{good_as}
-use Rattle.cu_cycles.proofs.Places.{within}
+use Rattle.cu_cycles.proofs.Places.{get_map, within}
 use Rattle.cu_cycles.proofs.Weights.{weigh_all}
+use Rattle.cu_cycles.specs.Components.{AreRanks}
 use Rattle.cu_cycles.specs.Graph.{Edge, Graph}
-use Rattle.cu_cycles.specs.Inside.Ranks.{AreRanks}
 use Rattle.cu_cycles.specs.Inside.Search.{Good, IsStart, MayEnter, Rests, number_of}
 use Rattle.cu_cycles.specs.declared.components.Place.{Place}
 use Rattle.cu_cycles.specs.declared.components.Place.TheVariants.{Closed, New, Open}
@@ -37,6 +37,7 @@ first_good g = record {
   follows = λ i p t u w own e edge. absurd (no_element t u e);
   source = λ i p t w awaits e. absurd (no_element t w e);
   closed_below = λ v c e. let no = all_new (length g) v (Closed c) e in absurd (cc);
+  closed_used = λ c less. absurd (omega arith);
   closed_edges = λ v c w e edge. let no = all_new (length g) v (Closed c) e in absurd (cc);
   alike = λ u v c e d. let no = all_new (length g) u (Closed c) e in absurd (cc);
   room = let all = weigh_all g in omega arith;
@@ -85,12 +86,19 @@ module _ (g : Graph) (s : Search) (rests : Rests g s) (met : (v : ℕ) → v < l
       let less : found.0 ≤ r = found.2 in
       omega arith
 
-  ranks : AreRanks g (map number_of s.places.items)
+  used : (r : ℕ) → r < s.closed → (u : ℕ) × (slice_get (map number_of s.places.items) u ≡ Some r)
+  used r less =
+      let found = rests.good.closed_used r less in (found.0, get_map number_of s.places.items found.0 (Closed r) found.1)
+
+  ranks : AreRanks g (map number_of s.places.items) s.closed
   ranks = record {
     sized = length-map s.places.items number_of ∙ rests.good.sized;
+    below = λ u r e. rests.good.closed_below u r (is_closed u r e);
+    used = used;
+    few = let room = rests.good.room in omega arith;
     falling = falling;
     alike = λ u v r e d. rests.good.alike u v r (is_closed u r e) (is_closed v r d);
   }
 
-  pub are_ranks : (found : List ℕ) → found ≡ map number_of s.places.items → AreRanks g found
-  are_ranks found same = subst (λ (x : List ℕ). AreRanks g x) (sym same) ranks
+  pub are_ranks : (found : List ℕ) → found ≡ map number_of s.places.items → AreRanks g found s.closed
+  are_ranks found same = subst (λ (x : List ℕ). AreRanks g x s.closed) (sym same) ranks

@@ -1,18 +1,22 @@
 -- Graphs as rows of nodes, one row for each node: the nodes to which edges go from it. Nodes are
 -- numbers, from 0.
-use Rattle.std.specs.Prelude.{◌≡◌, ◌↔◌, ℕ, ◌<◌, Bool, IsTrue, List, Some, length, slice_get}
+use Rattle.std.specs.Prelude.{◌≡◌, ◌↔◌, ℕ, ◌<◌, Bool, IsTrue, List, Some, length, map, slice_get}
 use Rattle.std.specs.declared.alloc.Global.{Global}
 use Rattle.std.specs.declared.vec.Vec.{Vec}
 
 abbrev pub Graph : Type 0
-Graph = List (Vec ℕ Global)
+Graph = List (List ℕ)
+
+-- the graph that code keeps as vectors
+abbrev pub rows_in : List (Vec ℕ Global) → Graph
+rows_in rows = map (λ row. row.items) rows
 
 -- the row of u has v
 pub record Edge (g : Graph) (u v : ℕ) : Type 0 where
-  pub row : Vec ℕ Global
+  pub row : List ℕ
   pub is_row : slice_get g u ≡ Some row
   pub place : ℕ
-  pub is_there : slice_get row.items place ≡ Some v
+  pub is_there : slice_get row place ≡ Some v
 
 -- a walk along edges, or none at all
 pub data Reach (g : Graph) : ℕ → ℕ → Type 0 where

@@ -1,7 +1,7 @@
 //! The strongly connected components of a graph.
 ghost use Rattle.std.specs.Prelude.{◌≡◌, ◌↔◌, ◌+◌, ◌-◌, ◌^◌, ◌<◌, ◌≤◌, ◌++◌, ℕ, [], Some, IfOk, OnOk, IfSome, IfNone, IsTrue, IsFalse, length, map, take, slice_get};
-ghost use Rattle.cu_cycles.specs.Graph.{Graph, IsWhole};
-ghost use Rattle.cu_cycles.specs.Inside.Ranks.{AreRanks};
+ghost use Rattle.cu_cycles.specs.Components.{AreRanks};
+ghost use Rattle.cu_cycles.specs.Graph.{Graph, IsWhole, rows_in};
 ghost use Rattle.cu_cycles.specs.Inside.Search.{AreShut, IsGood, IsLast, IsStart, MayEnter, MayForget, MayJoin, Meets, OnlyParts, Rests, number_of, work};
 
 use std::alloc::{AllocError, Global};
@@ -9,11 +9,11 @@ use std::alloc::{AllocError, Global};
 /// Where the search has put a node.
 #[derive(Clone, Copy)]
 enum Place {
-    /// It wasn't met yet.
+    /// The node wasn't visited yet.
     New,
-    /// On the stack of open nodes, at this place.
+    /// The node is on the stack of open nodes, at this place.
     Open(usize),
-    /// In the component with this number.
+    /// The node is in the component with this number.
     Closed(usize),
 }
 
@@ -41,9 +41,10 @@ struct Search {
 impl Search {
     /// Opens a node: a part of its own, with all to which it leads pending.
     fn enter(&mut self, graph: &[Vec<usize>], node: usize) -> Result<(), AllocError>
-        requires { MayEnter graph.now self.old node }
-        ensures good { OnOk result (IsGood graph.now self.new) }
-        ensures falls { OnOk result (work graph.now self.new + 1 ≡ work graph.now self.old) }
+        requires { MayEnter (rows_in graph.now) self.old node }
+        ensures good { OnOk result (IsGood (rows_in graph.now) self.new) }
+        ensures falls { OnOk result (work (rows_in graph.now) self.new + 1
+            ≡ work (rows_in graph.now) self.old) }
         ensures meets { OnOk result (Meets self.old self.new) }
         ensures met { OnOk result (slice_get self.new.places.items node ≡ Some Place.New → ⊥) }
     {
@@ -145,11 +146,12 @@ impl Search {
 
     /// Follows an edge of the last part, or closes the part.
     fn advance(&mut self, graph: &[Vec<usize>], part: Part) -> Result<(), AllocError>
-        requires whole { IsWhole graph.now }
-        requires good { IsGood graph.now self.old }
+        requires whole { IsWhole (rows_in graph.now) }
+        requires good { IsGood (rows_in graph.now) self.old }
         requires last { IsLast self.old.parts.items part }
-        ensures good { OnOk result (IsGood graph.now self.new) }
-        ensures falls { OnOk result (work graph.now self.new < work graph.now self.old) }
+        ensures good { OnOk result (IsGood (rows_in graph.now) self.new) }
+        ensures falls { OnOk result (work (rows_in graph.now) self.new
+            < work (rows_in graph.now) self.old) }
         ensures meets { OnOk result (Meets self.old self.new) }
     {
         let Some(target) = self.pending_from(part.pending) else {
@@ -170,7 +172,7 @@ impl Search {
         }
     }
 
-    /// A search that has met no node.
+    /// A search that has visited no node.
     fn new(alloc: Global, count: usize) -> Result<Search, AllocError>
         ensures { IfOk result (λ search. IsStart count search) }
     {
@@ -185,9 +187,9 @@ impl Search {
 
     /// Takes steps until no part is left.
     fn run(&mut self, graph: &[Vec<usize>]) -> Result<(), AllocError>
-        requires whole { IsWhole graph.now }
-        requires good { IsGood graph.now self.old }
-        ensures rests { OnOk result (Rests graph.now self.new) }
+        requires whole { IsWhole (rows_in graph.now) }
+        requires good { IsGood (rows_in graph.now) self.old }
+        ensures rests { OnOk result (Rests (rows_in graph.now) self.new) }
         ensures meets { OnOk result (Meets self.old self.new) }
     {
         while let Some(part) = self.parts.last().copied() {
@@ -196,7 +198,7 @@ impl Search {
         Ok(())
     }
 
-    /// Whether a node wasn't met yet.
+    /// Whether a node wasn't visited yet.
     fn is_new(&self, node: usize) -> bool
         requires { node < length self.now.places.items }
         ensures { IsTrue result ↔ slice_get self.now.places.items node ≡ Some Place.New }
@@ -210,10 +212,10 @@ impl Search {
 
     /// Closes a node, and all that it reaches.
     fn visit(&mut self, graph: &[Vec<usize>], node: usize) -> Result<(), AllocError>
-        requires whole { IsWhole graph.now }
-        requires rests { Rests graph.now self.old }
+        requires whole { IsWhole (rows_in graph.now) }
+        requires rests { Rests (rows_in graph.now) self.old }
         requires within { node < length graph.now }
-        ensures rests { OnOk result (Rests graph.now self.new) }
+        ensures rests { OnOk result (Rests (rows_in graph.now) self.new) }
         ensures meets { OnOk result (Meets self.old self.new) }
         ensures met { OnOk result (slice_get self.new.places.items node ≡ Some Place.New → ⊥) }
     {
@@ -223,6 +225,16 @@ impl Search {
         }
         Ok(())
     }
+}
+
+/// The strongly connected components of a graph, by number: no edge goes to a
+/// greater number.
+#[derive(Drop)]
+pub struct Components {
+    /// The number of each node's component.
+    pub ranks: Vec<usize>,
+    /// How many components there are.
+    pub count: usize,
 }
 
 /// The number of a closed node's component, and 0 for others.
@@ -247,15 +259,23 @@ fn numbers(alloc: Global, places: &[Place]) -> Result<Vec<usize>, AllocError>
     Ok(found)
 }
 
-/// The numbers of the components of a graph, in time about proportional to its
-/// size: what a component leads to has no greater number.
-pub(crate) fn ranks(alloc: Global, graph: &[Vec<usize>]) -> Result<Vec<usize>, AllocError>
-    requires { IsWhole graph.now }
-    ensures { IfOk result (λ found. AreRanks graph.now found.items) }
+/// The strongly connected components of a graph, in time about proportional to
+/// its size.
+///
+/// # Errors
+///
+/// Out of memory.
+pub fn find_components(alloc: Global, graph: &[Vec<usize>]) -> Result<Components, AllocError>
+    requires { IsWhole (rows_in graph.now) }
+    ensures { IfOk result (λ found. AreRanks (rows_in graph.now) found.ranks.items found.count) }
 {
     let mut search = Search::new(alloc, graph.len())?;
     for node in 0..graph.len() {
         search.visit(graph, node)?;
     }
-    numbers(alloc, search.places.as_slice())
+    let ranks = numbers(alloc, search.places.as_slice())?;
+    Ok(Components {
+        ranks,
+        count: search.closed,
+    })
 }

@@ -1,9 +1,8 @@
 //! Nodes that lead back to themselves.
 ghost use Rattle.std.specs.Prelude.{◌≡◌, ◌↔◌, ◌<◌, ℕ, IfOk, IsTrue, Some, length, slice_get};
-ghost use Rattle.cu_cycles.specs.Graph.{AreOnCycles, Edge, IsWhole, LiesOnCycle};
-ghost use Rattle.cu_cycles.specs.Inside.Ranks.{AreRanks};
+ghost use Rattle.cu_cycles.specs.Graph.{AreOnCycles, IsWhole, rows_in};
 
-use crate::components::ranks;
+use crate::components::find_components;
 use std::alloc::{AllocError, Global};
 
 /// Whether one of some nodes has a number.
@@ -25,15 +24,19 @@ fn has_rank(ranks: &[usize], nodes: &[usize], rank: usize) -> bool
 ///
 /// # Errors
 ///
-/// Want of memory.
+/// Out of memory.
 pub fn on_cycles(alloc: Global, graph: &[Vec<usize>]) -> Result<Vec<bool>, AllocError>
-    requires { IsWhole graph.now }
-    ensures { IfOk result (λ flags. AreOnCycles graph.now flags.items) }
+    requires { IsWhole (rows_in graph.now) }
+    ensures { IfOk result (λ flags. AreOnCycles (rows_in graph.now) flags.items) }
 {
-    let ranks = ranks(alloc, graph)?;
+    let found = find_components(alloc, graph)?;
     let mut flags = Vec::new(alloc);
     for node in 0..graph.len() {
-        flags.push(has_rank(ranks.as_slice(), graph[node].as_slice(), ranks[node]))?;
+        flags.push(has_rank(
+            found.ranks.as_slice(),
+            graph[node].as_slice(),
+            found.ranks[node],
+        ))?;
     }
     Ok(flags)
 }

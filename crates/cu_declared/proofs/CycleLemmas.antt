@@ -3,10 +3,8 @@ use Rattle.std.proofs.Common.{◌≡◌, ◌∙◌, ◌⊎◌, inl, inr, ◌<◌
 use Rattle.std.proofs.lemmas.List.{length-map}
 use Rattle.std.proofs.lemmas.List.Concat.{flat_map-cons}
 use Rattle.std.specs.Prelude.{slice_get}
-use Rattle.std.specs.declared.alloc.Global.{Global}
-use Rattle.std.specs.declared.vec.Vec.{Vec}
 use Rattle.cu_cycles.proofs.Lists.{get_suffix}
-use Rattle.cu_cycles.proofs.Places.{prefix_or_suffix, mapped_at, there, within}
+use Rattle.cu_cycles.proofs.Places.{prefix_or_suffix, get_map, mapped_at, there, within}
 use Rattle.cu_cycles.specs.Graph as graph
 use Rattle.cu_cycles.specs.Graph.{AreOnCycles, Edge, Graph, IsWhole, LiesOnCycle, Reach}
 use Rattle.cu_entities.specs.Bindings.{Binding}
@@ -14,7 +12,7 @@ use Rattle.cu_entities.specs.Entities.{Entity, Types}
 use Rattle.cu_modules.specs.Scopes.{Named, meant}
 use Rattle.cu_declared.specs.declared.synonyms.Synonym as code
 use Rattle.cu_declared.specs.Inside.Arities.{alone, entity_meant}
-use Rattle.cu_declared.specs.Inside.Synonyms.{AreCycles, Kept, flagged_fault, flagged_faults, kept, kept_by, kept_numbers, listed, number_if, row_of, rows_in, target_of, targets}
+use Rattle.cu_declared.specs.Inside.Synonyms.{AreCycles, Kept, flagged_fault, flagged_faults, kept, kept_by, kept_numbers, listed, number_if, row_of, target_of, targets}
 use Rattle.cu_declared.specs.Inside.Told.{World, bindings_of}
 use Rattle.cu_declared.specs.Parameters.{Numbered, belongs_to, number_of, numbered}
 use Rattle.cu_declared.specs.SynonymCycles as cycles
@@ -23,11 +21,6 @@ use Rattle.cu_declared.specs.TypeFaults as faults
 use Rattle.cu_declared.specs.TypeFaults.{Fault, IsCycleFault, cycle_fault}
 use Rattle.cu_declared.specs.TypeUses.{TypeUse, type_uses}
 use Rattle.cu_declared.proofs.ArityLemmas.{alone_is}
-
-get_map : {A B : Type 0} (f : A → B) (xs : List A) (k : ℕ) (x : A) → slice_get xs k ≡ Some x → slice_get (map f xs) k ≡ Some (f x)
-get_map f [] k x h = let no : ⊥ = cc in absurd no
-get_map f (y ∷ xs) zero x h = let same : y ≡ x = cc in ap (λ z. Some (f z)) same
-get_map f (y ∷ xs) (suc k) x h = get_map f xs k x h
 
 -- ---- the numbers of synonyms
 
@@ -102,23 +95,20 @@ flagged_here true s (suc k) f e = let no : ⊥ = cc in absurd no
 flagged_here false s k f e = let no : ⊥ = cc in absurd no
 
 -- as many rows as synonyms
-pub rows_many : {A B : Type 0} (f : B → List ℕ) (h : A → B) (g : Graph) (xs : List A) → rows_in g ≡ map f (map h xs) → length g ≡ length xs
-rows_many f h g xs rows =
-    sym (length-map g (λ (row : Vec ℕ Global). row.items)) ∙ ap length rows ∙ length-map (map h xs) f ∙ length-map xs h
+pub rows_many : {A B : Type 0} (f : B → List ℕ) (h : A → B) (g : Graph) (xs : List A) → g ≡ map f (map h xs) → length g ≡ length xs
+rows_many f h g xs rows = ap length rows ∙ length-map (map h xs) f ∙ length-map xs h
 
 -- ---- edges
 
-module _ (bindings : List Binding) (m : Named) (g : Graph) (rows : rows_in g ≡ map (row_of (synonym_numbers m) bindings) (map kept (synonyms_in m))) where
+module _ (bindings : List Binding) (m : Named) (g : Graph) (rows : g ≡ map (row_of (synonym_numbers m) bindings) (map kept (synonyms_in m))) where
   pub as_many : length g ≡ length (synonyms_in m)
-  as_many =
-      sym (length-map g (λ (row : Vec ℕ Global). row.items)) ∙ ap length rows
-      ∙ length-map (map kept (synonyms_in m)) (row_of (synonym_numbers m) bindings) ∙ length-map (synonyms_in m) kept
+  as_many = rows_many (row_of (synonym_numbers m) bindings) kept g (synonyms_in m) rows
 
   mentions : (i j : ℕ) → Edge g i j → Mentions bindings m i j
   mentions i j edge =
-      let row : slice_get (map (row_of (synonym_numbers m) bindings) (map kept (synonyms_in m))) i ≡ Some edge.row.items =
-      subst (λ (rs : List (List ℕ)). slice_get rs i ≡ Some edge.row.items) rows (get_map (λ (r : Vec ℕ Global). r.items) g i edge.row edge.is_row) in
-      let k = mapped_at (row_of (synonym_numbers m) bindings) (map kept (synonyms_in m)) i edge.row.items row in
+      let row : slice_get (map (row_of (synonym_numbers m) bindings) (map kept (synonyms_in m))) i ≡ Some edge.row =
+      subst (λ (rs : List (List ℕ)). slice_get rs i ≡ Some edge.row) rows edge.is_row in
+      let k = mapped_at (row_of (synonym_numbers m) bindings) (map kept (synonyms_in m)) i edge.row row in
       let s = mapped_at kept (synonyms_in m) i k.0 k.1 in
       let uses_are : type_uses s.0.right ≡ k.0.uses = ap (λ (x : Kept). x.uses) s.2 in
       let found = target_from (synonym_numbers m) bindings k.0.uses edge.place j (subst (λ (ts : List ℕ). slice_get ts edge.place ≡ Some j) (sym k.2) edge.is_there) in
@@ -136,25 +126,21 @@ module _ (bindings : List Binding) (m : Named) (g : Graph) (rows : rows_in g ≡
 
   edge_of : (i j : ℕ) → Mentions bindings m i j → Edge g i j
   edge_of i j names =
-      let row_at = there_in i names.synonym names.is_there in
+      let row_at = row_there i names.synonym names.is_there in
       let target : target_of (synonym_numbers m) bindings names.used ≡ Some j =
       ap (λ (es : List Entity). number_if (synonym_numbers m) (alone es)) names.means ∙ names.is_synonym in
       let found = target_by (synonym_numbers m) bindings (type_uses names.synonym.right) names.place j names.used names.stands target in
       record {
-        row = row_at.0;
-        is_row = row_at.1;
+        row = targets (synonym_numbers m) bindings (type_uses names.synonym.right);
+        is_row = row_at;
         place = found.0;
-        is_there = subst (λ (ts : List ℕ). slice_get ts found.0 ≡ Some j) (sym row_at.2) found.1;
+        is_there = found.1;
       }
     where
-      there_in : (k : ℕ) (s : Synonym) → slice_get (synonyms_in m) k ≡ Some s
-          → (row : Vec ℕ Global) × (slice_get g k ≡ Some row) × (row.items ≡ targets (synonym_numbers m) bindings (type_uses s.right))
-      there_in k s at =
-          let row : slice_get (rows_in g) k ≡ Some (row_of (synonym_numbers m) bindings (kept s)) =
+      row_there : (k : ℕ) (s : Synonym) → slice_get (synonyms_in m) k ≡ Some s → slice_get g k ≡ Some (row_of (synonym_numbers m) bindings (kept s))
+      row_there k s at =
           subst (λ (rs : List (List ℕ)). slice_get rs k ≡ Some (row_of (synonym_numbers m) bindings (kept s))) (sym rows)
-          (get_map (row_of (synonym_numbers m) bindings) (map kept (synonyms_in m)) k (kept s) (get_map kept (synonyms_in m) k s at)) in
-          let found = mapped_at (λ (r : Vec ℕ Global). r.items) g k (row_of (synonym_numbers m) bindings (kept s)) row in
-          (found.0, found.1, found.2)
+          (get_map (row_of (synonym_numbers m) bindings) (map kept (synonyms_in m)) k (kept s) (get_map kept (synonyms_in m) k s at))
 
   pub whole : IsWhole g
   whole = record {

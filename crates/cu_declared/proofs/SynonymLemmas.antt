@@ -6,6 +6,7 @@ use Rattle.std.proofs.lemmas.List.Concat.{flat_map-cons}
 use Rattle.std.proofs.lemmas.List.Elements.{All-append, All-nil, All-push}
 use Rattle.std.specs.declared.alloc.Global.{Global}
 use Rattle.std.specs.declared.vec.Vec.{Vec}
+use Rattle.cu_cycles.specs.Graph.{rows_in}
 use Rattle.cu_entities.specs.Bindings.{Binding}
 use Rattle.cu_lex.specs.Reading.{position_of}
 use Rattle.cu_names.specs.declared.names.NameId.{NameId}
@@ -21,7 +22,7 @@ use Rattle.cu_declared.specs.declared.synonyms.Synonym as code
 use Rattle.cu_declared.specs.Inside.Gathered.{Adds, UseIsOf, in_type, use_meaning, uses_meaning}
 use Rattle.cu_declared.specs.Inside.Items.{item_synonyms, items_synonyms}
 use Rattle.cu_declared.specs.Inside.Numbers.{Gains}
-use Rattle.cu_declared.specs.Inside.Synonyms.{AreKept, Kept, SynonymIsOf, flagged_fault, flagged_faults, kept, kept_by, kept_numbers, listed, row_of, rows_in, target_of, targets}
+use Rattle.cu_declared.specs.Inside.Synonyms.{AreKept, Kept, SynonymIsOf, flagged_fault, flagged_faults, kept, kept_by, kept_numbers, listed, row_of, target_of, targets}
 use Rattle.cu_declared.specs.Inside.Told.{AreTold, Told, World}
 use Rattle.cu_declared.specs.Parameters.{Numbered, numbered}
 use Rattle.cu_declared.specs.SynonymCycles.{Synonym}

@@ -1,13 +1,14 @@
 //! The synonyms of a module, and which of them lead to themselves.
 ghost use Rattle.std.specs.Prelude.{◌≡◌, [], List, ℕ, IfOk, OnOk, length, map};
 ghost use Rattle.std.specs.List.{All};
+ghost use Rattle.cu_cycles.specs.Graph.{rows_in};
 ghost use Rattle.cu_names.specs.Texts.{AllDiffer, IsKnown, text_of};
 ghost use Rattle.cu_names.specs.declared.names.NameId.{NameId};
 ghost use Rattle.cu_syntax.specs.Owners.{ItemIsOf};
 ghost use Rattle.cu_declared.specs.Inside.Gathered.{UseIsOf, use_meaning, uses_meaning};
 ghost use Rattle.cu_declared.specs.Inside.Items.{item_synonyms, items_synonyms};
 ghost use Rattle.cu_declared.specs.Inside.Numbers.{Have};
-ghost use Rattle.cu_declared.specs.Inside.Synonyms.{AreCycles, AreKept, AreSynonyms, IsKept, SynonymIsOf, flagged_fault, flagged_faults, kept_by, kept_numbers, row_of, rows_in, target_of, targets};
+ghost use Rattle.cu_declared.specs.Inside.Synonyms.{AreCycles, AreKept, AreSynonyms, IsKept, SynonymIsOf, flagged_fault, flagged_faults, kept_by, kept_numbers, row_of, target_of, targets};
 ghost use Rattle.cu_declared.specs.Inside.Told.{IsAt, Told, World, bindings_of};
 ghost use Rattle.cu_declared.specs.Parameters.{Numbered};
 ghost use Rattle.cu_declared.specs.TypeFaults as meant;

@@ -7,12 +7,13 @@ use Rattle.cu_calculus.specs.Claims as claims
 use Rattle.cu_calculus.specs.Claims.{Allows, AreLeastLevels, AreLevels, Collected, Plain, body_mentions}
 use Rattle.cu_calculus.specs.Program.{Function, Program}
 use Rattle.cu_calculus.specs.declared.FunId.{FunId}
+use Rattle.cu_lift.proofs.Edges.{edge_mention, mention_edge}
 use Rattle.cu_lift.proofs.InRange.{rows_length}
-use Rattle.cu_lift.proofs.Places.{mapped_at}
-use Rattle.cu_lift.specs.Inside.Graph as graph
-use Rattle.cu_lift.specs.Inside.Graph.{Edge, Graph, Reach, targets}
+use Rattle.cu_cycles.proofs.Places.{mapped_at}
+use Rattle.cu_cycles.specs.Graph as graph
+use Rattle.cu_cycles.specs.Graph.{Edge, Reach}
 use Rattle.cu_lift.specs.Inside.Levelling.{AreLevelsOn, Mentioned}
-use Rattle.cu_lift.specs.Inside.MentionsOf.{graph_of, mention_by, mention_meaning, mention_meanings, rows_of}
+use Rattle.cu_lift.specs.Inside.MentionsOf.{MentionRows, graph_of, mention_by, mention_meaning, mention_meanings, rows_of, targets_in}
 use Rattle.cu_lift.specs.Inside.Trail.{Steps}
 use Rattle.cu_lift.specs.Walks as walks
 use Rattle.cu_lift.specs.Walks.{Has, Mentions, Reaches, Walk}
@@ -23,20 +24,7 @@ function_at u = record { 0 = u }
 
 -- ---- rows
 
-pub edge_mention : (g : Graph) (u v : ℕ) → Edge g u v → (m : Mention) × Mentioned g u m × (m.function.0 ≡ v)
-edge_mention g u v edge =
-    let m = mapped_at (λ (x : Mention). x.function.0) edge.row.items edge.place v edge.is_there in
-    (m.0, record { row = edge.row; is_row = edge.is_row; place = edge.place; is_there = m.1 }, m.2)
-
-pub mention_edge : (g : Graph) (u : ℕ) (m : Mention) → Mentioned g u m → Edge g u m.function.0
-mention_edge g u m h = record {
-  row = h.row;
-  is_row = h.is_row;
-  place = h.place;
-  is_there = get_map (λ (x : Mention). x.function.0) h.row.items h.place m h.is_there;
-}
-
-module _ (program : Program) (rows : Graph) (same : rows_of rows ≡ graph_of program) where
+module _ (program : Program) (rows : MentionRows) (same : rows_of rows ≡ graph_of program) where
   function_of_row : (u : ℕ) (row : Vec Mention Global) → slice_get rows u ≡ Some row
       → (function : Function) × (slice_get program.functions u ≡ Some function) × (body_mentions function.body ≡ mention_meanings row.items)
   function_of_row u row e =
@@ -75,7 +63,7 @@ module _ (program : Program) (rows : Graph) (same : rows_of rows ≡ graph_of pr
   mention_of u true f h = inr h
   mention_of u false f h = inl h
 
-  pub edge_mentions : (u v : ℕ) → Edge rows u v → Mentions program (function_at u) (function_at v)
+  pub edge_mentions : (u v : ℕ) → Edge (targets_in rows) u v → Mentions program (function_at u) (function_at v)
   edge_mentions u v edge =
       let m = edge_mention rows u v edge in
       subst (λ (x : ℕ). Mentions program (function_at u) (function_at x)) m.2
@@ -89,30 +77,30 @@ module _ (program : Program) (rows : Graph) (same : rows_of rows ≡ graph_of pr
   collected_is true f g e = (cc, refl)
   collected_is false f g e = let no : ⊥ = cc in absurd no
 
-  pub mentions_edge : (f g : FunId) → Mentions program f g → Edge rows f.0 g.0
+  pub mentions_edge : (f g : FunId) → Mentions program f g → Edge (targets_in rows) f.0 g.0
   mentions_edge f g (inl h) =
       let m = has_mentioned f (Plain g) h in
       let name = plain_is m.0.collected m.0.function g m.2 in
-      subst (λ (x : FunId). Edge rows f.0 x.0) name.0 (mention_edge rows f.0 m.0 m.1)
+      subst (λ (x : FunId). Edge (targets_in rows) f.0 x.0) name.0 (mention_edge rows f.0 m.0 m.1)
   mentions_edge f g (inr h) =
       let m = has_mentioned f (Collected g) h in
       let name = collected_is m.0.collected m.0.function g m.2 in
-      subst (λ (x : FunId). Edge rows f.0 x.0) name.0 (mention_edge rows f.0 m.0 m.1)
+      subst (λ (x : FunId). Edge (targets_in rows) f.0 x.0) name.0 (mention_edge rows f.0 m.0 m.1)
 
-  pub steps_walk : (u : ℕ) (fs : List FunId) (w : ℕ) → Steps rows u fs w → Walk program (function_at u) fs (function_at w)
+  pub steps_walk : (u : ℕ) (fs : List FunId) (w : ℕ) → Steps (targets_in rows) u fs w → Walk program (function_at u) fs (function_at w)
   steps_walk u [] w h = subst (λ (x : ℕ). Walk program (function_at u) [] (function_at x)) h (walks.stay (function_at u))
   steps_walk u (f ∷ fs) w h =
       let first : function_at u ≡ f = ap function_at (sym h.0) in
       subst (λ (x : FunId). Walk program (function_at u) (x ∷ fs) (function_at w)) first
       (walks.go (function_at u) (function_at h.1) (function_at w) fs (edge_mentions u h.1 h.2) (steps_walk h.1 fs w h.3))
 
-  pub reach_walk : (u w : ℕ) → Reach rows u w → Reaches program (function_at u) (function_at w)
+  pub reach_walk : (u w : ℕ) → Reach (targets_in rows) u w → Reaches program (function_at u) (function_at w)
   reach_walk _ _ (graph.here u) = ([], walks.stay (function_at u))
   reach_walk _ w (graph.there u v _ edge rest) =
       let more = reach_walk v w rest in
       (function_at u ∷ more.0, walks.go (function_at u) (function_at v) (function_at w) more.0 (edge_mentions u v edge) more.1)
 
-  pub walk_reach : (f g : FunId) (fs : List FunId) → Walk program f fs g → Reach rows f.0 g.0
+  pub walk_reach : (f g : FunId) (fs : List FunId) → Walk program f fs g → Reach (targets_in rows) f.0 g.0
   walk_reach _ _ _ (walks.stay f) = graph.here f.0
   walk_reach _ _ _ (walks.go f g h fs mention rest) = graph.there f.0 g.0 h.0 (mentions_edge f g mention) (walk_reach g h fs rest)
 

@@ -3,10 +3,9 @@ use Rattle.std.proofs.Common.{◌≡◌, ◌≢◌, ℕ, zero, suc, ◌+◌, ◌
 use Rattle.std.proofs.Math.ListN.{length-set}
 use Rattle.std.specs.declared.alloc.Global.{Global}
 use Rattle.std.specs.declared.vec.Vec.{Vec}
-use Rattle.cu_lift.proofs.Joining.{before_or_not}
-use Rattle.cu_lift.proofs.Places.{one_element, set_cases}
-use Rattle.cu_lift.specs.Inside.Graph.{Graph}
+use Rattle.cu_cycles.proofs.Places.{before_or_not, one_element, set_cases}
 use Rattle.cu_lift.specs.Inside.Levelling.{AreCalls, Collects, IsCall, Mentioned}
+use Rattle.cu_lift.specs.Inside.MentionsOf.{MentionRows}
 use Rattle.cu_lift.specs.declared.mentions.Mention.{Mention}
 use Rattle.cu_lift.specs.declared.set_levels.Call.{Call}
 
@@ -19,14 +18,14 @@ none_length : (n : ℕ) → length (replicate {A = Option Call} n None) ≡ n
 none_length zero = refl
 none_length (suc n) = ap suc (none_length n)
 
-pub calls_first : (g : Graph) (ranks : List ℕ) (count : ℕ) → AreCalls g ranks count 0 (replicate count None)
+pub calls_first : (g : MentionRows) (ranks : List ℕ) (count : ℕ) → AreCalls g ranks count 0 (replicate count None)
 calls_first g ranks count = record {
   sized = none_length count;
   some = λ r call e. absurd (no_call count r call e);
   none = λ u r m less h c e d f. absurd (omega arith);
 }
 
-module _ (g : Graph) (ranks : List ℕ) (count n r : ℕ) (calls : List (Option Call)) (are : AreCalls g ranks count n calls)
+module _ (g : MentionRows) (ranks : List ℕ) (count n r : ℕ) (calls : List (Option Call)) (are : AreCalls g ranks count n calls)
     (is_rank : slice_get ranks n ≡ Some r) where
   pub calls_found : (call : Call) → IsCall g ranks r call → AreCalls g ranks count (n + 1) (set calls r (Some call))
   calls_found call is = record {
@@ -78,7 +77,7 @@ module _ (g : Graph) (ranks : List ℕ) (count n r : ℕ) (calls : List (Option 
     ];
   }
 
-pub call_of : (g : Graph) (ranks : List ℕ) (n r f : ℕ) (row : List Mention) → slice_get ranks n ≡ Some r
+pub call_of : (g : MentionRows) (ranks : List ℕ) (n r f : ℕ) (row : List Mention) → slice_get ranks n ≡ Some r
     → (v : Vec Mention Global) × (slice_get g n ≡ Some v) × (v.items ≡ row) → Collects ranks row r f
     → IsCall g ranks r (record { caller = n; collected = f })
 call_of g ranks n r f row is_rank is c = record {
@@ -95,8 +94,8 @@ call_of g ranks n r f row is_rank is c = record {
   collected_rank = c.is_rank;
 }
 
--- no function stands behind the last
-pub calls_until : (g : Graph) (ranks : List ℕ) (count n m : ℕ) (calls : List (Option Call)) → m ≤ n → AreCalls g ranks count n calls
+-- no function stands after the last
+pub calls_until : (g : MentionRows) (ranks : List ℕ) (count n m : ℕ) (calls : List (Option Call)) → m ≤ n → AreCalls g ranks count n calls
     → AreCalls g ranks count m calls
 calls_until g ranks count n m calls less are = record {
   sized = are.sized;

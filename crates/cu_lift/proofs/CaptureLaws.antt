@@ -10,7 +10,7 @@ use Rattle.cu_kernel.specs.LocalValid.{IsScoped, local_binders, outer_binders, r
 use Rattle.cu_kernel.specs.declared.local.LocalFunction.{LocalFunction}
 use Rattle.cu_lift.proofs.Elements.{none_in}
 use Rattle.cu_lift.proofs.RowSteps.{in_row}
-use Rattle.cu_lift.proofs.Places.{mapped_at, there, within}
+use Rattle.cu_cycles.proofs.Places.{mapped_at, there, within}
 use Rattle.cu_lift.proofs.Using.{any_append, apart_at, binds_hold, call_use, held_at, holds_in, in_holds, linear_apart, linear_rest, or_cases, own_use, use_call, use_own}
 use Rattle.cu_lift.specs.Groups.{IsIn}
 use Rattle.cu_lift.specs.Inside.Capturing as capturing

@@ -4,16 +4,15 @@ use Rattle.std.proofs.Math.ListN.{length-set}
 use Rattle.std.specs.declared.alloc.Global.{Global}
 use Rattle.std.specs.declared.vec.Vec.{Vec}
 use Rattle.cu_calculus.specs.declared.FunId.{FunId}
-use Rattle.cu_lift.proofs.Joining.{before_or_not}
-use Rattle.cu_lift.proofs.Places.{one_element, same_or_not, take_keeps, take_less, within}
-use Rattle.cu_lift.specs.Inside.Graph.{Graph}
+use Rattle.cu_cycles.proofs.Places.{before_or_not, one_element, same_or_not, take_keeps, take_less, within}
 use Rattle.cu_lift.specs.Inside.Levelling.{AreDemands, AreRaised, Collects, IsDemand, Mentioned, demand}
+use Rattle.cu_lift.specs.Inside.MentionsOf.{MentionRows}
 use Rattle.cu_lift.specs.declared.mentions.Mention.{Mention}
 
 none_first : {A : Type 0} (xs : List A) (k : ℕ) (x : A) → slice_get (take 0 xs) k ≡ Some x → ⊥
 none_first xs k x e = let h = take_less xs 0 k x e in let less : k < 0 = h.0 in omega arith
 
--- an element of a longer front is in the shorter one, or the last
+-- an element of a longer prefix is in the shorter one, or the last
 one_of : {A : Type 0} (xs : List A) (i k : ℕ) (x y : A) → slice_get xs i ≡ Some y → slice_get (take (i + 1) xs) k ≡ Some x
     → (slice_get (take i xs) k ≡ Some x) ⊎ ((k ≡ i) × (y ≡ x))
 one_of xs i k x y at e = by (before_or_not k i)
@@ -75,10 +74,10 @@ demand_all levels row least level i end is = record {
 
 -- ---- some functions
 
-pub demands_first : (g : Graph) (levels : List ℕ) (members : List FunId) → AreDemands g levels (take 0 members) 0
+pub demands_first : (g : MentionRows) (levels : List ℕ) (members : List FunId) → AreDemands g levels (take 0 members) 0
 demands_first g levels members = record { bound = λ k f m e h. absurd (none_first members k f e); attained = inl refl }
 
-pub demands_next : (g : Graph) (levels : List ℕ) (members : List FunId) (level next i : ℕ) (f : FunId) (row : Vec Mention Global)
+pub demands_next : (g : MentionRows) (levels : List ℕ) (members : List FunId) (level next i : ℕ) (f : FunId) (row : Vec Mention Global)
     → AreDemands g levels (take i members) level → slice_get members i ≡ Some f → slice_get g f.0 ≡ Some row
     → IsDemand levels row.items level next → AreDemands g levels (take (i + 1) members) next
 demands_next g levels members level next i f row are at is_row is = record {
@@ -104,7 +103,7 @@ demands_next g levels members level next i f row are at is_row is = record {
     by (inl same) = kept same are.attained
     by (inr h) = inr (i, f, h.1, last_in members i f at, record { row = row; is_row = is_row; place = h.0; is_there = h.2 }, h.3)
 
-pub demands_all : (g : Graph) (levels : List ℕ) (members : List FunId) (level i : ℕ) → length members ≤ i → AreDemands g levels (take i members) level
+pub demands_all : (g : MentionRows) (levels : List ℕ) (members : List FunId) (level i : ℕ) → length members ≤ i → AreDemands g levels (take i members) level
     → AreDemands g levels members level
 demands_all g levels members level i end are = record {
   bound = λ k f m e h. are.bound k f m (all_in members i k f end e) h;

@@ -8,7 +8,7 @@ use Rattle.std.specs.Ordering.{match_ordering, nat_cmp}
 use Rattle.std.specs.declared.cmp.Ordering.TheVariants.{Equal, Greater, Less}
 use Rattle.std.specs.declared.cmp.Ordering.{Ordering}
 use Rattle.cu_calculus.proofs.Lists.{get_prefix, get_last}
-use Rattle.cu_lift.proofs.Places.{prefix_or_last, take_less, within}
+use Rattle.cu_cycles.proofs.Places.{prefix_or_last, take_less, within}
 use Rattle.cu_lift.specs.Groups.{IsIn}
 
 pub none_in : {A : Type 0} (x : A) → IsIn [] x → ⊥

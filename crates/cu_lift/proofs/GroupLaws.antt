@@ -8,9 +8,8 @@ use Rattle.cu_calculus.specs.declared.FunId.{FunId}
 use Rattle.cu_kernel.specs.Captures.{are_rising}
 use Rattle.cu_lift.proofs.Bridges.{function_at}
 use Rattle.cu_lift.proofs.Elements.{first_or_rest, in_first, in_rest, none_in}
-use Rattle.cu_lift.proofs.Joining.{before_or_not}
 use Rattle.cu_lift.proofs.Leaders.{less_from}
-use Rattle.cu_lift.proofs.Places.{mapped_at, same_or_not, take_keeps, take_less, there, within}
+use Rattle.cu_cycles.proofs.Places.{before_or_not, mapped_at, same_or_not, take_keeps, take_less, there, within}
 use Rattle.cu_lift.specs.Groups.{AreGroups, IsGroup, IsIn, IsReady, first_of, numbers}
 
 -- ---- lists in order with the same elements

@@ -16,9 +16,10 @@ use Rattle.cu_calculus.specs.Valid.{IsValid, all_variables, also, also_all, but,
 use Rattle.cu_calculus.specs.declared.FunId.{FunId}
 use Rattle.cu_calculus.specs.declared.Head.TheVariants as head
 use Rattle.cu_calculus.specs.declared.Head.{Head}
-use Rattle.cu_lift.proofs.Places.{mapped_at, within}
-use Rattle.cu_lift.specs.Inside.Graph.{Edge, Graph, IsWhole}
-use Rattle.cu_lift.specs.Inside.MentionsOf.{graph_of, mention_by, mention_meaning, mention_meanings, rows_of}
+use Rattle.cu_cycles.proofs.Places.{mapped_at, within}
+use Rattle.cu_cycles.specs.Graph.{Edge, IsWhole}
+use Rattle.cu_lift.proofs.Edges.{as_many_targets, edge_mention}
+use Rattle.cu_lift.specs.Inside.MentionsOf.{MentionRows, graph_of, mention_by, mention_meaning, mention_meanings, rows_of, targets_in}
 use Rattle.cu_lift.specs.declared.mentions.Mention.{Mention}
 
 abbrev pub named : claims.Mention → FunId
@@ -128,7 +129,7 @@ module _ (program : Program) where
       let fits = passed_at (fits_function program) program.functions k function valid.functions e in
       body_in function.arity function.body (and_parts (is_arity function.arity) (fits_body program function.arity function.body) fits).1
 
-  row_function : (rows : Graph) (u : ℕ) (row : Vec Mention Global) → rows_of rows ≡ graph_of program → slice_get rows u ≡ Some row
+  row_function : (rows : MentionRows) (u : ℕ) (row : Vec Mention Global) → rows_of rows ≡ graph_of program → slice_get rows u ≡ Some row
       → (function : Function) × (slice_get program.functions u ≡ Some function) × (body_mentions function.body ≡ mention_meanings row.items)
   row_function rows u row same e =
       mapped_at (λ (function : Function). body_mentions function.body) program.functions u (mention_meanings row.items)
@@ -139,22 +140,26 @@ module _ (program : Program) where
   names_it true f = refl
   names_it false f = refl
 
-  pub rows_length : (rows : Graph) → rows_of rows ≡ graph_of program → length rows ≡ size
+  pub rows_length : (rows : MentionRows) → rows_of rows ≡ graph_of program → length rows ≡ size
   rows_length rows same =
       sym (length-map rows (λ (r : Vec Mention Global). mention_meanings r.items)) ∙ ap length same
       ∙ length-map program.functions (λ (function : Function). body_mentions function.body)
 
-  pub rows_whole : (rows : Graph) → IsValid program → rows_of rows ≡ graph_of program → IsWhole rows
+  pub targets_length : (rows : MentionRows) → rows_of rows ≡ graph_of program → length (targets_in rows) ≡ size
+  targets_length rows same = as_many_targets rows ∙ rows_length rows same
+
+  pub rows_whole : (rows : MentionRows) → IsValid program → rows_of rows ≡ graph_of program → IsWhole (targets_in rows)
   rows_whole rows valid same = record { within = ends }
     where
-      ends : (u v : ℕ) → Edge rows u v → v < length rows
+      ends : (u v : ℕ) → Edge (targets_in rows) u v → v < length (targets_in rows)
       ends u v edge =
-          let at = row_function rows u edge.row same edge.is_row in
+          let m = edge_mention rows u v edge in
+          let at = row_function rows u m.1.row same m.1.is_row in
           let all = subst (λ (x : List claims.Mention). AllIn size x) at.2 (function_in u at.0 valid at.1) in
-          let m = mapped_at (λ (x : Mention). x.function.0) edge.row.items edge.place v edge.is_there in
-          let low = in_at size (mention_meanings edge.row.items) edge.place (mention_meaning m.0) all (get_map mention_meaning edge.row.items edge.place m.0 m.1) in
+          let low = in_at size (mention_meanings m.1.row.items) m.1.place (mention_meaning m.0) all
+          (get_map mention_meaning m.1.row.items m.1.place m.0 m.1.is_there) in
           let name : named (mention_meaning m.0) ≡ m.0.function = names_it m.0.collected m.0.function in
           let low_too : m.0.function.0 < size = subst (λ (f : FunId). f.0 < size) name low in
           let there : m.0.function.0 ≡ v = m.2 in
-          let as_many = rows_length rows same in
+          let as_many = targets_length rows same in
           omega arith

@@ -6,10 +6,11 @@ use Rattle.cu_calculus.proofs.Lists.{get_map, passed_at}
 use Rattle.cu_calculus.specs.declared.FunId.{FunId}
 use Rattle.cu_kernel.specs.Captures.{are_rising}
 use Rattle.cu_lift.proofs.Members.{here_is, here_not, of_rank_all, of_rank_in}
-use Rattle.cu_lift.proofs.Places.{mapped_at, one_element, same_or_not}
+use Rattle.cu_cycles.proofs.Places.{mapped_at, one_element, same_or_not}
 use Rattle.cu_lift.proofs.RowSteps.{index_is}
 use Rattle.cu_lift.specs.Groups.{IsIn, first_of, numbers}
-use Rattle.cu_lift.specs.Inside.Graph.{AreRanks, Graph}
+use Rattle.cu_cycles.specs.Components.{AreRanks}
+use Rattle.cu_cycles.specs.Graph.{Graph}
 use Rattle.cu_lift.specs.Inside.Levelling.{of_rank}
 use Rattle.cu_lift.specs.Inside.Ordering.{Calls, Leads, group_of, leader_of}
 

@@ -1,12 +1,13 @@
 -- The levels of the components up to one more.
 use Rattle.std.proofs.Common.{◌≡◌, ◌≢◌, ℕ, zero, suc, ◌+◌, ◌<◌, ◌≤◌, ◌⊎◌, inl, inr, Bool, true, false, cond, List, [], ◌∷◌, length, replicate, Some, slice_get, slice_index, refl, ap, ◌∙◌, subst, arith}
 use Rattle.cu_calculus.specs.declared.FunId.{FunId}
-use Rattle.cu_lift.proofs.Bridges.{edge_mention, mention_edge}
-use Rattle.cu_lift.proofs.Joining.{before_or_not}
-use Rattle.cu_lift.proofs.Places.{same_or_not, there, within}
-use Rattle.cu_lift.specs.Inside.Graph as graph
-use Rattle.cu_lift.specs.Inside.Graph.{AreRanks, Edge, Graph, IsWhole, Reach}
+use Rattle.cu_lift.proofs.Edges.{as_many_targets, edge_mention, mention_edge}
+use Rattle.cu_cycles.proofs.Places.{before_or_not, same_or_not, there, within}
+use Rattle.cu_cycles.specs.Graph as graph
+use Rattle.cu_cycles.specs.Components.{AreRanks}
+use Rattle.cu_cycles.specs.Graph.{IsWhole, Reach}
 use Rattle.cu_lift.specs.Inside.Levelling.{AreDemands, AreLevelsOn, AreRaised, IsCalm, LevelsTo, Mentioned, demand}
+use Rattle.cu_lift.specs.Inside.MentionsOf.{MentionRows, targets_in}
 use Rattle.cu_lift.specs.declared.mentions.Mention.{Mention}
 
 pub past_end : (xs : List ℕ) (v : ℕ) → length xs ≤ v → slice_index xs v ≡ 0
@@ -20,7 +21,7 @@ all_zero (suc n) zero = refl
 all_zero (suc n) (suc v) = all_zero n v
 
 -- levels fall along edges
-pub reach_falls : (g : Graph) (levels : List ℕ) → AreLevelsOn g levels → (u w : ℕ) → Reach g u w → slice_index levels w ≤ slice_index levels u
+pub reach_falls : (g : MentionRows) (levels : List ℕ) → AreLevelsOn g levels → (u w : ℕ) → Reach (targets_in g) u w → slice_index levels w ≤ slice_index levels u
 reach_falls g levels are _ _ (graph.here u) = omega arith
 reach_falls g levels are _ w (graph.there u v _ edge rest) =
     let m = edge_mention g u v edge in
@@ -33,7 +34,7 @@ replicate_length : (n : ℕ) → length {A = ℕ} (replicate n 0) ≡ n
 replicate_length zero = refl
 replicate_length (suc n) = ap suc (replicate_length n)
 
-pub no_levels_yet : (g : Graph) (ranks : List ℕ) → LevelsTo g ranks 0 (replicate (length g) 0)
+pub no_levels_yet : (g : MentionRows) (ranks : List ℕ) → LevelsTo g ranks 0 (replicate (length g) 0)
 no_levels_yet g ranks = record {
   sized = replicate_length (length g);
   low = λ v x e. let none = all_zero (length g) v in omega arith;
@@ -42,12 +43,12 @@ no_levels_yet g ranks = record {
   least = λ others v are. let none = all_zero (length g) v in omega arith;
 }
 
-module _ (g : Graph) (ranks : List ℕ) (count r : ℕ) (levels new : List ℕ) (members : List FunId) (level : ℕ) (whole : IsWhole g)
-    (are : AreRanks g ranks count) (calm : IsCalm g ranks) (to : LevelsTo g ranks r levels) (demands : AreDemands g levels members level)
+module _ (g : MentionRows) (ranks : List ℕ) (count r : ℕ) (levels new : List ℕ) (members : List FunId) (level : ℕ) (whole : IsWhole (targets_in g))
+    (are : AreRanks (targets_in g) ranks count) (calm : IsCalm g ranks) (to : LevelsTo g ranks r levels) (demands : AreDemands g levels members level)
     (in_rank : (k : ℕ) (f : FunId) → slice_get members k ≡ Some f → slice_get ranks f.0 ≡ Some r)
     (all_in : (v : ℕ) → slice_get ranks v ≡ Some r → (k : ℕ) × (slice_get members k ≡ Some (record { 0 = v })))
     (raised : AreRaised members level levels new) where
-  rank_of : (v : ℕ) → v < length g → (x : ℕ) × (slice_get ranks v ≡ Some x)
+  rank_of : (v : ℕ) → v < length (targets_in g) → (x : ℕ) × (slice_get ranks v ≡ Some x)
   rank_of v h = let size = are.sized in there ranks v (omega arith)
 
   target_rank : (u x : ℕ) (m : Mention) → Mentioned g u m → slice_get ranks u ≡ Some x
@@ -153,7 +154,7 @@ module _ (g : Graph) (ranks : List ℕ) (count r : ℕ) (levels new : List ℕ) 
           omega arith
 
   least : (others : List ℕ) (v : ℕ) → AreLevelsOn g others → slice_index new v ≤ slice_index others v
-  least others v on = by (before_or_not v (length g))
+  least others v on = by (before_or_not v (length (targets_in g)))
     where
       known : (x : ℕ) → slice_get ranks v ≡ Some x → slice_index new v ≤ slice_index others v
       known x e = elim (value v x e) [
@@ -161,10 +162,11 @@ module _ (g : Graph) (ranks : List ℕ) (count r : ℕ) (levels new : List ℕ) 
         | inr h ↦ let is : slice_index new v ≡ slice_index levels v = h.1 in let under = to.least others v on in omega arith
       ]
 
-      by : (v < length g) ⊎ (length g ≤ v) → slice_index new v ≤ slice_index others v
+      by : (v < length (targets_in g)) ⊎ (length (targets_in g) ≤ v) → slice_index new v ≤ slice_index others v
       by (inl low) = let x = rank_of v low in known x.0 x.1
       by (inr high) =
           let size : length new ≡ length g = raised.sized ∙ to.sized in
+          let many : length (targets_in g) ≡ length g = as_many_targets g in
           let nothing = past_end new v (omega arith) in
           omega arith
 
@@ -177,30 +179,30 @@ module _ (g : Graph) (ranks : List ℕ) (count r : ℕ) (levels new : List ℕ) 
     least = least;
   }
 
-pub all_levels : (g : Graph) (ranks : List ℕ) (count : ℕ) (levels : List ℕ) → AreRanks g ranks count → LevelsTo g ranks count levels → AreLevelsOn g levels
+pub all_levels : (g : MentionRows) (ranks : List ℕ) (count : ℕ) (levels : List ℕ) → AreRanks (targets_in g) ranks count → LevelsTo g ranks count levels → AreLevelsOn g levels
 all_levels g ranks count levels are to = record {
   each = to.sized;
   allowed = λ u m h.
-      let size = are.sized in
+      let size : length ranks ≡ length g = are.sized ∙ as_many_targets g in
       let low = within g u h.row h.is_row in
       let x = there ranks u (omega arith) in
       to.allowed u x.0 m h x.1 (are.below u x.0 x.1);
 }
 
 -- the levels so far are at most as many as the functions
-pub all_below : (g : Graph) (ranks : List ℕ) (count r : ℕ) (levels : List ℕ) → AreRanks g ranks count → LevelsTo g ranks r levels
+pub all_below : (g : MentionRows) (ranks : List ℕ) (count r : ℕ) (levels : List ℕ) → AreRanks (targets_in g) ranks count → LevelsTo g ranks r levels
     → (v : ℕ) → slice_index levels v ≤ length levels
 all_below g ranks count r levels are to v = by (before_or_not v (length g))
   where
     size : length ranks ≡ length g
-    size = are.sized
+    size = are.sized ∙ as_many_targets g
 
     as_many : length levels ≡ length g
     as_many = to.sized
 
     known : (x : (x : ℕ) × (slice_get ranks v ≡ Some x)) → slice_index levels v ≤ length levels
     known x =
-        let low = to.low v x.0 x.1 in let less = are.below v x.0 x.1 in let few = are.few in omega (arith, size, as_many)
+        let low = to.low v x.0 x.1 in let less = are.below v x.0 x.1 in let few : count ≤ length g = subst (λ (n : ℕ). count ≤ n) (as_many_targets g) are.few in omega (arith, size, as_many)
 
     by : (v < length g) ⊎ (length g ≤ v) → slice_index levels v ≤ length levels
     by (inl low) = known (there ranks v (omega (arith, size)))

@@ -1,14 +1,6 @@
-pub mod Places
-pub mod Reaching
-pub mod Weights
-pub mod Entering
-pub mod Joining
-pub mod Closing
-pub mod Forgetting
-pub mod Changes
-pub mod Ranks
 pub mod RowsOf
 pub mod Trails
+pub mod Edges
 pub mod InRange
 pub mod Bridges
 pub mod Members

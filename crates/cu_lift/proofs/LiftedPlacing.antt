@@ -7,7 +7,7 @@ use Rattle.cu_kernel.proofs.Loops.{left}
 use Rattle.cu_kernel.specs.LocalKernel.{LocalFunction, TopFunction}
 use Rattle.cu_lift.proofs.LiftedCopies.{map_twice}
 use Rattle.cu_lift.proofs.LiftedOrder.{each_stands, length_order, stands_at}
-use Rattle.cu_lift.proofs.Places.{prefix_or_last, mapped_at, one_element, there, within}
+use Rattle.cu_cycles.proofs.Places.{prefix_or_last, mapped_at, one_element, there, within}
 use Rattle.cu_lift.specs.Inside.LiftedPlaces.{AreBelow, AreNames, ArePlaced, AreRows, IsPlacement, entry_of, entry_rank, numbered, ordered_numbers, row_items}
 use Rattle.cu_lift.specs.Lifting.{Numbered, in_order, local_name, local_number, rank, rank_in, top_number, top_numbers}
 use Rattle.cu_lift.specs.declared.local_order.Entry.{Entry}

@@ -5,7 +5,7 @@ use Rattle.std.proofs.lemmas.Option.{get_or_from_slice_get}
 use Rattle.cu_kernel.specs.Captures.{AreCaptured}
 use Rattle.cu_kernel.specs.Kernel.{Kernel, Mark}
 use Rattle.cu_kernel.specs.LocalKernel.{LocalFunction, LocalKernel, TopFunction}
-use Rattle.cu_lift.proofs.Places.{there, within}
+use Rattle.cu_cycles.proofs.Places.{there, within}
 use Rattle.cu_lift.specs.Inside.LiftedPlaces.{ArePlaced, AreRows, IsPlacement, captured_at, captured_in, functions_by, lifting_by, locals_by, marks_by, name_at, name_in, row_items}
 use Rattle.cu_lift.specs.Lifting.{Lifts, Locals, functions_from, lifted, lifted_goal, lifted_group, lifted_special, lifting_of, local_name, local_number, mark_group, marks_from, rank, top_number, top_numbers}
 use Rattle.cu_lift.specs.declared.placement.Placement.{Placement}

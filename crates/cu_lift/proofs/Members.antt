@@ -3,7 +3,7 @@ use Rattle.std.proofs.Common.{◌≡◌, ◌≢◌, ℕ, zero, suc, ◌+◌, ◌
 use Rattle.std.specs.declared.alloc.Global.{Global}
 use Rattle.std.specs.declared.vec.Vec.{Vec}
 use Rattle.cu_calculus.specs.declared.FunId.{FunId}
-use Rattle.cu_lift.proofs.Places.{nothing_after, same_or_not, set_cases}
+use Rattle.cu_cycles.proofs.Places.{nothing_after, same_or_not, set_cases}
 use Rattle.cu_lift.specs.Inside.Levelling.{AreMembers, of_rank}
 
 pub eq_true : (a b : ℕ) → a ≡ b → nat_eq a b ≡ true

@@ -9,8 +9,7 @@ use Rattle.std.specs.Ordering.{is_eq, nat_cmp}
 use Rattle.std.specs.declared.cmp.Ordering.TheVariants.{Equal, Greater, Less}
 use Rattle.std.specs.declared.cmp.Ordering.{Ordering}
 use Rattle.cu_lift.proofs.Elements.{equal_by, first_or_rest, prefix_or_new, in_first, in_prefix, in_last, in_rest, inserted, none_in}
-use Rattle.cu_lift.proofs.Joining.{before_or_not}
-use Rattle.cu_lift.proofs.Places.{one_element}
+use Rattle.cu_cycles.proofs.Places.{before_or_not, one_element}
 use Rattle.cu_lift.proofs.RowSteps.{pushed_keeps, pushed_or_old, pushed_there}
 use Rattle.cu_lift.specs.Groups.{IsIn}
 use Rattle.cu_lift.specs.Inside.Capturing.{Adds, AreUsers, IsLocal}
@@ -58,7 +57,7 @@ other_kind : (ps : List Part) (part q : Part) (A : Type 0) → (part ≡ q → �
 other_kind ps part q A other h =
     (λ a. in_prefix q ps (part ∷ []) (h.0 a), λ k. elim (prefix_or_new q part ps k) [ inl old ↦ h.1 old | inr same ↦ absurd (other same) ])
 
--- a number that is put among others, or behind them
+-- a number that is put among others, or after them
 module _ (make : ℕ → Part) (same : (x y : ℕ) → make x ≡ make y → x ≡ y) (ps : List Part) (x : ℕ) where
   put_kind : (xs more : List ℕ) (y : ℕ) → IsIn more x → ((z : ℕ) → IsIn xs z → IsIn more z) → ((z : ℕ) → IsIn more z → IsIn xs z ⊎ (x ≡ z))
       → IsIn xs y ↔ IsIn ps (make y) → IsIn more y ↔ IsIn (ps ++ make x ∷ []) (make y)

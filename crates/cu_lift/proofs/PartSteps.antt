@@ -14,7 +14,7 @@ use Rattle.cu_kernel.specs.declared.local.LocalTerm.TheVariants as term
 use Rattle.cu_kernel.specs.declared.local.LocalTerm.{LocalTerm}
 use Rattle.cu_kernel.specs.declared.term.Pattern.TheVariants as pattern
 use Rattle.cu_kernel.specs.declared.term.Pattern.{Pattern}
-use Rattle.cu_lift.proofs.Places.{nothing_after}
+use Rattle.cu_cycles.proofs.Places.{nothing_after}
 use Rattle.cu_lift.specs.Inside.Capturing.{alternative_parts, bound, parts}
 use Rattle.cu_lift.specs.declared.captures.Part.{Part}
 use Rattle.cu_lift.specs.declared.captures.Part.TheVariants.{Binds}

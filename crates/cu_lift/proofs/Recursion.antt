@@ -6,12 +6,13 @@ use Rattle.cu_calculus.specs.Claims as claims
 use Rattle.cu_calculus.specs.Claims.{AreLevels, Collected, Plain}
 use Rattle.cu_calculus.specs.Program.{Program}
 use Rattle.cu_calculus.specs.declared.FunId.{FunId}
-use Rattle.cu_lift.proofs.Bridges.{collected_is, function_at, has_mentioned, mention_edge, mentioned_has, mentions_edge, steps_walk}
-use Rattle.cu_lift.proofs.Joining.{before_or_not}
-use Rattle.cu_lift.proofs.Places.{prefix_or_suffix, within}
-use Rattle.cu_lift.specs.Inside.Graph.{AreRanks, Edge, Graph, IsWhole}
+use Rattle.cu_lift.proofs.Bridges.{collected_is, function_at, has_mentioned, mentioned_has, mentions_edge, steps_walk}
+use Rattle.cu_cycles.proofs.Places.{before_or_not, prefix_or_suffix, within}
+use Rattle.cu_cycles.specs.Components.{AreRanks}
+use Rattle.cu_cycles.specs.Graph.{Edge, IsWhole}
+use Rattle.cu_lift.proofs.Edges.{as_many_targets, mention_edge}
 use Rattle.cu_lift.specs.Inside.Levelling.{AreCalls, IsCalm, IsCall, IsCycleOf, IsFirstCall}
-use Rattle.cu_lift.specs.Inside.MentionsOf.{graph_of, mention_by, rows_of}
+use Rattle.cu_lift.specs.Inside.MentionsOf.{MentionRows, graph_of, mention_by, rows_of, targets_in}
 use Rattle.cu_lift.specs.SetCycles.{IsSetCycle, IsSetRecursion, StandsOn}
 use Rattle.cu_lift.specs.Walks as walks
 use Rattle.cu_lift.specs.Walks.{Has, Mentions, Walk}
@@ -99,27 +100,27 @@ index_get [] k h = absurd (omega arith)
 index_get (x ∷ xs) zero h = refl
 index_get (x ∷ xs) (suc k) h = index_get xs k (omega arith)
 
-module _ (program : Program) (rows : Graph) (same : rows_of rows ≡ graph_of program) (ranks : List ℕ) (count : ℕ) (whole : IsWhole rows)
-    (are : AreRanks rows ranks count) (calls : List (Option Call)) (found : AreCalls rows ranks count (length rows) calls) where
+module _ (program : Program) (rows : MentionRows) (same : rows_of rows ≡ graph_of program) (ranks : List ℕ) (count : ℕ) (whole : IsWhole (targets_in rows))
+    (are : AreRanks (targets_in rows) ranks count) (calls : List (Option Call)) (found : AreCalls rows ranks count (length rows) calls) where
   -- where no component has a call, no set call stays in its component
   pub is_calm : ((f r : ℕ) → slice_get ranks f ≡ Some r → slice_get calls r ≡ Some None) → IsCalm rows ranks
   is_calm none = record {
     calm = λ u r m h c e d. found.none u r m (within rows u h.row h.is_row) h c e d (none u r e);
   }
 
-  rank_there : (u : ℕ) → u < length rows → slice_get ranks u ≡ Some (slice_index ranks u)
+  rank_there : (u : ℕ) → u < length (targets_in rows) → slice_get ranks u ≡ Some (slice_index ranks u)
   rank_there u low = let size = are.sized in index_get ranks u (omega arith)
 
-  edge_falls : (u v : ℕ) → Edge rows u v → slice_index ranks v ≤ slice_index ranks u
+  edge_falls : (u v : ℕ) → Edge (targets_in rows) u v → slice_index ranks v ≤ slice_index ranks u
   edge_falls u v edge =
-      are.falling u v (slice_index ranks u) (slice_index ranks v) edge (rank_there u (within rows u edge.row edge.is_row))
+      are.falling u v (slice_index ranks u) (slice_index ranks v) edge (rank_there u (within (targets_in rows) u edge.row edge.is_row))
       (rank_there v (whole.within u v edge))
 
   rank_falls : (f g : FunId) → Mentions program f g → slice_index ranks g.0 ≤ slice_index ranks f.0
   rank_falls f g h = edge_falls f.0 g.0 (mentions_edge program rows same f g h)
 
   module _ (first : ℕ) (call : Call) (is_first : IsFirstCall ranks calls first call) (cycle : List FunId)
-      (walked : IsCycleOf rows first call.caller call.collected cycle) where
+      (walked : IsCycleOf (targets_in rows) first call.caller call.collected cycle) where
     is_call : IsCall rows ranks is_first.rank call
     is_call = found.some is_first.rank call is_first.is_call
 
@@ -155,13 +156,15 @@ module _ (program : Program) (rows : Graph) (same : rows_of rows ≡ graph_of pr
         let r = slice_index ranks c.caller.0 in
         let low_first = within ranks first is_first.rank is_first.is_rank in
         let size = are.sized in
-        let low : f.0 < length rows = omega arith in
+        let low : f.0 < length (targets_in rows) = omega arith in
         let caller_low : c.caller.0 < length rows = within rows c.caller.0 m.1.row m.1.is_row in
-        let target_low : m.0.function.0 < length rows = whole.within c.caller.0 m.0.function.0 (mention_edge rows c.caller.0 m.0 m.1) in
+        let caller_rank : slice_get ranks c.caller.0 ≡ Some (slice_index ranks c.caller.0) =
+        rank_there c.caller.0 (subst (λ (n : ℕ). c.caller.0 < n) (sym (as_many_targets rows)) caller_low) in
+        let target_low : m.0.function.0 < length (targets_in rows) = whole.within c.caller.0 m.0.function.0 (mention_edge rows c.caller.0 m.0 m.1) in
         let f_rank : slice_get ranks f.0 ≡ Some (slice_index ranks c.caller.0) = rank_there f.0 low ∙ ap Some one.0 in
         let target_rank : slice_get ranks m.0.function.0 ≡ Some (slice_index ranks c.caller.0) =
         rank_there m.0.function.0 target_low ∙ ap Some (ap (λ (x : FunId). slice_index ranks x.0) name.0 ∙ one.1) in
-        found.none c.caller.0 (slice_index ranks c.caller.0) m.0 caller_low m.1 name.1 (rank_there c.caller.0 caller_low) target_rank
+        found.none c.caller.0 (slice_index ranks c.caller.0) m.0 caller_low m.1 name.1 caller_rank target_rank
         (is_first.before f.0 (slice_index ranks c.caller.0) less f_rank)
 
     pub set_recursion : IsSetRecursion program cycle

@@ -1,6 +1,6 @@
 -- The rows of functions are those of their program.
 use Rattle.std.proofs.Common.{◌≡◌, ℕ, zero, suc, ◌≤◌, List, [], ◌∷◌, ◌++◌, drop, length, map, refl, ap, sym, ◌∙◌, arith}
-use Rattle.cu_lift.proofs.Places.{nothing_after}
+use Rattle.cu_cycles.proofs.Places.{nothing_after}
 use Rattle.cu_calculus.specs.Claims as claims
 use Rattle.cu_calculus.specs.Claims.{body_mentions}
 use Rattle.cu_kernel.specs.Kernel as kernel

@@ -6,9 +6,8 @@ use Rattle.std.specs.List.{list_all}
 use Rattle.cu_calculus.proofs.Lists.{all_append}
 use Rattle.cu_kernel.specs.Captures.{are_rising}
 use Rattle.cu_lift.proofs.Elements.{first_or_rest, prefix_or_new, in_first, in_prefix, in_last, in_rest, none_in}
-use Rattle.cu_lift.proofs.Joining.{before_or_not}
 use Rattle.cu_lift.proofs.Leaders.{less_true}
-use Rattle.cu_lift.proofs.Places.{one_element, same_or_not, set_cases, set_elsewhere, there, within}
+use Rattle.cu_cycles.proofs.Places.{before_or_not, one_element, same_or_not, set_cases, set_elsewhere, there, within}
 use Rattle.cu_lift.proofs.RowSteps.{in_row}
 use Rattle.cu_lift.specs.Groups.{IsIn}
 use Rattle.cu_lift.specs.Inside.Capturing as capturing

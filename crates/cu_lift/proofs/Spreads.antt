@@ -3,9 +3,8 @@ use Rattle.std.proofs.Common.{◌≡◌, ◌≢◌, ℕ, zero, suc, ◌+◌, ◌
 use Rattle.std.proofs.Math.ListN.{length-set}
 use Rattle.std.specs.Option.{option_to_list}
 use Rattle.cu_lift.proofs.Elements.{first_or_rest, prefix_or_new, in_first, in_prefix, in_last, none_in}
-use Rattle.cu_lift.proofs.Joining.{before_or_not}
 use Rattle.cu_lift.proofs.Noting.{first_or_next}
-use Rattle.cu_lift.proofs.Places.{nothing_after, one_element, same_or_not, set_cases, set_elsewhere, set_there, within}
+use Rattle.cu_cycles.proofs.Places.{before_or_not, nothing_after, one_element, same_or_not, set_cases, set_elsewhere, set_there, within}
 use Rattle.cu_lift.proofs.Trails.{unmet_set}
 use Rattle.cu_lift.specs.Groups.{IsIn}
 use Rattle.cu_lift.specs.Inside.Capturing as capturing

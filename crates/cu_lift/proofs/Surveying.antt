@@ -3,7 +3,7 @@ use Rattle.std.proofs.Common.{◌≡◌, ℕ, ◌⊎◌, inl, inr, List, [], ◌
 use Rattle.cu_kernel.specs.LocalKernelOf.{local_rule_meaning}
 use Rattle.cu_kernel.specs.declared.local.LocalFunction.{LocalFunction}
 use Rattle.cu_lift.proofs.Elements.{none_in}
-use Rattle.cu_lift.proofs.Places.{prefix_or_last, one_element}
+use Rattle.cu_cycles.proofs.Places.{prefix_or_last, one_element}
 use Rattle.cu_lift.specs.Groups.{IsIn}
 use Rattle.cu_lift.specs.Inside.Capturing.{AllOwned, AreLocals, IsLocal, Owns, rules_parts}
 use Rattle.cu_lift.specs.declared.captures.Local.{Local}

@@ -4,9 +4,9 @@ use Rattle.std.proofs.Math.ListN.{length-set}
 use Rattle.std.proofs.lemmas.List.{reverse-append}
 use Rattle.cu_calculus.proofs.Lists.{get_prefix, get_last}
 use Rattle.cu_calculus.specs.declared.FunId.{FunId}
-use Rattle.cu_lift.proofs.Places.{prefix_or_last, nothing_after, one_element, same_or_not, set_cases, set_elsewhere, set_there, within}
-use Rattle.cu_lift.specs.Inside.Graph as graph
-use Rattle.cu_lift.specs.Inside.Graph.{Edge, Graph, Reach}
+use Rattle.cu_cycles.proofs.Places.{prefix_or_last, nothing_after, one_element, same_or_not, set_cases, set_elsewhere, set_there, within}
+use Rattle.cu_cycles.specs.Graph as graph
+use Rattle.cu_cycles.specs.Graph.{Edge, Graph, Reach}
 use Rattle.cu_lift.specs.Inside.Trail as trail
 use Rattle.cu_lift.specs.Inside.Trail.{Begins, Grows, IsDone, IsTrail, Linked, Meeting, Steps, Trails, unmet}
 use Rattle.cu_lift.specs.declared.walks.Found.{Found}
@@ -195,7 +195,7 @@ found_stays old new i f grows e =
 -- what is done stays done
 pub done_stays : (g : Graph) (old new : Spread) (i : ℕ) → Grows old new → i < length old.found.items → IsDone g old i → IsDone g new i
 done_stays g old new i grows low done f w e edge =
-    let was = Rattle.cu_lift.proofs.Places.there old.found.items i low in
+    let was = Rattle.cu_cycles.proofs.Places.there old.found.items i low in
     let now = found_stays old new i was.0 grows was.1 in
     let same : was.0 ≡ f = one_element new.found.items i was.0 f now e in
     grows.met w (done was.0 w was.1 (subst (λ (x : Found). Edge g x.function w) (sym same) edge))
@@ -236,7 +236,7 @@ not_missing g start end first s low b grows trails done reach missing =
     let at = trails.met_found end met in
     missing at.0 at.1 at.2 at.3
 
--- a walk gets one more step at its front
+-- a walk gets one more step at its start
 pub one_step : (g : Graph) (s : Spread) (at : ℕ) (f source here last : Found) (suffix : List FunId) → IsTrail g s
     → slice_get s.found.items at ≡ Some f → 0 < at → slice_get s.found.items f.from ≡ Some source → slice_get s.found.items f.from ≡ Some here
     → Steps g f.function (reverse suffix) last.function

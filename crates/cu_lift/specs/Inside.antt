@@ -1,7 +1,5 @@
 -- What private contracts and invariants of loops say. No public contract speaks of it.
 pub mod MentionsOf
-pub mod Graph
-pub mod Search
 pub mod Trail
 pub mod Levelling
 pub mod Outcome

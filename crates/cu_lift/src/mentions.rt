@@ -4,8 +4,8 @@ ghost use Rattle.cu_calculus.specs.Claims.{all_mentions, alternative_mentions, b
 ghost use Rattle.cu_kernel.specs.Kernel.{program_of};
 ghost use Rattle.cu_kernel.specs.KernelOf.{body_meaning, rule_meaning};
 ghost use Rattle.cu_kernel.specs.TermsOf.{alternatives_of, term_of, terms_of};
-ghost use Rattle.cu_lift.specs.Inside.Graph.{IsWhole};
-ghost use Rattle.cu_lift.specs.Inside.MentionsOf.{graph_of, mention_meanings, rows_of};
+ghost use Rattle.cu_cycles.specs.Graph.{IsWhole, rows_in};
+ghost use Rattle.cu_lift.specs.Inside.MentionsOf.{IsRow, graph_of, mention_meanings, rows_of, targets, targets_in};
 
 use cu_kernel::{Body, FunId, Head, Pattern, Program, Rule, Term};
 use std::alloc::{AllocError, Global};
@@ -134,10 +134,10 @@ fn mentions_of(alloc: Global, body: &Body) -> Result<Vec<Mention>, AllocError>
     Ok(found)
 }
 
-/// The graph of a program: for each function, what its rules mention.
+/// For each function of a program, what its rules mention.
 pub(crate) fn graph(alloc: Global, program: &Program) -> Result<Vec<Vec<Mention>>, AllocError>
     ensures graph { IfOk result (λ rows. rows_of rows.items ≡ graph_of (program_of program.now)) }
-    ensures whole { IfOk result (λ rows. IsWhole rows.items) }
+    ensures whole { IfOk result (λ rows. IsWhole (targets_in rows.items)) }
 {
     let mut rows = Vec::new(alloc);
     let functions = program.functions();
@@ -145,4 +145,35 @@ pub(crate) fn graph(alloc: Global, program: &Program) -> Result<Vec<Vec<Mention>
         rows.push(mentions_of(alloc, &function.body)?)?;
     }
     Ok(rows)
+}
+
+/// The row of a function.
+pub(crate) fn row_of(rows: &[Vec<Mention>], function: usize) -> &[Mention]
+    requires { function < length rows.now }
+    ensures { IsRow rows.now function result.now }
+{
+    rows[function].as_slice()
+}
+
+/// The functions that a row mentions.
+fn row_targets(alloc: Global, row: &[Mention]) -> Result<Vec<usize>, AllocError>
+    ensures { IfOk result (λ found. found.items ≡ targets row.now) }
+{
+    let mut found = Vec::new(alloc);
+    for mention in row {
+        found.push(mention.function.0)?;
+    }
+    Ok(found)
+}
+
+/// The graph of mentions: for each function those that its row mentions.
+pub(crate) fn edges(alloc: Global, rows: &[Vec<Mention>]) -> Result<Vec<Vec<usize>>, AllocError>
+    ensures { IfOk result (λ edges. rows_in edges.items ≡ targets_in rows.now) }
+{
+    let mut edges = Vec::new(alloc);
+    for row in rows {
+        let found = row_targets(alloc, row.as_slice())?;
+        edges.push(found)?;
+    }
+    Ok(edges)
 }

@@ -2,14 +2,17 @@
 ghost use Rattle.std.specs.Prelude.{◌≡◌, ◌+◌, ◌<◌, ◌≤◌, ◌^◌, ℕ, Some, IfOk, IfErr, IfSome, IfNone, IsFalse, IsTrue, length, slice_get, true};
 ghost use Rattle.cu_calculus.specs.Claims.{AreLeastLevels};
 ghost use Rattle.cu_kernel.specs.Kernel.{program_of};
-ghost use Rattle.cu_lift.specs.Inside.Graph.{AreRanks, IsWhole, Reach};
+ghost use Rattle.cu_cycles.specs.Components.{AreRanks};
+ghost use Rattle.cu_cycles.specs.Graph.{IsWhole, Reach, rows_in};
 ghost use Rattle.cu_lift.specs.Inside.Levelling.{AreBelow, AreCalls, AreDemands, AreRaised, Collects, IsCalm, IsCycleOf, IsDemand, IsFirstCall, LevelsTo, demand};
+ghost use Rattle.cu_lift.specs.Inside.MentionsOf.{targets_in};
 ghost use Rattle.cu_lift.specs.Inside.Outcome.{AreLevelsOrCycle};
 ghost use Rattle.cu_lift.specs.SetCycles.{IsLevelFault};
 
-use crate::components::{Components, find_components, members};
-use crate::mentions::{Mention, graph};
-use crate::walks::{row_of, walk};
+use crate::components::members;
+use crate::mentions::{Mention, edges, graph, row_of};
+use crate::walks::walk;
+use cu_cycles::{Components, find_components};
 use cu_kernel::{FunId, Program};
 use std::alloc::{AllocError, Global};
 use thiserror::Error;
@@ -55,7 +58,7 @@ fn row_demand(levels: &[usize], row: &[Mention], least: usize) -> usize
 
 /// The greatest of what the mentions of these functions demand.
 fn demands(graph: &[Vec<Mention>], levels: &[usize], members: &[FunId]) -> usize
-    requires whole { IsWhole graph.now }
+    requires whole { IsWhole (targets_in graph.now) }
     requires sized { length levels.now ≡ length graph.now }
     requires within { (k : ℕ) (f : FunId) → slice_get members.now k ≡ Some f
         → f.0 < length graph.now }
@@ -87,8 +90,8 @@ fn least_levels(
     graph: &[Vec<Mention>],
     found: &Components,
 ) -> Result<Vec<usize>, AllocError>
-    requires whole { IsWhole graph.now }
-    requires ranks { AreRanks graph.now found.now.ranks.items found.now.count }
+    requires whole { IsWhole (targets_in graph.now) }
+    requires ranks { AreRanks (targets_in graph.now) found.now.ranks.items found.now.count }
     requires calm { IsCalm graph.now found.now.ranks.items }
     ensures { IfOk result
         (λ levels. LevelsTo graph.now found.now.ranks.items found.now.count levels.items) }
@@ -148,8 +151,8 @@ fn calls(
     graph: &[Vec<Mention>],
     found: &Components,
 ) -> Result<Vec<Option<Call>>, AllocError>
-    requires whole { IsWhole graph.now }
-    requires ranks { AreRanks graph.now found.now.ranks.items found.now.count }
+    requires whole { IsWhole (targets_in graph.now) }
+    requires ranks { AreRanks (targets_in graph.now) found.now.ranks.items found.now.count }
     ensures { IfOk result (λ calls. AreCalls graph.now found.now.ranks.items found.now.count
         (length graph.now) calls.items) }
 {
@@ -183,17 +186,17 @@ fn first_recursion(ranks: &[usize], calls: &[Option<Call>]) -> Option<(usize, Ca
 /// A closed walk from a function through a set call.
 fn cycle(
     alloc: Global,
-    graph: &[Vec<Mention>],
+    graph: &[Vec<usize>],
     first: usize,
     call: Call,
 ) -> Result<Vec<FunId>, AllocError>
-    requires whole { IsWhole graph.now }
+    requires whole { IsWhole (rows_in graph.now) }
     requires first { first < length graph.now }
     requires collected { call.collected < length graph.now }
-    requires to { Reach graph.now first call.caller }
-    requires to_first { Reach graph.now call.collected first }
+    requires to { Reach (rows_in graph.now) first call.caller }
+    requires to_first { Reach (rows_in graph.now) call.collected first }
     ensures { IfOk result
-        (λ cycle. IsCycleOf graph.now first call.caller call.collected cycle.items) }
+        (λ cycle. IsCycleOf (rows_in graph.now) first call.caller call.collected cycle.items) }
 {
     let mut cycle = walk(alloc, graph, first, call.caller)?;
     cycle.push(FunId(call.caller))?;
@@ -209,12 +212,14 @@ fn levels_or_cycle(
 ) -> Result<Result<Vec<usize>, Vec<FunId>>, AllocError>
     ensures { IfOk result (λ found. AreLevelsOrCycle (program_of program.now) found) }
 {
-    let rows = graph(alloc, program)?;
-    let rows = rows.as_slice();
-    let found = find_components(alloc, rows)?;
+    let mentions = graph(alloc, program)?;
+    let rows = mentions.as_slice();
+    let edges = edges(alloc, rows)?;
+    let graph = edges.as_slice();
+    let found = find_components(alloc, graph)?;
     let calls = calls(alloc, rows, &found)?;
     match first_recursion(found.ranks.as_slice(), calls.as_slice()) {
-        Some((first, call)) => Ok(Err(cycle(alloc, rows, first, call)?)),
+        Some((first, call)) => Ok(Err(cycle(alloc, graph, first, call)?)),
         None => Ok(Ok(least_levels(alloc, rows, &found)?)),
     }
 }

@@ -1,9 +1,8 @@
 //! Walks along mentions.
 ghost use Rattle.std.specs.Prelude.{◌≡◌, ◌+◌, ◌<◌, ◌≤◌, ℕ, Some, IfOk, IfSome, IfNone, OnOk, length, slice_get};
-ghost use Rattle.cu_lift.specs.Inside.Graph.{Edge, Graph, IsRow, IsWhole, Reach};
+ghost use Rattle.cu_cycles.specs.Graph.{Edge, Graph, IsWhole, Reach, rows_in};
 ghost use Rattle.cu_lift.specs.Inside.Trail.{Begins, Grows, IsDone, IsTrail, Meeting, Steps};
 
-use crate::mentions::Mention;
 use cu_kernel::FunId;
 use std::alloc::{AllocError, Global};
 
@@ -23,10 +22,10 @@ struct Spread {
     met: Vec<bool>,
 }
 
-/// The row of a function.
-pub(crate) fn row_of(graph: &[Vec<Mention>], function: usize) -> &[Mention]
+/// The functions that one mentions.
+pub(crate) fn targets_of(graph: &[Vec<usize>], function: usize) -> &[usize]
     requires { function < length graph.now }
-    ensures { IsRow graph.now function result.now }
+    ensures { slice_get (rows_in graph.now) function ≡ Some result.now }
 {
     graph[function].as_slice()
 }
@@ -63,30 +62,30 @@ impl Spread {
     }
 
     /// Meets all that the function at a place mentions.
-    fn widen(&mut self, graph: &[Vec<Mention>], from: usize) -> Result<(), AllocError>
-        requires whole { IsWhole graph.now }
-        requires trail { IsTrail graph.now self.old }
+    fn widen(&mut self, graph: &[Vec<usize>], from: usize) -> Result<(), AllocError>
+        requires whole { IsWhole (rows_in graph.now) }
+        requires trail { IsTrail (rows_in graph.now) self.old }
         requires within { from < length self.old.found.items }
-        ensures trail { OnOk result (IsTrail graph.now self.new) }
+        ensures trail { OnOk result (IsTrail (rows_in graph.now) self.new) }
         ensures grows { OnOk result (Grows self.old self.new) }
-        ensures done { OnOk result (IsDone graph.now self.new from) }
+        ensures done { OnOk result (IsDone (rows_in graph.now) self.new from) }
     {
         let function = self.found[from].function;
-        let row = row_of(graph, function);
-        for mention in row {
-            self.meet(mention.function.0, from)?;
+        let row = targets_of(graph, function);
+        for target in row {
+            self.meet(*target, from)?;
         }
         Ok(())
     }
 
     /// Finds all that the functions found mention.
-    fn run(&mut self, graph: &[Vec<Mention>]) -> Result<(), AllocError>
-        requires whole { IsWhole graph.now }
-        requires trail { IsTrail graph.now self.old }
-        ensures trail { OnOk result (IsTrail graph.now self.new) }
+    fn run(&mut self, graph: &[Vec<usize>]) -> Result<(), AllocError>
+        requires whole { IsWhole (rows_in graph.now) }
+        requires trail { IsTrail (rows_in graph.now) self.old }
+        ensures trail { OnOk result (IsTrail (rows_in graph.now) self.new) }
         ensures grows { OnOk result (Grows self.old self.new) }
         ensures done { OnOk result ((i : ℕ) → i < length self.new.found.items
-            → IsDone graph.now self.new i) }
+            → IsDone (rows_in graph.now) self.new i) }
     {
         let mut next = 0;
         while next < self.found.len() {
@@ -136,14 +135,14 @@ impl Spread {
 /// in order.
 pub(crate) fn walk(
     alloc: Global,
-    graph: &[Vec<Mention>],
+    graph: &[Vec<usize>],
     start: usize,
     end: usize,
 ) -> Result<Vec<FunId>, AllocError>
-    requires whole { IsWhole graph.now }
+    requires whole { IsWhole (rows_in graph.now) }
     requires within { start < length graph.now }
-    requires reached { Reach graph.now start end }
-    ensures { IfOk result (λ walk. Steps graph.now start walk.items end) }
+    requires reached { Reach (rows_in graph.now) start end }
+    ensures { IfOk result (λ walk. Steps (rows_in graph.now) start walk.items end) }
 {
     let mut spread = Spread::new(alloc, start, graph.len())?;
     spread.run(graph)?;

@@ -9,7 +9,7 @@ use Rattle.cu_kernel.specs.Captures.{are_rising}
 use Rattle.cu_lift.proofs.Bridges.{function_at}
 use Rattle.cu_lift.proofs.Elements.{first_or_rest, in_first, in_rest, none_in}
 use Rattle.cu_lift.proofs.Leaders.{less_from}
-use Rattle.cu_lift.proofs.Places.{within}
+use Rattle.cu_cycles.proofs.Places.{within}
 use Rattle.cu_lift.specs.Groups.{IsFunction, IsGroup, IsIn, numbers}
 use Rattle.cu_lift.specs.Walks as walk
 use Rattle.cu_lift.specs.Walks.{AreConnected, Has, Mentions, Reaches, Walk}

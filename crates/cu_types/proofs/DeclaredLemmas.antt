@@ -10,7 +10,7 @@ use Rattle.cu_kernel.specs.Kernel.{Kernel, Mark, program_of}
 use Rattle.cu_kernel.specs.TypeExpr as type
 use Rattle.cu_kernel.specs.TypeExpr.{TypeExpr, TypeExprs}
 use Rattle.cu_lift.proofs.Elements.{first_or_rest}
-use Rattle.cu_lift.proofs.Places.{no_length, within}
+use Rattle.cu_cycles.proofs.Places.{no_length, within}
 use Rattle.cu_lift.specs.Groups.{IsFunction, IsIn}
 use Rattle.cu_types.proofs.BreadthLemmas.{above_most}
 use Rattle.cu_types.proofs.Connections.{group_of, is_group, own_group}

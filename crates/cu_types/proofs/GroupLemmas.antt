@@ -14,7 +14,7 @@ use Rattle.cu_kernel.specs.Kernel.{Kernel}
 use Rattle.cu_kernel.specs.TypeExpr as type
 use Rattle.cu_kernel.specs.TypeExpr.{TypeExpr}
 use Rattle.cu_lift.proofs.Leaders.{less_from}
-use Rattle.cu_lift.proofs.Places.{set_elsewhere, set_there, there}
+use Rattle.cu_cycles.proofs.Places.{set_elsewhere, set_there, there}
 use Rattle.cu_lift.specs.Groups.{numbers}
 use Rattle.cu_types.specs.BuiltInTypes.{constructor_type, values}
 use Rattle.cu_types.specs.Equations as asked

@@ -22,7 +22,7 @@ use Rattle.cu_kernel.specs.declared.term.Function.{Function}
 use Rattle.cu_lift.proofs.Bridges.{function_at}
 use Rattle.cu_lift.proofs.Elements.{first_or_rest, in_first, in_rest}
 use Rattle.cu_lift.proofs.GroupLaws.{same_group}
-use Rattle.cu_lift.proofs.Places.{set_elsewhere, set_there, take_less, within}
+use Rattle.cu_cycles.proofs.Places.{set_elsewhere, set_there, take_less, within}
 use Rattle.cu_lift.specs.Groups.{AreGroups, IsGroup, IsIn, IsPlaced, numbers}
 use Rattle.cu_lift.specs.Walks.{Has, Mentions}
 use Rattle.cu_lift.specs.Groups.{lists_of}

@@ -6,7 +6,7 @@ use Rattle.cu_kernel.specs.Kernel.{Kernel, program_of}
 use Rattle.cu_kernel.specs.TypeExpr as type
 use Rattle.cu_kernel.specs.TypeExpr.{TypeExpr}
 use Rattle.cu_lift.proofs.Bridges.{function_at}
-use Rattle.cu_lift.proofs.Places.{take_less}
+use Rattle.cu_cycles.proofs.Places.{take_less}
 use Rattle.cu_lift.specs.Groups.{AreGroups, IsFunction, IsGroup, IsIn}
 use Rattle.cu_lift.specs.Walks.{Mentions}
 use Rattle.cu_types.proofs.Connections.{group_has, group_is, group_of, is_group, own_group, reached, reaches_fewer, reaches_mentioned, reaches_on}

@@ -1,7 +1,5 @@
 -- What holds of a search for components at each of its steps.
 use Rattle.std.specs.Prelude.{◌≡◌, ℕ, ◌+◌, ◌-◌, ◌<◌, ◌≤◌, cond, nat_le, List, [], ◌∷◌, ◌++◌, Some, length, option_map, replicate, slice_get}
-use Rattle.std.specs.declared.alloc.Global.{Global}
-use Rattle.std.specs.declared.vec.Vec.{Vec}
 use Rattle.cu_cycles.specs.Graph.{Edge, Graph, Reach}
 use Rattle.cu_cycles.specs.declared.components.Part.{Part}
 use Rattle.cu_cycles.specs.declared.components.Place.{Place}
@@ -36,19 +34,19 @@ pub data Followed (places : List Place) (path pending : List ℕ) (p : Part) (w 
   awaited : (j : ℕ) → slice_get pending j ≡ Some w → p.pending ≤ j
       → Followed places path pending p w
 
--- the weights of the nodes that weren't met yet
-abbrev pub weigh : (Vec ℕ Global → ℕ) → Graph → List Place → ℕ
+-- the weights of the nodes that weren't visited yet
+abbrev pub weigh : (List ℕ → ℕ) → Graph → List Place → ℕ
 weigh weight [] places = 0
 weigh weight (row ∷ rows) [] = 0
 weigh weight (row ∷ rows) (New ∷ places) = weight row + weigh weight rows places
 weigh weight (row ∷ rows) (Open s ∷ places) = weigh weight rows places
 weigh weight (row ∷ rows) (Closed c ∷ places) = weigh weight rows places
 
-abbrev pub one : Vec ℕ Global → ℕ
+abbrev pub one : List ℕ → ℕ
 one row = 1
 
-abbrev pub two_more : Vec ℕ Global → ℕ
-two_more row = length row.items + 2
+abbrev pub two_more : List ℕ → ℕ
+two_more row = length row + 2
 
 pub record Good (g : Graph) (places : List Place) (path pending : List ℕ) (parts : List Part)
     (count : ℕ) : Type 0 where
@@ -75,8 +73,9 @@ pub record Good (g : Graph) (places : List Place) (path pending : List ℕ) (par
   pub source : (i : ℕ) (p : Part) (t w : ℕ) → Awaits parts t i p → slice_get pending t ≡ Some w
       → Source g path parts i p w
   -- closed nodes lead to closed ones of no later components; those of one component reach each
-  -- other
+  -- other; and each component has one
   pub closed_below : (v c : ℕ) → slice_get places v ≡ Some (Closed c) → c < count
+  pub closed_used : (c : ℕ) → c < count → (v : ℕ) × (slice_get places v ≡ Some (Closed c))
   pub closed_edges : (v c w : ℕ) → slice_get places v ≡ Some (Closed c) → Edge g v w
       → (d : ℕ) × (slice_get places w ≡ Some (Closed d)) × (d ≤ c)
   pub alike : (u v c : ℕ) → slice_get places u ≡ Some (Closed c)
@@ -97,7 +96,7 @@ pub record MayEnter (g : Graph) (s : Search) (v : ℕ) : Type 0 where
 abbrev pub work : Graph → Search → ℕ
 work g s = weigh two_more g s.places.items + length s.pending.items + length s.parts.items
 
--- what wasn't met yet wasn't met before
+-- what wasn't visited yet wasn't visited before
 abbrev pub Meets : Search → Search → Type 0
 Meets old new = (v : ℕ) → slice_get new.places.items v ≡ Some New
     → slice_get old.places.items v ≡ Some New
@@ -150,7 +149,7 @@ pub record Closes (start : ℕ) (old new : Search) : Type 0 where
   pub parts : new.parts.items ≡ old.parts.items
   pub closed : new.closed ≡ old.closed
 
--- a search that has met no node
+-- a search that has visited no node
 pub record IsStart (count : ℕ) (s : Search) : Type 0 where
   pub places : s.places.items ≡ replicate count New
   pub path : s.path.items ≡ []

@@ -1,8 +1,6 @@
 -- Synonyms of the code, and the graph of what they name.
 use Rattle.std.specs.Prelude.{◌≡◌, ℕ, ◌+◌, Bool, List, [], ◌∷◌, ◌++◌, Option, None, Some, if◌then◌else◌, map, slice_get}
 use Rattle.std.specs.List.{All, flat_map}
-use Rattle.std.specs.declared.alloc.Global.{Global}
-use Rattle.std.specs.declared.vec.Vec.{Vec}
 use Rattle.cu_entities.specs.Bindings.{Binding}
 use Rattle.cu_entities.specs.Entities.{Entity}
 use Rattle.cu_lex.specs.Located.{Position}
@@ -72,9 +70,6 @@ targets numbers bindings uses = flat_map (λ used. listed (target_of numbers bin
 
 abbrev pub row_of : List Numbered → List Binding → Kept → List ℕ
 row_of numbers bindings s = targets numbers bindings s.uses
-
-abbrev pub rows_in : List (Vec ℕ Global) → List (List ℕ)
-rows_in rows = map (λ (row : Vec ℕ Global). row.items) rows
 
 -- ---- faults
 

@@ -1,15 +1,16 @@
--- Set levels over the graph that the code keeps, and how they are found.
+-- Set levels over the rows of mentions that the code keeps, and how they are found.
 use Rattle.std.specs.Prelude.{◌≡◌, ℕ, ◌+◌, ◌<◌, ◌≤◌, ◌⊎◌, true, cond, nat_eq, List, [], ◌∷◌, ◌++◌, Option, None, Some, length, slice_get, slice_index}
 use Rattle.std.specs.declared.alloc.Global.{Global}
 use Rattle.std.specs.declared.vec.Vec.{Vec}
 use Rattle.cu_calculus.specs.declared.FunId.{FunId}
-use Rattle.cu_lift.specs.Inside.Graph.{Graph}
+use Rattle.cu_cycles.specs.Graph.{Graph}
+use Rattle.cu_lift.specs.Inside.MentionsOf.{MentionRows}
 use Rattle.cu_lift.specs.Inside.Trail.{Steps}
 use Rattle.cu_lift.specs.declared.set_levels.Call.{Call}
 use Rattle.cu_lift.specs.declared.mentions.Mention.{Mention}
 
 -- the row of u has a mention
-pub record Mentioned (g : Graph) (u : ℕ) (m : Mention) : Type 0 where
+pub record Mentioned (g : MentionRows) (u : ℕ) (m : Mention) : Type 0 where
   pub row : Vec Mention Global
   pub is_row : slice_get g u ≡ Some row
   pub place : ℕ
@@ -32,18 +33,18 @@ pub record AreMembers (ranks : List ℕ) (count : ℕ)
 abbrev pub demand : List ℕ → Mention → ℕ
 demand levels m = slice_index levels m.function.0 + cond m.collected 1 0
 
-pub record AreLevelsOn (g : Graph) (levels : List ℕ) : Type 0 where
+pub record AreLevelsOn (g : MentionRows) (levels : List ℕ) : Type 0 where
   pub each : length levels ≡ length g
   pub allowed : (u : ℕ) (m : Mention) → Mentioned g u m → demand levels m ≤ slice_index levels u
 
 -- no set call stays in its component
-pub record IsCalm (g : Graph) (ranks : List ℕ) : Type 0 where
+pub record IsCalm (g : MentionRows) (ranks : List ℕ) : Type 0 where
   pub calm : (u r : ℕ) (m : Mention) → Mentioned g u m → m.collected ≡ true
       → slice_get ranks u ≡ Some r
       → slice_get ranks m.function.0 ≡ Some r → ⊥
 
 -- the levels of the components before one
-pub record LevelsTo (g : Graph) (ranks : List ℕ) (r : ℕ) (levels : List ℕ) : Type 0 where
+pub record LevelsTo (g : MentionRows) (ranks : List ℕ) (r : ℕ) (levels : List ℕ) : Type 0 where
   pub sized : length levels ≡ length g
   pub low : (v x : ℕ) → slice_get ranks v ≡ Some x → slice_index levels v ≤ x
   pub none : (v x : ℕ) → slice_get ranks v ≡ Some x → r ≤ x → slice_index levels v ≡ 0
@@ -60,7 +61,7 @@ pub record IsDemand (levels : List ℕ) (row : List Mention) (least level : ℕ)
       ⊎ ((k : ℕ) × (m : Mention) × (slice_get row k ≡ Some m) × (demand levels m ≡ level))
 
 -- the greatest of what the mentions of some functions demand
-pub record AreDemands (g : Graph) (levels : List ℕ) (members : List FunId)
+pub record AreDemands (g : MentionRows) (levels : List ℕ) (members : List FunId)
     (level : ℕ) : Type 0 where
   pub bound : (k : ℕ) (f : FunId) (m : Mention) → slice_get members k ≡ Some f → Mentioned g f.0 m
       → demand levels m ≤ level
@@ -84,7 +85,7 @@ pub record Collects (ranks : List ℕ) (row : List Mention) (rank f : ℕ) : Typ
   pub is_rank : slice_get ranks f ≡ Some rank
 
 -- a set call whose two functions have a rank
-pub record IsCall (g : Graph) (ranks : List ℕ) (r : ℕ) (call : Call) : Type 0 where
+pub record IsCall (g : MentionRows) (ranks : List ℕ) (r : ℕ) (call : Call) : Type 0 where
   pub mention : Mention
   pub mentioned : Mentioned g call.caller mention
   pub collected : mention.collected ≡ true
@@ -93,7 +94,7 @@ pub record IsCall (g : Graph) (ranks : List ℕ) (r : ℕ) (call : Call) : Type 
   pub collected_rank : slice_get ranks call.collected ≡ Some r
 
 -- for each rank such a call of one of the first functions, where there is one
-pub record AreCalls (g : Graph) (ranks : List ℕ) (count n : ℕ)
+pub record AreCalls (g : MentionRows) (ranks : List ℕ) (count n : ℕ)
     (calls : List (Option Call)) : Type 0 where
   pub sized : length calls ≡ count
   pub some : (r : ℕ) (call : Call) → slice_get calls r ≡ Some (Some call) → IsCall g ranks r call

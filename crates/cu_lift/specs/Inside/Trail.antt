@@ -1,7 +1,7 @@
 -- What holds of a search for the functions that one reaches.
 use Rattle.std.specs.Prelude.{◌≡◌, ℕ, ◌+◌, ◌<◌, ◌≤◌, ◌⊎◌, Bool, true, false, List, [], ◌∷◌, ◌++◌, Some, length, set, slice_get}
 use Rattle.cu_calculus.specs.declared.FunId.{FunId}
-use Rattle.cu_lift.specs.Inside.Graph.{Edge, Graph}
+use Rattle.cu_cycles.specs.Graph.{Edge, Graph}
 use Rattle.cu_lift.specs.declared.walks.Found.{Found}
 use Rattle.cu_lift.specs.declared.walks.Spread.{Spread}
 
@@ -10,7 +10,7 @@ abbrev pub Steps : Graph → ℕ → List FunId → ℕ → Type 0
 Steps g u [] w = u ≡ w
 Steps g u (f ∷ fs) w = (f.0 ≡ u) × (v : ℕ) × Edge g u v × Steps g v fs w
 
--- how many weren't met yet
+-- how many weren't visited yet
 abbrev pub unmet : List Bool → ℕ
 unmet [] = 0
 unmet (true ∷ met) = unmet met

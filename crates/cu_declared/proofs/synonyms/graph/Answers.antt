@@ -1,9 +1,10 @@
 use Rattle.std.proofs.Common.{◌≡◌, ◌++◌, ap, List, subst, sym}
 use Rattle.std.specs.List.{All}
 use Rattle.std.proofs.lemmas.List.Elements.{All-get_or}
+use Rattle.cu_cycles.specs.Graph.{rows_in}
 use Rattle.cu_declared.specs.declared.found.TypeUse.{TypeUse}
 use Rattle.cu_declared.specs.Inside.Gathered.{UseIsOf, uses_meaning}
-use Rattle.cu_declared.specs.Inside.Synonyms.{SynonymIsOf, rows_in, targets}
+use Rattle.cu_declared.specs.Inside.Synonyms.{SynonymIsOf, targets}
 use Rattle.cu_declared.specs.Inside.Told.{bindings_of}
 use Rattle.cu_declared.proofs.SynonymLemmas.{rows_end, rows_left, rows_more}
 use Rattle.cu_declared.proofs.synonyms.graph.Goals as goal

@@ -1,7 +1,8 @@
 use Rattle.std.proofs.Common.{◌≡◌, ◌++◌, List, drop}
 use Rattle.std.specs.List.{All}
+use Rattle.cu_cycles.specs.Graph.{rows_in}
 use Rattle.cu_declared.specs.Inside.Numbers.{Have}
-use Rattle.cu_declared.specs.Inside.Synonyms.{SynonymIsOf, rows_in}
+use Rattle.cu_declared.specs.Inside.Synonyms.{SynonymIsOf}
 use Rattle.cu_declared.specs.Inside.Told.{IsAt, World, bindings_of}
 use Rattle.cu_declared.specs.Parameters.{Numbered}
 use Rattle.cu_declared.proofs.SynonymLemmas.{rows_left}

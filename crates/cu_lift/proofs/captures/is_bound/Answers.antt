@@ -1,6 +1,6 @@
 use Rattle.std.proofs.Common.{length, refl, subst, sym}
 use Rattle.std.proofs.lemmas.Option.{slice_get_read}
-use Rattle.cu_lift.proofs.Places.{one_element}
+use Rattle.cu_cycles.proofs.Places.{one_element}
 use Rattle.cu_lift.specs.Groups.{IsIn}
 use Rattle.cu_lift.specs.declared.captures.Local.{Local}
 use Rattle.cu_lift.proofs.captures.is_bound.Goals as goal

@@ -1,7 +1,7 @@
 use Rattle.std.proofs.Common.{rules, ◌≡◌, ◌++◌, ◌∷◌, ◌+◌, inl, inr, ℕ, List, [], Some, ap, sym, ◌∙◌, length, length-append, slice_get, subst, arith}
 use Rattle.std.specs.declared.alloc.Global.{Global}
 use Rattle.std.specs.declared.vec.Vec.{Vec}
-use Rattle.cu_lift.proofs.Places.{prefix_or_last}
+use Rattle.cu_cycles.proofs.Places.{prefix_or_last}
 use Rattle.cu_lift.proofs.components.empty_rows.Goals as goal
 
 one_more : (T : Type 0) (rows : List (Vec T Global)) (new : Vec T Global) → new.items ≡ []

@@ -12,7 +12,7 @@ use Rattle.cu_kernel.specs.TermsOf.{alternatives_of, term_of, term_of-Case, term
 use Rattle.cu_kernel.specs.declared.term.Pattern.{Pattern}
 use Rattle.cu_kernel.specs.declared.term.Term.TheVariants as term
 use Rattle.cu_kernel.specs.declared.term.Term.{Term}
-use Rattle.cu_lift.proofs.Places.{nothing_after}
+use Rattle.cu_cycles.proofs.Places.{nothing_after}
 use Rattle.cu_lift.specs.Inside.MentionsOf.{mention_meanings}
 use Rattle.cu_lift.proofs.mentions.+mentions.Goals as goal
 

@@ -6,7 +6,7 @@ use Rattle.cu_kernel.specs.Captures.{AreCaptured}
 use Rattle.cu_kernel.specs.LocalKernelOf.{local_function_meaning, top_function_meaning}
 use Rattle.cu_kernel.specs.declared.local.LocalFunction.{LocalFunction}
 use Rattle.cu_lift.proofs.LiftedPlacing.{AreLifted, numbers_after, order_below, placement_made}
-use Rattle.cu_lift.proofs.Places.{mapped_at}
+use Rattle.cu_cycles.proofs.Places.{mapped_at}
 use Rattle.cu_lift.specs.Inside.LiftedPlaces.{AreBelow, AreNames, AreRows, entry_of, row_items}
 use Rattle.cu_lift.specs.Lifting.{in_order}
 use Rattle.cu_lift.specs.declared.local_order.Entry.{Entry}

@@ -6,7 +6,7 @@ use Rattle.cu_kernel.specs.LocalKernel.{TopFunction}
 use Rattle.cu_kernel.specs.LocalKernelOf.{top_function_meaning}
 use Rattle.cu_kernel.specs.declared.local.TopFunction as code
 use Rattle.cu_lift.proofs.LiftedPlacing.{length_tops, placements_step}
-use Rattle.cu_lift.proofs.Places.{mapped_at}
+use Rattle.cu_cycles.proofs.Places.{mapped_at}
 use Rattle.cu_names.specs.Texts.{IsKnown}
 use Rattle.cu_names.proofs.Growth.{extends-trans, known-extends}
 use Rattle.cu_lift.proofs.placing.placements.Goals as goal

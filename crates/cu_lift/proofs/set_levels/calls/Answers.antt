@@ -1,8 +1,9 @@
 use Rattle.std.proofs.Common.{◌≡◌, ◌<◌, ◌≤◌, ℕ, IfNone, List, None, Option, Some, get_or, refl, length, slice_get, ap, sym, subst, arith}
 use Rattle.std.proofs.lemmas.Option.{slice_get-get_or}
-use Rattle.cu_lift.proofs.Bridges.{mention_edge}
+use Rattle.cu_lift.proofs.Edges.{as_many_targets, mention_edge}
 use Rattle.cu_lift.proofs.Calls.{call_of, calls_found, calls_not, calls_until}
 use Rattle.cu_lift.specs.Inside.Levelling.{Collects, Mentioned}
+use Rattle.cu_lift.specs.Inside.MentionsOf.{targets_in}
 use Rattle.cu_lift.specs.declared.mentions.Mention.{Mention}
 use Rattle.cu_lift.proofs.set_levels.calls.Goals as goal
 
@@ -13,6 +14,14 @@ rank_at ranks slice n same low =
 none_of : (found : Option ℕ) (P : ℕ → Type 0) → IfNone found ((f : ℕ) → P f → ⊥) → ((x : ℕ) → found ≡ Some x → ⊥) → (f : ℕ) → P f → ⊥
 none_of None P none not f h = none f h
 none_of (Some x) P none not f h = not x refl
+
+pub row_of-row-requires : goal.row_of-row-requires
+row_of-row-requires c =
+    let g = c.args.graph.now in
+    let many : length (targets_in g) ≡ length g = as_many_targets g in
+    let size = c.requires.ranks.sized in
+    let same : length c.as_slice-ranks.result.now ≡ length c.args.found.now.ranks.items = ap length c.as_slice-ranks.ensures.value in
+    omega arith
 
 pub collected_in-requires : goal.collected_in-requires
 collected_in-requires c k m e =
@@ -63,5 +72,6 @@ returns c =
     let g = c.args.graph.now in
     let size = c.requires.ranks.sized in
     let same : length c.as_slice-ranks.result.now ≡ length c.args.found.now.ranks.items = ap length c.as_slice-ranks.ensures.value in
+    let many : length (targets_in g) ≡ length g = as_many_targets g in
     let end : length g ≤ c.loop-caller.caller = omega arith in
     calls_until g c.args.found.now.ranks.items c.args.found.now.count c.loop-caller.caller (length g) c.loop-caller.calls.items end c.loop-caller.invariant

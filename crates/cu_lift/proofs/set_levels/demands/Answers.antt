@@ -1,9 +1,10 @@
 use Rattle.std.proofs.Common.{◌≡◌, ◌<◌, ◌≤◌, get_or, length, slice_get, Some, List, subst, sym, arith}
 use Rattle.std.proofs.lemmas.Option.{slice_get-get_or}
 use Rattle.cu_calculus.specs.declared.FunId.{FunId}
-use Rattle.cu_lift.proofs.Bridges.{mention_edge}
+use Rattle.cu_lift.proofs.Edges.{as_many_targets, mention_edge}
 use Rattle.cu_lift.proofs.Demands.{demands_all, demands_first, demands_next}
 use Rattle.cu_lift.specs.Inside.Levelling.{IsDemand, Mentioned}
+use Rattle.cu_lift.specs.Inside.MentionsOf.{targets_in}
 use Rattle.cu_lift.specs.declared.mentions.Mention.{Mention}
 use Rattle.cu_lift.proofs.set_levels.demands.Goals as goal
 
@@ -32,6 +33,7 @@ row_demand-level-requires-clause-within c k m e =
       is_there = subst (λ (x : List Mention). slice_get x k ≡ Some m) (sym is.2) e;
     } in
     let low = c.requires.whole.within f.0 m.function.0 (mention_edge c.args.graph.now f.0 m mentioned) in
+    let many : length (targets_in c.args.graph.now) ≡ length c.args.graph.now = as_many_targets c.args.graph.now in
     let size = c.requires.sized in
     omega arith
 

@@ -1,12 +1,14 @@
-use Rattle.std.proofs.Common.{◌≡◌, ◌<◌, ℕ, List, Some, get_or, length, slice_get, refl, sym, subst, arith}
+use Rattle.std.proofs.Common.{◌≡◌, ◌<◌, ℕ, List, Some, get_or, length, slice_get, refl, sym, ◌∙◌, subst, arith}
 use Rattle.std.proofs.lemmas.Option.{slice_get_read}
 use Rattle.std.specs.declared.alloc.Global.{Global}
 use Rattle.std.specs.declared.vec.Vec.{Vec}
 use Rattle.cu_calculus.specs.declared.FunId.{FunId}
 use Rattle.cu_lift.proofs.LevelSteps.{all_below, levels_step}
 use Rattle.cu_lift.proofs.Members.{members_all, members_in}
-use Rattle.cu_lift.proofs.Places.{within}
-use Rattle.cu_lift.specs.Inside.Graph.{AreRanks, Graph}
+use Rattle.cu_cycles.proofs.Places.{within}
+use Rattle.cu_cycles.specs.Components.{AreRanks}
+use Rattle.cu_lift.proofs.Edges.{as_many_targets}
+use Rattle.cu_lift.specs.Inside.MentionsOf.{MentionRows, targets_in}
 use Rattle.cu_lift.specs.Inside.Levelling.{AreBelow, AreDemands, AreMembers}
 use Rattle.cu_lift.proofs.set_levels.least_levels.Goals as goal
 
@@ -29,8 +31,11 @@ all_in ranks count members i row slice are is same v e =
     let found = members_all ranks count members are i row is v e in
     (found.0, subst (λ (x : List FunId). slice_get x found.0 ≡ Some (record { 0 = v })) (sym same) found.1)
 
-ranked_within : (g : Graph) (ranks : List ℕ) (count v r : ℕ) → AreRanks g ranks count → slice_get ranks v ≡ Some r → v < length g
-ranked_within g ranks count v r are e = let low = within ranks v r e in let size = are.sized in omega arith
+ranked_within : (g : MentionRows) (ranks : List ℕ) (count v r : ℕ) → AreRanks (targets_in g) ranks count → slice_get ranks v ≡ Some r → v < length g
+ranked_within g ranks count v r are e =
+    let low = within ranks v r e in
+    let size : length ranks ≡ length g = are.sized ∙ as_many_targets g in
+    omega arith
 
 below_as : (slice levels : List ℕ) → slice ≡ levels → AreBelow (length levels) levels → AreBelow (length slice) slice
 below_as slice levels same h = subst (λ (x : List ℕ). AreBelow (length x) x) (sym same) h

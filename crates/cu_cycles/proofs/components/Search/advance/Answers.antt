@@ -1,6 +1,7 @@
 use Rattle.std.proofs.Common.{rules, ◌≡◌, ◌<◌, ℕ, List, Some, get_or, length, slice_get, refl, subst, arith}
 use Rattle.std.proofs.lemmas.Option.{slice_get_read}
 use Rattle.cu_cycles.proofs.Changes.{forget_closed, forget_open, pending_within, reach_pending, same_work}
+use Rattle.cu_cycles.specs.Graph.{rows_in}
 use Rattle.cu_cycles.specs.declared.components.Place.{Place}
 use Rattle.cu_cycles.specs.declared.components.Place.TheVariants.{Closed, New, Open}
 use Rattle.cu_cycles.proofs.components.Search.advance.Goals as goal
@@ -13,7 +14,7 @@ index-requires c =
     let s = c.args.self.now in
     let size : Rattle.std.specs.Vec.vec_len s.places ≡ length s.places.items = search rules in
     let low =
-    pending_within c.args.graph.now s.places.items s.path.items s.pending.items s.parts.items s.closed c.args.part c.in-Some.target c.requires.whole
+    pending_within (rows_in c.args.graph.now) s.places.items s.path.items s.pending.items s.parts.items s.closed c.args.part c.in-Some.target c.requires.whole
     c.requires.good c.requires.last c.in-Some.ensures.some.0 c.in-Some.ensures.some.1 in
     omega arith
 
@@ -21,13 +22,13 @@ pub enter-requires : goal.enter-requires
 enter-requires c =
     let s = c.args.self.now in
     let low =
-    pending_within c.args.graph.now s.places.items s.path.items s.pending.items s.parts.items s.closed c.args.part c.in-Some.target c.requires.whole
+    pending_within (rows_in c.args.graph.now) s.places.items s.path.items s.pending.items s.parts.items s.closed c.args.part c.in-Some.target c.requires.whole
     c.requires.good c.requires.last c.in-Some.ensures.some.0 c.in-Some.ensures.some.1 in
     record {
       good = c.requires.good;
       is_new = read s.places.items c.in-Some.target c.index.result.now New low c.index.ensures c.in-New.is;
       reached =
-          reach_pending c.args.graph.now s.places.items s.path.items s.pending.items s.parts.items s.closed c.args.part c.in-Some.target
+          reach_pending (rows_in c.args.graph.now) s.places.items s.path.items s.pending.items s.parts.items s.closed c.args.part c.in-Some.target
           c.requires.good c.requires.last c.in-Some.ensures.some.0 c.in-Some.ensures.some.1;
     }
 
@@ -35,10 +36,10 @@ pub returns-in-Open-clause-good : goal.returns-in-Open-clause-good
 returns-in-Open-clause-good c =
     let s = c.args.self.now in
     let low =
-    pending_within c.args.graph.now s.places.items s.path.items s.pending.items s.parts.items s.closed c.args.part c.in-Some.target c.requires.whole
+    pending_within (rows_in c.args.graph.now) s.places.items s.path.items s.pending.items s.parts.items s.closed c.args.part c.in-Some.target c.requires.whole
     c.requires.good c.requires.last c.in-Some.ensures.some.0 c.in-Some.ensures.some.1 in
-    c.follow.ensures.good c.args.graph.now
-    (forget_open c.args.graph.now s c.join.new.self c.args.part c.in-Some.target c.in-Open.at c.requires.good c.requires.last
+    c.follow.ensures.good (rows_in c.args.graph.now)
+    (forget_open (rows_in c.args.graph.now) s c.join.new.self c.args.part c.in-Some.target c.in-Open.at c.requires.good c.requires.last
     c.in-Some.ensures.some.0 c.in-Some.ensures.some.1
     (read s.places.items c.in-Some.target c.index.result.now (Open c.in-Open.at) low c.index.ensures c.in-Open.is) c.join.ensures.only
     c.join.ensures.joined c.join.ensures.before)
@@ -47,25 +48,25 @@ pub returns-in-Open-clause-falls : goal.returns-in-Open-clause-falls
 returns-in-Open-clause-falls c =
     let s = c.args.self.now in
     let low =
-    pending_within c.args.graph.now s.places.items s.path.items s.pending.items s.parts.items s.closed c.args.part c.in-Some.target c.requires.whole
+    pending_within (rows_in c.args.graph.now) s.places.items s.path.items s.pending.items s.parts.items s.closed c.args.part c.in-Some.target c.requires.whole
     c.requires.good c.requires.last c.in-Some.ensures.some.0 c.in-Some.ensures.some.1 in
     let one_less =
-    c.follow.ensures.falls c.args.graph.now
-    (forget_open c.args.graph.now s c.join.new.self c.args.part c.in-Some.target c.in-Open.at c.requires.good c.requires.last
+    c.follow.ensures.falls (rows_in c.args.graph.now)
+    (forget_open (rows_in c.args.graph.now) s c.join.new.self c.args.part c.in-Some.target c.in-Open.at c.requires.good c.requires.last
     c.in-Some.ensures.some.0 c.in-Some.ensures.some.1
     (read s.places.items c.in-Some.target c.index.result.now (Open c.in-Open.at) low c.index.ensures c.in-Open.is) c.join.ensures.only
     c.join.ensures.joined c.join.ensures.before) in
-    let no_more = same_work c.args.graph.now s c.join.new.self c.join.ensures.only in
+    let no_more = same_work (rows_in c.args.graph.now) s c.join.new.self c.join.ensures.only in
     omega arith
 
 pub returns-in-Closed-clause-good : goal.returns-in-Closed-clause-good
 returns-in-Closed-clause-good c =
     let s = c.args.self.now in
     let low =
-    pending_within c.args.graph.now s.places.items s.path.items s.pending.items s.parts.items s.closed c.args.part c.in-Some.target c.requires.whole
+    pending_within (rows_in c.args.graph.now) s.places.items s.path.items s.pending.items s.parts.items s.closed c.args.part c.in-Some.target c.requires.whole
     c.requires.good c.requires.last c.in-Some.ensures.some.0 c.in-Some.ensures.some.1 in
-    c.follow-in-Closed.ensures.good c.args.graph.now
-    (forget_closed c.args.graph.now s c.args.part c.in-Some.target c.in-Closed.field-0 c.requires.good c.requires.last
+    c.follow-in-Closed.ensures.good (rows_in c.args.graph.now)
+    (forget_closed (rows_in c.args.graph.now) s c.args.part c.in-Some.target c.in-Closed.field-0 c.requires.good c.requires.last
     c.in-Some.ensures.some.0 c.in-Some.ensures.some.1
     (read s.places.items c.in-Some.target c.index.result.now (Closed c.in-Closed.field-0) low c.index.ensures c.in-Closed.is))
 
@@ -73,11 +74,11 @@ pub returns-in-Closed-clause-falls : goal.returns-in-Closed-clause-falls
 returns-in-Closed-clause-falls c =
     let s = c.args.self.now in
     let low =
-    pending_within c.args.graph.now s.places.items s.path.items s.pending.items s.parts.items s.closed c.args.part c.in-Some.target c.requires.whole
+    pending_within (rows_in c.args.graph.now) s.places.items s.path.items s.pending.items s.parts.items s.closed c.args.part c.in-Some.target c.requires.whole
     c.requires.good c.requires.last c.in-Some.ensures.some.0 c.in-Some.ensures.some.1 in
     let one_less =
-    c.follow-in-Closed.ensures.falls c.args.graph.now
-    (forget_closed c.args.graph.now s c.args.part c.in-Some.target c.in-Closed.field-0 c.requires.good c.requires.last
+    c.follow-in-Closed.ensures.falls (rows_in c.args.graph.now)
+    (forget_closed (rows_in c.args.graph.now) s c.args.part c.in-Some.target c.in-Closed.field-0 c.requires.good c.requires.last
     c.in-Some.ensures.some.0 c.in-Some.ensures.some.1
     (read s.places.items c.in-Some.target c.index.result.now (Closed c.in-Closed.field-0) low c.index.ensures c.in-Closed.is)) in
     omega arith

@@ -2,7 +2,7 @@ use Rattle.std.proofs.Common.{◌≡◌, ◌<◌, ◌≤◌, ◌+◌, ◌∷◌,
 use Rattle.std.proofs.lemmas.Option.{slice_get-get_or, slice_get_read}
 use Rattle.cu_lift.proofs.Elements.{none_in}
 use Rattle.cu_lift.proofs.Noting.{take_whole}
-use Rattle.cu_lift.proofs.Places.{within}
+use Rattle.cu_cycles.proofs.Places.{within}
 use Rattle.cu_lift.proofs.RowSteps.{in_row}
 use Rattle.cu_lift.proofs.Spreads.{AreWoken, met_left, met_stays, spreads_done, spreads_met, user_meets, wakes_next, wakes_skip}
 use Rattle.cu_lift.specs.Groups.{IsIn}

@@ -1,5 +1,6 @@
 use Rattle.std.proofs.Common.{rules, ◌≡◌, ◌<◌, ◌≤◌, ℕ, inl, inr, length, subst, sym, arith}
-use Rattle.cu_lift.proofs.Joining.{before_or_not}
+use Rattle.cu_cycles.proofs.Places.{before_or_not}
+use Rattle.cu_cycles.specs.Graph.{rows_in}
 use Rattle.cu_lift.proofs.Trails.{done_stays, grows_on}
 use Rattle.cu_lift.specs.Inside.Trail.{IsDone}
 use Rattle.cu_lift.proofs.walks.Spread.run.Goals as goal
@@ -13,10 +14,10 @@ loop-next-preserved c =
       c.in_ok-widen.ensures.trail,
       grows_on c.args.self.now now new c.loop-next.invariant.1 grows,
       λ i less. elim (before_or_not i c.loop-next.next) [
-        | inl under ↦ done_stays c.args.graph.now now new i grows (omega arith) (c.loop-next.invariant.2 i under)
+        | inl under ↦ done_stays (rows_in c.args.graph.now) now new i grows (omega arith) (c.loop-next.invariant.2 i under)
         | inr over ↦
             let at : i ≡ c.loop-next.next = omega arith in
-            subst (λ (k : ℕ). IsDone c.args.graph.now new k) (sym at) c.in_ok-widen.ensures.done
+            subst (λ (k : ℕ). IsDone (rows_in c.args.graph.now) new k) (sym at) c.in_ok-widen.ensures.done
       ],
     )
 

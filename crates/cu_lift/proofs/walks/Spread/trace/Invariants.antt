@@ -1,5 +1,5 @@
 use Rattle.std.proofs.Common.{◌≡◌, ◌<◌, reverse, Some, length, slice_get}
-use Rattle.cu_lift.specs.Inside.Graph.{Graph}
+use Rattle.cu_cycles.specs.Graph.{Graph}
 use Rattle.cu_lift.specs.Inside.Trail.{IsTrail, Steps}
 use Rattle.cu_lift.specs.declared.walks.Found.{Found}
 use Rattle.cu_lift.proofs.walks.Spread.trace.Given as goal

@@ -1,7 +1,0 @@
-use Rattle.std.proofs.Common.{◌≡◌, ◌<◌, ℕ, Some, slice_get}
-use Rattle.cu_cycles.specs.Inside.Search.{Rests}
-use Rattle.cu_cycles.specs.declared.components.Place.TheVariants.{New}
-use Rattle.cu_cycles.proofs.components.ranks.Given as goal
-
-abbrev pub invariant-loop-node : goal.invariant-loop-node
-invariant-loop-node l = Rests l.graph l.search × ((v : ℕ) → v < l.node → slice_get l.search.places.items v ≡ Some New → ⊥)

@@ -1,8 +1,0 @@
-use Rattle.cu_lift.specs.Inside.Search.{IsGood, Meets, work}
-use Rattle.cu_lift.proofs.components.Search.run.Given as goal
-
-abbrev pub invariant-loop-part : goal.invariant-loop-part
-invariant-loop-part l = IsGood l.graph l.self × Meets l.fn.self l.self
-
-abbrev pub decreases-loop-part : goal.decreases-loop-part
-decreases-loop-part l = work l.graph l.self

@@ -1,6 +1,0 @@
-use Rattle.std.proofs.Common.{◌≡◌, ◌++◌, drop, map}
-use Rattle.cu_lift.specs.Inside.Search.{number_of}
-use Rattle.cu_lift.proofs.components.numbers.Given as goal
-
-abbrev pub invariant-loop-place : goal.invariant-loop-place
-invariant-loop-place l = l.found.items ++ map number_of (drop l.place-index l.places) ≡ map number_of l.places
