@@ -21,6 +21,7 @@ pub mod KeptConjunction
 pub mod FlatIsValid
 mod NameLaws
 mod RowSteps
+mod GroupSteps
 mod ChoiceSteps
 mod Passing
 mod Nodes

@@ -5,6 +5,7 @@
 mod choices;
 mod copies;
 mod functions;
+mod groups;
 mod laws;
 mod lowered_program;
 mod names;

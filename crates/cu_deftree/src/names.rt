@@ -9,10 +9,10 @@ ghost use Rattle.cu_deftree.specs.Rows.{name_of};
 pub(crate) enum Names<'a> {
     /// No variable is bound.
     Nothing,
-    /// A variable, and its name, beside those around.
+    /// A variable with its name, and the names around it.
     With(u32, u32, &'a Names<'a>),
-    /// Variables with their names, of which the first counts, beside those
-    /// around.
+    /// Variables with their names, and the names around them. Of two names of
+    /// one variable the first counts.
     WithAll(&'a [(u32, u32)], &'a Names<'a>),
 }
 

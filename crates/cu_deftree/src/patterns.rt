@@ -1,18 +1,20 @@
 //! What patterns demand, bind and hold.
 ghost use Rattle.std.specs.Prelude.{◌≡◌, ◌+◌, ◌<◌, ◌^◌, ◌++◌, IfOk, OnOk, map, replicate};
 ghost use Rattle.cu_calculus.specs.Choose.{arguments_of, demand_of, is_demanding, leftmost, list_patterns};
+ghost use Rattle.cu_deftree.specs.Inside.Groups.{demanded_choice, key_of};
 ghost use Rattle.cu_deftree.specs.Inside.RowsOf.{demand_meaning, keeps, list_from_option, patterns_at, demands_choice};
 ghost use Rattle.cu_deftree.specs.Lowering.{variables};
 ghost use Rattle.cu_deftree.specs.Rows.{argument_names, literal_in, names_at, names_at_all, numbers};
 ghost use Rattle.cu_kernel.specs.TermsOf.{pattern_of, patterns_of};
 
+use cu_int::Int;
 use cu_kernel::{ConId, Lit, Pattern};
 use std::alloc::{AllocError, Global};
 
 /// What a pattern demands of a value.
 #[derive(Clone, Copy)]
 pub(crate) enum Demand {
-    /// Nothing.
+    /// A variable demands nothing: it matches each value.
     Nothing,
     /// A literal.
     Literal(Lit),
@@ -20,7 +22,8 @@ pub(crate) enum Demand {
     Constructor(ConId),
 }
 
-/// What a branch of a case distinction is taken for.
+/// The constructor or literal for which a branch of a case distinction is
+/// taken.
 #[derive(Clone, Copy)]
 pub(crate) enum Choice {
     /// A constructor.
@@ -29,21 +32,33 @@ pub(crate) enum Choice {
     Literal(Lit),
 }
 
-/// Which rows stay, by what they demand at a position.
+/// A choice as the key of a map: two choices have the same key exactly if each
+/// pattern that demands the one demands the other.
+#[derive(Clone, Copy, PartialEq, Eq, Hash)]
+pub(crate) enum Key {
+    /// A constructor, by its index among the program's constructors.
+    Constructor(usize),
+    /// An integer.
+    Integer(Int),
+    /// A character.
+    Character(char),
+}
+
+/// Which rows are kept, by what they demand at a position.
 #[derive(Clone, Copy)]
 pub(crate) enum Keep {
-    /// Those that demand something.
+    /// Rows that demand something are kept.
     Demanding,
-    /// Those that demand nothing.
+    /// Rows that demand nothing are kept.
     Undemanding,
-    /// Those that don't demand this literal.
+    /// Rows that don't demand this literal are kept.
     OtherThan(Lit),
-    /// Those that demand what a branch is taken for and, where this is asked
-    /// for, those that demand nothing.
+    /// Rows that demand this choice are kept and, where the flag is set, those
+    /// that demand nothing too.
     Branch(Choice, bool),
 }
 
-/// What a pattern demands.
+/// What a pattern demands of the value that it is matched with.
 #[tactic(auto, using(cu_kernel::specs::TermsOf::patterns_of_variants))]
 pub(crate) fn demanded(pattern: &Pattern) -> Demand
     ensures { demand_meaning result ≡ demand_of (pattern_of pattern.now) }
@@ -57,7 +72,7 @@ pub(crate) fn demanded(pattern: &Pattern) -> Demand
 }
 
 impl Demand {
-    /// Whether something is demanded.
+    /// Whether a constructor or a literal is demanded.
     pub(crate) fn is_some(self) -> bool
         ensures { result ≡ is_demanding (demand_meaning self) }
     {
@@ -70,7 +85,7 @@ impl Demand {
 }
 
 impl Demand {
-    /// The literal that is demanded.
+    /// The literal that is demanded, if it is one.
     pub(crate) fn literal(self) -> Option<Lit>
         ensures { list_from_option result ≡ literal_in (demand_meaning self) }
     {
@@ -80,10 +95,32 @@ impl Demand {
             Demand::Constructor(_) => None,
         }
     }
+
+    /// The choice that is demanded, if something is demanded.
+    pub(crate) fn choice(self) -> Option<Choice>
+        ensures { demanded_choice result ≡ demand_meaning self }
+    {
+        match self {
+            Demand::Nothing => None,
+            Demand::Literal(literal) => Some(Choice::Literal(literal)),
+            Demand::Constructor(constructor) => Some(Choice::Constructor(constructor)),
+        }
+    }
 }
 
 impl Choice {
-    /// Whether this is demanded.
+    /// This choice as the key of a map.
+    pub(crate) fn key(self) -> Key
+        ensures { result ≡ key_of self }
+    {
+        match self {
+            Choice::Constructor(constructor) => Key::Constructor(constructor.0),
+            Choice::Literal(Lit::Int(number)) => Key::Integer(number),
+            Choice::Literal(Lit::Char(character)) => Key::Character(character),
+        }
+    }
+
+    /// Whether this choice is what is demanded.
     pub(crate) fn is_demanded(self, demand: Demand) -> bool
         ensures { result ≡ demands_choice self (demand_meaning demand) }
     {
@@ -100,7 +137,7 @@ impl Choice {
 }
 
 impl Keep {
-    /// Whether a row with this demand stays.
+    /// Whether a row with this demand is kept.
     pub(crate) fn admits(self, demand: Demand) -> bool
         ensures { result ≡ keeps self (demand_meaning demand) }
     {
@@ -127,7 +164,9 @@ pub(crate) fn leftmost(patterns: &[&Pattern]) -> Option<usize>
     None
 }
 
-/// Adds the patterns for the arguments of what stands at a position.
+/// Adds what a pattern has for the arguments of a constructor that takes so
+/// many: the patterns that it has under a constructor, or its variable once
+/// for each argument.
 #[tactic(auto, using(cu_kernel::specs::TermsOf::patterns_of_variants))]
 pub(crate) fn push_arguments<'a>(
     patterns: &mut Vec<&'a Pattern>,
@@ -145,7 +184,7 @@ pub(crate) fn push_arguments<'a>(
     }
 }
 
-/// Adds a pattern so many times.
+/// Adds one pattern as often as `count` says.
 fn push_repeated<'a>(
     patterns: &mut Vec<&'a Pattern>,
     pattern: &'a Pattern,
@@ -160,7 +199,7 @@ fn push_repeated<'a>(
     Ok(())
 }
 
-/// Adds patterns, in order.
+/// Adds these patterns, in order.
 pub(crate) fn push_all<'a>(
     patterns: &mut Vec<&'a Pattern>,
     arguments: &'a [Pattern],
@@ -174,8 +213,9 @@ pub(crate) fn push_all<'a>(
     Ok(())
 }
 
-/// Adds what a variable that stands for a whole position is called, and each
-/// alias there: as the position is.
+/// Adds the names of the variables of a pattern that stand for the whole
+/// value, which are a variable as the pattern and aliases. Each is called as
+/// the position is.
 #[tactic(auto, using(cu_kernel::specs::TermsOf::patterns_of_variants))]
 pub(crate) fn push_names(
     names: &mut Vec<(u32, u32)>,
@@ -199,7 +239,8 @@ pub(crate) fn push_names(
     }
 }
 
-/// Adds the names of the variables at these positions.
+/// Adds the names of the variables that stand for the whole value at one of
+/// these positions.
 pub(crate) fn push_all_names(
     names: &mut Vec<(u32, u32)>,
     positions: &[u32],
@@ -215,8 +256,8 @@ pub(crate) fn push_all_names(
     Ok(())
 }
 
-/// Adds the names at the positions of the arguments of what stands at a
-/// position.
+/// Adds the names of the variables that stand for a whole argument of the
+/// constructor that a pattern demands. The arguments have these positions.
 #[tactic(auto, using(cu_kernel::specs::TermsOf::patterns_of_variants))]
 pub(crate) fn push_argument_names(
     names: &mut Vec<(u32, u32)>,
@@ -234,7 +275,7 @@ pub(crate) fn push_argument_names(
     }
 }
 
-/// So many numbers, from this one on.
+/// The numbers from `from` on, as many as `count` says.
 pub(crate) fn numbers(alloc: Global, from: u32, count: u32) -> Result<Vec<u32>, AllocError>
     requires { from + count < 2 ^ 32 }
     ensures { IfOk result (λ all. all.items ≡ numbers from count) }
@@ -246,7 +287,7 @@ pub(crate) fn numbers(alloc: Global, from: u32, count: u32) -> Result<Vec<u32>, 
     Ok(all)
 }
 
-/// Variables as patterns.
+/// A variable as a pattern, for each of these variables.
 pub(crate) fn variables(alloc: Global, names: &[u32]) -> Result<Vec<Pattern>, AllocError>
     ensures { IfOk result (λ all. patterns_of all.items ≡ variables names.now) }
 {

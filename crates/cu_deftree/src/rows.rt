@@ -1,9 +1,11 @@
-//! Rows of patterns over positions.
-ghost use Rattle.std.specs.Prelude.{◌≡◌, ◌<◌, ◌++◌, ◌∷◌, [], IfOk, OnOk, filter, length, map, not};
+//! Clause matrices: rows of patterns over positions.
+ghost use Rattle.std.specs.Prelude.{◌≡◌, ◌<◌, ◌++◌, ◌∷◌, [], IfOk, OnOk, false, filter, length, map, not};
 ghost use Rattle.std.specs.List.{list_all, list_any};
 ghost use Rattle.cu_calculus.specs.Choose.{spliced};
+ghost use Rattle.cu_deftree.specs.Inside.Groups.{AreAt, picked};
 ghost use Rattle.cu_deftree.specs.Inside.NamesOf.{names_of};
 ghost use Rattle.cu_deftree.specs.Inside.RowsOf.{all_rows, alternative_row, arguments_at, demand_meaning, keeps, patterns_at, row_of, demands_choice};
+ghost use Rattle.cu_deftree.specs.Lowering.{goes_on};
 ghost use Rattle.cu_deftree.specs.Rows.{argument_names, demand_at, demanded_by_all, demands, row_of_rule, rows_of, specialize, specialized};
 ghost use Rattle.cu_kernel.specs.KernelOf.{rule_meaning};
 ghost use Rattle.cu_kernel.specs.TermsOf.{alternatives_of, pattern_of, term_of};
@@ -16,22 +18,25 @@ use crate::patterns::{
 use cu_kernel::{Pattern, Rule, Term};
 use std::alloc::{AllocError, Global};
 
-/// A rule or an alternative: its patterns at the positions, what its
-/// variables that stand at positions are called, and its right side.
+/// A row of a clause matrix: the patterns of a rule or an alternative at the
+/// positions, the names of its variables that stand for the whole value at a
+/// position, and its right side.
 #[derive(Drop)]
 pub(crate) struct Row<'a> {
-    /// One for each position.
+    /// A pattern for each position.
     pub(crate) patterns: Vec<&'a Pattern>,
-    /// Names of its own, of which the first counts.
+    /// The names of the row's variables that stand for the whole value at a
+    /// position. Of two names of one variable the first counts.
     pub(crate) own: Vec<(u32, u32)>,
-    /// The names around it.
+    /// The names of the variables around the rule or the alternative.
     pub(crate) around: &'a Names<'a>,
-    /// The right side.
+    /// The right side of the rule or the alternative.
     pub(crate) body: &'a Term,
 }
 
-/// Patterns, with those of the arguments of what stands at a position in
-/// place of the pattern there.
+/// The patterns of a row, with what the pattern at a position has for the
+/// arguments of a constructor in its place. The constructor takes as many as
+/// `count` says.
 fn opened_patterns<'a>(
     alloc: Global,
     patterns: &[&'a Pattern],
@@ -50,8 +55,8 @@ fn opened_patterns<'a>(
     Ok(opened)
 }
 
-/// The names at the positions of the arguments of what stands at a position,
-/// before others.
+/// The names of a pattern's variables that stand for a whole argument of a
+/// constructor, and these names after them.
 fn opened_names(
     alloc: Global,
     arguments: &[u32],
@@ -79,7 +84,7 @@ impl<'a> Row<'a> {
         }
     }
 
-    /// The same row.
+    /// A copy of this row.
     fn copied(&self, alloc: Global) -> Result<Row<'a>, AllocError>
         ensures { IfOk result (λ row. row_of row ≡ row_of self.now) }
     {
@@ -95,8 +100,9 @@ impl<'a> Row<'a> {
         })
     }
 
-    /// The row over these positions of the arguments of what stands at a
-    /// position.
+    /// The row specialized to a constructor or literal at a position: what its
+    /// pattern there has for the arguments takes the place of that pattern.
+    /// The arguments have these positions; a literal has none.
     fn specialized(
         &self,
         alloc: Global,
@@ -149,19 +155,6 @@ pub(crate) fn some_is_free(rows: &[Row], position: usize) -> bool
     false
 }
 
-/// Whether some row demands this at a position.
-pub(crate) fn some_demands(rows: &[Row], position: usize, choice: Choice) -> bool
-    ensures { result ≡ list_any (λ row. demands_choice choice (demand_at position row))
-        (all_rows rows.now) }
-{
-    for row in rows {
-        if choice.is_demanded(row.demand_at(position)) {
-            return true;
-        }
-    }
-    false
-}
-
 /// The leftmost position that all rows demand.
 pub(crate) fn demanded_by_all(rows: &[Row]) -> Option<usize>
     ensures { result ≡ demanded_by_all (all_rows rows.now) }
@@ -178,7 +171,7 @@ pub(crate) fn demanded_by_all(rows: &[Row]) -> Option<usize>
     None
 }
 
-/// The rows that stay.
+/// Copies of the rows that are kept.
 pub(crate) fn kept<'a>(
     alloc: Global,
     rows: &[Row<'a>],
@@ -197,9 +190,9 @@ pub(crate) fn kept<'a>(
     Ok(some)
 }
 
-/// The rows that stay, over these positions of the arguments of what stands
-/// at a position.
-pub(crate) fn specialize<'a>(
+/// The rows that are kept, each specialized to a constructor or literal at a
+/// position. The arguments have these positions.
+fn specialize<'a>(
     alloc: Global,
     rows: &[Row<'a>],
     position: usize,
@@ -218,8 +211,52 @@ pub(crate) fn specialize<'a>(
     Ok(some)
 }
 
-/// Positions, with those of the arguments of what stands at one of them in
-/// place of it.
+/// The rows with these indices, each specialized to a constructor or literal
+/// at a position. The arguments have these positions.
+fn specialized_at<'a>(
+    alloc: Global,
+    rows: &[Row<'a>],
+    indices: &[usize],
+    position: usize,
+    arguments: &[u32],
+) -> Result<Vec<Row<'a>>, AllocError>
+    ensures { IfOk result (λ some. all_rows some.items
+        ≡ map (specialized position arguments.now) (picked (all_rows rows.now) indices.now)) }
+{
+    let mut some = Vec::new(alloc);
+    for index in indices {
+        if *index >= rows.len() {
+            continue;
+        }
+        some.push(rows[*index].specialized(alloc, position, arguments)?)?;
+    }
+    Ok(some)
+}
+
+/// The rows that go on into the branch of a choice, each specialized to it.
+/// Where rows that demand nothing go on into it, all rows are looked through;
+/// otherwise those that go on have these indices.
+pub(crate) fn branch_rows<'a>(
+    alloc: Global,
+    rows: &[Row<'a>],
+    indices: &[usize],
+    position: usize,
+    arguments: &[u32],
+    choice: Choice,
+    has_variables: bool,
+) -> Result<Vec<Row<'a>>, AllocError>
+    requires { has_variables ≡ false → AreAt position choice indices.now (all_rows rows.now) }
+    ensures { IfOk result (λ some. all_rows some.items ≡ specialize position arguments.now
+        (goes_on has_variables (demands_choice choice)) (all_rows rows.now)) }
+{
+    if has_variables {
+        let keep = Keep::Branch(choice, has_variables);
+        return specialize(alloc, rows, position, arguments, keep);
+    }
+    specialized_at(alloc, rows, indices, position, arguments)
+}
+
+/// Positions, with those of a constructor's arguments in place of one of them.
 pub(crate) fn spliced(
     alloc: Global,
     positions: &[u32],
@@ -278,7 +315,7 @@ pub(crate) fn alternative_rows<'a>(
     Ok(rows)
 }
 
-/// The row of a rule of a function whose parameters are called so.
+/// The row of a rule of a function that has these parameters.
 fn rule_row<'a>(
     alloc: Global,
     rule: &'a Rule,
@@ -301,7 +338,7 @@ fn rule_row<'a>(
     })
 }
 
-/// The rows of the rules of a function whose parameters are called so.
+/// The rows of the rules of a function that has these parameters.
 pub(crate) fn rule_rows<'a>(
     alloc: Global,
     rules: &'a [Rule],

@@ -8,10 +8,11 @@ use crate::rows::Row;
 use cu_kernel::{Mode, Term};
 use std::alloc::{AllocError, AllocFailed};
 
-/// Why something isn't lowered.
+/// Why a term or a clause matrix isn't lowered.
 #[derive(Clone, Copy)]
 pub(crate) enum Stop {
-    /// It would be of more expressions than may be made.
+    /// The body of a function would be of more expressions than are left of
+    /// its 65,536.
     TooBig,
     /// There is no memory left.
     NoMemory,
@@ -41,7 +42,8 @@ pub(crate) struct Scope<'a> {
     pub(crate) next: u32,
 }
 
-/// Rows over positions, and the number of the next variable that is bound.
+/// A clause matrix: rows over positions. With it goes the number of the next
+/// variable that is bound.
 #[derive(Clone, Copy)]
 pub(crate) struct Matrix<'a> {
     pub(crate) positions: &'a [u32],
@@ -49,7 +51,7 @@ pub(crate) struct Matrix<'a> {
     pub(crate) rows: &'a [Row<'a>],
 }
 
-/// Where rows are from.
+/// What the rows of a clause matrix are made from.
 #[derive(Clone, Copy)]
 pub(crate) enum Manner {
     /// The rules of a function, of which each that matches counts.
@@ -64,12 +66,12 @@ pub(crate) enum Manner {
 pub(crate) enum Task<'a> {
     /// A term in its scope.
     Term(Scope<'a>, &'a Term),
-    /// Rows.
+    /// A clause matrix.
     Rows(Manner, Matrix<'a>),
 }
 
 impl Manner {
-    /// The mode of the case distinctions that rows become.
+    /// The mode of the case distinctions that a clause matrix becomes.
     pub(crate) fn mode(self) -> Mode
         ensures { result ≡ mode_of self }
     {

@@ -1,9 +1,10 @@
-//! Definitional trees: what terms and rows are lowered to.
+//! Definitional trees: what terms and clause matrices are lowered to.
 ghost use Rattle.std.specs.Prelude.{◌≡◌, ◌<◌, ◌+◌, IfOk, MatchOption, false, length, map};
 ghost use Rattle.cu_calculus.specs.Choose.{spliced};
 ghost use Rattle.cu_calculus.specs.Choose as calculus;
 ghost use Rattle.cu_calculus.specs.Term as clean;
 ghost use Rattle.cu_deftree.specs.declared.tasks.Manner.TheVariants as manner;
+ghost use Rattle.cu_deftree.specs.Inside.Groups.{AreAt};
 ghost use Rattle.cu_deftree.specs.Inside.RowsOf.{all_rows, demands_choice};
 ghost use Rattle.cu_deftree.specs.Inside.Tasks.{BothLower, BranchLowers, CaseLowers, Each, FirstDemands, IsFree, IsMixed, IsOpened, IsSplit, MatrixLowers, RowsLower, TaskLowers, TermLowers, Within, both_of, both_size, branch_of, branch_pattern, branch_size, branches_of, opened_count, terms_in, total};
 ghost use Rattle.cu_deftree.specs.LoweredProgram.{size};
@@ -12,10 +13,11 @@ ghost use Rattle.cu_deftree.specs.Rows.{constructor_arity, numbers, specialize};
 ghost use Rattle.cu_kernel.specs.TermsOf.{alternatives_of, pattern_of, term_of};
 
 use crate::choices::{demanded_choices, siblings};
+use crate::groups::Groups;
 use crate::names::Names;
 use crate::patterns::{Choice, Demand, Keep, leftmost, numbers, variables};
 use crate::rows::{
-    Row, alternative_rows, demanded_by_all, kept, some_is_free, specialize, spliced,
+    Row, alternative_rows, branch_rows, demanded_by_all, kept, some_is_free, spliced,
 };
 use crate::tasks::{Manner, Matrix, Scope, Stop, Task, spend};
 use cu_kernel::{ConId, FunId, Head, Heads, Lit, Mode, Pattern, Term};
@@ -33,8 +35,8 @@ pub(crate) struct Lowerer<'a> {
     pub(crate) equal: FunId,
 }
 
-/// The rows of a branch, over the positions of the arguments of what stands
-/// at one of the positions.
+/// The clause matrix of a branch, with the positions of a constructor's
+/// arguments in place of the position that is looked at.
 #[derive(Drop)]
 struct Opened<'a> {
     arguments: Vec<u32>,
@@ -43,7 +45,8 @@ struct Opened<'a> {
     rows: Vec<Row<'a>>,
 }
 
-/// So many numbers from this one on, and the number after them.
+/// The numbers from `next` on, as many as `count` says, and the number after
+/// them.
 pub(crate) fn fresh_numbers(
     alloc: Global,
     next: u32,
@@ -78,7 +81,8 @@ fn variable_of(term: &Term) -> Option<u32>
     }
 }
 
-/// The pattern of a branch, with these variables.
+/// The pattern of the branch of a choice: the constructor over these
+/// variables, or the literal.
 #[tactic(auto, using(cu_kernel::specs::TermsOf::patterns_of_variants))]
 fn pattern_for(alloc: Global, choice: Choice, arguments: &[u32]) -> Result<Pattern, AllocError>
     ensures { IfOk result (λ pattern. pattern_of pattern ≡ branch_pattern choice arguments.now) }
@@ -95,7 +99,8 @@ fn pattern_for(alloc: Global, choice: Choice, arguments: &[u32]) -> Result<Patte
 impl<'a> Lowerer<'a> {
     ghost use Rattle.cu_deftree.specs.Inside.Ready.{IsReady, program_in};
 
-    /// How many positions take the place of one in a branch.
+    /// How many positions take the place of the one that is looked at in the
+    /// branch of a choice: as many as its constructor takes arguments.
     fn opened_count(&self, choice: Choice) -> usize
         ensures { result ≡ opened_count (program_in self.now) choice }
     {
@@ -108,16 +113,20 @@ impl<'a> Lowerer<'a> {
         }
     }
 
-    /// The rows of a branch, those that demand nothing among them where this
-    /// is asked for.
+    /// The clause matrix of the branch of a choice. Where rows that demand
+    /// nothing go on into it, all rows are looked through; otherwise those
+    /// that go on have these indices.
     fn open<'b>(
         &self,
         has_variables: bool,
         matrix: &Matrix<'b>,
+        indices: &[usize],
         position: usize,
         choice: Choice,
     ) -> Result<Opened<'b>, AllocError>
-        requires { position < length matrix.now.positions.now }
+        requires within { position < length matrix.now.positions.now }
+        requires indices { has_variables ≡ false
+            → AreAt position choice indices.now (all_rows matrix.now.rows.now) }
         ensures arguments { IfOk result (λ opened. opened.arguments.items
             ≡ numbers matrix.now.next (opened_count (program_in self.now) choice)) }
         ensures positions { IfOk result (λ opened. opened.positions.items
@@ -130,13 +139,14 @@ impl<'a> Lowerer<'a> {
     {
         let (arguments, next) = fresh_numbers(self.alloc, matrix.next, self.opened_count(choice))?;
         let positions = spliced(self.alloc, matrix.positions, position, arguments.as_slice())?;
-        let keep = Keep::Branch(choice, has_variables);
-        let rows = specialize(
+        let rows = branch_rows(
             self.alloc,
             matrix.rows,
+            indices,
             position,
             arguments.as_slice(),
-            keep,
+            choice,
+            has_variables,
         )?;
         Ok(Opened {
             arguments,
@@ -146,8 +156,8 @@ impl<'a> Lowerer<'a> {
         })
     }
 
-    /// Lowers a term or rows. Takes the expressions that it makes from those
-    /// that are left.
+    /// Lowers a term or a clause matrix. Takes the expressions that it makes
+    /// from those that are left.
     #[tactic(none)]
     #[cycle(lowering)]
     pub(crate) fn lower(&self, task: &Task, left: &mut u32) -> Result<Term, Stop>
@@ -162,7 +172,7 @@ impl<'a> Lowerer<'a> {
         }
     }
 
-    /// Lowers one after the other.
+    /// Lowers two tasks, one after the other.
     #[tactic(none)]
     #[cycle(lowering)]
     fn two(
@@ -381,7 +391,7 @@ impl<'a> Lowerer<'a> {
         Ok(Term::Let(scope.next, both.0, both.1))
     }
 
-    /// The branch of a case distinction on a position.
+    /// The branch of a choice in a case distinction on a position.
     #[tactic(none)]
     #[cycle(lowering)]
     fn branch(
@@ -389,6 +399,7 @@ impl<'a> Lowerer<'a> {
         manner: Manner,
         has_variables: bool,
         matrix: &Matrix,
+        indices: &[usize],
         position: usize,
         choice: Choice,
         left: &mut u32,
@@ -396,11 +407,13 @@ impl<'a> Lowerer<'a> {
         requires ready { IsReady self.now }
         requires opened { IsOpened position (all_rows matrix.now.rows.now) }
         requires within { position < length matrix.now.positions.now }
+        requires indices { has_variables ≡ false
+            → AreAt position choice indices.now (all_rows matrix.now.rows.now) }
         ensures { Within branch_of branch_size
             (BranchLowers (program_in self.now) manner has_variables matrix.now position choice)
             left.old left.new result }
     {
-        let opened = self.open(has_variables, matrix, position, choice)?;
+        let opened = self.open(has_variables, matrix, indices, position, choice)?;
         let pattern = pattern_for(self.alloc, choice, opened.arguments.as_slice())?;
         let inner = Matrix {
             positions: opened.positions.as_slice(),
@@ -411,7 +424,7 @@ impl<'a> Lowerer<'a> {
         Ok((pattern, body))
     }
 
-    /// The branches of a case distinction on a position.
+    /// The branches of these choices in a case distinction on a position.
     #[tactic(none)]
     #[cycle(lowering)]
     fn branches(
@@ -432,8 +445,18 @@ impl<'a> Lowerer<'a> {
             left.old left.new result }
     {
         let mut all = Vec::new(self.alloc);
+        let groups = Groups::new(self.alloc, matrix.rows, position)?;
         for choice in choices {
-            let one = self.branch(manner, has_variables, matrix, position, *choice, left)?;
+            let indices = groups.of(*choice);
+            let one = self.branch(
+                manner,
+                has_variables,
+                matrix,
+                indices,
+                position,
+                *choice,
+                left,
+            )?;
             all.push(one)?;
         }
         Ok(all)
@@ -467,7 +490,7 @@ impl<'a> Lowerer<'a> {
         Ok(Term::Case(manner.mode(), scrutinee, branches))
     }
 
-    /// A call of the operation without a value.
+    /// A call of `failed`, the operation without a value.
     fn failure(&self, left: &mut u32) -> Result<Term, Stop>
         ensures { Within term_of size (λ t. t ≡ failure self.now.failed) left.old left.new result }
     {
@@ -510,7 +533,7 @@ impl<'a> Lowerer<'a> {
         }
     }
 
-    /// The tree of rules of which the first demands nothing.
+    /// The definitional tree of rules of which the first demands nothing.
     #[tactic(none)]
     #[cycle(lowering)]
     fn overlap(&self, matrix: &Matrix, left: &mut u32) -> Result<Term, Stop>
@@ -540,8 +563,8 @@ impl<'a> Lowerer<'a> {
         Ok(Term::Or(both.0, both.1))
     }
 
-    /// The tree of rules that demand no position in common: those that demand
-    /// a position, or the others.
+    /// The definitional tree of rules that demand no position in common: that
+    /// of the rules that demand a position, or that of the others.
     #[tactic(none)]
     #[cycle(lowering)]
     fn split(&self, matrix: &Matrix, position: usize, left: &mut u32) -> Result<Term, Stop>
@@ -571,7 +594,7 @@ impl<'a> Lowerer<'a> {
         Ok(Term::Or(both.0, both.1))
     }
 
-    /// The alternatives of a case distinction, of which the first that
+    /// Lowers the alternatives of a case distinction, of which the first that
     /// matches counts.
     #[tactic(none)]
     #[cycle(lowering)]
@@ -621,8 +644,8 @@ impl<'a> Lowerer<'a> {
         self.lower(&Task::Term(scope, row.body), left)
     }
 
-    /// Alternatives of which some has a variable where the first demands
-    /// something.
+    /// Lowers alternatives of which some has a variable where the first
+    /// demands something.
     #[tactic(none)]
     #[cycle(lowering)]
     fn by_first(
@@ -678,7 +701,7 @@ impl<'a> Lowerer<'a> {
             return Err(Stop::NoMemory);
         }
         let tested = matrix.positions[position];
-        let opened = self.open(true, matrix, position, Choice::Literal(literal))?;
+        let opened = self.open(true, matrix, &[], position, Choice::Literal(literal))?;
         let others = kept(self.alloc, matrix.rows, position, Keep::OtherThan(literal))?;
         let first = Matrix {
             positions: opened.positions.as_slice(),
@@ -702,7 +725,7 @@ impl<'a> Lowerer<'a> {
         Ok(test)
     }
 
-    /// The call that asks whether a variable stands for what a literal is.
+    /// The call of `==` on a variable and a literal.
     #[tactic(auto, using(cu_kernel::specs::TermsOf::terms_of_variants))]
     fn test(&self, variable: u32, literal: Lit) -> Result<Box<Term>, AllocError>
         ensures { IfOk result (λ test. term_of test.value
@@ -715,8 +738,7 @@ impl<'a> Lowerer<'a> {
         Ok(test)
     }
 
-    /// The case distinction on whether a variable stands for what a literal
-    /// is.
+    /// The case distinction on whether `==` holds of a variable and a literal.
     fn tested(
         &self,
         variable: u32,

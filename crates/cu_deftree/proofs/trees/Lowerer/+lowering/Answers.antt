@@ -11,10 +11,12 @@ use Rattle.cu_deftree.proofs.Nodes.{apply_in, apply_is, case_is, free_is, let_is
 use Rattle.cu_deftree.proofs.Passing.{begun_with, finished, gone_on, gone_wrong, node_exit, node_ok, one_spent, passed_on, spent_exit, through}
 use Rattle.cu_deftree.proofs.TaskSteps.{both_done, first_stops, in_terms, second_stops}
 use Rattle.std.proofs.Common.{get_or, take, ◌-◌}
+use Rattle.std.proofs.lemmas.Bool.{true≢false}
 use Rattle.std.specs.Prelude.{true, false}
 use Rattle.cu_deftree.specs.Lowering.{goes_on, literal_case}
 use Rattle.cu_calculus.specs.Choose.{demands_literal}
 use Rattle.cu_deftree.specs.Inside.Tasks.{mode_of}
+use Rattle.cu_deftree.proofs.GroupSteps.{are_at}
 use Rattle.cu_deftree.proofs.RowSteps.{some_rows}
 use Rattle.cu_deftree.proofs.TreeExits.{no_rows, failing_tree, failing_cases, cases_less, variable_case_in, term_case_in, case_written, literal_in, other_literals_less, all_case_in, body_lighter, demanding_less, demands_first, first_case_in, left_at, mixed_first, never_nothing, opened_common, opened_first, opened_lighter, opened_mixed, others_less, overlap_in, rest_is, rest_lighter, some_mixed, split_first, tree_case_in, as_case_out, branch_in, first_in, get_at, is_free, rule_in, some_free, split_in}
 use Rattle.cu_deftree.proofs.TreeNodes.{branch_one, case_node}
@@ -47,7 +49,7 @@ binding-returns t c =
 
 pub branch-open-requires : goal.branch-open-requires
 branch-open-requires t c =
-    c.requires.within
+    record { within = c.requires.within; indices = c.requires.indices }
 
 pub branch-returns-in_err-opened : goal.branch-returns-in_err-opened
 branch-returns-in_err-opened t c =
@@ -81,13 +83,17 @@ pub branches-offset_bounds-choices-choice-index : goal.branches-offset_bounds-ch
 branches-offset_bounds-choices-choice-index t c =
     search rules
 
+pub branches-returns-in_err-groups : goal.branches-returns-in_err-groups
+branches-returns-in_err-groups t c =
+    search rules
+
 pub branches-branch-self-requires : goal.branches-branch-self-requires
 branches-branch-self-requires t c =
-    (search rules, search rules)
+    (search rules, (c.requires.ready, (c.requires.opened, (c.requires.within, λ _. are_at c.in_ok-groups.groups c.args.position _ c.of-indices.result.now (all_rows c.args.matrix.now.rows.now) c.in_ok-groups.ensures c.of-indices.ensures))))
 
 pub branches-returns-in_err-one : goal.branches-returns-in_err-one
 branches-returns-in_err-one t c =
-    passed_on branches_of (total branch_size) _ c.args.left.now c.branch-self.new.left c.from_residual.result c.in_err-one.field-0.0 c.from_residual.ensures.1
+    passed_on branches_of (total branch_size) _ c.args.left.now c.branch-self.new.left c.from_residual-in_err-one.result c.in_err-one.field-0.0 c.from_residual-in_err-one.ensures.1
     (gone_wrong branches_of branch_of (BranchLowers (program_in c.args.self.now) c.args.manner c.args.has_variables c.args.matrix.now c.args.position) branch_size c.args.choices.now (drop c.loop-choice.choice-index c.args.choices.now) (drop (c.loop-choice.choice-index + 1) c.args.choices.now) _ (branches_of c.loop-choice.all) c.loop-choice.left c.branch-self.new.left c.branch-self.new.left c.args.left.now c.in_err-one.field-0.0
     (left_at c.args.choices.now c.loop-choice.choice-index _ c.loop-choice-test.true) c.loop-choice.invariant c.in_err-one.ensures)
 
@@ -310,7 +316,7 @@ literal_test-bounds-matrix-position t c =
 
 pub literal_test-open-requires : goal.literal_test-open-requires
 literal_test-open-requires t c =
-    search rules
+    record { within = search rules; indices = λ e. absurd (true≢false e) }
 
 pub literal_test-returns-in_err-opened : goal.literal_test-returns-in_err-opened
 literal_test-returns-in_err-opened t c =
