@@ -1,17 +1,13 @@
 -- Steps of grouping rows by what they demand, and of taking the rows of a group.
-use Rattle.std.proofs.Common.{◌≡◌, ◌∙◌, ℕ, suc, ◌+◌, ◌<◌, ◌≤◌, Bool, true, false, not, ◌&&◌, ◌||◌, cond, List, [], ◌∷◌, ◌++◌, Option, None, Some, option_map, filter, drop, map, length, get_or, slice_get, append_assoc, append-nil, nat_eq, add-one, arith, refl, sym, ap, ap₂, eqb-true}
+use Rattle.std.proofs.Common.{◌≡◌, ◌∙◌, ℕ, suc, ◌+◌, ◌<◌, ◌≤◌, Bool, true, false, ◌&&◌, ◌||◌, cond, List, [], ◌∷◌, ◌++◌, Option, None, Some, option_map, filter, drop, map, length, get_or, slice_get, append_assoc, append-nil, nat_eq, add-one, arith, refl, sym, ap, ap₂, eqb-true}
 use Rattle.std.proofs.lemmas.Bool.Decides.{Decides-int_eq}
 use Rattle.std.proofs.lemmas.List.{at_drop_all, length-map, map-append}
 use Rattle.std.proofs.lemmas.Option.{slice_get-map, slice_get_past, slice_get_read}
-use Rattle.std.specs.Bool.{◌==◌}
-use lib.Dec.{eqb-suc-zero}
 use Rattle.std.specs.declared.alloc.Global.{Global}
 use Rattle.std.specs.declared.vec.Vec.{Vec}
-use Rattle.std.specs.List.{list_any}
 use Rattle.std.specs.Ordering.{int_eq}
-use Rattle.cu_calculus.specs.Choose.{Demand, Nothing, demands_constructor, demands_nothing}
+use Rattle.cu_calculus.specs.Choose.{Demand, Nothing, demands_nothing}
 use Rattle.cu_calculus.specs.Literal.{same_literal}
-use Rattle.cu_calculus.specs.declared.ConId.{ConId}
 use Rattle.cu_calculus.specs.declared.Lit.TheVariants as lit
 use Rattle.cu_calculus.specs.declared.Lit.{Lit}
 use Rattle.cu_deftree.specs.Inside.Groups.{AreAt, choice_demand, found_indices, indices, indices_of, key_of, picked}
@@ -217,28 +213,3 @@ branch_without has_variables k c new ns rows e are =
     ap (map (specialized k new))
     (are.same ∙ filter_same (λ row. demands_choice c (demand_at k row)) (λ row. goes_on has_variables (demands_choice c) (demand_at k row))
     (λ row. goes has_variables (demands_choice c) (demand_at k row) e) rows)
-
--- ---- whether there are any
-
-abbrev is_nil : {X : Type 0} → List X → Bool
-is_nil [] = true
-is_nil (x ∷ xs) = false
-
-counted : {X : Type 0} (xs : List X) → (length xs == 0) ≡ is_nil xs
-counted [] = refl
-counted (x ∷ xs) = eqb-suc-zero (length xs)
-
-any_of : (test : Row → Bool) (n : ℕ) (rows : List Row) → list_any test rows ≡ not (is_nil (indices_of test n rows))
-any_of test n [] = refl
-any_of test n (row ∷ rows) = by (test row) (any_of test (suc n) rows)
-  where
-    by : (b : Bool) → list_any test rows ≡ not (is_nil (indices_of test (suc n) rows))
-        → (b || list_any test rows) ≡ not (is_nil (cond b (n ∷ indices_of test (suc n) rows) (indices_of test (suc n) rows)))
-    by true rest = refl
-    by false rest = rest
-
-pub some_demand : (k : ℕ) (c : ConId) (slice ns : List ℕ) (rows : List Row) (none : Bool) → slice ≡ ns
-    → ns ≡ indices_of (λ row. demands_constructor c (demand_at k row)) 0 rows → none ≡ (length slice == 0)
-    → list_any (λ row. demands_constructor c (demand_at k row)) rows ≡ not none
-some_demand k c slice ns rows none same are empty =
-    any_of (λ row. demands_constructor c (demand_at k row)) 0 rows ∙ sym (ap not (empty ∙ counted slice ∙ ap is_nil (same ∙ are)))

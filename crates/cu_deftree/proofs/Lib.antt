@@ -22,6 +22,7 @@ pub mod FlatIsValid
 mod NameLaws
 mod RowSteps
 mod GroupSteps
+mod NumberSteps
 mod ChoiceSteps
 mod Passing
 mod Nodes

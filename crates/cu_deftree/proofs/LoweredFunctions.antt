@@ -38,7 +38,7 @@ use Rattle.cu_kernel.specs.Kernel.{Function, plain_function}
 
 -- ---- lists
 
--- what holds of each element holds of each where one more is behind them
+-- what holds of each element holds of each where one more is after them
 pub pushed_at : {X : Type 0} (P : ℕ → X → Type 0) (xs : List X) (x : X) → ((k : ℕ) (y : X) → slice_get xs k ≡ Some y → P k y)
     → P (length xs) x → (k : ℕ) (y : X) → slice_get (xs ++ x ∷ []) k ≡ Some y → P k y
 pushed_at {X} P [] x h p zero y e = let same : x ≡ y = cc in subst (λ (z : X). P 0 z) same p

@@ -1,5 +1,6 @@
 -- The rows that the code works on.
-use Rattle.std.specs.Prelude.{ℕ, Option, Bool, not, List, ◌∷◌, [], ◌++◌, Some, None, map, slice_get}
+use Rattle.std.specs.Prelude.{ℕ, Option, Bool, not, List, ◌∷◌, [], ◌++◌, Some, None, filter, map, slice_get}
+use Rattle.std.specs.List.{list_any}
 use denote.Ref.{Bor}
 use Rattle.cu_calculus.specs.Choose as calculus
 use Rattle.cu_calculus.specs.Choose.{arguments_of, is_demanding, not_literal, demands_constructor, demands_literal}
@@ -35,7 +36,7 @@ keeps keep.Undemanding d = not (is_demanding d)
 keeps (keep.OtherThan l) d = not_literal l d
 keeps (keep.Branch c has_variables) d = goes_on has_variables (demands_choice c) d
 
--- patterns behind references
+-- patterns after references
 abbrev pub patterns_at : List (Bor Pattern) → List clean.Pattern
 patterns_at ps = map (λ p. pattern_of p.now) ps
 
@@ -57,6 +58,14 @@ arguments_at n k ps = elim (slice_get ps k) [ Some p ↦ arguments_of n p | None
 abbrev pub alternative_row : definition.Names → ℕ → clean.Pattern → clean.Term → definition.Row
 alternative_row names position p t =
     record { patterns = p ∷ []; names = definition.names_at position p ++ names; body = t }
+
+-- the numbers below `end` of the constructors that rows demand at position k
+abbrev pub demanded_below : ℕ → ℕ → List definition.Row → List ℕ
+demanded_below end k rows =
+    filter
+    (λ n. list_any
+    (λ row. demands_constructor (record { 0 = n }) (definition.demand_at k row)) rows)
+    (definition.numbers 0 end)
 
 -- constructors and then literals
 abbrev pub choices : List ConId → List Lit → List Choice
