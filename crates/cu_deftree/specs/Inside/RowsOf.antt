@@ -36,7 +36,7 @@ keeps keep.Undemanding d = not (is_demanding d)
 keeps (keep.OtherThan l) d = not_literal l d
 keeps (keep.Branch c has_variables) d = goes_on has_variables (demands_choice c) d
 
--- patterns after references
+-- the patterns that references are to
 abbrev pub patterns_at : List (Bor Pattern) → List clean.Pattern
 patterns_at ps = map (λ p. pattern_of p.now) ps
 
