@@ -217,13 +217,13 @@ kinds-apart word kind.Dashes k' same is base is' base' = true≢false (sym base)
 
 -- ---- chains
 
--- what lies behind the dot after a ConId
+-- what lies after the dot after a ConId
 pub record IsBeyond (k : WordKind) (end rest : List Located) : Type 0 where
   pub con_id : k ≡ con_id_kind
   pub dot : first_of end ≡ Some (byte ".")
   pub more : Reaches rest (later end)
 
--- a chain ends with its first word, or goes on behind the dot after it
+-- a chain ends with its first word, or goes on after the dot after it
 pub advance : (text : List Located) (k : WordKind) (end rest : List Located) → IsWord text k end → is_base k ≡ true → Reaches rest text → (length end ≤ length rest) ⊎ IsBeyond k end rest
 advance text k end rest w base (last k' w' base') =
     let same = same-end text k k' end rest w w' in
@@ -364,7 +364,7 @@ pub later-shorter : (text : List Located) → length (later text) ≤ length tex
 later-shorter [] = omega arith
 later-shorter (c ∷ text) = omega arith
 
--- the reach behind one more word
+-- the reach after one more word
 pub reach-further : (k : WordKind) (end base' : List Located) (k' : WordKind) (end' rest : List Located) → base' ≡ later end → IsWord base' k' end' → is_base k' ≡ true
     → (length end ≤ length rest) ⊎ IsBeyond k end rest → (length end' ≤ length rest) ⊎ IsBeyond k' end' rest
 reach-further k end base' k' end' rest at w base (inl short) =

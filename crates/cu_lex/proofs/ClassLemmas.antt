@@ -108,7 +108,7 @@ comment-first (c ∷ w) is = by (is_dash c) refl is
     by true h is = refl
     by false h is = is
 
--- a longer front goes on into what follows the shorter
+-- a longer prefix goes on into what follows the shorter
 pub record GoesOn (prefix rest f r : List Located) : Type 0 where
   pub more : List Located
   pub whole : f ≡ prefix ++ more
@@ -211,7 +211,7 @@ word-some text k end w = by w.prefix w.some
     by [] is = absurd (true≢false (sym is))
     by (c ∷ prefix) is = omega arith
 
--- the fronts of a text that a word begins
+-- the prefixes of a text that a word begins
 pub word-most : (text : List Located) (k : WordKind) (end : List Located) → IsPlain text → (w : IsWord text k end) → (f r : List Located) → f ++ r ≡ text → 0 < length f → IsSome (word (characters f) (characters r)) → length f ≤ length w.prefix
 word-most text k end facts w f r whole some is = by (prefix-cases text f r whole is)
   where

@@ -27,7 +27,7 @@ unfolding located_from
 later-end p [] none = rw chars-nil refl
 later-end p (b ∷ bs) none = absurd (omega arith)
 
--- behind a character
+-- after a character
 pub later-char : (p q : Position) (bs ds : List ℕ) (c : ℕ) → is_utf8 bs ≡ true → bs ≡ encode c ++ ds → q ≡ position_after c p
     → located_from q (chars ds) ≡ later (located_from p (chars bs))
 unfolding located_from

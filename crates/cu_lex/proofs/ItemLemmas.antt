@@ -58,7 +58,7 @@ outcome-shift {X} words words' c text (Some found) step empty longest = record {
         let shorter = longest.most f r tails (subst IsSome (ap (λ x. words' (x ∷ characters f)) heads ∙ step (characters f)) is) in
         omega arith
 
--- another class with the same words at these fronts
+-- another class with the same words at these prefixes
 pub outcome-same : {X : Type 0} (words words' : List ℕ → Option X) (text : List Located) (r : Option (X × List Located))
     → ((f r : List Located) → f ++ r ≡ text → words' (characters f) ≡ words (characters f)) → Outcome words text r → Outcome words' text r
 outcome-same words words' text None same none = λ f r whole. same f r whole ∙ none f r whole

@@ -33,7 +33,7 @@ use Rattle.cu_lex.proofs.ItemLemmas.{run-most, not-some}
 
 -- ---- at capitals
 
--- a text that a capital begins has no blanks, numbers or literals in front
+-- a text that a capital begins has no blanks, numbers or literals before its word
 capital-blank : (w : List ℕ) → begins_with is_ascii_uppercase w ≡ true → begins_with begins_blank w ≡ false
 unfolding is_separator
 capital-blank w is = begins-apart is_ascii_uppercase begins_blank small-capital refl w is
@@ -339,7 +339,7 @@ no-dash (c ∷ w) fails = by (is_dash c) refl
     by false h = refl
     by true h = absurd (true≢false (sym (dash-symbol c h) ∙ fails))
 
--- one mark in front
+-- one mark before the rest
 one-prefix : (f r : List Located) (c : Located) (text : List Located) → f ++ r ≡ c ∷ text → 0 < length f → length f ≤ 1 → (f ≡ c ∷ []) × (r ≡ text)
 one-prefix [] r c text whole some one = absurd (omega arith)
 one-prefix (d ∷ []) r c text whole some one =
@@ -436,13 +436,13 @@ keyword-never text none f r whole = by (keyword_of (characters f)) refl
     by None is = refl
     by (Some k) is = absurd (true≢false (sym (subst (λ t. begins_with is_ascii_lowercase (characters (skip is_underscore t)) ≡ true) whole (form-first f r (keyword-form (characters f) k is))) ∙ none.variable))
 
--- fronts where no word begins
+-- prefixes where no word begins
 mark-from : (text f r : List Located) → IsPlain text → HasNoWord text → PrefixIs text f r → (m : mark.Mark) × (mark_of (characters f) ≡ Some m) × (stands_before (Mark m) (characters r) ≡ true)
 mark-from text f r facts none (plain k w other) = absurd (no-prefix-word text none k r w)
 mark-from text f r facts none (marked m at fits) = (m, at, fits)
 mark-from text f r facts none (chained capital reaches) = absurd (true≢false (sym capital ∙ facts.capital))
 
--- a piece in front of a text where no word but a mark begins
+-- a piece before a text where no word but a mark begins
 only-mark : (text f r : List Located) → IsPlain text → HasNoWord text → HasNoComment text → f ++ r ≡ text → 0 < length f → PieceIs f r → (m : mark.Mark) × (mark_of (characters f) ≡ Some m)
 only-mark text f r facts none never whole some (blank_prefix is) =
     absurd (never.never (nested-opens f r text whole (blank-nested f r text whole some facts.separator (no-dash (characters text) none.symbol) is)))
@@ -487,7 +487,7 @@ brace-facts w is =
     small-brace : (c : ℕ) → is_char 123 c ≡ true → c < 128
     small-brace c h = let at = eqb-true c 123 h in omega arith
 
--- a front of a text that opens a comment is such a comment
+-- a prefix of a text that opens a comment is such a comment
 only-nested : (c d : Located) (text f r : List Located) → IsPlain (c ∷ d ∷ text) → OpensComment (c ∷ d ∷ text) → f ++ r ≡ c ∷ d ∷ text → 0 < length f → PieceIs f r → is_nested_comment (characters f) ≡ true
 only-nested c d text f r facts opens whole some is = by is
   where

@@ -5,7 +5,7 @@ use Rattle.cu_lex.specs.Laws.{GivesLongest, GivesNone}
 use Rattle.cu_lex.specs.Located.{Located}
 use Rattle.cu_lex.specs.Munch.{Classes, Cut, cut_at, longest_after, longest, IsLongest}
 
--- a front's parts
+-- a prefix's parts
 same_prefix : (prefix other rest left : List Located) → prefix ++ rest ≡ other ++ left → length prefix ≡ length other → (prefix ≡ other) × (rest ≡ left)
 same_prefix [] [] rest left whole sizes = (refl, whole)
 same_prefix [] (d ∷ other) rest left whole sizes = absurd (omega arith)
@@ -29,7 +29,7 @@ module _ {X : Type 0} (classes : Classes X) where
   abbrev IsNowhere : List Located → List Located → Type 0
   IsNowhere begun text = (prefix rest : List Located) → prefix ++ rest ≡ text → 0 < length prefix → classes (begun ++ prefix) rest ≡ None
 
-  -- one more character at the front
+  -- one more character at the beginning
   nowhere_step : (begun text : List Located) (c : Located) → classes (begun ++ c ∷ []) text ≡ None → IsNowhere (begun ++ c ∷ []) text → IsNowhere begun (c ∷ text)
   nowhere_step begun text c here later [] rest whole some = absurd (omega arith)
   nowhere_step begun text c here later (d ∷ []) rest whole some =

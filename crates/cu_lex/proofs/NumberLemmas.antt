@@ -21,7 +21,7 @@ use Rattle.cu_lex.proofs.PieceLemmas.PrefixIs.{plain, marked, chained}
 use Rattle.cu_lex.proofs.ScanLemmas.{run-skip, run-unique, skip-none}
 use Rattle.cu_lex.proofs.WordLemmas.{is-run}
 
--- ---- texts in front of which neither a word nor a blank is
+-- ---- texts before which neither a word nor a blank is
 
 pub record IsAlone (text : List Located) : Type 0 where
   pub word : HasNoWord text
@@ -66,7 +66,7 @@ pub digit-alone : (text : List Located) → begins_with is_ascii_digit (characte
 unfolding is_symbol is_separator
 digit-alone text is = alone is_ascii_digit small-digit refl refl refl refl refl refl text is
 
--- ---- fronts that are numbers
+-- ---- prefixes that are numbers
 
 record IsDecimal (f r : List Located) : Type 0 where
   all : is_run (is_digit_of 10) (characters f) ≡ true
@@ -93,7 +93,7 @@ not-begins (c ∷ w) ended = begins-ten (c ∷ w) ∙ or-left (is_ascii_digit c)
 run-all : (class : ℕ → Bool) (w : List ℕ) → is_run class w ≡ true → list_all class w ≡ true
 run-all class w is = and-right (begins_with class w) (list_all class w) is
 
--- what follows a decimal front
+-- what follows a decimal prefix
 decimal-rest : (f r text : List Located) → f ++ r ≡ text → IsDecimal f r → skip (is_digit_of 10) text ≡ r
 decimal-rest f r text whole is = ap (skip (is_digit_of 10)) (sym whole) ∙ run-unique (is_digit_of 10) f r (run-all (is_digit_of 10) (characters f) is.all) (not-begins (characters r) is.ended)
 
@@ -144,7 +144,7 @@ number-piece f r n no_blank no_word is = rw (no_blank, no_word, is) refl
 digit-quotes : (w : List ℕ) → begins_with is_ascii_digit w ≡ true → (begins_with (is_char 39) w ≡ false) × (begins_with (is_char 34) w ≡ false)
 digit-quotes w is = (begins-apart is_ascii_digit (is_char 39) small-digit refl w is, begins-apart is_ascii_digit (is_char 34) small-digit refl w is)
 
--- a number in front of a text, where no other is longer
+-- a number before a text, where no other is longer
 number-longest-at : (text prefix end : List Located) (n : ℕ) → begins_with is_ascii_digit (characters text) ≡ true → prefix ++ end ≡ text → 0 < length prefix
     → option_or (decimal_number (characters prefix) (characters end)) (based_number (characters prefix)) ≡ Some n
     → ((f r : List Located) → f ++ r ≡ text → IsDecimal f r → length f ≤ length prefix) → ((f r : List Located) → f ++ r ≡ text → IsBased f r text → length f ≤ length prefix)

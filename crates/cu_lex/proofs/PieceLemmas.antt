@@ -112,7 +112,7 @@ word-of text f r whole k is ended =
       ended = ended;
     }
 
--- ---- what a front that is a word is
+-- ---- what a prefix that is a word is
 
 pub data PrefixIs (text f r : List Located) : Type 0 where
   plain : (k : WordKind) → IsWord text k r → is_dashes_kind k ≡ false → PrefixIs text f r
@@ -182,7 +182,7 @@ prefix-cases text f r whole some =
     by None ha None hb None hc None hd None he some = absurd (true≢false (sym some))
     by None ha None hb None hc None hd (Some (o, i)) he some = qualified o i he (name_kind (Some o) i) refl some
 
--- ---- which class a front that is a piece is of
+-- ---- which class a prefix that is a piece is of
 
 pub data PieceIs (f r : List Located) : Type 0 where
   blank_prefix : IsSome (blank (characters f)) → PieceIs f r
@@ -206,7 +206,7 @@ piece-cases f r some =
     by None ha None hb None hc None hd (Some x) he some = string_prefix (ap is_some he)
     by None ha None hb None hc None hd None he some = absurd (true≢false (sym some))
 
--- the longest piece, by what other fronts can be
+-- the longest piece, by what other prefixes can be
 pub piece-longest : (text prefix rest : List Located) (what : Piece) → prefix ++ rest ≡ text → 0 < length prefix → piece prefix rest ≡ Some what
     → ((f r : List Located) → f ++ r ≡ text → 0 < length f → PieceIs f r → length f ≤ length prefix) → longest piece text ≡ Some (cut_at prefix rest what)
 piece-longest text prefix rest what whole some is most =
@@ -223,7 +223,7 @@ piece-none text none = longest_from_none piece text (λ f r w some. by f r w som
     by f r w some None is = refl
     by f r w some (Some p) is = absurd (none f r w some (piece-cases f r (ap is_some is)))
 
--- the first character of a front is the text's
+-- the first character of a prefix is the text's
 pub prefix-first : (p : ℕ → Bool) (f r text : List Located) → f ++ r ≡ text → 0 < length f → begins_with p (characters f) ≡ begins_with p (characters text)
 prefix-first p [] r text whole some = absurd (omega arith)
 prefix-first p (c ∷ f) r text whole some = ap (λ t. begins_with p (characters t)) whole

@@ -185,7 +185,7 @@ data Outer (o : List ℕ) : Type 0 where
   one : is_con_id o ≡ true → Outer o
   more : (a o' : List ℕ) → o ≡ a ++ 46 ∷ o' → is_con_id a ≡ true → list_all is_con_id (between_dots o') ≡ true → Outer o
 
--- the text up to the first dot, and behind it
+-- the text up to the first dot, and after it
 data Cut1 (o : List ℕ) : Type 0 where
   whole : between_dots o ≡ o ∷ [] → Cut1 o
   dot : (a o' : List ℕ) → o ≡ a ++ 46 ∷ o' → between_dots o ≡ a ∷ between_dots o' → Cut1 o

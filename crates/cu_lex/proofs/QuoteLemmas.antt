@@ -21,7 +21,7 @@ use Rattle.cu_lex.proofs.NumberLemmas.{IsAlone, alone, alone-blank, alone-word, 
 use Rattle.cu_lex.proofs.PieceLemmas.{PieceIs, piece-longest, piece-none, prefix-first, shorter-prefix}
 use Rattle.cu_lex.proofs.PieceLemmas.PieceIs.{blank_prefix, word_prefix, number_prefix, character_prefix, string_prefix}
 
--- ---- more text behind an item
+-- ---- more text after an item
 
 abbrev a_scan : Option ℕ → List Located → Option ℕ × List Located
 a_scan code text = (code, text)
@@ -86,7 +86,7 @@ item-extend quote (d ∷ text) r what c rest is = by (d.char == byte "\\") (d.ch
     by false true is = cc
     by false false is = plain-extend (Some d.char) text r what c rest is
 
--- ---- more text behind the quote that closes a literal
+-- ---- more text after the quote that closes a literal
 
 -- a quote is no item
 pub quote-none : (quote : ℕ) (c : Located) (text : List Located) → (quote == 92) ≡ false → c.char ≡ quote → item_scan quote (c ∷ text) ≡ None
@@ -186,7 +186,7 @@ before quote (suc n) (d ∷ text) end c fits other at is =
               pieces = ap (λ cut. cut.pieces) step' ∙ (λ j. record { what = what; at = (head j).at } ∷ pieces j) ∙ sym (ap (λ cut. cut.pieces) step);
             }
 
--- ---- fronts that are literals
+-- ---- prefixes that are literals
 
 record Between (quote : ℕ) (f : List Located) (items : List (Placed (Option ℕ))) : Type 0 where
   first : Located
@@ -225,7 +225,7 @@ items-are quote first close inside at at' over =
     let last : bytes_eq (characters (cut_all (item quote) inside).left) (quote ∷ []) ≡ true = (bytes_eq-Decides (characters (cut_all (item quote) inside).left) (quote ∷ [])).1 (ap characters over ∙ ap (λ c. c ∷ []) at') in
     rw (test, last) refl
 
--- the items of a front are those of the text
+-- the items of a prefix are those of the text
 pub record Whole (quote : ℕ) (text r : List Located) (items : List (Placed (Option ℕ))) : Type 0 where
   pub close : Located
   pub is : close.char ≡ quote
@@ -244,7 +244,7 @@ whole-items quote f r text items other whole is =
       pieces = ap (λ t. (cut_all (item quote) t).pieces) (sym at) ∙ e.pieces ∙ b.pieces;
     }
 
--- the front that ends at the quote
+-- the prefix that ends at the quote
 pub record Quoted (quote : ℕ) (text end : List Located) : Type 0 where
   pub prefix : List Located
   pub whole : prefix ++ end ≡ text

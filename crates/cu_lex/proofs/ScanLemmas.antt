@@ -55,7 +55,7 @@ and-right : (a b : Bool) → a && b ≡ true → b ≡ true
 and-right true b is = is
 and-right false b is = absurd (true≢false (sym is))
 
--- a front of the class, behind which nothing goes on with it, is the run
+-- a prefix of the class, after which nothing goes on with it, is the run
 pub run-unique : (class : ℕ → Bool) (prefix rest : List Located) → list_all class (characters prefix) ≡ true → begins_with class (characters rest) ≡ false
     → skip class (prefix ++ rest) ≡ rest
 run-unique class [] rest all ended = skip-none class rest ended

@@ -50,7 +50,7 @@ Completed bytes = (i : ℕ) × (e : List ℕ) × (slice_get endings i ≡ Some e
 completed_by : (bytes e : List ℕ) (i c : ℕ) → slice_get endings i ≡ Some e → IsScalar c → encode c ≡ bytes ++ e → Completed bytes
 completed_by bytes e i c at scalar is = (i, e, at, subst IsUtf8 is (IsUtf8-encode c scalar))
 
--- a front of two bytes
+-- a prefix of two bytes
 complete_2 : (c b : ℕ) → c < 2048 → 128 ≤ c → b ≡ 192 + c / 64 → Completed (b ∷ [])
 complete_2 c b high low is =
     let d = (c / 64) * 64 in
@@ -69,7 +69,7 @@ rounded_scalar : (c d : ℕ) → scalar c ≡ true → d ≤ c → (57344 ≤ c 
 rounded_scalar c d is below above =
     ⊎_elim (λ low. low_scalar d (omega arith)) (λ high. high_scalar d (above high.0) (omega arith)) (scalar_cases c is)
 
--- fronts of three bytes
+-- prefixes of three bytes
 complete_3 : (c b : ℕ) → scalar c ≡ true → 2048 ≤ c → c < 65536 → b ≡ 224 + c / 4096 → Completed (b ∷ [])
 complete_3 c b is low high at = ⊎_elim first (later) (cases_lt (c / 4096) 1)
   where
@@ -99,7 +99,7 @@ complete_3-2 c b₀ b₁ is low high at₀ at₁ =
     completed_by (b₀ ∷ b₁ ∷ []) (0x80 ∷ []) 1 d refl (rounded_scalar c d is (omega arith) (λ h. omega arith))
     (e ∙ (λ j. (224 + first j) ∷ (128 + second j % 64) ∷ (128 + third j) ∷ []) ∙ (λ j. sym at₀ j ∷ sym at₁ j ∷ 128 ∷ []))
 
--- fronts of four bytes
+-- prefixes of four bytes
 complete_4 : (c b : ℕ) → scalar c ≡ true → 65536 ≤ c → b ≡ 240 + c / 262144 → Completed (b ∷ [])
 complete_4 c b is low at = ⊎_elim first later (cases_lt (c / 262144) 1)
   where
@@ -145,7 +145,7 @@ complete_4-3 c b₀ b₁ b₂ is low at₀ at₁ at₂ =
 complete_nil : Completed []
 complete_nil = (0, [], refl, IsUtf8-nil)
 
--- a front of a character's bytes that lacks some of them
+-- a prefix of a character's bytes that lacks some of them
 complete_prefix : (c : ℕ) (bytes rest : List ℕ) → scalar c ≡ true → encode c ≡ bytes ++ rest → 0 < length rest → Completed bytes
 complete_prefix c [] rest is at some = complete_nil
 complete_prefix c (b₀ ∷ bytes) rest is at some = ⊎_elim below_128 (λ h. ⊎_elim (below_2048 h) (λ h. ⊎_elim (below_65536 h) from_65536 (cases_lt c 65536)) (cases_lt c 2048)) (cases_lt c 128)
@@ -202,7 +202,7 @@ complete_prefix c (b₀ ∷ bytes) rest is at some = ⊎_elim below_128 (λ h. �
             let sizes = ap length e in
             absurd (omega (arith, length-append bytes rest))
 
--- two ways to split a list: one front goes on to the other
+-- two ways to split a list: one prefix goes on to the other
 data Splits (prefix rest other left : List ℕ) : Type 0 where
   longer : (middle : List ℕ) → other ≡ prefix ++ middle → rest ≡ middle ++ left → Splits prefix rest other left
   shorter : (middle : List ℕ) → prefix ≡ other ++ middle → left ≡ middle ++ rest → 0 < length middle → Splits prefix rest other left

@@ -21,7 +21,7 @@ use Rattle.cu_lex.proofs.FirstLemmas.{is_char}
 use Rattle.cu_lex.proofs.NamedLemmas.{mark-piece}
 use Rattle.cu_lex.proofs.WordLemmas.{var-id-kind, variable-first, variable-form, word-at}
 
--- ---- what a text with an underscore at its front is
+-- ---- what a text with an underscore at its beginning is
 
 pub at-underscore : (class : ℕ → Bool) → class 95 ≡ false → (c : Located) (text : List Located) → c.char ≡ 95 → begins_with class (characters (c ∷ text)) ≡ false
 at-underscore class never c text is = ap class is ∙ never
@@ -107,7 +107,7 @@ is-mark : mark_of (95 ∷ []) ≡ Some marks.Underscore
 unfolding mark_of
 is-mark = refl
 
--- and none begins behind it
+-- and none begins after it
 no-variable-after : (c : Located) (text end : List Located) (m : mark.Mark) → c.char ≡ 95 → IsPiece (c ∷ text) (Token (Mark m)) end → HasNoVariable end
 unfolding rest_of
 no-variable-after c text end m is p =

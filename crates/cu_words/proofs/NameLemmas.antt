@@ -4,7 +4,7 @@ use Rattle.std.specs.List.{list_all}
 use Rattle.std.proofs.lemmas.List.{take_all}
 use Rattle.cu_words.specs.Names.{is_letter, is_name, is_name_byte}
 
--- what stands behind the first k elements
+-- what stands after the first k elements
 rest_is : {A : Type 0} (k : ℕ) (xs : List A) → take (length xs - k) (drop k xs) ≡ drop k xs
 rest_is k xs = take_all _ _ (omega (arith, length-drop k xs))
 

@@ -58,7 +58,7 @@ solve_or_trial = differ _ _ (λ same. let first : 115 ≡ 116 = same in omega (a
 pub compile_or_trial : codes "compile" ≡ codes "trial" → ⊥
 compile_or_trial = differ _ _ (λ same. let first : 99 ≡ 116 = same in omega (arith, first))
 
--- a command of which nothing stands behind its word
+-- a command of which nothing stands after its word
 pub no_solve : (rows : List Row) → ((solve : Solve) → IsSolve rows solve → ⊥) → (command : Command) → Asks (Some (codes "solve", rows)) command → ⊥
 no_solve rows none (Solving solve) asks = none solve asks.1
 no_solve rows none (Compiling compile) asks = solve_or_compile asks.0
