@@ -31,6 +31,20 @@ pub(crate) struct Row<'a> {
     pub(crate) choice: usize,
 }
 
+/// A column of the clause matrix at which the first row demands something.
+#[derive(Clone, Copy)]
+struct Column<'m, 'a> {
+    rows: &'m [Row<'a>],
+    /// The values with which the rows are matched, one for each pattern of a
+    /// row.
+    values: &'m [Value],
+    /// The position of the column's patterns in the rows, and that of the value
+    /// that they are matched with.
+    position: usize,
+    /// What the first row demands at the position.
+    first: Demand,
+}
+
 /// A test that says which rows stay, by what they demand at a position.
 #[derive(Clone, Copy)]
 pub(crate) enum Keep {
@@ -288,86 +302,6 @@ fn all_specialized<'a>(
     Ok(all)
 }
 
-/// The rows that stay by the test, and the values, over the arguments of what
-/// stands at a position: specialization of the clause matrix.
-fn specialized_look<'a>(
-    alloc: Global,
-    rows: &[Row<'a>],
-    values: &[Value],
-    position: usize,
-    keep: Keep,
-    arguments: &[Value],
-) -> Result<Look<'a>, AllocError>
-    requires { position < length values.now }
-    ensures { IfOk result (λ look. look_meaning look
-        ≡ calculus.specialized_look position (keeps keep) (rows_meaning rows.now) arguments.now
-        values.now) }
-{
-    let some = kept(alloc, rows, position, keep)?;
-    let fewer = all_specialized(alloc, some.as_slice(), position, arguments.len())?;
-    let parts = spliced(alloc, values, position, arguments)?;
-    Ok(Look::Specialize(fewer, parts))
-}
-
-/// The rows that don't demand this literal at a position, over the same values.
-fn again<'a>(
-    alloc: Global,
-    rows: &[Row<'a>],
-    position: usize,
-    literal: Lit,
-) -> Result<Look<'a>, AllocError>
-    ensures { IfOk result (λ look. look_meaning look
-        ≡ calculus.Again (filter (λ row. not_literal literal (demand_at position row))
-        (rows_meaning rows.now))) }
-{
-    let fewer = kept(alloc, rows, position, Keep::NotLiteral(literal))?;
-    Ok(Look::Again(fewer))
-}
-
-/// A look at a position at which a literal stands.
-fn at_literal<'a>(
-    alloc: Global,
-    rows: &[Row<'a>],
-    values: &[Value],
-    position: usize,
-    literal: Lit,
-    first: Demand,
-) -> Result<Look<'a>, AllocError>
-    requires { position < length values.now }
-    ensures { IfOk result (λ look. look_meaning look
-        ≡ calculus.at_literal position literal (demand_meaning first)
-        (has_variable position (rows_meaning rows.now)) (rows_meaning rows.now) values.now) }
-{
-    if !some_is_free(rows, position) {
-        return specialized_look(
-            alloc,
-            rows,
-            values,
-            position,
-            Keep::OnlyLiteral(literal),
-            &[],
-        );
-    }
-    match first {
-        Demand::Nothing => Ok(Look::Nowhere),
-        Demand::Constructor(_) => Ok(Look::Nowhere),
-        Demand::Literal(demanded) => {
-            if literal == demanded {
-                specialized_look(
-                    alloc,
-                    rows,
-                    values,
-                    position,
-                    Keep::LiteralOrNothing(literal),
-                    &[],
-                )
-            } else {
-                again(alloc, rows, position, demanded)
-            }
-        }
-    }
-}
-
 /// Whether two constructors are the program's and of one type.
 fn of_one_type(heads: &Heads, constructor: ConId, other: ConId) -> bool
     ensures { result ≡ same_type (heads_program heads.now) constructor other }
@@ -381,86 +315,110 @@ fn of_one_type(heads: &Heads, constructor: ConId, other: ConId) -> bool
     }
 }
 
-/// A look at a position at which a constructor stands.
-fn at_constructor<'a>(
-    alloc: Global,
-    heads: &Heads,
-    rows: &[Row<'a>],
-    values: &[Value],
-    position: usize,
-    constructor: ConId,
-    arguments: &[Value],
-    first: Demand,
-) -> Result<Look<'a>, AllocError>
-    requires { position < length values.now }
-    ensures { IfOk result (λ look. look_meaning look
-        ≡ calculus.at_constructor (heads_program heads.now) position constructor
-        (demand_meaning first) (has_variable position (rows_meaning rows.now))
-        (rows_meaning rows.now) arguments.now values.now) }
-{
-    if !some_is_free(rows, position) {
-        return specialized_look(
-            alloc,
-            rows,
-            values,
-            position,
-            Keep::OnlyConstructor(constructor),
-            arguments,
-        );
+impl<'a> Column<'_, 'a> {
+    /// The rows that stay by the test, and the values, over the arguments of
+    /// the column's value: specialization of the clause matrix.
+    fn specialized_look(
+        self,
+        alloc: Global,
+        keep: Keep,
+        arguments: &[Value],
+    ) -> Result<Look<'a>, AllocError>
+        requires { self.position < length self.values.now }
+        ensures { IfOk result (λ look. look_meaning look
+            ≡ calculus.specialized_look self.entry.position (keeps keep)
+            (rows_meaning self.entry.rows.now) arguments.now self.entry.values.now) }
+    {
+        let some = kept(alloc, self.rows, self.position, keep)?;
+        let fewer = all_specialized(alloc, some.as_slice(), self.position, arguments.len())?;
+        let parts = spliced(alloc, self.values, self.position, arguments)?;
+        Ok(Look::Specialize(fewer, parts))
     }
-    match first {
-        Demand::Nothing => Ok(Look::Nowhere),
-        Demand::Constructor(demanded) => {
-            if of_one_type(heads, constructor, demanded) {
-                specialized_look(
-                    alloc,
-                    rows,
-                    values,
-                    position,
-                    Keep::ConstructorOrNothing(constructor),
-                    arguments,
-                )
-            } else {
-                Ok(Look::Nowhere)
+
+    /// The rows that don't demand this literal, over the same values.
+    fn again(self, alloc: Global, literal: Lit) -> Result<Look<'a>, AllocError>
+        ensures { IfOk result (λ look. look_meaning look
+            ≡ calculus.Again (filter (λ row. not_literal literal
+            (demand_at self.entry.position row)) (rows_meaning self.entry.rows.now))) }
+    {
+        let fewer = kept(alloc, self.rows, self.position, Keep::NotLiteral(literal))?;
+        Ok(Look::Again(fewer))
+    }
+
+    /// A look at the column, where its value is a literal.
+    fn at_literal(self, alloc: Global, literal: Lit) -> Result<Look<'a>, AllocError>
+        requires { self.position < length self.values.now }
+        ensures { IfOk result (λ look. look_meaning look
+            ≡ calculus.at_literal self.entry.position literal (demand_meaning self.entry.first)
+            (has_variable self.entry.position (rows_meaning self.entry.rows.now))
+            (rows_meaning self.entry.rows.now) self.entry.values.now) }
+    {
+        if !some_is_free(self.rows, self.position) {
+            return self.specialized_look(alloc, Keep::OnlyLiteral(literal), &[]);
+        }
+        match self.first {
+            Demand::Nothing => Ok(Look::Nowhere),
+            Demand::Constructor(_) => Ok(Look::Nowhere),
+            Demand::Literal(demanded) => {
+                if literal == demanded {
+                    self.specialized_look(alloc, Keep::LiteralOrNothing(literal), &[])
+                } else {
+                    self.again(alloc, demanded)
+                }
             }
         }
-        Demand::Literal(demanded) => again(alloc, rows, position, demanded),
     }
-}
 
-/// A look at a position at which the first row demands something.
-fn look_at<'a>(
-    alloc: Global,
-    heads: &Heads,
-    rows: &[Row<'a>],
-    values: &[Value],
-    position: usize,
-    first: Demand,
-) -> Result<Look<'a>, AllocError>
-    ensures { IfOk result (λ look. (row : calculus.Row)
-        → demand_at position row ≡ demand_meaning first → look_meaning look
-        ≡ calculus.look_at (heads_program heads.now) position row (rows_meaning rows.now) values.now
-        (slice_get values.now position)) }
-{
-    if position >= values.len() {
-        return Ok(Look::Nowhere);
-    }
-    match values[position].head() {
-        Cell::Lit(literal) => at_literal(alloc, rows, values, position, literal, first),
-        Cell::Con(constructor, _) => {
-            let arguments = values[position].arguments()?;
-            at_constructor(
-                alloc,
-                heads,
-                rows,
-                values,
-                position,
-                constructor,
-                &arguments,
-                first,
-            )
+    /// A look at the column, where its value is a constructor on arguments.
+    fn at_constructor(
+        self,
+        alloc: Global,
+        heads: &Heads,
+        constructor: ConId,
+        arguments: &[Value],
+    ) -> Result<Look<'a>, AllocError>
+        requires { self.position < length self.values.now }
+        ensures { IfOk result (λ look. look_meaning look
+            ≡ calculus.at_constructor (heads_program heads.now) self.entry.position constructor
+            (demand_meaning self.entry.first)
+            (has_variable self.entry.position (rows_meaning self.entry.rows.now))
+            (rows_meaning self.entry.rows.now) arguments.now self.entry.values.now) }
+    {
+        if !some_is_free(self.rows, self.position) {
+            return self.specialized_look(alloc, Keep::OnlyConstructor(constructor), arguments);
         }
-        _ => Ok(Look::Nowhere),
+        match self.first {
+            Demand::Nothing => Ok(Look::Nowhere),
+            Demand::Constructor(demanded) => {
+                if of_one_type(heads, constructor, demanded) {
+                    self.specialized_look(alloc, Keep::ConstructorOrNothing(constructor), arguments)
+                } else {
+                    Ok(Look::Nowhere)
+                }
+            }
+            Demand::Literal(demanded) => self.again(alloc, demanded),
+        }
+    }
+
+    /// A look at the column.
+    fn look(self, alloc: Global, heads: &Heads) -> Result<Look<'a>, AllocError>
+        ensures { IfOk result (λ look. (row : calculus.Row)
+            → demand_at self.entry.position row ≡ demand_meaning self.entry.first
+            → look_meaning look ≡ calculus.look_at (heads_program heads.now) self.entry.position row
+            (rows_meaning self.entry.rows.now) self.entry.values.now
+            (slice_get self.entry.values.now self.entry.position)) }
+    {
+        if self.position >= self.values.len() {
+            return Ok(Look::Nowhere);
+        }
+        match self.values[self.position].head() {
+            Cell::Lit(literal) => self.at_literal(alloc, literal),
+            Cell::Con(constructor, _) => {
+                let arguments = self.values[self.position].arguments()?;
+                self.at_constructor(alloc, heads, constructor, &arguments)
+            }
+            _ => Ok(Look::Nowhere),
+        }
     }
 }
 
@@ -480,14 +438,15 @@ fn one_look<'a>(
     let first = &rows[0];
     match first_demanded(first.patterns.as_slice()) {
         None => Ok(Look::Take(first.choice)),
-        Some(position) => look_at(
-            alloc,
-            heads,
-            rows,
-            values,
-            position,
-            first.demand_at(position),
-        ),
+        Some(position) => {
+            let column = Column {
+                rows,
+                values,
+                position,
+                first: first.demand_at(position),
+            };
+            column.look(alloc, heads)
+        }
     }
 }
 
