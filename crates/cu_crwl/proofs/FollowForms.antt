@@ -1,9 +1,8 @@
 -- The rows of the table over what the checker found.
-use Rattle.std.proofs.Common.{◌≡◌, ℕ, zero, suc, ◌<◌, ◌≤◌, false, List, [], ◌∷◌, ◌++◌, Option, None, Some, length, get_or, arith, refl, ap, ap₂, sym, ◌∙◌}
+use Rattle.std.proofs.Common.{◌≡◌, ℕ, zero, suc, ◌<◌, ◌≤◌, List, [], ◌∷◌, ◌++◌, None, Some, length, get_or, arith, refl, ap, ap₂, sym, ◌∙◌}
 use Rattle.cu_calculus.specs.declared.Head.{Head}
 use Rattle.cu_calculus.specs.Choose.{alternative_at}
 use Rattle.cu_calculus.specs.Gives.{Claim}
-use Rattle.cu_calculus.specs.Match.{Bindings, matched}
 use Rattle.cu_calculus.specs.Program.{Program}
 use Rattle.cu_calculus.specs.Proof.{Statement}
 use Rattle.cu_calculus.specs.Valid.{term_count}
@@ -14,8 +13,7 @@ use Rattle.cu_kernel.specs.declared.term.Pattern.{Pattern}
 use Rattle.cu_kernel.specs.declared.term.Term.{Term}
 use Rattle.cu_values.specs.Parts.{arguments_of, head_of}
 use Rattle.cu_values.specs.declared.cell.Cell.TheVariants as cell
-use Rattle.cu_crwl.specs.Environments.{says}
-use Rattle.cu_crwl.specs.Table.{alternative_gives, application_gives, applied_to}
+use Rattle.cu_crwl.specs.Table.{application_gives, applied_to}
 use Rattle.cu_crwl.proofs.MatchLoops.{values_restored}
 
 pub count_is : (vs : List Value) → count (values_of vs) ≡ length vs
@@ -49,14 +47,6 @@ pub alternative_here : (rows : List (Pattern × Term)) (k : ℕ) (row : Pattern 
 alternative_here [] k row below is = absurd (omega arith)
 alternative_here (r ∷ rows) zero row below is = ap (λ (x : Pattern × Term). Some (pattern_of x.0, term_of x.1)) is
 alternative_here (r ∷ rows) (suc k) row below is = alternative_here rows k row (omega arith) is
-
-pub given_by : (s : Statement) (env : Bindings) (u v : Value) (rows : List (Pattern × Term)) (k : ℕ) (row : Pattern × Term) (found : Option Bindings)
-    → k < length rows → row ≡ get_or rows k row → found ≡ matched (pattern_of row.0) u
-    → alternative_gives s env u v (alternative_at (alternatives_of rows) k)
-    ≡ elim found [ Some bindings ↦ says s bindings env (term_of row.1) v | None ↦ false ]
-given_by s env u v rows k row found below is match =
-    ap (alternative_gives s env u v) (sym (alternative_here rows k row below is))
-    ∙ ap (λ (x : Option Bindings). elim x [ Some bindings ↦ says s bindings env (term_of row.1) v | None ↦ false ]) (sym match)
 
 pub term_counts : (ts : List Term) → term_count (terms_of ts) ≡ length ts
 term_counts [] = refl

@@ -14,6 +14,7 @@ ghost use Rattle.cu_crwl.specs.Meaning.{claim_of, statement_of, statements_at};
 ghost use Rattle.cu_crwl.specs.Table.{applies, body_gives, claim_gives, claims_give, is_built, is_part, none_cited, one_cited, rule_gives, rules_give, two_cited};
 
 use crate::answer::is_answer;
+use crate::checker::Checker;
 use crate::environment::{states, value_is};
 use crate::matching::match_patterns;
 use crate::{Claim, Statement};
@@ -173,31 +174,6 @@ fn rules_give(
     Ok(false)
 }
 
-/// Whether a function's body on values gives a value, by the cited statements.
-fn body_gives(
-    alloc: Global,
-    heads: &Heads,
-    body: &Body,
-    values: &[Value],
-    last: &[&Statement],
-    value: &Value,
-) -> Result<bool, AllocError>
-    ensures { IfOk result (λ yes. yes
-        ≡ body_gives (heads_program heads.now) (values_of values.now)
-        (statements_at last.now) value.now (body_meaning body.now)) }
-{
-    match body {
-        Body::Rules(rules) => rules_give(alloc, rules, values, one(last), value),
-        Body::External(operation) => {
-            if none(last) {
-                is_answer(alloc, heads, *operation, values, value)
-            } else {
-                Ok(false)
-            }
-        }
-    }
-}
-
 /// A function, where it is the program's.
 pub(crate) fn function<'a>(heads: &Heads<'a>, f: FunId) -> Option<&'a Function>
     ensures { option_map (λ g. plain_function (function_meaning g.now)) result ≡ function_of
@@ -242,91 +218,121 @@ fn all_ground(values: &[Value]) -> bool
     true
 }
 
-/// Whether a claim is about a function on these values, and its list is at
-/// least a value.
-fn claim_gives(
-    alloc: Global,
-    heads: &Heads,
-    constructor: ConId,
-    f: FunId,
-    values: &[Value],
-    value: &Value,
-    claim: &Claim,
-) -> Result<bool, AllocError>
-    ensures { IfOk result (λ yes. yes
-        ≡ claim_gives (heads_program heads.now) constructor f (values_of values.now) value.now
-        (claim_of claim.now)) }
-{
-    if claim.function.0 != f.0 {
-        return Ok(false);
-    }
-    if !values_are(&claim.arguments, values) {
-        return Ok(false);
-    }
-    let all = collected(alloc, heads, constructor, &claim.values)?;
-    Ok(value.leq(&all))
+/// A call of a set function: the function of which all values are asked for,
+/// and its arguments.
+#[derive(Clone, Copy)]
+struct SetCall<'a> {
+    function: FunId,
+    arguments: &'a [Value],
 }
 
-/// Whether some claim is about a function on these values, and its list is at
-/// least a value.
-#[tactic(auto, unfolding(cu_kernel::specs::Heads::heads_program))]
-fn claims_give(
-    alloc: Global,
-    heads: &Heads,
-    claims: &[Claim],
-    f: FunId,
-    values: &[Value],
-    value: &Value,
-) -> Result<bool, AllocError>
-    ensures { IfOk result (λ yes. yes
-        ≡ claims_give (heads_program heads.now) (heads_program heads.now).special.values
-        (map claim_of claims.now) f (values_of values.now) value.now) }
-{
-    let constructor = match heads.special.values {
-        Some(constructor) => constructor,
-        None => return Ok(false),
-    };
-    for claim in claims {
-        if claim_gives(alloc, heads, constructor, f, values, value, claim)? {
-            return Ok(true);
-        }
-    }
-    Ok(false)
-}
-
-/// Whether a head on as many values as it takes has a value, where these
-/// statements are cited last.
-#[tactic(auto, unfolding(crate::specs::Table::applies))]
-pub(crate) fn applies(
-    alloc: Global,
-    heads: &Heads,
-    claims: &[Claim],
-    head: Head,
-    values: &[Value],
-    last: &[&Statement],
-    value: &Value,
-) -> Result<bool, AllocError>
-    ensures { IfOk result (λ yes. yes
-        ≡ applies (heads_program heads.now) (map claim_of claims.now) head (values_of values.now)
-        (statements_at last.now) value.now) }
-{
-    match head {
-        Head::Con(constructor) => {
-            if none(last) {
-                is_constructed(constructor, values, value)
-            } else {
-                Ok(false)
+impl Checker<'_> {
+    /// Whether a function's body on values gives a value, by the cited
+    /// statements.
+    fn body_gives(
+        self,
+        body: &Body,
+        values: &[Value],
+        last: &[&Statement],
+        value: &Value,
+    ) -> Result<bool, AllocError>
+        ensures { IfOk result (λ yes. yes
+            ≡ body_gives (heads_program self.entry.heads.now) (values_of values.now)
+            (statements_at last.now) value.now (body_meaning body.now)) }
+    {
+        match body {
+            Body::Rules(rules) => rules_give(self.alloc, rules, values, one(last), value),
+            Body::External(operation) => {
+                if none(last) {
+                    is_answer(self.alloc, self.heads, *operation, values, value)
+                } else {
+                    Ok(false)
+                }
             }
         }
-        Head::Fun(f) => match function(heads, f) {
-            Some(function) => body_gives(alloc, heads, &function.body, values, last, value),
-            None => Ok(false),
-        },
-        Head::Set(f) => {
-            if none(last) && all_ground(values) {
-                claims_give(alloc, heads, claims, f, values, value)
-            } else {
-                Ok(false)
+    }
+
+    /// Whether a claim is about the function and the arguments of a set call,
+    /// and its list is at least a value. The constructor is that of the values
+    /// of set functions.
+    fn claim_gives(
+        self,
+        constructor: ConId,
+        call: SetCall<'_>,
+        value: &Value,
+        claim: &Claim,
+    ) -> Result<bool, AllocError>
+        ensures { IfOk result (λ yes. yes
+            ≡ claim_gives (heads_program self.entry.heads.now) constructor call.entry.function
+            (values_of call.entry.arguments.now) value.now (claim_of claim.now)) }
+    {
+        if claim.function.0 != call.function.0 {
+            return Ok(false);
+        }
+        if !values_are(&claim.arguments, call.arguments) {
+            return Ok(false);
+        }
+        let all = collected(self.alloc, self.heads, constructor, &claim.values)?;
+        Ok(value.leq(&all))
+    }
+
+    /// Whether some claim is about the function and the arguments of a set
+    /// call, and its list is at least a value.
+    #[tactic(auto, unfolding(cu_kernel::specs::Heads::heads_program))]
+    fn claims_give(self, call: SetCall<'_>, value: &Value) -> Result<bool, AllocError>
+        ensures { IfOk result (λ yes. yes ≡ claims_give (heads_program self.entry.heads.now)
+            (heads_program self.entry.heads.now).special.values
+            (map claim_of self.entry.claims.now) call.entry.function
+            (values_of call.entry.arguments.now) value.now) }
+    {
+        let constructor = match self.heads.special.values {
+            Some(constructor) => constructor,
+            None => return Ok(false),
+        };
+        for claim in self.claims {
+            if self.claim_gives(constructor, call, value, claim)? {
+                return Ok(true);
+            }
+        }
+        Ok(false)
+    }
+
+    /// Whether a head on as many values as it takes has a value, where these
+    /// statements are cited last.
+    #[tactic(auto, unfolding(crate::specs::Table::applies))]
+    pub(crate) fn applies(
+        self,
+        head: Head,
+        values: &[Value],
+        last: &[&Statement],
+        value: &Value,
+    ) -> Result<bool, AllocError>
+        ensures { IfOk result (λ yes. yes ≡ applies (heads_program self.entry.heads.now)
+            (map claim_of self.entry.claims.now) head (values_of values.now)
+            (statements_at last.now) value.now) }
+    {
+        match head {
+            Head::Con(constructor) => {
+                if none(last) {
+                    is_constructed(constructor, values, value)
+                } else {
+                    Ok(false)
+                }
+            }
+            Head::Fun(f) => match function(self.heads, f) {
+                Some(function) => self.body_gives(&function.body, values, last, value),
+                None => Ok(false),
+            },
+            Head::Set(f) => {
+                if none(last) && all_ground(values) {
+                    let call = SetCall {
+                        function: f,
+                        arguments: values,
+                    };
+                    self.claims_give(call, value)
+                } else {
+                    Ok(false)
+                }
             }
         }
     }

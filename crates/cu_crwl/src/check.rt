@@ -11,12 +11,10 @@ ghost use Rattle.cu_crwl.specs.Steps.{all_follow, cited_by, step_follows};
 ghost use Rattle.cu_crwl.specs.Table.{follows, row_follows};
 
 use crate::apply::{none, one};
+use crate::checker::Checker;
 use crate::copy::copy_statement;
 use crate::environment::is_unknown;
-use crate::follow::{
-    apply_follows, case_follows, free_follows, is_below, let_follows, or_follows, part_follows,
-    whole_follows,
-};
+use crate::follow::{Conclusion, Premises, Scope, is_below, or_follows};
 use crate::matching::literal_is;
 use crate::of_program::{claim_is_of, statement_is_of};
 use crate::{Claim, Claims, Proof, Statement, Step};
@@ -46,7 +44,12 @@ pub fn checks(
     if !steps_are_of(&heads, proof.steps())? {
         return Ok(false);
     }
-    steps_follow(alloc, &heads, &claims.rows, proof.steps())
+    let checker = Checker {
+        alloc,
+        heads: &heads,
+        claims: &claims.rows,
+    };
+    checker.steps_follow(proof.steps())
 }
 
 /// Whether claims are the program's.
@@ -75,41 +78,6 @@ fn steps_are_of(heads: &Heads, steps: &[Step]) -> Result<bool, AllocError>
     Ok(true)
 }
 
-/// Whether each step follows from those that it cites.
-fn steps_follow(
-    alloc: Global,
-    heads: &Heads,
-    claims: &[Claim],
-    steps: &[Step],
-) -> Result<bool, AllocError>
-    ensures { IfOk result (λ yes. yes ≡ all_follow (heads_program heads.now)
-        (map claim_of claims.now) [] (map step_of steps.now)) }
-{
-    for i in 0..steps.len() {
-        if !step_follows(alloc, heads, claims, &steps[..i], &steps[i])? {
-            return Ok(false);
-        }
-    }
-    Ok(true)
-}
-
-/// Whether a step follows from those that it cites, of the steps before it.
-fn step_follows(
-    alloc: Global,
-    heads: &Heads,
-    claims: &[Claim],
-    before: &[Step],
-    step: &Step,
-) -> Result<bool, AllocError>
-    ensures { IfOk result (λ yes. yes ≡ step_follows (heads_program heads.now)
-        (map claim_of claims.now) (map step_of before.now) (step_of step.now)) }
-{
-    match cited(alloc, before, &step.cites)? {
-        Some(statements) => follows(alloc, heads, claims, &statements, &step.statement),
-        None => Ok(false),
-    }
-}
-
 /// The statements that a step cites, where they all stand before it.
 fn cited<'a>(
     alloc: Global,
@@ -129,73 +97,91 @@ fn cited<'a>(
     Ok(Some(found))
 }
 
-/// Whether a statement follows from cited ones, by the row for Bottom or by the
-/// row for its term's form.
-#[tactic(auto, unfolding(crate::specs::Table::follows))]
-fn follows(
-    alloc: Global,
-    heads: &Heads,
-    claims: &[Claim],
-    cited: &[&Statement],
-    statement: &Statement,
-) -> Result<bool, AllocError>
-    ensures { IfOk result (λ yes. yes ≡ follows (heads_program heads.now) (map claim_of claims.now)
-        (statements_at cited.now)
-        (statement_of statement.now).env (statement_of statement.now).term
-        (statement_of statement.now).value) }
-{
-    if none(cited) && is_unknown(&statement.value) {
-        return Ok(true);
-    }
-    row_follows(alloc, heads, claims, cited, statement)
-}
-
-/// Whether a statement follows from cited ones by the row for its term's form.
-#[tactic(auto, using(cu_kernel::specs::TermsOf::terms_of_variants, crate::proofs::FollowForms::term_counts), unfolding(crate::specs::Table::row_follows))]
-fn row_follows(
-    alloc: Global,
-    heads: &Heads,
-    claims: &[Claim],
-    cited: &[&Statement],
-    statement: &Statement,
-) -> Result<bool, AllocError>
-    ensures { IfOk result (λ yes. yes ≡ row_follows (heads_program heads.now)
-        (map claim_of claims.now) (statements_at cited.now)
-        (statement_of statement.now).env (statement_of statement.now).term
-        (statement_of statement.now).value) }
-{
-    let env = statement.env.as_slice();
-    let value = &statement.value;
-    match &statement.term {
-        Term::Var(variable) => Ok(none(cited) && is_below(value, env, *variable)),
-        Term::Lit(literal) => Ok(none(cited) && literal_is(*literal, value)),
-        Term::Whole(head, terms) => {
-            if cited.len() < terms.len() {
+impl Checker<'_> {
+    /// Whether each step follows from those that it cites.
+    fn steps_follow(self, steps: &[Step]) -> Result<bool, AllocError>
+        ensures { IfOk result (λ yes. yes ≡ all_follow (heads_program self.entry.heads.now)
+            (map claim_of self.entry.claims.now) [] (map step_of steps.now)) }
+    {
+        for i in 0..steps.len() {
+            if !self.step_follows(&steps[..i], &steps[i])? {
                 return Ok(false);
             }
-            let (parts, last) = cited.split_at(terms.len());
-            whole_follows(alloc, heads, claims, parts, last, env, *head, terms, value)
         }
-        Term::Part(head, terms) => part_follows(alloc, cited, env, *head, terms, value),
-        Term::Apply(function, argument) => apply_follows(
-            alloc, heads, claims, cited, env, function, argument, value,
-        ),
-        Term::Let(variable, definition, body) => let_follows(
-            alloc, cited, env, *variable, definition, body, value,
-        ),
-        Term::Free(variable, body) => free_follows(
-            alloc, heads, cited, env, *variable, body, value,
-        ),
-        Term::Or(left, right) => Ok(or_follows(cited, env, left, right, value)),
-        Term::Case(_, scrutinee, alternatives) => case_follows(
-            alloc,
-            heads,
-            cited,
-            env,
-            scrutinee,
-            alternatives,
-            value,
-        ),
+        Ok(true)
+    }
+
+    /// Whether a step follows from those that it cites, of the steps before it.
+    fn step_follows(self, before: &[Step], step: &Step) -> Result<bool, AllocError>
+        ensures { IfOk result (λ yes. yes ≡ step_follows (heads_program self.entry.heads.now)
+            (map claim_of self.entry.claims.now) (map step_of before.now) (step_of step.now)) }
+    {
+        match cited(self.alloc, before, &step.cites)? {
+            Some(statements) => self.follows(&statements, &step.statement),
+            None => Ok(false),
+        }
+    }
+
+    /// Whether a statement follows from cited ones, by the row for Bottom or by
+    /// the row for its term's form.
+    #[tactic(auto, unfolding(crate::specs::Table::follows))]
+    fn follows(self, cited: &[&Statement], statement: &Statement) -> Result<bool, AllocError>
+        ensures { IfOk result (λ yes. yes ≡ follows (heads_program self.entry.heads.now)
+            (map claim_of self.entry.claims.now) (statements_at cited.now)
+            (statement_of statement.now).env (statement_of statement.now).term
+            (statement_of statement.now).value) }
+    {
+        if none(cited) && is_unknown(&statement.value) {
+            return Ok(true);
+        }
+        self.row_follows(cited, statement)
+    }
+
+    /// Whether a statement follows from cited ones by the row for its term's
+    /// form.
+    #[tactic(auto, using(cu_kernel::specs::TermsOf::terms_of_variants, crate::proofs::FollowForms::term_counts), unfolding(crate::specs::Table::row_follows))]
+    fn row_follows(self, cited: &[&Statement], statement: &Statement) -> Result<bool, AllocError>
+        ensures { IfOk result (λ yes. yes ≡ row_follows (heads_program self.entry.heads.now)
+            (map claim_of self.entry.claims.now) (statements_at cited.now)
+            (statement_of statement.now).env (statement_of statement.now).term
+            (statement_of statement.now).value) }
+    {
+        let env = statement.env.as_slice();
+        let value = &statement.value;
+        let conclusion = Conclusion { env, value };
+        match &statement.term {
+            Term::Var(variable) => Ok(none(cited) && is_below(value, env, *variable)),
+            Term::Lit(literal) => Ok(none(cited) && literal_is(*literal, value)),
+            Term::Whole(head, terms) => {
+                if cited.len() < terms.len() {
+                    return Ok(false);
+                }
+                let (parts, last) = cited.split_at(terms.len());
+                self.whole_follows(Premises { parts, last }, conclusion, *head, terms)
+            }
+            Term::Part(head, terms) => self.part_follows(cited, conclusion, *head, terms),
+            Term::Apply(function, argument) => {
+                self.apply_follows(cited, conclusion, function, argument)
+            }
+            Term::Let(variable, definition, body) => {
+                let scope = Scope {
+                    variable: *variable,
+                    body,
+                };
+                self.let_follows(cited, conclusion, scope, definition)
+            }
+            Term::Free(variable, body) => {
+                let scope = Scope {
+                    variable: *variable,
+                    body,
+                };
+                self.free_follows(cited, conclusion, scope)
+            }
+            Term::Or(left, right) => Ok(or_follows(cited, conclusion, left, right)),
+            Term::Case(_, scrutinee, alternatives) => {
+                self.case_follows(cited, conclusion, scrutinee, alternatives)
+            }
+        }
     }
 }
 

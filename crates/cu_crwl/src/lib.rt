@@ -6,6 +6,7 @@
 mod answer;
 mod apply;
 mod check;
+mod checker;
 mod choose;
 mod claim;
 mod compare;
