@@ -27,7 +27,7 @@ use Rattle.cu_calculus.specs.Program.{function_of}
 use Rattle.cu_calculus.specs.Term.{Alternatives}
 use Rattle.cu_calculus.specs.WellFormed.{bound_by, is_well_formed}
 use Rattle.cu_calculus.proofs.FlatFitting.{function_there}
-use Rattle.cu_machine.specs.Rewrite.{alone_follows, bound_to, branch_for, build_pairs, in_pairs, joined_from_right, pair_nodes, takes_constructor, takes_literal, truth_node}
+use Rattle.cu_machine.specs.Rewrite.{alone_follows, bound_to, branch_for, build_pairs, joined_from_right, pair_nodes, pairwise_step, takes_constructor, takes_literal, truth_node}
 use Rattle.cu_machine.specs.State.{free_nodes, numbers}
 use Rattle.cu_machine.specs.Steps as row
 use Rattle.cu_machine.specs.Steps.{CaseAt, Steps, imitating, node}
@@ -218,7 +218,7 @@ module _ (program : Code) (levels : List ℕ) (level : ℕ) where
       record { parts = nodes_both nodes _ (pair_nodes_allowed each (pair ∷ other ∷ pairs) one) inner.parts; top = inner.top }
 
   pub in_pairs_allowed : (each joint : Kind) (graph after : Graph) (id : ℕ) (pairs : List (ℕ × ℕ)) → AllAllowed levels level (named_by program each)
-      → AllAllowed levels level (named_by program joint) → NodesAllowed graph → in_pairs program.special each joint graph id pairs ≡ alone_follows after → NodesAllowed after
+      → AllAllowed levels level (named_by program joint) → NodesAllowed graph → pairwise_step program.special each joint graph id pairs ≡ alone_follows after → NodesAllowed after
   in_pairs_allowed each joint graph after id [] one two all is =
       subst NodesAllowed (sym (one_follows (put graph id (truth_node program.special true)) after is)) (set_allowed graph id (truth_node program.special true) all tt)
   in_pairs_allowed each joint graph after id (pair ∷ pairs) one two all is =

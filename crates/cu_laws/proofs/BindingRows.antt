@@ -18,7 +18,7 @@ use Rattle.cu_calculus.proofs.BelowLaws.{below_itself}
 use Rattle.cu_machine.specs.declared.Kind.{Kind}
 use Rattle.cu_machine.specs.declared.Kind.TheVariants as kind
 use Rattle.cu_machine.specs.Graph.{Graph, Node, head_at, head_of, node_at, put, renaming, stuck}
-use Rattle.cu_machine.specs.Rewrite.{alone_follows, equated_in_pairs, truth_node}
+use Rattle.cu_machine.specs.Rewrite.{alone_follows, decomposition_step, truth_node}
 use Rattle.cu_machine.specs.State.{numbers}
 use Rattle.cu_machine.specs.Steps.{FreeBeside, imitating, node, on_the_left, on_the_right, telling}
 use Rattle.cu_machine.specs.Validity.{NodesFit, has_arguments}
@@ -225,7 +225,7 @@ imitation_end program claims graph id a b v other c args fresh later higher fit 
 
 pub imitation_sound : (program : Code) (claims : List Claim) (graph after : Graph) (id a b v other : ℕ) (c : ConId) (arg : ℕ) (args : List ℕ) (later : Assignment)
     → NodesFit program graph → node_at graph id ≡ node (kind.Prim prim.Unify) (a ∷ b ∷ []) → FreeBeside graph a b v other (kind.Cons c) (arg ∷ args)
-    → equated_in_pairs program.special (imitating graph v c (length args + 1)) id (zip (numbers (length graph) (length args + 1)) (arg ∷ args)) ≡ alone_follows after
+    → decomposition_step program.special (imitating graph v c (length args + 1)) id (zip (numbers (length graph) (length args + 1)) (arg ∷ args)) ≡ alone_follows after
     → Good program claims after later → Sound program claims graph later
 imitation_sound program claims graph after id a b v other c arg args later fit is sides after_is good =
     let P = program_of program in

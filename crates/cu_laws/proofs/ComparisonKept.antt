@@ -23,7 +23,7 @@ use Rattle.cu_calculus.proofs.BelowLaws.{below_itself}
 use Rattle.cu_machine.specs.declared.Kind.TheVariants as kind
 use Rattle.cu_machine.specs.Build.{written}
 use Rattle.cu_machine.specs.Graph.{Graph, alone, put}
-use Rattle.cu_machine.specs.Rewrite.{alone_follows, build_pairs, in_pairs, truth_node}
+use Rattle.cu_machine.specs.Rewrite.{alone_follows, build_pairs, pairwise_step, truth_node}
 use Rattle.cu_laws.specs.Continues.{NothingPast}
 use Rattle.cu_laws.specs.Good.{Assignment, Loose, MayHave, NoValue}
 use Rattle.cu_laws.proofs.AnswerKept.{constant_may}
@@ -156,7 +156,7 @@ compares_inside _ _ answer (builtin.alike e xs ys _ inner) c d us vs is are alik
 pub comparisons_kept : (program : Code) (claims : List Claim) (graph after : Graph) (id : ℕ) (us vs : List ℕ) (answer : Bool) (assigned : Assignment)
     → is_well_formed program ≡ true → Loose program claims graph assigned → NothingPast graph assigned → id < length graph
     → Below (assigned id) (truth_of (program_of program) answer) → length us ≡ length vs → AllCompare (values_at assigned us) (values_at assigned vs) answer
-    → in_pairs program.special (kind.Prim prim.Equal) (kind.Call program.special.both) graph id (zip us vs) ≡ alone_follows after → Kept program claims graph after assigned
+    → pairwise_step program.special (kind.Prim prim.Equal) (kind.Call program.special.both) graph id (zip us vs) ≡ alone_follows after → Kept program claims graph after assigned
 comparisons_kept program claims graph after id [] [] answer assigned well loose past here low as_many all follows =
     let after_is = one_follows (put graph id (truth_node program.special true)) after follows in
     let true_low = subst (λ (t : Bool). Below (assigned id) (truth_of (program_of program) t)) (compare_none value.NoValue value.NoValue answer all refl) low in

@@ -20,7 +20,7 @@ use Rattle.cu_calculus.proofs.Answering.{literal_is}
 use Rattle.cu_calculus.proofs.Comparing.{same_is}
 use Rattle.cu_machine.specs.declared.Kind.TheVariants as kind
 use Rattle.cu_machine.specs.Graph.{Graph, Node, head_at, head_of, node_at, put}
-use Rattle.cu_machine.specs.Rewrite.{alone_follows, equated_in_pairs}
+use Rattle.cu_machine.specs.Rewrite.{alone_follows, decomposition_step}
 use Rattle.cu_machine.specs.Steps.{node, telling}
 use Rattle.cu_machine.specs.Validity.{NodesFit}
 use Rattle.cu_laws.specs.Good.{Assignment, AtMost, Good, MayHave, NoValue}
@@ -79,7 +79,7 @@ equated program c d us vs v same (inr told) = inr (
 
 pub decomposition_sound : (program : Code) (claims : List Claim) (graph after : Graph) (id a b : ℕ) (c d : ConId) (us vs : List ℕ) (later : Assignment)
     → NodesFit program graph → node_at graph id ≡ node (kind.Prim prim.Unify) (a ∷ b ∷ []) → head_at graph a ≡ node (kind.Cons c) us → head_at graph b ≡ node (kind.Cons d) vs
-    → same_constructor c d ≡ true → equated_in_pairs program.special graph id (zip us vs) ≡ alone_follows after → Good program claims after later
+    → same_constructor c d ≡ true → decomposition_step program.special graph id (zip us vs) ≡ alone_follows after → Good program claims after later
     → Sound program claims graph later
 decomposition_sound program claims graph after id a b c d us vs later fit is head_a head_b alike after_is good =
     let P = program_of program in

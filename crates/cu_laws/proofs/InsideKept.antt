@@ -18,7 +18,7 @@ use Rattle.cu_calculus.proofs.Comparing.{same_is}
 use Rattle.cu_machine.specs.declared.Kind.{Kind}
 use Rattle.cu_machine.specs.declared.Kind.TheVariants as kind
 use Rattle.cu_machine.specs.Graph.{Graph, Node, head_at, node_at}
-use Rattle.cu_machine.specs.Rewrite.{alone_follows, compared_in_pairs, equated_in_pairs}
+use Rattle.cu_machine.specs.Rewrite.{alone_follows, decomposition_step, pairwise_comparison_step}
 use Rattle.cu_machine.specs.State.{numbers}
 use Rattle.cu_machine.specs.Steps.{FreeBeside, imitating, node}
 use Rattle.cu_machine.specs.Validity.{NodesFit}
@@ -49,7 +49,7 @@ module _ (program : Code) (claims : List Claim) (graph : Graph) (id : ℕ) (assi
     (loose : Loose program claims graph assigned) (past : NothingPast graph assigned) (known : is_known (assigned id) ≡ true) where
   pub decomposition_kept : (after : Graph) (a b : ℕ) (c d : ConId) (us vs : List ℕ) → node_at graph id ≡ node (kind.Prim prim.Unify) (a ∷ b ∷ [])
       → head_at graph a ≡ node (kind.Cons c) us → head_at graph b ≡ node (kind.Cons d) vs
-      → equated_in_pairs program.special graph id (zip us vs) ≡ alone_follows after → Kept program claims graph after assigned
+      → decomposition_step program.special graph id (zip us vs) ≡ alone_follows after → Kept program claims graph after assigned
   decomposition_kept after a b c d us vs is head_a head_b follows =
       let sides = sides_equal program claims graph id assigned loose known a b is in
       let x = value.Constructed c (values_at assigned us) in
@@ -67,7 +67,7 @@ module _ (program : Code) (claims : List Claim) (graph : Graph) (id : ℕ) (assi
 
   pub comparison_kept : (after : Graph) (a b : ℕ) (c d : ConId) (us vs : List ℕ) → NodesFit program graph → node_at graph id ≡ node (kind.Prim prim.Equal) (a ∷ b ∷ [])
       → head_at graph a ≡ node (kind.Cons c) us → head_at graph b ≡ node (kind.Cons d) vs → same_constructor c d ≡ true
-      → compared_in_pairs program.special graph id (zip us vs) ≡ alone_follows after → Kept program claims graph after assigned
+      → pairwise_comparison_step program.special graph id (zip us vs) ≡ alone_follows after → Kept program claims graph after assigned
   comparison_kept after a b c d us vs fit is head_a head_b alike follows =
       let x = value.Constructed c (values_at assigned us) in
       let y = value.Constructed d (values_at assigned vs) in
@@ -83,7 +83,7 @@ module _ (program : Code) (claims : List Claim) (graph : Graph) (id : ℕ) (assi
 
   pub imitation_kept : (after : Graph) (a b v other : ℕ) (c : ConId) (arg : ℕ) (args : List ℕ) → node_at graph id ≡ node (kind.Prim prim.Unify) (a ∷ b ∷ [])
       → FreeBeside graph a b v other (kind.Cons c) (arg ∷ args)
-      → equated_in_pairs program.special (imitating graph v c (length args + 1)) id (zip (numbers (length graph) (length args + 1)) (arg ∷ args)) ≡ alone_follows after
+      → decomposition_step program.special (imitating graph v c (length args + 1)) id (zip (numbers (length graph) (length args + 1)) (arg ∷ args)) ≡ alone_follows after
       → Kept program claims graph after assigned
   imitation_kept after a b v other c arg args is sides follows =
       over (subst (λ (n : ℕ). Kept program claims graph (imitating graph v c n) assigned) as_many

@@ -22,7 +22,7 @@ use Rattle.cu_machine.specs.declared.Kind.{Kind}
 use Rattle.cu_machine.specs.declared.Kind.TheVariants as kind
 use Rattle.cu_machine.specs.Build.{Scope}
 use Rattle.cu_machine.specs.Graph.{Graph, Node, head_at, head_of, node_at}
-use Rattle.cu_machine.specs.Rewrite.{Become, Collect, Move, Overflows, applied, branch_for, calculated, case_of, chosen, compared, computed, counted, distinguished, equated, imitates, in_pairs, is_true, move, occurs_in, operated, puts_character, rewritten, takes_branch, takes_constructor, takes_literal, unfolded}
+use Rattle.cu_machine.specs.Rewrite.{Become, Collect, Move, Overflows, application_step, arithmetic_step, branch_for, branch_step, call_step, case_step, character_step, choice_step, comparison_step, imitation_step, integer_step, is_true, literal_step, move, occurs_in, operation_step, pairwise_step, rewrite_step, scrutinee_step, takes_constructor, takes_literal, unification_step}
 use Rattle.cu_machine.specs.Spell.{spelled}
 use Rattle.cu_machine.specs.Steps.{node}
 use Rattle.cu_laws.specs.Good.{Assignment, Loose, Worth}
@@ -42,15 +42,15 @@ on_if : (b : Bool) (one two : Move) → LeadsOn one → LeadsOn two → LeadsOn 
 on_if true one two a b = a
 on_if false one two a b = b
 
-unfolded_on : (program : Code) (graph : Graph) (id : ℕ) (args : List ℕ) (o : Option code.Body) → LeadsOn (unfolded program graph id args o)
+unfolded_on : (program : Code) (graph : Graph) (id : ℕ) (args : List ℕ) (o : Option code.Body) → LeadsOn (call_step program graph id args o)
 unfolded_on program graph id args (Some (code.Rule params body)) = tt
 unfolded_on program graph id args _ = tt
 
-chosen_on : (graph : Graph) (id : ℕ) (args : List ℕ) → LeadsOn (chosen graph id args)
+chosen_on : (graph : Graph) (id : ℕ) (args : List ℕ) → LeadsOn (choice_step graph id args)
 chosen_on graph id (left ∷ right ∷ []) = tt
 chosen_on graph id _ = tt
 
-branch_on : (program : Code) (scope : Scope) (graph : Graph) (id : ℕ) (args : List ℕ) (o : Option Branch) → LeadsOn (takes_branch program scope graph id args o)
+branch_on : (program : Code) (scope : Scope) (graph : Graph) (id : ℕ) (args : List ℕ) (o : Option Branch) → LeadsOn (branch_step program scope graph id args o)
 branch_on program scope graph id args None = tt
 branch_on program scope graph id args (Some branch) = tt
 
@@ -62,7 +62,7 @@ record WithoutBranches (o : Option code.Expr) : Type 0 where
   is : o ≡ Some (code.Case mode kept inner [])
 
 distinguished_on : (program : Code) (scope : Scope) (graph : Graph) (id : ℕ) (branches : List Branch) (v : ℕ) (k : Kind) (args : List ℕ)
-    → (branches ≡ []) ⊎ LeadsOn (distinguished program scope graph id branches v k args)
+    → (branches ≡ []) ⊎ LeadsOn (scrutinee_step program scope graph id branches v k args)
 distinguished_on program scope graph id branches v (kind.Lit l) args = inr (branch_on program scope graph id [] (branch_for (takes_literal l) branches))
 distinguished_on program scope graph id branches v (kind.Cons c) args = inr (branch_on program scope graph id args (branch_for (takes_constructor c) branches))
 distinguished_on program scope graph id branches v (kind.Part h) args = inr tt
@@ -71,7 +71,7 @@ distinguished_on program scope graph id (branch ∷ branches) v kind.Free args =
 distinguished_on program scope graph id branches v _ args = inr tt
 
 case_on : (program : Code) (graph : Graph) (id scrutinee : ℕ) (values : List ℕ) (o : Option code.Expr)
-    → WithoutBranches o ⊎ LeadsOn (case_of program graph id scrutinee values o)
+    → WithoutBranches o ⊎ LeadsOn (case_step program graph id scrutinee values o)
 case_on program graph id scrutinee values (Some (code.Case mode variables e branches)) =
     elim (distinguished_on program (zip variables values) graph id branches (head_of graph scrutinee) (head_at graph scrutinee).kind (head_at graph scrutinee).args) [
       | inl none ↦ inl (record { mode = mode; kept = variables; inner = e; is = ap (λ (bs : List Branch). Some (code.Case mode variables e bs)) none })
@@ -79,14 +79,14 @@ case_on program graph id scrutinee values (Some (code.Case mode variables e bran
     ]
 case_on program graph id scrutinee values _ = inr tt
 
-applied_on : (program : Code) (graph : Graph) (id argument : ℕ) (k : Kind) (args : List ℕ) → LeadsOn (applied program graph id argument k args)
+applied_on : (program : Code) (graph : Graph) (id argument : ℕ) (k : Kind) (args : List ℕ) → LeadsOn (application_step program graph id argument k args)
 applied_on program graph id argument (kind.Part h) args = tt
 applied_on program graph id argument _ args = tt
 
-counted_on : (graph : Graph) (id : ℕ) (operation : Primitive) (m n result : ℤ) → LeadsOn (counted graph id operation m n result)
+counted_on : (graph : Graph) (id : ℕ) (operation : Primitive) (m n result : ℤ) → LeadsOn (integer_step graph id operation m n result)
 counted_on graph id operation m n result = on_if (is_integer result) _ _ tt tt
 
-calculated_on : (special : Special) (graph : Graph) (id : ℕ) (operation : Primitive) (m n : ℤ) → LeadsOn (calculated special graph id operation m n)
+calculated_on : (special : Special) (graph : Graph) (id : ℕ) (operation : Primitive) (m n : ℤ) → LeadsOn (arithmetic_step special graph id operation m n)
 calculated_on special graph id prim.Add m n = counted_on graph id prim.Add m n (m +ℤ n)
 calculated_on special graph id prim.Sub m n = counted_on graph id prim.Sub m n (m -ℤ n)
 calculated_on special graph id prim.Mul m n = counted_on graph id prim.Mul m n (m *ℤ n)
@@ -94,21 +94,21 @@ calculated_on special graph id prim.Div m n = on_if (int_eq n (pos 0)) _ _ tt (c
 calculated_on special graph id prim.Mod m n = on_if (int_eq n (pos 0)) _ _ tt (counted_on graph id prim.Mod m n (floor_rest m n))
 calculated_on special graph id _ m n = tt
 
-character_on : (graph : Graph) (id : ℕ) (m : ℤ) → LeadsOn (puts_character graph id m)
+character_on : (graph : Graph) (id : ℕ) (m : ℤ) → LeadsOn (character_step graph id m)
 character_on graph id (pos n) = on_if (is_scalar n) _ _ tt tt
 character_on graph id (negsuc n) = tt
 
-computed_on : (special : Special) (graph : Graph) (id : ℕ) (operation : Primitive) (ks : List Kind) → LeadsOn (computed special graph id operation ks)
+computed_on : (special : Special) (graph : Graph) (id : ℕ) (operation : Primitive) (ks : List Kind) → LeadsOn (literal_step special graph id operation ks)
 computed_on special graph id operation (kind.Lit (Int m) ∷ kind.Lit (Int n) ∷ []) = calculated_on special graph id operation m n
 computed_on special graph id prim.Ord (kind.Lit (Char c) ∷ []) = tt
 computed_on special graph id prim.Chr (kind.Lit (Int n) ∷ []) = character_on graph id n
 computed_on special graph id _ _ = tt
 
-pairs_on : (special : Special) (each joint : Kind) (graph : Graph) (id : ℕ) (pairs : List (ℕ × ℕ)) → LeadsOn (in_pairs special each joint graph id pairs)
+pairs_on : (special : Special) (each joint : Kind) (graph : Graph) (id : ℕ) (pairs : List (ℕ × ℕ)) → LeadsOn (pairwise_step special each joint graph id pairs)
 pairs_on special each joint graph id [] = tt
 pairs_on special each joint graph id (pair ∷ pairs) = tt
 
-compared_on : (special : Special) (graph : Graph) (id : ℕ) (k : Kind) (us : List ℕ) (l : Kind) (vs : List ℕ) → LeadsOn (compared special graph id k us l vs)
+compared_on : (special : Special) (graph : Graph) (id : ℕ) (k : Kind) (us : List ℕ) (l : Kind) (vs : List ℕ) → LeadsOn (comparison_step special graph id k us l vs)
 compared_on special graph id (kind.Cons c) us (kind.Cons d) vs =
     on_if (same_constructor c d) _ _ (pairs_on special (kind.Prim prim.Equal) (kind.Call special.both) graph id (zip us vs)) tt
 compared_on special graph id (kind.Lit l) us (kind.Lit m) vs = tt
@@ -116,12 +116,12 @@ compared_on special graph id (kind.Lit l) us (kind.Cons d) vs = tt
 compared_on special graph id (kind.Cons c) us (kind.Lit m) vs = tt
 compared_on special graph id _ us _ vs = tt
 
-imitates_on : (special : Special) (graph : Graph) (id v other : ℕ) (c : ConId) (args : List ℕ) → LeadsOn (imitates special graph id v other c args)
+imitates_on : (special : Special) (graph : Graph) (id v other : ℕ) (c : ConId) (args : List ℕ) → LeadsOn (imitation_step special graph id v other c args)
 imitates_on special graph id v other c [] = tt
 imitates_on special graph id v other c (arg ∷ args) =
     on_if (occurs_in graph v (arg ∷ args)) _ _ tt (pairs_on special (kind.Prim prim.Unify) (kind.Prim prim.And) _ id _)
 
-equated_on : (special : Special) (graph : Graph) (id v : ℕ) (k : Kind) (us : List ℕ) (w : ℕ) (l : Kind) (vs : List ℕ) → LeadsOn (equated special graph id v k us w l vs)
+equated_on : (special : Special) (graph : Graph) (id v : ℕ) (k : Kind) (us : List ℕ) (w : ℕ) (l : Kind) (vs : List ℕ) → LeadsOn (unification_step special graph id v k us w l vs)
 equated_on special graph id v kind.Free us w kind.Free vs = on_if (nat_eq v w) _ _ tt tt
 equated_on special graph id v kind.Free us w (kind.Lit m) vs = tt
 equated_on special graph id v (kind.Lit l) us w kind.Free vs = tt
@@ -132,7 +132,7 @@ equated_on special graph id v (kind.Cons c) us w (kind.Cons d) vs =
 equated_on special graph id v (kind.Lit l) us w (kind.Lit m) vs = on_if (same_literal l m) _ _ tt tt
 equated_on special graph id v _ us w _ vs = tt
 
-operated_on : (special : Special) (graph : Graph) (id : ℕ) (operation : Primitive) (args : List ℕ) → LeadsOn (operated special graph id operation args)
+operated_on : (special : Special) (graph : Graph) (id : ℕ) (operation : Primitive) (args : List ℕ) → LeadsOn (operation_step special graph id operation args)
 operated_on special graph id prim.Equal (a ∷ b ∷ []) =
     compared_on special graph id (head_at graph a).kind (head_at graph a).args (head_at graph b).kind (head_at graph b).args
 operated_on special graph id prim.Unify (a ∷ b ∷ []) =
@@ -153,7 +153,7 @@ record EmptyCase (program : Code) (k : Kind) (args : List ℕ) : Type 0 where
   args_are : args ≡ scrutinee ∷ values
   without : WithoutBranches (expr_of program (record { 0 = e }))
 
-rewritten_on : (program : Code) (graph : Graph) (id : ℕ) (k : Kind) (args : List ℕ) → EmptyCase program k args ⊎ LeadsOn (rewritten program graph id k args)
+rewritten_on : (program : Code) (graph : Graph) (id : ℕ) (k : Kind) (args : List ℕ) → EmptyCase program k args ⊎ LeadsOn (rewrite_step program graph id k args)
 rewritten_on program graph id (kind.SetCall f) args = inr (on_if (are_data (values_of (map (spelled graph) args))) _ _ tt tt)
 rewritten_on program graph id (kind.Call f) args = inr (unfolded_on program graph id args (body_of program f))
 rewritten_on program graph id kind.Or args = inr (chosen_on graph id args)

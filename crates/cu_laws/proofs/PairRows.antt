@@ -28,7 +28,7 @@ use Rattle.cu_calculus.proofs.Comparing.{compared_compares, same_is}
 use Rattle.cu_machine.specs.declared.Kind.{Kind}
 use Rattle.cu_machine.specs.declared.Kind.TheVariants as kind
 use Rattle.cu_machine.specs.Graph.{Graph, Node, head_at, head_of, node_at, put}
-use Rattle.cu_machine.specs.Rewrite.{alone_follows, compared_in_pairs, is_true}
+use Rattle.cu_machine.specs.Rewrite.{alone_follows, is_true, pairwise_comparison_step}
 use Rattle.cu_machine.specs.Steps.{are_mixed, node, telling}
 use Rattle.cu_machine.specs.Validity.{NodesFit, has_arguments}
 use Rattle.cu_laws.specs.Good.{Assignment, AtMost, Good, RisesTo}
@@ -236,7 +236,7 @@ as_many_arguments program graph a b c d us vs fit head_a head_b same =
 
 pub compared_alike_sound : (program : Code) (claims : List Claim) (graph after : Graph) (id a b : ℕ) (c d : ConId) (us vs : List ℕ) (later : Assignment)
     → is_well_formed program ≡ true → NodesFit program graph → node_at graph id ≡ node (kind.Prim prim.Equal) (a ∷ b ∷ []) → head_at graph a ≡ node (kind.Cons c) us
-    → head_at graph b ≡ node (kind.Cons d) vs → same_constructor c d ≡ true → compared_in_pairs program.special graph id (zip us vs) ≡ alone_follows after
+    → head_at graph b ≡ node (kind.Cons d) vs → same_constructor c d ≡ true → pairwise_comparison_step program.special graph id (zip us vs) ≡ alone_follows after
     → Good program claims after later → Sound program claims graph later
 compared_alike_sound program claims graph after id a b c d us vs later well fit is head_a head_b alike after_is good =
     let P = program_of program in

@@ -12,7 +12,7 @@ use Rattle.cu_calculus.proofs.BelowLaws.{below_itself}
 use Rattle.cu_machine.specs.declared.Kind.{Kind}
 use Rattle.cu_machine.specs.Build.{instead, place_of, written}
 use Rattle.cu_machine.specs.Graph.{Graph, Node, put}
-use Rattle.cu_machine.specs.Rewrite.{alone_follows, build_pairs, in_pairs, joined_from_right, pair_nodes, truth_node}
+use Rattle.cu_machine.specs.Rewrite.{alone_follows, build_pairs, joined_from_right, pair_nodes, pairwise_step, truth_node}
 use Rattle.cu_laws.proofs.Changed.{Changed, changed_by_put, changed_by_writing}
 use Rattle.cu_laws.proofs.Truth.{telling_low}
 use Rattle.cu_laws.specs.Good.{Assignment, Good, MayHave, NoValue}
@@ -95,7 +95,7 @@ pub record PairsAfter (program : Code) (claims : List Claim) (graph : Graph) (id
 
 pub pairs_after : (program : Code) (claims : List Claim) (graph after : Graph) (id : ℕ) (each joint : Kind) (One : Value → Value → Value → Type 0)
     (All : Values → Values → Value → Type 0) (us vs : List ℕ) (later : Assignment) → id < length graph → Says program claims later each joint One All
-    → length us ≡ length vs → in_pairs program.special each joint graph id (zip us vs) ≡ alone_follows after → Good program claims after later
+    → length us ≡ length vs → pairwise_step program.special each joint graph id (zip us vs) ≡ alone_follows after → Good program claims after later
     → PairsAfter program claims graph id after All us vs later
 pairs_after program claims graph after id each joint One All [] [] later here says same is good =
     let after_is = one_follows (put graph id (truth_node program.special true)) after is in

@@ -19,7 +19,7 @@ use Rattle.cu_machine.specs.declared.Kind.{Kind}
 use Rattle.cu_machine.specs.declared.Kind.TheVariants as kind
 use Rattle.cu_machine.specs.Build.{Fresh, instead, place_of, written}
 use Rattle.cu_machine.specs.Graph.{Graph, alone, put}
-use Rattle.cu_machine.specs.Rewrite.{alone_follows, build_pairs, in_pairs, joined_from_right, pair_nodes, truth_node}
+use Rattle.cu_machine.specs.Rewrite.{alone_follows, build_pairs, joined_from_right, pair_nodes, pairwise_step, truth_node}
 use Rattle.cu_machine.specs.Steps.{node}
 use Rattle.cu_laws.specs.Continues.{NothingPast}
 use Rattle.cu_laws.specs.Extends.{Extends}
@@ -217,11 +217,11 @@ truth_of_program program well =
 pub equations_kept : (program : Code) (claims : List Claim) (graph after : Graph) (id : ℕ) (us vs : List ℕ) (assigned : Assignment) → is_well_formed program ≡ true
     → Loose program claims graph assigned → NothingPast graph assigned → id < length graph → Below (assigned id) (truth_of (program_of program) true)
     → values_at assigned us ≡ values_at assigned vs → are_total (values_at assigned us) ≡ true → are_data (values_at assigned us) ≡ true
-    → in_pairs program.special (kind.Prim prim.Unify) (kind.Prim prim.And) graph id (zip us vs) ≡ alone_follows after → Kept program claims graph after assigned
+    → pairwise_step program.special (kind.Prim prim.Unify) (kind.Prim prim.And) graph id (zip us vs) ≡ alone_follows after → Kept program claims graph after assigned
 equations_kept program claims graph after id us vs assigned well loose past here low same total all_data = go us vs same total all_data
   where
     go : (us vs : List ℕ) → values_at assigned us ≡ values_at assigned vs → are_total (values_at assigned us) ≡ true → are_data (values_at assigned us) ≡ true
-        → in_pairs program.special (kind.Prim prim.Unify) (kind.Prim prim.And) graph id (zip us vs) ≡ alone_follows after → Kept program claims graph after assigned
+        → pairwise_step program.special (kind.Prim prim.Unify) (kind.Prim prim.And) graph id (zip us vs) ≡ alone_follows after → Kept program claims graph after assigned
     go [] [] is whole plain follows =
         let after_is = one_follows (put graph id (truth_node program.special true)) after follows in
         kept_by_put program claims graph after id (alone (truth_kind program true)) assigned here (after_is ∙ ap (put graph id) (truth_is_node program true)) loose past

@@ -16,7 +16,7 @@ use Rattle.cu_machine.specs.Level.{go_list, level_by, step_level}
 use Rattle.cu_machine.specs.Need.{At, Dead, Done, Need, Throughout, Wait, need_all}
 use Rattle.cu_machine.specs.declared.Stop.TheVariants.{TooWide}
 use Rattle.cu_machine.specs.Next.{Blocked, Go, Halts, LevelEvent, On, Stops, after_level, delivered, is_above, is_too_large, moved, next, next_by, read, searched, spelled_all, stepped}
-use Rattle.cu_machine.specs.Rewrite.{Become, Collect, Move, Overflows, move, rewritten, sticks}
+use Rattle.cu_machine.specs.Rewrite.{Become, Collect, Move, Overflows, move, rewrite_step, stuck_step}
 use Rattle.cu_machine.specs.Spell.{cells_of_all, spelled}
 use Rattle.cu_machine.specs.State.{Branch, Idle, MoreStates, NoState, Running, State, States, call_on, states_of}
 use Rattle.cu_machine.specs.Steps.{node}
@@ -39,7 +39,7 @@ pub record Collected (graph : Graph) (id : ℕ) (f : FunId) (arguments : Values)
   pub data_only : are_data (spelled_values graph args) ≡ true
 
 collected_if : (graph : Graph) (id : ℕ) (g f : FunId) (args : List ℕ) (arguments : Values) (b : Bool) → node_at graph id ≡ node (kind.SetCall g) args
-    → are_data (spelled_values graph args) ≡ b → (if b then Collect g (spelled_values graph args) else sticks graph id) ≡ Collect f arguments → Collected graph id f arguments
+    → are_data (spelled_values graph args) ≡ b → (if b then Collect g (spelled_values graph args) else stuck_step graph id) ≡ Collect f arguments → Collected graph id f arguments
 collected_if graph id g f args arguments false is tested same = let no : ⊥ = cc in absurd no
 collected_if graph id g f args arguments true is tested same =
     let functions : g ≡ f = cc in
@@ -52,8 +52,8 @@ no_collect (Overflows operation m n) f arguments quiet same = cc
 no_collect (Collect g values) f arguments quiet same = quiet
 
 pub collected_at : (program : Code) (graph : Graph) (id : ℕ) (f : FunId) (arguments : Values) (k : Kind) (args : List ℕ) → node_at graph id ≡ node k args
-    → (is_set_call k ≡ true) ⊎ IsNoSearch (rewritten program graph id k args) → rewritten program graph id k args ≡ Collect f arguments → Collected graph id f arguments
-collected_at program graph id f arguments k args is (inr quiet) same = absurd (no_collect (rewritten program graph id k args) f arguments quiet same)
+    → (is_set_call k ≡ true) ⊎ IsNoSearch (rewrite_step program graph id k args) → rewrite_step program graph id k args ≡ Collect f arguments → Collected graph id f arguments
+collected_at program graph id f arguments k args is (inr quiet) same = absurd (no_collect (rewrite_step program graph id k args) f arguments quiet same)
 collected_at program graph id f arguments (kind.SetCall g) args is (inl calls) same =
     collected_if graph id g f args arguments (are_data (spelled_values graph args)) is refl same
 collected_at program graph id f arguments _ args is (inl calls) same = absurd (true≢false (sym calls))

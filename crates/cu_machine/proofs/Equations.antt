@@ -18,7 +18,7 @@ use Rattle.cu_machine.specs.declared.Kind.{Kind}
 use Rattle.cu_machine.specs.declared.Kind.TheVariants as kind
 use Rattle.cu_machine.specs.Build.{Built, Fresh, build_alone, place_of, pushed, written}
 use Rattle.cu_machine.specs.Graph.{Graph, Node, head_at, head_of, node_at, put, renaming, stuck}
-use Rattle.cu_machine.specs.Rewrite.{Collect, build_pairs, collects, compared, equated, equated_in_pairs, fails, imitates, in_pairs, joined_from_right, move, occurs_in, operated, pair_nodes, renames, rewritten, sticks, tells}
+use Rattle.cu_machine.specs.Rewrite.{Collect, binding_step, build_pairs, comparison_step, decomposition_step, failing_step, imitation_step, joined_from_right, move, occurs_in, operation_step, pair_nodes, pairwise_step, rewrite_step, set_call_step, stuck_step, truth_step, unification_step}
 use Rattle.cu_machine.specs.Spell.{spelled, spelled_at, spelled_within}
 use Rattle.cu_machine.specs.State.{free_nodes, numbers}
 use Rattle.cu_machine.specs.Validity.{AllPlain, NodesFit, has_arguments, is_plain, more, none}
@@ -142,7 +142,7 @@ base_after program sets graph goals n id p q v built base good other closed apar
 pub in_pairs_at : (program : Code) (sets : Bool) (graph : Graph) (goals : List ℕ) (n id : ℕ) (p : ℕ → Bool) → Base program sets graph goals n id p
     → (each joint : Kind) (pairs : List (ℕ × ℕ)) → has_arguments program each 2 ≡ true → passes sets each ≡ true
     → has_arguments program joint 2 ≡ true → passes sets joint ≡ true → list_all (both_pass p) pairs ≡ true
-    → MoveGood program sets goals n (in_pairs program.special each joint graph id pairs)
+    → MoveGood program sets goals n (pairwise_step program.special each joint graph id pairs)
 in_pairs_at program sets graph goals n id p base each joint [] whole passing whole_joint passing_joint low = tells_good program sets graph goals n id p base true
 in_pairs_at program sets graph goals n id p base each joint (pair ∷ pairs) whole passing whole_joint passing_joint low = (
   written_good program sets graph goals n id p (build_pairs each joint (length graph) pair pairs) base
@@ -237,14 +237,14 @@ module _ (program : Code) (sets : Bool) (graph : Graph) (goals : List ℕ) (n id
 
   pub compared_if : (us vs : List ℕ) (same : Bool) → list_all p us ≡ true → list_all p vs ≡ true
       → MoveGood program sets goals n
-      (if same then in_pairs program.special (kind.Prim prim.Equal) (kind.Call program.special.both) graph id (zip us vs) else tells program.special graph id false)
+      (if same then pairwise_step program.special (kind.Prim prim.Equal) (kind.Call program.special.both) graph id (zip us vs) else truth_step program.special graph id false)
   compared_if us vs true low lows =
       in_pairs_at program sets graph goals n id p base (kind.Prim prim.Equal) (kind.Call program.special.both) (zip us vs) refl (or_right sets true refl) (code_special program sets base.code).both
       (or_right sets true refl) (zip_passes p us vs low lows)
   compared_if us vs false low lows = tells_good program sets graph goals n id p base false
 
   pub compared_good : (k l : Kind) (us vs : List ℕ) → list_all p us ≡ true → list_all p vs ≡ true
-      → MoveGood program sets goals n (compared program.special graph id k us l vs)
+      → MoveGood program sets goals n (comparison_step program.special graph id k us l vs)
   compared_good (kind.Cons c) (kind.Cons d) us vs low lows = compared_if us vs (same_constructor c d) low lows
   compared_good (kind.Lit l) (kind.Lit m) us vs low lows = tells_good program sets graph goals n id p base (same_literal l m)
   compared_good (kind.Lit l) (kind.Cons d) us vs low lows = tells_good program sets graph goals n id p base false
@@ -259,7 +259,7 @@ module _ (program : Code) (sets : Bool) (graph : Graph) (goals : List ℕ) (n id
 
   -- a free variable becomes another name of a node without arguments
   pub renames_good : (v other : ℕ) → v < length graph → other < length graph → v ≢ other → is_plain (node_at graph v).kind ≡ true
-      → is_plain (node_at graph other).kind ≡ true → (node_at graph other).args ≡ [] → MoveGood program sets goals n (renames program.special graph id v other)
+      → is_plain (node_at graph other).kind ≡ true → (node_at graph other).args ≡ [] → MoveGood program sets goals n (binding_step program.special graph id v other)
   renames_good v other here there apart plain_v plain_other no_args =
       let built = build_alone (renaming other) in
       let q = λ (x : ℕ). nat_eq other x in
@@ -284,17 +284,17 @@ module _ (program : Code) (sets : Bool) (graph : Graph) (goals : List ℕ) (n id
       let after_it : Base program sets (written graph v built) goals n id (λ x. false) =
       base_after program sets graph goals n id p (λ x. false) v built base renamed (apart_from_plain v plain_v)
       (λ x low. let none_left : ⊥ = true≢false (sym low) in absurd none_left) refl in
-      subst (λ (g : Graph). MoveGood program sets goals n (tells program.special g id true)) (put_is_written graph v (renaming other))
+      subst (λ (g : Graph). MoveGood program sets goals n (truth_step program.special g id true)) (put_is_written graph v (renaming other))
       (tells_good program sets (written graph v built) goals n id (λ x. false) after_it true)
 
   -- a free variable becomes a constructor over new ones, which are equated with the arguments
   pub imitates_if : (v : ℕ) (c : ConId) (arg : ℕ) (args : List ℕ) (occurs : Bool) → v < length graph → is_plain (node_at graph v).kind ≡ true
       → takes (arity_of program (head.Con c)) (suc (length args)) ≡ true → list_all p (arg ∷ args) ≡ true
       → MoveGood program sets goals n
-      (if occurs then fails graph id
+      (if occurs then failing_step graph id
       else
       let fresh = numbers (length graph) (length args + 1) in
-      equated_in_pairs program.special (put (graph ++ free_nodes (length args + 1)) v (record { kind = kind.Cons c; args = fresh })) id (zip fresh (arg ∷ args)))
+      decomposition_step program.special (put (graph ++ free_nodes (length args + 1)) v (record { kind = kind.Cons c; args = fresh })) id (zip fresh (arg ∷ args)))
   imitates_if v c arg args true here plain_v whole low = fails_good program sets graph goals n id p base
   imitates_if v c arg args false here plain_v whole low =
       let k = length args + 1 in
@@ -316,7 +316,7 @@ module _ (program : Code) (sets : Bool) (graph : Graph) (goals : List ℕ) (n id
   plain_kind v k is plain_k = ap is_plain is ∙ plain_k
 
   pub imitates_good : (v other : ℕ) (c : ConId) (us vs : List ℕ) → HeadIs program graph p v kind.Free us → HeadIs program graph p other (kind.Cons c) vs
-      → MoveGood program sets goals n (imitates program.special graph id v other c vs)
+      → MoveGood program sets goals n (imitation_step program.special graph id v other c vs)
   imitates_good v other c us [] one two =
       renames_good v other one.there two.there (λ same. unlike_places graph v other kind.Free (kind.Cons c) one.kind_is two.kind_is (λ is. cc) same)
       (plain_kind v kind.Free one.kind_is refl) (plain_kind other (kind.Cons c) two.kind_is refl) two.args_are
@@ -325,26 +325,26 @@ module _ (program : Code) (sets : Bool) (graph : Graph) (goals : List ℕ) (n id
 
   -- a free variable and a node that has no arguments
   pub renames_head : (v w : ℕ) (l : Kind) (us vs : List ℕ) → v ≢ w → HeadIs program graph p v kind.Free us → HeadIs program graph p w l vs
-      → is_plain l ≡ true → nat_eq (length vs) 0 ≡ true → MoveGood program sets goals n (renames program.special graph id v w)
+      → is_plain l ≡ true → nat_eq (length vs) 0 ≡ true → MoveGood program sets goals n (binding_step program.special graph id v w)
   renames_head v w l us vs apart one two plain_l no_args =
       renames_good v w one.there two.there apart (plain_kind v kind.Free one.kind_is refl) (plain_kind w l two.kind_is plain_l) (two.args_are ∙ no_list vs no_args)
 
   pub free_free : (v w : ℕ) (us vs : List ℕ) (same : Bool) → nat_eq v w ≡ same → HeadIs program graph p v kind.Free us → HeadIs program graph p w kind.Free vs
-      → MoveGood program sets goals n (if same then tells program.special graph id true else renames program.special graph id v w)
+      → MoveGood program sets goals n (if same then truth_step program.special graph id true else binding_step program.special graph id v w)
   free_free v w us vs true is one two = tells_good program sets graph goals n id p base true
   free_free v w us vs false is one two =
       renames_head v w kind.Free us vs (λ same. true≢false (sym (eq-eqb v w same) ∙ is)) one two refl two.whole
 
   pub unify_if : (us vs : List ℕ) (same : Bool) → list_all p us ≡ true → list_all p vs ≡ true
       → MoveGood program sets goals n
-      (if same then in_pairs program.special (kind.Prim prim.Unify) (kind.Prim prim.And) graph id (zip us vs) else fails graph id)
+      (if same then pairwise_step program.special (kind.Prim prim.Unify) (kind.Prim prim.And) graph id (zip us vs) else failing_step graph id)
   unify_if us vs true low lows =
       in_pairs_at program sets graph goals n id p base (kind.Prim prim.Unify) (kind.Prim prim.And) (zip us vs) refl (or_right sets true refl) refl
       (or_right sets true refl) (zip_passes p us vs low lows)
   unify_if us vs false low lows = fails_good program sets graph goals n id p base
 
   pub equated_good : (v : ℕ) (k : Kind) (us : List ℕ) (w : ℕ) (l : Kind) (vs : List ℕ) → HeadIs program graph p v k us → HeadIs program graph p w l vs
-      → MoveGood program sets goals n (equated program.special graph id v k us w l vs)
+      → MoveGood program sets goals n (unification_step program.special graph id v k us w l vs)
   equated_good v kind.Free us w kind.Free vs one two = free_free v w us vs (nat_eq v w) refl one two
   equated_good v kind.Free us w (kind.Lit m) vs one two =
       renames_head v w (kind.Lit m) us vs (λ same. unlike_places graph v w kind.Free (kind.Lit m) one.kind_is two.kind_is (λ is. cc) same) one two refl
@@ -372,7 +372,7 @@ module _ (program : Code) (sets : Bool) (graph : Graph) (goals : List ℕ) (n id
       both_true (fits_literal (head_at graph arg).kind) (list_all fits_literal (map (λ x. (head_at graph x).kind) args))
       (whole_literal program (head_at graph arg).kind (length (head_at graph arg).args) this.whole) (literals_fit args (right_true (p arg) (list_all p args) low))
 
-  pub operated_good : (operation : Primitive) (args : List ℕ) → list_all p args ≡ true → MoveGood program sets goals n (operated program.special graph id operation args)
+  pub operated_good : (operation : Primitive) (args : List ℕ) → list_all p args ≡ true → MoveGood program sets goals n (operation_step program.special graph id operation args)
   operated_good prim.Equal (a ∷ b ∷ []) low =
       compared_good (head_at graph a).kind (head_at graph b).kind (head_at graph a).args (head_at graph b).args
       (head_is a (left_true (p a) (p b && true) low)).below (head_is b (left_true (p b) true (right_true (p a) (p b && true) low))).below
@@ -389,12 +389,12 @@ module _ (program : Code) (sets : Bool) (graph : Graph) (goals : List ℕ) (n id
   -- ---- set functions
 
   pub collects_if : (f : FunId) (arguments : Values) (plain_data : Bool) → CollectGood program sets f arguments
-      → MoveGood program sets goals n (if plain_data then Collect f arguments else sticks graph id)
+      → MoveGood program sets goals n (if plain_data then Collect f arguments else stuck_step graph id)
   collects_if f arguments true good = good
   collects_if f arguments false good = sticks_good program sets graph goals n id p base
 
   pub collects_good : (f : FunId) (args : List ℕ) → has_arguments program (kind.SetCall f) (length args) ≡ true → passes sets (kind.SetCall f) ≡ true
-      → MoveGood program sets goals n (collects graph id f (values_of (map (spelled graph) args)))
+      → MoveGood program sets goals n (set_call_step graph id f (values_of (map (spelled graph) args)))
   collects_good f args whole passing =
       collects_if f (values_of (map (spelled graph) args)) (are_data (values_of (map (spelled graph) args)))
       (record {
@@ -407,7 +407,7 @@ module _ (program : Code) (sets : Bool) (graph : Graph) (goals : List ℕ) (n id
   -- ---- all rows
 
   pub rewritten_good : (k : Kind) (args : List ℕ) → has_arguments program k (length args) ≡ true → passes sets k ≡ true → list_all p args ≡ true
-      → MoveGood program sets goals n (rewritten program graph id k args)
+      → MoveGood program sets goals n (rewrite_step program graph id k args)
   rewritten_good (kind.Call f) args whole passing low = unfolded_good program sets graph goals n id p base f args whole low
   rewritten_good kind.Or args whole passing low = chosen_good program sets graph goals n id p base args low
   rewritten_good (kind.Case mode e) (scrutinee ∷ values) whole passing low =

@@ -27,7 +27,7 @@ use Rattle.cu_machine.specs.declared.Kind.{Kind}
 use Rattle.cu_machine.specs.declared.Kind.TheVariants as kind
 use Rattle.cu_machine.specs.Build.{Built, Fresh, Scope, build, build_alone, kind_of_whole, written}
 use Rattle.cu_machine.specs.Graph.{Graph, Node, alone, head_at, head_of, put, renaming, stuck}
-use Rattle.cu_machine.specs.Rewrite.{Become, Overflows, applied, bound_to, branch_for, calculated, case_of, chosen, computed, conjoined, counted, distinguished, extended, fails, is_true, narrows, puts_character, takes_branch, takes_constructor, takes_literal, tells, unfolded}
+use Rattle.cu_machine.specs.Rewrite.{Become, Overflows, application_step, arithmetic_step, bound_to, branch_for, branch_step, call_step, case_step, character_step, choice_step, conjunction_step, extended, failing_step, integer_step, is_true, literal_step, narrowing_step, scrutinee_step, takes_constructor, takes_literal, truth_step}
 use Rattle.cu_machine.specs.State.{free_nodes, numbers}
 use Rattle.cu_machine.specs.Validity.{AllPlain, Plain, has_arguments, is_call, is_case, more, none}
 use Rattle.cu_machine.proofs.Building.{ScopeGood, all_get, builds_good, cases_fit, functions_fit, passes_head, scope_more, scope_zip, whole_fits, whole_passes}
@@ -169,7 +169,7 @@ module _ (program : Code) (sets : Bool) (graph : Graph) (goals : List ℕ) (n id
   -- ---- calls
 
   pub unfolded_as : (args : List ℕ) (arity : ℕ) (body : Body) → fits_body program arity body ≡ true → is_call (Some arity) (Some body) (length args) ≡ true
-      → list_all p args ≡ true → MoveGood program sets goals n (unfolded program graph id args (Some body))
+      → list_all p args ≡ true → MoveGood program sets goals n (call_step program graph id args (Some body))
   unfolded_as args arity (code.Rule params e) fit whole low =
       let a = nat_eq (length params) arity in
       let b = is_linear params in
@@ -182,7 +182,7 @@ module _ (program : Code) (sets : Bool) (graph : Graph) (goals : List ℕ) (n id
 
   pub unfolded_of : (f : FunId) (args : List ℕ) (o : Option Function) → slice_get program.functions f.0 ≡ o
       → is_call (elim o [ Some g ↦ Some g.arity | None ↦ None ]) (elim o [ Some g ↦ Some g.body | None ↦ None ]) (length args) ≡ true
-      → list_all p args ≡ true → MoveGood program sets goals n (unfolded program graph id args (elim o [ Some g ↦ Some g.body | None ↦ None ]))
+      → list_all p args ≡ true → MoveGood program sets goals n (call_step program graph id args (elim o [ Some g ↦ Some g.body | None ↦ None ]))
   unfolded_of f args None got whole low = sticks_good program sets graph goals n id p base
   unfolded_of f args (Some g) got whole low =
       unfolded_as args g.arity g.body
@@ -191,7 +191,7 @@ module _ (program : Code) (sets : Bool) (graph : Graph) (goals : List ℕ) (n id
       whole low
 
   pub unfolded_good : (f : FunId) (args : List ℕ) → has_arguments program (kind.Call f) (length args) ≡ true → list_all p args ≡ true
-      → MoveGood program sets goals n (unfolded program graph id args (body_of program f))
+      → MoveGood program sets goals n (call_step program graph id args (body_of program f))
   unfolded_good f args whole low = unfolded_of f args (slice_get program.functions f.0) refl whole low
 
   -- ---- choices
@@ -199,7 +199,7 @@ module _ (program : Code) (sets : Bool) (graph : Graph) (goals : List ℕ) (n id
   pub renaming_good : (arg : ℕ) → p arg ≡ true → GraphGood program sets goals n (put graph id (renaming arg))
   renaming_good arg low = put_good program sets graph goals n id p (renaming arg) base refl (or_right sets true refl) (both_true (p arg) true low refl)
 
-  pub chosen_good : (args : List ℕ) → list_all p args ≡ true → MoveGood program sets goals n (chosen graph id args)
+  pub chosen_good : (args : List ℕ) → list_all p args ≡ true → MoveGood program sets goals n (choice_step graph id args)
   chosen_good (left ∷ right ∷ []) low = (
     renaming_good left (left_true (p left) (p right && true) low),
     (renaming_good right (left_true (p right) true (right_true (p left) (p right && true) low)), tt),
@@ -212,7 +212,7 @@ module _ (program : Code) (sets : Bool) (graph : Graph) (goals : List ℕ) (n id
       → list_all p args ≡ true
       → ((branch : Branch) → o ≡ Some branch → (length (bound_by branch.pattern) ≡ length args)
       × (fits (length program.expressions) program (variables ++ bound_by branch.pattern) branch.body ≡ true))
-      → MoveGood program sets goals n (takes_branch program scope graph id args o)
+      → MoveGood program sets goals n (branch_step program scope graph id args o)
   takes_branch_good variables scope args None scoped low each = fails_good program sets graph goals n id p base
   takes_branch_good variables scope args (Some branch) scoped low each =
       let this = each branch refl in
@@ -263,7 +263,7 @@ module _ (program : Code) (sets : Bool) (graph : Graph) (goals : List ℕ) (n id
       bound_cons_good v (length xs) c here (left_true (takes (arity_of program (head.Con c)) (length xs)) (is_linear xs) fit)
 
   pub narrows_good : (v : ℕ) (branches : List Branch) → v < length graph → list_all (λ branch. fits_pattern program branch.pattern) branches ≡ true
-      → MoveGood program sets goals n (narrows graph v branches)
+      → MoveGood program sets goals n (narrowing_step graph v branches)
   narrows_good v [] here fit = tt
   narrows_good v (branch ∷ branches) here fit =
       let rest = list_all (λ b. fits_pattern program b.pattern) branches in (
@@ -274,7 +274,7 @@ module _ (program : Code) (sets : Bool) (graph : Graph) (goals : List ℕ) (n id
   pub distinguished_good : (variables : List ℕ) (scope : Scope) (branches : List Branch) (v : ℕ) (k : Kind) (args : List ℕ)
       → ScopeGood (frame_of program sets graph p) (length graph) variables scope → list_all (fits_branch program variables) branches ≡ true
       → v < length graph → has_arguments program k (length args) ≡ true → list_all p args ≡ true
-      → MoveGood program sets goals n (distinguished program scope graph id branches v k args)
+      → MoveGood program sets goals n (scrutinee_step program scope graph id branches v k args)
   distinguished_good variables scope branches v (kind.Lit l) args scoped fit here whole low =
       takes_branch_good variables scope [] (branch_for (takes_literal l) branches) scoped refl
       (λ branch found.
@@ -297,7 +297,7 @@ module _ (program : Code) (sets : Bool) (graph : Graph) (goals : List ℕ) (n id
 
   pub case_of_good : (mode : Mode) (e scrutinee : ℕ) (values : List ℕ) (o : Option Expr) → slice_get program.expressions e ≡ o
       → is_case mode o (suc (length values)) ≡ true → p scrutinee ≡ true → list_all p values ≡ true
-      → MoveGood program sets goals n (case_of program graph id scrutinee values o)
+      → MoveGood program sets goals n (case_step program graph id scrutinee values o)
   case_of_good mode e scrutinee values (Some (code.Case other variables s branches)) got whole low lows =
       let fit : fits_case program (code.Case other variables s branches) ≡ true =
       all_get (fits_case program) program.expressions e (code.Case other variables s branches) (cases_fit program base.code.well_formed) got in
@@ -341,7 +341,7 @@ module _ (program : Code) (sets : Bool) (graph : Graph) (goals : List ℕ) (n id
       (λ full. eq-eqb arity m (let past : arity ≤ m = ltb-false m arity full in omega arith)) passing low
 
   pub applied_good : (argument : ℕ) (k : Kind) (args : List ℕ) → has_arguments program k (length args) ≡ true → passes sets k ≡ true → list_all p args ≡ true
-      → p argument ≡ true → MoveGood program sets goals n (applied program graph id argument k args)
+      → p argument ≡ true → MoveGood program sets goals n (application_step program graph id argument k args)
   applied_good argument (kind.Part h) args whole passing low one =
       extended_good h args argument (arity_of program h) refl whole passing
       (list_all-append p args (argument ∷ []) ∙ both_true (list_all p args) (p argument && true) low (both_true (p argument) true one refl))
@@ -357,15 +357,15 @@ module _ (program : Code) (sets : Bool) (graph : Graph) (goals : List ℕ) (n id
   counted_if operation a b result true fit = literal_good (Int result) fit
   counted_if operation a b result false fit = tt
 
-  pub counted_good : (operation : Primitive) (a b result : ℤ) → MoveGood program sets goals n (counted graph id operation a b result)
+  pub counted_good : (operation : Primitive) (a b result : ℤ) → MoveGood program sets goals n (integer_step graph id operation a b result)
   counted_good operation a b result = counted_if operation a b result (is_integer result) refl
 
   pub unless_zero : (operation : Primitive) (a b result : ℤ) (zero_divisor : Bool)
-      → MoveGood program sets goals n (if zero_divisor then fails graph id else counted graph id operation a b result)
+      → MoveGood program sets goals n (if zero_divisor then failing_step graph id else integer_step graph id operation a b result)
   unless_zero operation a b result true = fails_good program sets graph goals n id p base
   unless_zero operation a b result false = counted_good operation a b result
 
-  pub calculated_good : (operation : Primitive) (a b : ℤ) → MoveGood program sets goals n (calculated program.special graph id operation a b)
+  pub calculated_good : (operation : Primitive) (a b : ℤ) → MoveGood program sets goals n (arithmetic_step program.special graph id operation a b)
   calculated_good prim.Add a b = counted_good prim.Add a b (a +ℤ b)
   calculated_good prim.Sub a b = counted_good prim.Sub a b (a -ℤ b)
   calculated_good prim.Mul a b = counted_good prim.Mul a b (a *ℤ b)
@@ -378,16 +378,16 @@ module _ (program : Code) (sets : Bool) (graph : Graph) (goals : List ℕ) (n id
   calculated_good _ a b = fails_good program sets graph goals n id p base
 
   pub character_if : (c : ℕ) (fit : Bool) → is_scalar c ≡ fit
-      → MoveGood program sets goals n (if fit then Become (put graph id (alone (kind.Lit (Char c))) ∷ []) else fails graph id)
+      → MoveGood program sets goals n (if fit then Become (put graph id (alone (kind.Lit (Char c))) ∷ []) else failing_step graph id)
   character_if c true fit = literal_good (Char c) fit
   character_if c false fit = fails_good program sets graph goals n id p base
 
-  pub character_good : (m : ℤ) → MoveGood program sets goals n (puts_character graph id m)
+  pub character_good : (m : ℤ) → MoveGood program sets goals n (character_step graph id m)
   character_good (pos c) = character_if c (is_scalar c) refl
   character_good (negsuc c) = fails_good program sets graph goals n id p base
 
   pub computed_good : (operation : Primitive) (ks : List Kind) → list_all fits_literal ks ≡ true
-      → MoveGood program sets goals n (computed program.special graph id operation ks)
+      → MoveGood program sets goals n (literal_step program.special graph id operation ks)
   computed_good operation (kind.Lit (Int a) ∷ kind.Lit (Int b) ∷ []) fit = calculated_good operation a b
   computed_good prim.Ord (kind.Lit (Char c) ∷ []) fit = literal_good (Int (pos c)) (scalar_integer c (left_true (is_scalar c) true fit))
   computed_good prim.Chr (kind.Lit (Int m) ∷ []) fit = character_good m
@@ -395,9 +395,9 @@ module _ (program : Code) (sets : Bool) (graph : Graph) (goals : List ℕ) (n id
 
   -- ---- conjunctions
 
-  pub tells_or_fails : (b : Bool) → MoveGood program sets goals n (if b then tells program.special graph id true else fails graph id)
+  pub tells_or_fails : (b : Bool) → MoveGood program sets goals n (if b then truth_step program.special graph id true else failing_step graph id)
   tells_or_fails true = tells_good program sets graph goals n id p base true
   tells_or_fails false = fails_good program sets graph goals n id p base
 
-  pub conjoined_good : (a b : Kind) → MoveGood program sets goals n (conjoined program.special graph id a b)
+  pub conjoined_good : (a b : Kind) → MoveGood program sets goals n (conjunction_step program.special graph id a b)
   conjoined_good a b = tells_or_fails (is_true program.special a && is_true program.special b)

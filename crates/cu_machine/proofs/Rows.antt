@@ -16,7 +16,7 @@ use Rattle.cu_machine.specs.declared.Kind.{Kind}
 use Rattle.cu_machine.specs.declared.Kind.TheVariants as kind
 use Rattle.cu_machine.specs.Build.{Built, build_alone, written}
 use Rattle.cu_machine.specs.Graph.{Graph, Node, alone, head_within, node_at, put, stuck}
-use Rattle.cu_machine.specs.Rewrite.{Become, Collect, Move, Overflows, puts, tells}
+use Rattle.cu_machine.specs.Rewrite.{Become, Collect, Move, Overflows, replacement_step, truth_step}
 use Rattle.cu_machine.specs.Validity.{AllPlain, ArgumentsThere, Founded, Plain, has_arguments, is_call, is_plain, more, none, plain}
 use Rattle.cu_machine.proofs.Building.{CodeGood, special_there}
 use Rattle.cu_machine.proofs.Frames.{Closed, Fine, Frame, GoodBuilt, all_there_below, at_old, length_written, or_right, passes, same_or_other, written_fine}
@@ -199,7 +199,7 @@ put_good program sets graph goals n id p node base whole passing low =
 
 pub puts_good : (program : Code) (sets : Bool) (graph : Graph) (goals : List ℕ) (n id : ℕ) (p : ℕ → Bool) (node : Node) → Base program sets graph goals n id p
     → has_arguments program node.kind (length node.args) ≡ true → passes sets node.kind ≡ true → list_all p node.args ≡ true
-    → MoveGood program sets goals n (puts graph id node)
+    → MoveGood program sets goals n (replacement_step graph id node)
 puts_good program sets graph goals n id p node base whole passing low = (put_good program sets graph goals n id p node base whole passing low, tt)
 
 -- ---- built-in entities
@@ -254,15 +254,15 @@ code_special program sets good = special_good program (special_there program goo
 -- ---- nodes without arguments
 
 module _ (program : Code) (sets : Bool) (graph : Graph) (goals : List ℕ) (n id : ℕ) (p : ℕ → Bool) (base : Base program sets graph goals n id p) where
-  pub leaf_good : (k : Kind) → has_arguments program k 0 ≡ true → passes sets k ≡ true → MoveGood program sets goals n (puts graph id (alone k))
+  pub leaf_good : (k : Kind) → has_arguments program k 0 ≡ true → passes sets k ≡ true → MoveGood program sets goals n (replacement_step graph id (alone k))
   leaf_good k whole passing = puts_good program sets graph goals n id p (alone k) base whole passing refl
 
-  pub fails_good : MoveGood program sets goals n (puts graph id (alone kind.Fail))
+  pub fails_good : MoveGood program sets goals n (replacement_step graph id (alone kind.Fail))
   fails_good = leaf_good kind.Fail refl (or_right sets true refl)
 
-  pub sticks_good : MoveGood program sets goals n (puts graph id (alone kind.Stuck))
+  pub sticks_good : MoveGood program sets goals n (replacement_step graph id (alone kind.Stuck))
   sticks_good = leaf_good kind.Stuck refl (or_right sets true refl)
 
-  pub tells_good : (answer : Bool) → MoveGood program sets goals n (tells program.special graph id answer)
+  pub tells_good : (answer : Bool) → MoveGood program sets goals n (truth_step program.special graph id answer)
   tells_good true = leaf_good (kind.Cons program.special.truth) (code_special program sets base.code).truth (or_right sets true refl)
   tells_good false = leaf_good (kind.Cons program.special.falsity) (code_special program sets base.code).falsity (or_right sets true refl)

@@ -26,7 +26,7 @@ use Rattle.cu_machine.specs.Build.{Scope}
 use Rattle.cu_machine.specs.Graph.{Graph, Node, head_at, head_of, node_at}
 use Rattle.cu_machine.specs.Need.{At, Dead, Done, Need, Throughout, Wait, need_all}
 use Rattle.cu_machine.specs.Next.{Answer, Go, Next, Reading, is_above, is_too_large, moved, next, next_by, read, spelled_all, too_large}
-use Rattle.cu_machine.specs.Rewrite.{Become, Collect, Move, Overflows, applied, branch_for, calculated, case_of, chosen, compared, computed, counted, distinguished, equated, imitates, in_pairs, is_true, move, occurs_in, operated, puts_character, rewritten, takes_branch, takes_constructor, takes_literal, unfolded}
+use Rattle.cu_machine.specs.Rewrite.{Become, Collect, Move, Overflows, application_step, arithmetic_step, branch_for, branch_step, call_step, case_step, character_step, choice_step, comparison_step, imitation_step, integer_step, is_true, literal_step, move, occurs_in, operation_step, pairwise_step, rewrite_step, scrutinee_step, takes_constructor, takes_literal, unification_step}
 use Rattle.cu_machine.specs.Sets.{IsWithoutSets, code_is_without_sets, graph_is_without_sets, is_set_kind, without}
 use Rattle.cu_machine.specs.Spell.{cells_of_all}
 use Rattle.cu_machine.specs.State.{Branch, Idle, MoreStates, NoState, Running, State, call_on}
@@ -50,39 +50,39 @@ pub no_search_if : (b : Bool) (one two : Move) → IsNoSearch one → IsNoSearch
 no_search_if true one two a b = a
 no_search_if false one two a b = b
 
-pub unfolded_no_search : (program : Code) (graph : Graph) (id : ℕ) (args : List ℕ) (o : Option code.Body) → IsNoSearch (unfolded program graph id args o)
+pub unfolded_no_search : (program : Code) (graph : Graph) (id : ℕ) (args : List ℕ) (o : Option code.Body) → IsNoSearch (call_step program graph id args o)
 unfolded_no_search program graph id args (Some (code.Rule params body)) = tt
 unfolded_no_search program graph id args _ = tt
 
-pub chosen_no_search : (graph : Graph) (id : ℕ) (args : List ℕ) → IsNoSearch (chosen graph id args)
+pub chosen_no_search : (graph : Graph) (id : ℕ) (args : List ℕ) → IsNoSearch (choice_step graph id args)
 chosen_no_search graph id (left ∷ right ∷ []) = tt
 chosen_no_search graph id _ = tt
 
-pub branch_no_search : (program : Code) (scope : Scope) (graph : Graph) (id : ℕ) (args : List ℕ) (o : Option code.Branch) → IsNoSearch (takes_branch program scope graph id args o)
+pub branch_no_search : (program : Code) (scope : Scope) (graph : Graph) (id : ℕ) (args : List ℕ) (o : Option code.Branch) → IsNoSearch (branch_step program scope graph id args o)
 branch_no_search program scope graph id args None = tt
 branch_no_search program scope graph id args (Some branch) = tt
 
 pub distinguished_no_search : (program : Code) (scope : Scope) (graph : Graph) (id : ℕ) (branches : List code.Branch) (v : ℕ) (k : Kind) (args : List ℕ)
-    → IsNoSearch (distinguished program scope graph id branches v k args)
+    → IsNoSearch (scrutinee_step program scope graph id branches v k args)
 distinguished_no_search program scope graph id branches v (kind.Lit l) args = branch_no_search program scope graph id [] (branch_for (takes_literal l) branches)
 distinguished_no_search program scope graph id branches v (kind.Cons c) args = branch_no_search program scope graph id args (branch_for (takes_constructor c) branches)
 distinguished_no_search program scope graph id branches v (kind.Part h) args = tt
 distinguished_no_search program scope graph id branches v kind.Free args = tt
 distinguished_no_search program scope graph id branches v _ args = tt
 
-pub case_no_search : (program : Code) (graph : Graph) (id scrutinee : ℕ) (values : List ℕ) (o : Option code.Expr) → IsNoSearch (case_of program graph id scrutinee values o)
+pub case_no_search : (program : Code) (graph : Graph) (id scrutinee : ℕ) (values : List ℕ) (o : Option code.Expr) → IsNoSearch (case_step program graph id scrutinee values o)
 case_no_search program graph id scrutinee values (Some (code.Case mode variables e branches)) =
     distinguished_no_search program (zip variables values) graph id branches (head_of graph scrutinee) (head_at graph scrutinee).kind (head_at graph scrutinee).args
 case_no_search program graph id scrutinee values _ = tt
 
-pub applied_no_search : (program : Code) (graph : Graph) (id argument : ℕ) (k : Kind) (args : List ℕ) → IsNoSearch (applied program graph id argument k args)
+pub applied_no_search : (program : Code) (graph : Graph) (id argument : ℕ) (k : Kind) (args : List ℕ) → IsNoSearch (application_step program graph id argument k args)
 applied_no_search program graph id argument (kind.Part h) args = tt
 applied_no_search program graph id argument _ args = tt
 
-pub counted_no_search : (graph : Graph) (id : ℕ) (operation : Primitive) (m n result : ℤ) → IsNoSearch (counted graph id operation m n result)
+pub counted_no_search : (graph : Graph) (id : ℕ) (operation : Primitive) (m n result : ℤ) → IsNoSearch (integer_step graph id operation m n result)
 counted_no_search graph id operation m n result = no_search_if (is_integer result) _ _ tt tt
 
-pub calculated_no_search : (special : Special) (graph : Graph) (id : ℕ) (operation : Primitive) (m n : ℤ) → IsNoSearch (calculated special graph id operation m n)
+pub calculated_no_search : (special : Special) (graph : Graph) (id : ℕ) (operation : Primitive) (m n : ℤ) → IsNoSearch (arithmetic_step special graph id operation m n)
 calculated_no_search special graph id prim.Add m n = counted_no_search graph id prim.Add m n (m +ℤ n)
 calculated_no_search special graph id prim.Sub m n = counted_no_search graph id prim.Sub m n (m -ℤ n)
 calculated_no_search special graph id prim.Mul m n = counted_no_search graph id prim.Mul m n (m *ℤ n)
@@ -90,21 +90,21 @@ calculated_no_search special graph id prim.Div m n = no_search_if (int_eq n (pos
 calculated_no_search special graph id prim.Mod m n = no_search_if (int_eq n (pos 0)) _ _ tt (counted_no_search graph id prim.Mod m n (floor_rest m n))
 calculated_no_search special graph id _ m n = tt
 
-pub character_no_search : (graph : Graph) (id : ℕ) (m : ℤ) → IsNoSearch (puts_character graph id m)
+pub character_no_search : (graph : Graph) (id : ℕ) (m : ℤ) → IsNoSearch (character_step graph id m)
 character_no_search graph id (pos n) = no_search_if (is_scalar n) _ _ tt tt
 character_no_search graph id (negsuc n) = tt
 
-pub computed_no_search : (special : Special) (graph : Graph) (id : ℕ) (operation : Primitive) (ks : List Kind) → IsNoSearch (computed special graph id operation ks)
+pub computed_no_search : (special : Special) (graph : Graph) (id : ℕ) (operation : Primitive) (ks : List Kind) → IsNoSearch (literal_step special graph id operation ks)
 computed_no_search special graph id operation (kind.Lit (Int m) ∷ kind.Lit (Int n) ∷ []) = calculated_no_search special graph id operation m n
 computed_no_search special graph id prim.Ord (kind.Lit (Char c) ∷ []) = tt
 computed_no_search special graph id prim.Chr (kind.Lit (Int n) ∷ []) = character_no_search graph id n
 computed_no_search special graph id _ _ = tt
 
-pub pairs_no_search : (special : Special) (each joint : Kind) (graph : Graph) (id : ℕ) (pairs : List (ℕ × ℕ)) → IsNoSearch (in_pairs special each joint graph id pairs)
+pub pairs_no_search : (special : Special) (each joint : Kind) (graph : Graph) (id : ℕ) (pairs : List (ℕ × ℕ)) → IsNoSearch (pairwise_step special each joint graph id pairs)
 pairs_no_search special each joint graph id [] = tt
 pairs_no_search special each joint graph id (pair ∷ pairs) = tt
 
-pub compared_no_search : (special : Special) (graph : Graph) (id : ℕ) (k : Kind) (us : List ℕ) (l : Kind) (vs : List ℕ) → IsNoSearch (compared special graph id k us l vs)
+pub compared_no_search : (special : Special) (graph : Graph) (id : ℕ) (k : Kind) (us : List ℕ) (l : Kind) (vs : List ℕ) → IsNoSearch (comparison_step special graph id k us l vs)
 compared_no_search special graph id (kind.Cons c) us (kind.Cons d) vs =
     no_search_if (same_constructor c d) _ _ (pairs_no_search special (kind.Prim prim.Equal) (kind.Call special.both) graph id (zip us vs)) tt
 compared_no_search special graph id (kind.Lit l) us (kind.Lit m) vs = tt
@@ -112,13 +112,13 @@ compared_no_search special graph id (kind.Lit l) us (kind.Cons d) vs = tt
 compared_no_search special graph id (kind.Cons c) us (kind.Lit m) vs = tt
 compared_no_search special graph id _ us _ vs = tt
 
-pub imitates_no_search : (special : Special) (graph : Graph) (id v other : ℕ) (c : ConId) (args : List ℕ) → IsNoSearch (imitates special graph id v other c args)
+pub imitates_no_search : (special : Special) (graph : Graph) (id v other : ℕ) (c : ConId) (args : List ℕ) → IsNoSearch (imitation_step special graph id v other c args)
 imitates_no_search special graph id v other c [] = tt
 imitates_no_search special graph id v other c (arg ∷ args) =
     no_search_if (occurs_in graph v (arg ∷ args)) _ _ tt (pairs_no_search special (kind.Prim prim.Unify) (kind.Prim prim.And) _ id _)
 
 pub equated_no_search : (special : Special) (graph : Graph) (id v : ℕ) (k : Kind) (us : List ℕ) (w : ℕ) (l : Kind) (vs : List ℕ)
-    → IsNoSearch (equated special graph id v k us w l vs)
+    → IsNoSearch (unification_step special graph id v k us w l vs)
 equated_no_search special graph id v kind.Free us w kind.Free vs = no_search_if (nat_eq v w) _ _ tt tt
 equated_no_search special graph id v kind.Free us w (kind.Lit m) vs = tt
 equated_no_search special graph id v (kind.Lit l) us w kind.Free vs = tt
@@ -129,7 +129,7 @@ equated_no_search special graph id v (kind.Cons c) us w (kind.Cons d) vs =
 equated_no_search special graph id v (kind.Lit l) us w (kind.Lit m) vs = no_search_if (same_literal l m) _ _ tt tt
 equated_no_search special graph id v _ us w _ vs = tt
 
-pub operated_no_search : (special : Special) (graph : Graph) (id : ℕ) (operation : Primitive) (args : List ℕ) → IsNoSearch (operated special graph id operation args)
+pub operated_no_search : (special : Special) (graph : Graph) (id : ℕ) (operation : Primitive) (args : List ℕ) → IsNoSearch (operation_step special graph id operation args)
 operated_no_search special graph id prim.Equal (a ∷ b ∷ []) =
     compared_no_search special graph id (head_at graph a).kind (head_at graph a).args (head_at graph b).kind (head_at graph b).args
 operated_no_search special graph id prim.Unify (a ∷ b ∷ []) =
@@ -141,7 +141,7 @@ operated_no_search special graph id prim.Unify _ = tt
 operated_no_search special graph id prim.And _ = tt
 operated_no_search special graph id operation args = computed_no_search special graph id operation (map (λ arg. (head_at graph arg).kind) args)
 
-pub only_set_calls : (program : Code) (graph : Graph) (id : ℕ) (k : Kind) (args : List ℕ) → (is_set_call k ≡ true) ⊎ IsNoSearch (rewritten program graph id k args)
+pub only_set_calls : (program : Code) (graph : Graph) (id : ℕ) (k : Kind) (args : List ℕ) → (is_set_call k ≡ true) ⊎ IsNoSearch (rewrite_step program graph id k args)
 only_set_calls program graph id (kind.SetCall f) args = inl refl
 only_set_calls program graph id (kind.Call f) args = inr (unfolded_no_search program graph id args (body_of program f))
 only_set_calls program graph id kind.Or args = inr (chosen_no_search graph id args)

@@ -42,16 +42,16 @@ abbrev pub alone_follows : Graph → Move
 alone_follows graph = Become (graph ∷ [])
 
 -- the step that puts a node in the place of the node `id`
-abbrev pub puts : Graph → ℕ → Node → Move
-puts graph id node = alone_follows (put graph id node)
+abbrev pub replacement_step : Graph → ℕ → Node → Move
+replacement_step graph id node = alone_follows (put graph id node)
 
 -- the step in which the node `id` fails
-abbrev pub fails : Graph → ℕ → Move
-fails graph id = puts graph id (alone kind.Fail)
+abbrev pub failing_step : Graph → ℕ → Move
+failing_step graph id = replacement_step graph id (alone kind.Fail)
 
 -- the step in which the node `id` becomes stuck
-abbrev pub sticks : Graph → ℕ → Move
-sticks graph id = puts graph id (alone kind.Stuck)
+abbrev pub stuck_step : Graph → ℕ → Move
+stuck_step graph id = replacement_step graph id (alone kind.Stuck)
 
 -- the node of True or False
 abbrev pub truth_node : Special → Bool → Node
@@ -59,25 +59,25 @@ truth_node special true = alone (kind.Cons special.truth)
 truth_node special false = alone (kind.Cons special.falsity)
 
 -- the step in which the node `id` becomes True or False
-abbrev pub tells : Special → Graph → ℕ → Bool → Move
-tells special graph id answer = puts graph id (truth_node special answer)
+abbrev pub truth_step : Special → Graph → ℕ → Bool → Move
+truth_step special graph id answer = replacement_step graph id (truth_node special answer)
 
 -- ---- calls
 
 -- the step of a call: the function's right side is built over it, where the parameters stand for
 -- the arguments
-abbrev pub unfolded : Code → Graph → ℕ → List ℕ → Option flat.Body → Move
-unfolded code graph id args (Some (flat.Rule params body)) =
+abbrev pub call_step : Code → Graph → ℕ → List ℕ → Option flat.Body → Move
+call_step code graph id args (Some (flat.Rule params body)) =
     alone_follows (write code (zip params args) graph id body)
-unfolded code graph id args _ = sticks graph id
+call_step code graph id args _ = stuck_step graph id
 
 -- ---- choices
 
 -- the step of a choice: its left argument, and its right one
-abbrev pub chosen : Graph → ℕ → List ℕ → Move
-chosen graph id (left ∷ right ∷ []) =
+abbrev pub choice_step : Graph → ℕ → List ℕ → Move
+choice_step graph id (left ∷ right ∷ []) =
     Become (put graph id (renaming left) ∷ put graph id (renaming right) ∷ [])
-chosen graph id _ = sticks graph id
+choice_step graph id _ = stuck_step graph id
 
 -- ---- case distinctions
 
@@ -99,9 +99,9 @@ branch_for test (branch ∷ branches) = if test branch.pattern then Some branch
 
 -- the step into a branch, if there is one: its body is built over the case distinction, where the
 -- pattern's variables stand for the arguments
-abbrev pub takes_branch : Code → Scope → Graph → ℕ → List ℕ → Option Branch → Move
-takes_branch code scope graph id args None = fails graph id
-takes_branch code scope graph id args (Some branch) =
+abbrev pub branch_step : Code → Scope → Graph → ℕ → List ℕ → Option Branch → Move
+branch_step code scope graph id args None = failing_step graph id
+branch_step code scope graph id args (Some branch) =
     alone_follows (write code (scope ++ zip (bound_by branch.pattern) args) graph id branch.body)
 
 -- a graph in which a free variable becomes what a pattern asks for: a literal, or a constructor
@@ -113,27 +113,27 @@ bound_to graph v (flat.Built c xs) =
     (record { kind = kind.Cons c; args = numbers (length graph) (length xs) })
 
 -- the step of narrowing: the free variable `v` becomes what each branch asks for
-abbrev pub narrows : Graph → ℕ → List Branch → Move
-narrows graph v branches = Become (map (λ branch. bound_to graph v branch.pattern) branches)
+abbrev pub narrowing_step : Graph → ℕ → List Branch → Move
+narrowing_step graph v branches = Become (map (λ branch. bound_to graph v branch.pattern) branches)
 
 -- The step of a case distinction, by the head of its scrutinee. On a free variable the distinction
 -- is a flexible one, since a rigid one waits there.
-abbrev pub distinguished : Code → Scope → Graph → ℕ → List Branch → ℕ → Kind → List ℕ → Move
-distinguished code scope graph id branches v (kind.Lit l) args =
-    takes_branch code scope graph id [] (branch_for (takes_literal l) branches)
-distinguished code scope graph id branches v (kind.Cons c) args =
-    takes_branch code scope graph id args (branch_for (takes_constructor c) branches)
-distinguished code scope graph id branches v (kind.Part h) args = fails graph id
-distinguished code scope graph id branches v kind.Free args = narrows graph v branches
-distinguished code scope graph id branches v _ _ = sticks graph id
+abbrev pub scrutinee_step : Code → Scope → Graph → ℕ → List Branch → ℕ → Kind → List ℕ → Move
+scrutinee_step code scope graph id branches v (kind.Lit l) args =
+    branch_step code scope graph id [] (branch_for (takes_literal l) branches)
+scrutinee_step code scope graph id branches v (kind.Cons c) args =
+    branch_step code scope graph id args (branch_for (takes_constructor c) branches)
+scrutinee_step code scope graph id branches v (kind.Part h) args = failing_step graph id
+scrutinee_step code scope graph id branches v kind.Free args = narrowing_step graph v branches
+scrutinee_step code scope graph id branches v _ _ = stuck_step graph id
 
 -- the step of a case distinction of the code, over the values that its node keeps
-abbrev pub case_of : Code → Graph → ℕ → ℕ → List ℕ → Option flat.Expr → Move
-case_of code graph id scrutinee values (Some (flat.Case mode variables e branches)) =
-    distinguished code (zip variables values) graph id branches (head_of graph scrutinee)
+abbrev pub case_step : Code → Graph → ℕ → ℕ → List ℕ → Option flat.Expr → Move
+case_step code graph id scrutinee values (Some (flat.Case mode variables e branches)) =
+    scrutinee_step code (zip variables values) graph id branches (head_of graph scrutinee)
     (head_at graph scrutinee).kind
     (head_at graph scrutinee).args
-case_of code graph id scrutinee values _ = sticks graph id
+case_step code graph id scrutinee values _ = stuck_step graph id
 
 -- ---- applications
 
@@ -146,48 +146,49 @@ extended code h args (Some arity) =
     else record { kind = kind_of_whole code h; args = args }
 
 -- the step of an application, by the head of what is applied: only a partial application is
-abbrev pub applied : Code → Graph → ℕ → ℕ → Kind → List ℕ → Move
-applied code graph id argument (kind.Part h) args =
-    puts graph id (extended code h (args ++ argument ∷ []) (arity_of code h))
-applied code graph id argument _ _ = fails graph id
+abbrev pub application_step : Code → Graph → ℕ → ℕ → Kind → List ℕ → Move
+application_step code graph id argument (kind.Part h) args =
+    replacement_step graph id (extended code h (args ++ argument ∷ []) (arity_of code h))
+application_step code graph id argument _ _ = failing_step graph id
 
 -- ---- numbers and characters
 
 -- the step of an operation with this result: an integer of the language, or an overflow
-abbrev pub counted : Graph → ℕ → Primitive → ℤ → ℤ → ℤ → Move
-counted graph id operation m n result =
-    if is_integer result then puts graph id (alone (kind.Lit (Int result)))
+abbrev pub integer_step : Graph → ℕ → Primitive → ℤ → ℤ → ℤ → Move
+integer_step graph id operation m n result =
+    if is_integer result then replacement_step graph id (alone (kind.Lit (Int result)))
     else Overflows operation m n
 
 -- the step of an operation on two integers
-abbrev pub calculated : Special → Graph → ℕ → Primitive → ℤ → ℤ → Move
-calculated special graph id prim.Add m n = counted graph id prim.Add m n (m +ℤ n)
-calculated special graph id prim.Sub m n = counted graph id prim.Sub m n (m -ℤ n)
-calculated special graph id prim.Mul m n = counted graph id prim.Mul m n (m *ℤ n)
-calculated special graph id prim.Div m n = if int_eq n (pos 0) then fails graph id
-    else counted graph id prim.Div m n (floor_quotient m n)
-calculated special graph id prim.Mod m n = if int_eq n (pos 0) then fails graph id
-    else counted graph id prim.Mod m n (floor_rest m n)
-calculated special graph id prim.Less m n = tells special graph id (int_lt m n)
-calculated special graph id prim.AtMost m n = tells special graph id (int_le m n)
-calculated special graph id prim.Greater m n = tells special graph id (int_lt n m)
-calculated special graph id prim.AtLeast m n = tells special graph id (int_le n m)
-calculated special graph id _ m n = fails graph id
+abbrev pub arithmetic_step : Special → Graph → ℕ → Primitive → ℤ → ℤ → Move
+arithmetic_step special graph id prim.Add m n = integer_step graph id prim.Add m n (m +ℤ n)
+arithmetic_step special graph id prim.Sub m n = integer_step graph id prim.Sub m n (m -ℤ n)
+arithmetic_step special graph id prim.Mul m n = integer_step graph id prim.Mul m n (m *ℤ n)
+arithmetic_step special graph id prim.Div m n = if int_eq n (pos 0) then failing_step graph id
+    else integer_step graph id prim.Div m n (floor_quotient m n)
+arithmetic_step special graph id prim.Mod m n = if int_eq n (pos 0) then failing_step graph id
+    else integer_step graph id prim.Mod m n (floor_rest m n)
+arithmetic_step special graph id prim.Less m n = truth_step special graph id (int_lt m n)
+arithmetic_step special graph id prim.AtMost m n = truth_step special graph id (int_le m n)
+arithmetic_step special graph id prim.Greater m n = truth_step special graph id (int_lt n m)
+arithmetic_step special graph id prim.AtLeast m n = truth_step special graph id (int_le n m)
+arithmetic_step special graph id _ m n = failing_step graph id
 
 -- the step to the character of a number, where there is one
-abbrev pub puts_character : Graph → ℕ → ℤ → Move
-puts_character graph id (pos n) = if is_scalar n then puts graph id (alone (kind.Lit (Char n)))
-    else fails graph id
-puts_character graph id (negsuc n) = fails graph id
+abbrev pub character_step : Graph → ℕ → ℤ → Move
+character_step graph id (pos n) =
+    if is_scalar n then replacement_step graph id (alone (kind.Lit (Char n)))
+    else failing_step graph id
+character_step graph id (negsuc n) = failing_step graph id
 
 -- the step of an operation on literals; on anything else it fails
-abbrev pub computed : Special → Graph → ℕ → Primitive → List Kind → Move
-computed special graph id operation (kind.Lit (Int m) ∷ kind.Lit (Int n) ∷ []) =
-    calculated special graph id operation m n
-computed special graph id prim.Ord (kind.Lit (Char c) ∷ []) =
-    puts graph id (alone (kind.Lit (Int (pos c))))
-computed special graph id prim.Chr (kind.Lit (Int n) ∷ []) = puts_character graph id n
-computed special graph id _ _ = fails graph id
+abbrev pub literal_step : Special → Graph → ℕ → Primitive → List Kind → Move
+literal_step special graph id operation (kind.Lit (Int m) ∷ kind.Lit (Int n) ∷ []) =
+    arithmetic_step special graph id operation m n
+literal_step special graph id prim.Ord (kind.Lit (Char c) ∷ []) =
+    replacement_step graph id (alone (kind.Lit (Int (pos c))))
+literal_step special graph id prim.Chr (kind.Lit (Int n) ∷ []) = character_step graph id n
+literal_step special graph id _ _ = failing_step graph id
 
 -- ---- equality and equations
 
@@ -217,27 +218,29 @@ build_pairs each joint next pair (other ∷ pairs) =
 
 -- the step on two like constructors: nodes over their arguments in pairs are built over the node
 -- `id`, or True where there are no arguments
-abbrev pub in_pairs : Special → Kind → Kind → Graph → ℕ → List (ℕ × ℕ) → Move
-in_pairs special each joint graph id [] = tells special graph id true
-in_pairs special each joint graph id (pair ∷ pairs) =
+abbrev pub pairwise_step : Special → Kind → Kind → Graph → ℕ → List (ℕ × ℕ) → Move
+pairwise_step special each joint graph id [] = truth_step special graph id true
+pairwise_step special each joint graph id (pair ∷ pairs) =
     alone_follows (written graph id (build_pairs each joint (length graph) pair pairs))
 
 -- the step of `==` on two like constructors: comparisons of their arguments, joined by calls of
 -- `&&`
-abbrev pub compared_in_pairs : Special → Graph → ℕ → List (ℕ × ℕ) → Move
-compared_in_pairs special graph id pairs =
-    in_pairs special (kind.Prim prim.Equal) (kind.Call special.both) graph id pairs
+abbrev pub pairwise_comparison_step : Special → Graph → ℕ → List (ℕ × ℕ) → Move
+pairwise_comparison_step special graph id pairs =
+    pairwise_step special (kind.Prim prim.Equal) (kind.Call special.both) graph id pairs
 
 -- the step of `==`, by the heads of its sides; on a partial application it fails
-abbrev pub compared : Special → Graph → ℕ → Kind → List ℕ → Kind → List ℕ → Move
-compared special graph id (kind.Cons c) us (kind.Cons d) vs =
-    if same_constructor c d then compared_in_pairs special graph id (zip us vs)
-    else tells special graph id false
-compared special graph id (kind.Lit l) us (kind.Lit m) vs =
-    tells special graph id (same_literal l m)
-compared special graph id (kind.Lit l) us (kind.Cons d) vs = tells special graph id false
-compared special graph id (kind.Cons c) us (kind.Lit m) vs = tells special graph id false
-compared special graph id _ _ _ _ = fails graph id
+abbrev pub comparison_step : Special → Graph → ℕ → Kind → List ℕ → Kind → List ℕ → Move
+comparison_step special graph id (kind.Cons c) us (kind.Cons d) vs =
+    if same_constructor c d then pairwise_comparison_step special graph id (zip us vs)
+    else truth_step special graph id false
+comparison_step special graph id (kind.Lit l) us (kind.Lit m) vs =
+    truth_step special graph id (same_literal l m)
+comparison_step special graph id (kind.Lit l) us (kind.Cons d) vs =
+    truth_step special graph id false
+comparison_step special graph id (kind.Cons c) us (kind.Lit m) vs =
+    truth_step special graph id false
+comparison_step special graph id _ _ _ _ = failing_step graph id
 
 -- whether a node of this kind is True
 abbrev pub is_true : Special → Kind → Bool
@@ -245,9 +248,9 @@ is_true special (kind.Cons c) = same_constructor c special.truth
 is_true special _ = false
 
 -- the step of `&`, by the heads of its sides
-abbrev pub conjoined : Special → Graph → ℕ → Kind → Kind → Move
-conjoined special graph id a b = if is_true special a && is_true special b
-    then tells special graph id true else fails graph id
+abbrev pub conjunction_step : Special → Graph → ℕ → Kind → Kind → Move
+conjunction_step special graph id a b = if is_true special a && is_true special b
+    then truth_step special graph id true else failing_step graph id
 
 -- whether a free variable is a head, or is reached from it by constructors and Inds; `part` says so
 -- of its arguments
@@ -269,80 +272,88 @@ abbrev pub occurs_in : Graph → ℕ → List ℕ → Bool
 occurs_in graph v ids = list_any (occurs_within (length graph) graph v) ids
 
 -- the step of `=:=` on two like constructors: equations of their arguments, joined by `&`
-abbrev pub equated_in_pairs : Special → Graph → ℕ → List (ℕ × ℕ) → Move
-equated_in_pairs special graph id pairs =
-    in_pairs special (kind.Prim prim.Unify) (kind.Prim prim.And) graph id pairs
+abbrev pub decomposition_step : Special → Graph → ℕ → List (ℕ × ℕ) → Move
+decomposition_step special graph id pairs =
+    pairwise_step special (kind.Prim prim.Unify) (kind.Prim prim.And) graph id pairs
 
 -- the step in which a free variable becomes an Ind of another node, and the equation holds
-abbrev pub renames : Special → Graph → ℕ → ℕ → ℕ → Move
-renames special graph id v other = puts (put graph v (renaming other)) id (truth_node special true)
+abbrev pub binding_step : Special → Graph → ℕ → ℕ → ℕ → Move
+binding_step special graph id v other =
+    replacement_step (put graph v (renaming other)) id (truth_node special true)
 
 -- The step of an equation of a free variable with a constructor. Without arguments the variable
 -- becomes an Ind of it. With arguments the variable becomes the constructor over new free
 -- variables, which are equated with the arguments; if it is reached from these, the equation fails.
-abbrev pub imitates : Special → Graph → ℕ → ℕ → ℕ → ConId → List ℕ → Move
-imitates special graph id v other c [] = renames special graph id v other
-imitates special graph id v other c (arg ∷ args) =
-    if occurs_in graph v (arg ∷ args) then fails graph id
+abbrev pub imitation_step : Special → Graph → ℕ → ℕ → ℕ → ConId → List ℕ → Move
+imitation_step special graph id v other c [] = binding_step special graph id v other
+imitation_step special graph id v other c (arg ∷ args) =
+    if occurs_in graph v (arg ∷ args) then failing_step graph id
     else
     let fresh = numbers (length graph) (length args + 1) in
-    equated_in_pairs special (put (graph ++ free_nodes (length args + 1)) v
+    decomposition_step special (put (graph ++ free_nodes (length args + 1)) v
     (record { kind = kind.Cons c; args = fresh })) id (zip fresh (arg ∷ args))
 
 -- the step of `=:=`, by the heads of its sides and their indices; a partial application equals
 -- nothing, and a literal equals no constructor
-abbrev pub equated : Special → Graph → ℕ → ℕ → Kind → List ℕ → ℕ → Kind → List ℕ → Move
-equated special graph id v kind.Free us w kind.Free vs =
-    if nat_eq v w then tells special graph id true else renames special graph id v w
-equated special graph id v kind.Free us w (kind.Lit m) vs = renames special graph id v w
-equated special graph id v (kind.Lit l) us w kind.Free vs = renames special graph id w v
-equated special graph id v kind.Free us w (kind.Cons d) vs = imitates special graph id v w d vs
-equated special graph id v (kind.Cons c) us w kind.Free vs = imitates special graph id w v c us
-equated special graph id v (kind.Cons c) us w (kind.Cons d) vs =
-    if same_constructor c d then equated_in_pairs special graph id (zip us vs) else fails graph id
-equated special graph id v (kind.Lit l) us w (kind.Lit m) vs =
-    if same_literal l m then tells special graph id true else fails graph id
-equated special graph id v _ _ w _ _ = fails graph id
+abbrev pub unification_step : Special → Graph → ℕ → ℕ → Kind → List ℕ → ℕ → Kind → List ℕ → Move
+unification_step special graph id v kind.Free us w kind.Free vs =
+    if nat_eq v w then truth_step special graph id true else binding_step special graph id v w
+unification_step special graph id v kind.Free us w (kind.Lit m) vs =
+    binding_step special graph id v w
+unification_step special graph id v (kind.Lit l) us w kind.Free vs =
+    binding_step special graph id w v
+unification_step special graph id v kind.Free us w (kind.Cons d) vs =
+    imitation_step special graph id v w d vs
+unification_step special graph id v (kind.Cons c) us w kind.Free vs =
+    imitation_step special graph id w v c us
+unification_step special graph id v (kind.Cons c) us w (kind.Cons d) vs =
+    if same_constructor c d then decomposition_step special graph id (zip us vs)
+    else failing_step graph id
+unification_step special graph id v (kind.Lit l) us w (kind.Lit m) vs =
+    if same_literal l m then truth_step special graph id true else failing_step graph id
+unification_step special graph id v _ _ w _ _ = failing_step graph id
 
 -- ---- set functions
 
 -- the step of a set function's call: a search begins, unless a partial application in an argument
 -- leaves the call stuck
-abbrev pub collects : Graph → ℕ → FunId → Values → Move
-collects graph id f arguments = if are_data arguments then Collect f arguments else sticks graph id
+abbrev pub set_call_step : Graph → ℕ → FunId → Values → Move
+set_call_step graph id f arguments =
+    if are_data arguments then Collect f arguments else stuck_step graph id
 
 -- ---- all rows
 
 -- the step of a built-in operation on its arguments
-abbrev pub operated : Special → Graph → ℕ → Primitive → List ℕ → Move
-operated special graph id prim.Equal (a ∷ b ∷ []) =
-    compared special graph id (head_at graph a).kind (head_at graph a).args (head_at graph b).kind
-    (head_at graph b).args
-operated special graph id prim.Unify (a ∷ b ∷ []) =
-    equated special graph id (head_of graph a) (head_at graph a).kind (head_at graph a).args
-    (head_of graph b) (head_at graph b).kind (head_at graph b).args
-operated special graph id prim.And (a ∷ b ∷ []) =
-    conjoined special graph id (head_at graph a).kind (head_at graph b).kind
-operated special graph id prim.Equal _ = sticks graph id
-operated special graph id prim.Unify _ = sticks graph id
-operated special graph id prim.And _ = sticks graph id
-operated special graph id operation args =
-    computed special graph id operation (map (λ arg. (head_at graph arg).kind) args)
+abbrev pub operation_step : Special → Graph → ℕ → Primitive → List ℕ → Move
+operation_step special graph id prim.Equal (a ∷ b ∷ []) =
+    comparison_step special graph id (head_at graph a).kind (head_at graph a).args
+    (head_at graph b).kind (head_at graph b).args
+operation_step special graph id prim.Unify (a ∷ b ∷ []) =
+    unification_step special graph id (head_of graph a) (head_at graph a).kind
+    (head_at graph a).args (head_of graph b) (head_at graph b).kind (head_at graph b).args
+operation_step special graph id prim.And (a ∷ b ∷ []) =
+    conjunction_step special graph id (head_at graph a).kind (head_at graph b).kind
+operation_step special graph id prim.Equal _ = stuck_step graph id
+operation_step special graph id prim.Unify _ = stuck_step graph id
+operation_step special graph id prim.And _ = stuck_step graph id
+operation_step special graph id operation args =
+    literal_step special graph id operation (map (λ arg. (head_at graph arg).kind) args)
 
 -- what becomes of a graph where the node `id`, of this kind and with these arguments, is rewritten
-abbrev pub rewritten : Code → Graph → ℕ → Kind → List ℕ → Move
-rewritten code graph id (kind.Call f) args = unfolded code graph id args (body_of code f)
-rewritten code graph id kind.Or args = chosen graph id args
-rewritten code graph id (kind.Case mode e) (scrutinee ∷ values) =
-    case_of code graph id scrutinee values (expr_of code (record { 0 = e }))
-rewritten code graph id kind.Apply (function ∷ argument ∷ []) =
-    applied code graph id argument (head_at graph function).kind (head_at graph function).args
-rewritten code graph id (kind.Prim operation) args =
-    operated code.special graph id operation args
-rewritten code graph id (kind.SetCall f) args =
-    collects graph id f (values_of (map (spelled graph) args))
-rewritten code graph id _ _ = sticks graph id
+abbrev pub rewrite_step : Code → Graph → ℕ → Kind → List ℕ → Move
+rewrite_step code graph id (kind.Call f) args = call_step code graph id args (body_of code f)
+rewrite_step code graph id kind.Or args = choice_step graph id args
+rewrite_step code graph id (kind.Case mode e) (scrutinee ∷ values) =
+    case_step code graph id scrutinee values (expr_of code (record { 0 = e }))
+rewrite_step code graph id kind.Apply (function ∷ argument ∷ []) =
+    application_step code graph id argument (head_at graph function).kind
+    (head_at graph function).args
+rewrite_step code graph id (kind.Prim operation) args =
+    operation_step code.special graph id operation args
+rewrite_step code graph id (kind.SetCall f) args =
+    set_call_step graph id f (values_of (map (spelled graph) args))
+rewrite_step code graph id _ _ = stuck_step graph id
 
 -- what becomes of a graph where the node `id` is rewritten
 abbrev pub move : Code → Graph → ℕ → Move
-move code graph id = rewritten code graph id (node_at graph id).kind (node_at graph id).args
+move code graph id = rewrite_step code graph id (node_at graph id).kind (node_at graph id).args

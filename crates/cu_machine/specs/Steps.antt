@@ -28,7 +28,7 @@ use Rattle.cu_machine.specs.declared.Kind.TheVariants as kind
 use Rattle.cu_machine.specs.Among.{Among}
 use Rattle.cu_machine.specs.Build.{Scope, kind_of_whole, write}
 use Rattle.cu_machine.specs.Graph.{Graph, Node, alone, head_at, head_of, node_at, put, renaming}
-use Rattle.cu_machine.specs.Rewrite.{alone_follows, bound_to, branch_for, compared_in_pairs, equated_in_pairs, is_true, occurs_in, takes_constructor, takes_literal, truth_node}
+use Rattle.cu_machine.specs.Rewrite.{alone_follows, bound_to, branch_for, decomposition_step, is_true, occurs_in, pairwise_comparison_step, takes_constructor, takes_literal, truth_node}
 use Rattle.cu_machine.specs.Spell.{spelled}
 use Rattle.cu_machine.specs.State.{free_nodes, numbers}
 
@@ -260,7 +260,7 @@ pub data Steps (code : Code) (graph : Graph) (id : ℕ) (after : Graph) : Type 0
       → node_at graph id ≡ node (kind.Prim prim.Equal) (a ∷ b ∷ [])
       → head_at graph a ≡ node (kind.Cons c) us → head_at graph b ≡ node (kind.Cons d) vs
       → IsTrue (same_constructor c d)
-      → compared_in_pairs code.special graph id (zip us vs) ≡ alone_follows after
+      → pairwise_comparison_step code.special graph id (zip us vs) ≡ alone_follows after
       → Steps code graph id after
   compared_partial : (a b : ℕ) → node_at graph id ≡ node (kind.Prim prim.Equal) (a ∷ b ∷ [])
       → IsTrue (is_partial (head_at graph a).kind || is_partial (head_at graph b).kind)
@@ -307,7 +307,7 @@ pub data Steps (code : Code) (graph : Graph) (id : ℕ) (after : Graph) : Type 0
       → node_at graph id ≡ node (kind.Prim prim.Unify) (a ∷ b ∷ [])
       → FreeBeside graph a b v other (kind.Cons c) (arg ∷ args)
       → IsFalse (occurs_in graph v (arg ∷ args))
-      → equated_in_pairs code.special (imitating graph v c (length args + 1)) id
+      → decomposition_step code.special (imitating graph v c (length args + 1)) id
       (zip (numbers (length graph) (length args + 1)) (arg ∷ args)) ≡ alone_follows after
       → Steps code graph id after
   -- An equation of two literals holds or fails; one of two like constructors becomes equations of
@@ -327,7 +327,7 @@ pub data Steps (code : Code) (graph : Graph) (id : ℕ) (after : Graph) : Type 0
       → node_at graph id ≡ node (kind.Prim prim.Unify) (a ∷ b ∷ [])
       → head_at graph a ≡ node (kind.Cons c) us → head_at graph b ≡ node (kind.Cons d) vs
       → IsTrue (same_constructor c d)
-      → equated_in_pairs code.special graph id (zip us vs) ≡ alone_follows after
+      → decomposition_step code.special graph id (zip us vs) ≡ alone_follows after
       → Steps code graph id after
   clash : (a b : ℕ) (c d : ConId) (us vs : List ℕ)
       → node_at graph id ≡ node (kind.Prim prim.Unify) (a ∷ b ∷ [])

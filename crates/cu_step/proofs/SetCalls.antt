@@ -16,7 +16,7 @@ use Rattle.cu_machine.specs.Build.{Built, BuiltParts, build_node, kind_of_call, 
 use Rattle.cu_machine.specs.Graph.{Graph, Node, node_at}
 use Rattle.cu_machine.specs.Next as next_def
 use Rattle.cu_machine.specs.Next.{Go, Next, begun, is_above, is_too_large, moved, read, spelled_all, too_large}
-use Rattle.cu_machine.specs.Rewrite.{Collect, Move, collects, move, rewritten, sticks}
+use Rattle.cu_machine.specs.Rewrite.{Collect, Move, move, rewrite_step, set_call_step, stuck_step}
 use Rattle.cu_machine.specs.Spell.{all_cells, all_renumbered, cells, cells_of_all, ordinal, push_value, push_values, renumbered, spelled, variables_of_all}
 use Rattle.cu_machine.specs.State.{Branch, Idle, MoreStates, NoState, Running, State, call_on, graph_of, states_of}
 use Rattle.cu_step.specs.declared.occurs.Sought.TheVariants as sought
@@ -177,10 +177,10 @@ begun_state f graph root goals id found prefix level inner state none nothing al
     ∙ ap (λ bs. Branch graph root goals (Running id [] (states_of (map f bs)))) (alone_there ∙ ap (λ bs. bs ++ inner ∷ []) nothing)
 
 pub move_set : (program : Code) (graph : Graph) (id : ℕ) (f : FunId) (args : List ℕ) → (node_at graph id).kind ≡ kind.SetCall f → args ≡ (node_at graph id).args
-    → move program graph id ≡ collects graph id f (values_of (map (spelled graph) args))
+    → move program graph id ≡ set_call_step graph id f (values_of (map (spelled graph) args))
 move_set program graph id f args is own =
-    ap (λ (k : Kind). rewritten program graph id k (node_at graph id).args) is
-    ∙ ap (λ (xs : List ℕ). collects graph id f (values_of (map (spelled graph) xs))) (sym own)
+    ap (λ (k : Kind). rewrite_step program graph id k (node_at graph id).args) is
+    ∙ ap (λ (xs : List ℕ). set_call_step graph id f (values_of (map (spelled graph) xs))) (sym own)
 
 not_true : (b : Bool) → not b ≡ true → b ≡ false
 not_true true so = sym so
@@ -191,16 +191,16 @@ not_false true so = refl
 not_false false so = sym so
 
 pub part_sticks : (graph : Graph) (id : ℕ) (f : FunId) (args : List ℕ) → are_reached graph sought.Part args ≡ true
-    → collects graph id f (values_of (map (spelled graph) args)) ≡ sticks graph id
+    → set_call_step graph id f (values_of (map (spelled graph) args)) ≡ stuck_step graph id
 part_sticks graph id f args part =
     let data_not : are_data (values_of (map (spelled graph) args)) ≡ false = not_true (are_data (values_of (map (spelled graph) args))) (any_part (spelled graph) args ∙ part) in
-    ap (λ (b : Bool). if b then Collect f (values_of (map (spelled graph) args)) else sticks graph id) data_not
+    ap (λ (b : Bool). if b then Collect f (values_of (map (spelled graph) args)) else stuck_step graph id) data_not
 
 pub part_collects : (graph : Graph) (id : ℕ) (f : FunId) (args : List ℕ) → are_reached graph sought.Part args ≡ false
-    → collects graph id f (values_of (map (spelled graph) args)) ≡ Collect f (values_of (map (spelled graph) args))
+    → set_call_step graph id f (values_of (map (spelled graph) args)) ≡ Collect f (values_of (map (spelled graph) args))
 part_collects graph id f args none =
     let all_data : are_data (values_of (map (spelled graph) args)) ≡ true = not_false (are_data (values_of (map (spelled graph) args))) (any_part (spelled graph) args ∙ none) in
-    ap (λ (b : Bool). if b then Collect f (values_of (map (spelled graph) args)) else sticks graph id) all_data
+    ap (λ (b : Bool). if b then Collect f (values_of (map (spelled graph) args)) else stuck_step graph id) all_data
 
 module _ (program : Code) (limits : Limits) (graph : Graph) (root : ℕ) (goals : List ℕ) (id : ℕ) (f : FunId) (args : List ℕ)
     (set_call : (node_at graph id).kind ≡ kind.SetCall f) (own : args ≡ (node_at graph id).args) where
@@ -210,7 +210,7 @@ module _ (program : Code) (limits : Limits) (graph : Graph) (root : ℕ) (goals 
   begins : are_reached graph sought.Part args ≡ false → moved program limits root goals graph id (move program graph id) ≡ begun limits graph root goals id whole
   begins none = ap (λ (what : Move). moved program limits root goals graph id what) (move_set program graph id f args set_call own ∙ part_collects graph id f args none)
 
-  pub sticks_there : (event : Next) (what : Move) → are_reached graph sought.Part args ≡ true → what ≡ sticks graph id
+  pub sticks_there : (event : Next) (what : Move) → are_reached graph sought.Part args ≡ true → what ≡ stuck_step graph id
       → event ≡ moved program limits root goals graph id what → event ≡ moved program limits root goals graph id (move program graph id)
   sticks_there event what part is follows =
       follows ∙ ap (λ (what : Move). moved program limits root goals graph id what)

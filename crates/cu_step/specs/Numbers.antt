@@ -8,7 +8,7 @@ use Rattle.cu_calculus.specs.Literal.{is_scalar}
 use Rattle.cu_machine.specs.declared.Kind.{Kind}
 use Rattle.cu_machine.specs.declared.Kind.TheVariants as kind
 use Rattle.cu_machine.specs.Graph.{Graph, alone}
-use Rattle.cu_machine.specs.Rewrite.{Move, Overflows, calculated, fails, puts, puts_character}
+use Rattle.cu_machine.specs.Rewrite.{Move, Overflows, arithmetic_step, character_step, failing_step, replacement_step}
 
 -- the character of a number, where there is one
 abbrev pub character_of : ℤ → Option ℕ
@@ -26,27 +26,29 @@ character_in (kind.Lit (Char c)) = Some c
 character_in _ = None
 
 -- the step of an operation on two integers whose result is given, or whose result overflows
-abbrev pub counted_by : Graph → ℕ → Primitive → ℤ → ℤ → Option ℤ → Move
-counted_by graph id operation m n (Some result) = puts graph id (alone (kind.Lit (Int result)))
-counted_by graph id operation m n None = Overflows operation m n
+abbrev pub result_step : Graph → ℕ → Primitive → ℤ → ℤ → Option ℤ → Move
+result_step graph id operation m n (Some result) =
+    replacement_step graph id (alone (kind.Lit (Int result)))
+result_step graph id operation m n None = Overflows operation m n
 
 -- the step of `ord` on a character, or the failure where the operand isn't one
 abbrev pub on_character : Graph → ℕ → Option ℕ → Move
-on_character graph id (Some c) = puts graph id (alone (kind.Lit (Int (pos c))))
-on_character graph id None = fails graph id
+on_character graph id (Some c) = replacement_step graph id (alone (kind.Lit (Int (pos c))))
+on_character graph id None = failing_step graph id
 
 -- the step of `chr` on an integer, or the failure where the operand isn't one
 abbrev pub on_integer : Graph → ℕ → Option ℤ → Move
-on_integer graph id (Some n) = puts_character graph id n
-on_integer graph id None = fails graph id
+on_integer graph id (Some n) = character_step graph id n
+on_integer graph id None = failing_step graph id
 
 -- the step of an operation on one operand, by its head
 abbrev pub on_one : Graph → ℕ → Primitive → Kind → Move
 on_one graph id prim.Ord k = on_character graph id (character_in k)
 on_one graph id prim.Chr k = on_integer graph id (integer_in k)
-on_one graph id _ k = fails graph id
+on_one graph id _ k = failing_step graph id
 
 -- the step of an operation on two operands that may be integers
 abbrev pub on_integers : Special → Graph → ℕ → Primitive → Option ℤ → Option ℤ → Move
-on_integers special graph id operation (Some m) (Some n) = calculated special graph id operation m n
-on_integers special graph id operation _ _ = fails graph id
+on_integers special graph id operation (Some m) (Some n) =
+    arithmetic_step special graph id operation m n
+on_integers special graph id operation _ _ = failing_step graph id

@@ -3,7 +3,7 @@ ghost use Rattle.std.specs.Prelude.{◌≡◌, ◌<◌, [], ◌∷◌, ◌++◌,
 ghost use Rattle.cu_calculus.specs.Code.{arity_of};
 ghost use Rattle.cu_machine.specs.declared.Kind.TheVariants as kind;
 ghost use Rattle.cu_machine.specs.Graph.{node_at};
-ghost use Rattle.cu_machine.specs.Rewrite.{extended, puts, rewritten};
+ghost use Rattle.cu_machine.specs.Rewrite.{extended, replacement_step, rewrite_step};
 ghost use Rattle.cu_step.specs.Moved.{move_of};
 
 use crate::moved::{self, Moved};
@@ -25,11 +25,11 @@ fn extended<S: Store>(
 ) -> Result<Moved<S>, AllocError>
     requires { id < length (S.content store) }
     ensures { IfOk result (λ moved. move_of S.content moved
-        ≡ puts (S.content store) id
+        ≡ replacement_step (S.content store) id
         (extended program.now head args.now (arity_of program.now head))) }
 {
     let Some(arity) = program.arity_if_known(head) else {
-        return moved::sticks(alloc, store, id);
+        return moved::stuck_step(alloc, store, id);
     };
     if args.len() < arity as usize {
         store.put(id, Kind::Part(head), args)?;
@@ -41,7 +41,7 @@ fn extended<S: Store>(
 
 /// The step of an application. A partial application takes one argument more;
 /// nothing else can be applied.
-pub(crate) fn applied<S: Store>(
+pub(crate) fn application_step<S: Store>(
     alloc: Global,
     program: &FlatProgram,
     store: S,
@@ -49,16 +49,16 @@ pub(crate) fn applied<S: Store>(
 ) -> Result<Moved<S>, AllocError>
     requires { id < length (S.content store) }
     ensures { IfOk result (λ moved. move_of S.content moved
-        ≡ rewritten program.now (S.content store) id kind.Apply
+        ≡ rewrite_step program.now (S.content store) id kind.Apply
         (node_at (S.content store) id).args) }
 {
     let args = node::args(alloc, &store, id)?;
     let [function, argument] = args.as_slice() else {
-        return moved::sticks(alloc, store, id);
+        return moved::stuck_step(alloc, store, id);
     };
     let Operand { id: _, kind, args } = operand::at(alloc, &store, *function)?;
     let Kind::Part(head) = kind else {
-        return moved::fails(alloc, store, id);
+        return moved::failing_step(alloc, store, id);
     };
     let mut longer = args;
     longer.push(*argument)?;

@@ -3,7 +3,7 @@ ghost use Rattle.std.specs.Prelude.{◌≡◌, ◌<◌, IfOk, IsTrue, length};
 ghost use Rattle.cu_calculus.specs.Code.{body_of};
 ghost use Rattle.cu_calculus.specs.WellFormed.{is_well_formed};
 ghost use Rattle.cu_machine.specs.Graph.{node_at};
-ghost use Rattle.cu_machine.specs.Rewrite.{chosen, unfolded};
+ghost use Rattle.cu_machine.specs.Rewrite.{call_step, choice_step};
 ghost use Rattle.cu_step.specs.Moved.{move_of};
 
 use crate::moved::{self, Moved};
@@ -14,7 +14,7 @@ use std::alloc::{AllocError, Global};
 
 /// The step of a call, which becomes its function's right side, where the
 /// parameters stand for the arguments.
-pub(crate) fn unfolded<S: Store>(
+pub(crate) fn call_step<S: Store>(
     alloc: Global,
     program: &FlatProgram,
     mut store: S,
@@ -24,7 +24,7 @@ pub(crate) fn unfolded<S: Store>(
     requires code { IsTrue (is_well_formed program.now) }
     requires id { id < length (S.content store) }
     ensures { IfOk result (λ moved. move_of S.content moved
-        ≡ unfolded program.now (S.content store) id
+        ≡ call_step program.now (S.content store) id
         (node_at (S.content store) id).args (body_of program.now f)) }
 {
     match program.body(f) {
@@ -34,8 +34,8 @@ pub(crate) fn unfolded<S: Store>(
             build::write(alloc, program, &mut store, scope.as_slice(), id, *body)?;
             moved::alone(alloc, store)
         }
-        Some(FlatBody::External(_)) => moved::sticks(alloc, store, id),
-        None => moved::sticks(alloc, store, id),
+        Some(FlatBody::External(_)) => moved::stuck_step(alloc, store, id),
+        None => moved::stuck_step(alloc, store, id),
     }
 }
 
@@ -51,14 +51,18 @@ fn fork_in_two<S: Store>(store: S) -> Result<(S, S), AllocError>
 }
 
 /// The step of a choice, which becomes its left argument, and its right one.
-pub(crate) fn chosen<S: Store>(alloc: Global, store: S, id: u32) -> Result<Moved<S>, AllocError>
+pub(crate) fn choice_step<S: Store>(
+    alloc: Global,
+    store: S,
+    id: u32,
+) -> Result<Moved<S>, AllocError>
     requires { id < length (S.content store) }
     ensures { IfOk result (λ moved. move_of S.content moved
-        ≡ chosen (S.content store) id (node_at (S.content store) id).args) }
+        ≡ choice_step (S.content store) id (node_at (S.content store) id).args) }
 {
     let args = node::args(alloc, &store, id)?;
     let [left, right] = args.as_slice() else {
-        return moved::sticks(alloc, store, id);
+        return moved::stuck_step(alloc, store, id);
     };
     let (mut first, mut second) = fork_in_two(store)?;
     first.put(id, Kind::Ind, &[*left])?;

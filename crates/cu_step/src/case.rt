@@ -5,7 +5,7 @@ ghost use Rattle.cu_calculus.specs.WellFormed.{is_well_formed};
 ghost use Rattle.cu_flat.specs.Meaning.{branch_meaning, pattern_meaning};
 ghost use Rattle.cu_machine.specs.declared.Kind.TheVariants as kind;
 ghost use Rattle.cu_machine.specs.Graph.{node_at};
-ghost use Rattle.cu_machine.specs.Rewrite.{bound_to, branch_for, distinguished, narrows, rewritten, takes_branch};
+ghost use Rattle.cu_machine.specs.Rewrite.{bound_to, branch_for, branch_step, narrowing_step, rewrite_step, scrutinee_step};
 ghost use Rattle.cu_step.specs.Inside.Building.{branch_nests, branches_nest};
 ghost use Rattle.cu_step.specs.Matching.{takes_pattern};
 ghost use Rattle.cu_step.specs.Moved.{move_of};
@@ -64,7 +64,7 @@ fn branch_for(branches: &[(Pattern, ExprId)], kind: Kind) -> Option<&(Pattern, E
 
 /// The step into a branch, which is built over the case distinction. The
 /// variables of its pattern stand for the scrutinee's arguments.
-fn takes_branch<S: Store>(
+fn branch_step<S: Store>(
     alloc: Global,
     program: &FlatProgram,
     mut store: S,
@@ -77,11 +77,11 @@ fn takes_branch<S: Store>(
     requires nests { branch_nests program.now
         (option_map (λ branch. branch_meaning branch.now) branch) ≡ true }
     ensures { IfOk result (λ moved. move_of S.content moved
-        ≡ takes_branch program.now scope.now (S.content store) id args.now
+        ≡ branch_step program.now scope.now (S.content store) id args.now
         (option_map (λ branch. branch_meaning branch.now) branch.entry)) }
 {
     let Some((pattern, body)) = branch else {
-        return moved::fails(alloc, store, id);
+        return moved::failing_step(alloc, store, id);
     };
     let bound = match pattern {
         Pattern::Lit(_) => Vec::new(alloc),
@@ -115,7 +115,7 @@ fn bound_to<S: Store>(
 
 /// The step of narrowing: the free variable becomes what each branch asks for,
 /// in the branches' order.
-fn narrows<S: Store>(
+fn narrowing_step<S: Store>(
     alloc: Global,
     store: S,
     variable: u32,
@@ -123,7 +123,7 @@ fn narrows<S: Store>(
 ) -> Result<Moved<S>, AllocError>
     requires { variable < length (S.content store) }
     ensures { IfOk result (λ moved. move_of S.content moved
-        ≡ narrows (S.content store) variable (map branch_meaning branches.now)) }
+        ≡ narrowing_step (S.content store) variable (map branch_meaning branches.now)) }
 {
     if branches.is_empty() {
         return Ok(Moved::Become(Vec::new(alloc)));
@@ -142,7 +142,7 @@ fn narrows<S: Store>(
 }
 
 /// The step of a case distinction, by the head of its scrutinee.
-fn by_head<S: Store>(
+fn scrutinee_step<S: Store>(
     alloc: Global,
     program: &FlatProgram,
     store: S,
@@ -155,27 +155,28 @@ fn by_head<S: Store>(
     requires nest { branches_nest program.now (map branch_meaning branches.now) ≡ true }
     requires free { scrutinee.now.kind ≡ kind.Free → scrutinee.now.id < length (S.content store) }
     ensures { IfOk result (λ moved. move_of S.content moved
-        ≡ distinguished program.now scope.now (S.content store) id (map branch_meaning branches.now)
-        scrutinee.now.id scrutinee.now.kind scrutinee.now.args.items) }
+        ≡ scrutinee_step program.now scope.now (S.content store) id
+        (map branch_meaning branches.now) scrutinee.now.id scrutinee.now.kind
+        scrutinee.now.args.items) }
 {
     match scrutinee.kind {
-        Kind::Free => narrows(alloc, store, scrutinee.id, branches),
+        Kind::Free => narrowing_step(alloc, store, scrutinee.id, branches),
         Kind::Lit(l) => {
             let branch = branch_for(branches, Kind::Lit(l));
-            takes_branch(alloc, program, store, id, scope, &[], branch)
+            branch_step(alloc, program, store, id, scope, &[], branch)
         }
         Kind::Cons(c) => {
             let branch = branch_for(branches, Kind::Cons(c));
             let args = scrutinee.args.as_slice();
-            takes_branch(alloc, program, store, id, scope, args, branch)
+            branch_step(alloc, program, store, id, scope, args, branch)
         }
-        Kind::Part(_) => moved::fails(alloc, store, id),
-        _ => moved::sticks(alloc, store, id),
+        Kind::Part(_) => moved::failing_step(alloc, store, id),
+        _ => moved::stuck_step(alloc, store, id),
     }
 }
 
 /// The step of a case distinction.
-pub(crate) fn distinguished<S: Store>(
+pub(crate) fn case_step<S: Store>(
     alloc: Global,
     program: &FlatProgram,
     store: S,
@@ -186,19 +187,19 @@ pub(crate) fn distinguished<S: Store>(
     requires code { IsTrue (is_well_formed program.now) }
     requires id { id < length (S.content store) }
     ensures { IfOk result (λ moved. move_of S.content moved
-        ≡ rewritten program.now (S.content store) id (kind.Case mode e)
+        ≡ rewrite_step program.now (S.content store) id (kind.Case mode e)
         (node_at (S.content store) id).args) }
 {
     let args = node::args(alloc, &store, id)?;
     let [scrutinee, values @ ..] = args.as_slice() else {
-        return moved::sticks(alloc, store, id);
+        return moved::stuck_step(alloc, store, id);
     };
     let Some(Expr::Case(_, _, branches)) = program.find(ExprId(e)) else {
-        return moved::sticks(alloc, store, id);
+        return moved::stuck_step(alloc, store, id);
     };
     let scope = build::scope_of(alloc, program.kept(ExprId(e)), values)?;
     let head = operand::at(alloc, &store, *scrutinee)?;
-    by_head(
+    scrutinee_step(
         alloc,
         program,
         store,

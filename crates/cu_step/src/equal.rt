@@ -1,6 +1,6 @@
 //! Equality and conjunction.
 ghost use Rattle.std.specs.Prelude.{◌≡◌, ◌<◌, IfOk, length};
-ghost use Rattle.cu_machine.specs.Rewrite.{compared, conjoined, is_true};
+ghost use Rattle.cu_machine.specs.Rewrite.{comparison_step, conjunction_step, is_true};
 ghost use Rattle.cu_step.specs.Moved.{move_of};
 
 use crate::case::is_same_literal;
@@ -13,7 +13,7 @@ use std::alloc::{AllocError, Global};
 
 /// The step of `==`, by the heads of its sides. On a partial application it
 /// fails.
-pub(crate) fn compared<S: Store>(
+pub(crate) fn comparison_step<S: Store>(
     alloc: Global,
     special: &Special,
     store: S,
@@ -23,29 +23,29 @@ pub(crate) fn compared<S: Store>(
 ) -> Result<Moved<S>, AllocError>
     requires { id < length (S.content store) }
     ensures { IfOk result (λ moved. move_of S.content moved
-        ≡ compared special.now (S.content store) id
+        ≡ comparison_step special.now (S.content store) id
         left.now.kind left.now.args.items right.now.kind right.now.args.items) }
 {
     match left.kind {
         Kind::Cons(c) => match right.kind {
             Kind::Cons(d) => {
                 if c.0 != d.0 {
-                    return moved::tells(alloc, special, store, id, false);
+                    return moved::truth_step(alloc, special, store, id, false);
                 }
                 let pairs = build::scope_of(alloc, left.args.as_slice(), right.args.as_slice())?;
                 let each = Kind::Prim(Prim::Equal);
                 let joint = Kind::Call(special.both);
-                pairs::in_pairs(alloc, special, store, id, each, joint, pairs.as_slice())
+                pairs::pairwise_step(alloc, special, store, id, each, joint, pairs.as_slice())
             }
-            Kind::Lit(_) => moved::tells(alloc, special, store, id, false),
-            _ => moved::fails(alloc, store, id),
+            Kind::Lit(_) => moved::truth_step(alloc, special, store, id, false),
+            _ => moved::failing_step(alloc, store, id),
         },
         Kind::Lit(l) => match right.kind {
-            Kind::Cons(_) => moved::tells(alloc, special, store, id, false),
-            Kind::Lit(m) => moved::tells(alloc, special, store, id, is_same_literal(l, m)),
-            _ => moved::fails(alloc, store, id),
+            Kind::Cons(_) => moved::truth_step(alloc, special, store, id, false),
+            Kind::Lit(m) => moved::truth_step(alloc, special, store, id, is_same_literal(l, m)),
+            _ => moved::failing_step(alloc, store, id),
         },
-        _ => moved::fails(alloc, store, id),
+        _ => moved::failing_step(alloc, store, id),
     }
 }
 
@@ -60,7 +60,7 @@ fn is_true(special: &Special, kind: Kind) -> bool
 }
 
 /// The step of `&`, by the heads of its sides.
-pub(crate) fn conjoined<S: Store>(
+pub(crate) fn conjunction_step<S: Store>(
     alloc: Global,
     special: &Special,
     store: S,
@@ -70,11 +70,11 @@ pub(crate) fn conjoined<S: Store>(
 ) -> Result<Moved<S>, AllocError>
     requires { id < length (S.content store) }
     ensures { IfOk result (λ moved. move_of S.content moved
-        ≡ conjoined special.now (S.content store) id left right) }
+        ≡ conjunction_step special.now (S.content store) id left right) }
 {
     if is_true(special, left) && is_true(special, right) {
-        moved::tells(alloc, special, store, id, true)
+        moved::truth_step(alloc, special, store, id, true)
     } else {
-        moved::fails(alloc, store, id)
+        moved::failing_step(alloc, store, id)
     }
 }

@@ -189,7 +189,7 @@ fn following<S: Store>(
 }
 
 /// What becomes of a branch where the node with this index is rewritten.
-fn rewritten<S: Store>(
+fn rewrite_step<S: Store>(
     alloc: Global,
     program: &FlatProgram,
     branch: Branch<S>,
@@ -214,7 +214,7 @@ fn rewritten<S: Store>(
                 goals,
                 search: _,
             } = branch;
-            let graphs = rewrite::rewritten(alloc, program, store, id)?;
+            let graphs = rewrite::rewrite_step(alloc, program, store, id)?;
             following(alloc, graphs, root, goals.as_slice(), limits)
         }
     }
@@ -251,7 +251,7 @@ fn by_need<S: Store>(
             let names = waited::names(alloc, &branch.store, goals, ids.as_slice())?;
             Ok(Outcome::Wait(names))
         }
-        Needed::At(id) => rewritten(alloc, program, branch, id, limits),
+        Needed::At(id) => rewrite_step(alloc, program, branch, id, limits),
     }
 }
 

@@ -1,7 +1,7 @@
 //! What becomes of a graph where one of its nodes is rewritten.
 ghost use Rattle.std.specs.Prelude.{◌≡◌, ◌<◌, IfOk, length};
 ghost use Rattle.cu_machine.specs.Graph.{alone};
-ghost use Rattle.cu_machine.specs.Rewrite.{alone_follows, fails, puts, sticks, tells};
+ghost use Rattle.cu_machine.specs.Rewrite.{alone_follows, failing_step, replacement_step, stuck_step, truth_step};
 ghost use Rattle.cu_step.specs.Moved.{move_of};
 
 use cu_flat::{Int, Prim, Special};
@@ -27,7 +27,7 @@ pub(crate) fn alone<S: Store>(alloc: Global, store: S) -> Result<Moved<S>, Alloc
 }
 
 /// The step that puts a node without arguments in the place of a node.
-pub(crate) fn puts<S: Store>(
+pub(crate) fn replacement_step<S: Store>(
     alloc: Global,
     mut store: S,
     id: u32,
@@ -35,30 +35,34 @@ pub(crate) fn puts<S: Store>(
 ) -> Result<Moved<S>, AllocError>
     requires { id < length (S.content store) }
     ensures { IfOk result (λ moved. move_of S.content moved
-        ≡ puts (S.content store) id (alone kind)) }
+        ≡ replacement_step (S.content store) id (alone kind)) }
 {
     store.put(id, kind, &[])?;
     alone(alloc, store)
 }
 
 /// The step in which a node fails.
-pub(crate) fn fails<S: Store>(alloc: Global, store: S, id: u32) -> Result<Moved<S>, AllocError>
+pub(crate) fn failing_step<S: Store>(
+    alloc: Global,
+    store: S,
+    id: u32,
+) -> Result<Moved<S>, AllocError>
     requires { id < length (S.content store) }
-    ensures { IfOk result (λ moved. move_of S.content moved ≡ fails (S.content store) id) }
+    ensures { IfOk result (λ moved. move_of S.content moved ≡ failing_step (S.content store) id) }
 {
-    puts(alloc, store, id, Kind::Fail)
+    replacement_step(alloc, store, id, Kind::Fail)
 }
 
 /// The step in which a node becomes stuck.
-pub(crate) fn sticks<S: Store>(alloc: Global, store: S, id: u32) -> Result<Moved<S>, AllocError>
+pub(crate) fn stuck_step<S: Store>(alloc: Global, store: S, id: u32) -> Result<Moved<S>, AllocError>
     requires { id < length (S.content store) }
-    ensures { IfOk result (λ moved. move_of S.content moved ≡ sticks (S.content store) id) }
+    ensures { IfOk result (λ moved. move_of S.content moved ≡ stuck_step (S.content store) id) }
 {
-    puts(alloc, store, id, Kind::Stuck)
+    replacement_step(alloc, store, id, Kind::Stuck)
 }
 
 /// The step in which a node becomes True or False.
-pub(crate) fn tells<S: Store>(
+pub(crate) fn truth_step<S: Store>(
     alloc: Global,
     special: &Special,
     store: S,
@@ -67,12 +71,12 @@ pub(crate) fn tells<S: Store>(
 ) -> Result<Moved<S>, AllocError>
     requires { id < length (S.content store) }
     ensures { IfOk result (λ moved. move_of S.content moved
-        ≡ tells special.now (S.content store) id answer) }
+        ≡ truth_step special.now (S.content store) id answer) }
 {
     let truth = if answer {
         special.truth
     } else {
         special.falsity
     };
-    puts(alloc, store, id, Kind::Cons(truth))
+    replacement_step(alloc, store, id, Kind::Cons(truth))
 }

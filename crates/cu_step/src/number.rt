@@ -1,9 +1,9 @@
 //! Numbers and characters.
 ghost use Rattle.std.specs.Prelude.{◌≡◌, ◌<◌, IfOk, length, map};
 ghost use Rattle.cu_machine.specs.Graph.{head_at};
-ghost use Rattle.cu_machine.specs.Rewrite.{calculated, computed};
+ghost use Rattle.cu_machine.specs.Rewrite.{arithmetic_step, literal_step};
 ghost use Rattle.cu_step.specs.Moved.{move_of};
-ghost use Rattle.cu_step.specs.Numbers.{character_in, character_of, counted_by, integer_in, on_character, on_integer, on_integers, on_one};
+ghost use Rattle.cu_step.specs.Numbers.{character_in, character_of, integer_in, on_character, on_integer, on_integers, on_one, result_step};
 
 use crate::moved::{self, Moved};
 use crate::operand;
@@ -44,7 +44,7 @@ fn character_in(kind: Kind) -> Option<char>
 
 /// The step to the integer that an operation computed from two, or the
 /// overflow.
-fn counted<S: Store>(
+fn result_step<S: Store>(
     alloc: Global,
     store: S,
     id: u32,
@@ -55,16 +55,16 @@ fn counted<S: Store>(
 ) -> Result<Moved<S>, AllocError>
     requires { id < length (S.content store) }
     ensures { IfOk result (λ moved. move_of S.content moved
-        ≡ counted_by (S.content store) id operation m n result_or_none) }
+        ≡ result_step (S.content store) id operation m n result_or_none) }
 {
     match result_or_none {
-        Some(number) => moved::puts(alloc, store, id, Kind::Lit(Lit::Int(number))),
+        Some(number) => moved::replacement_step(alloc, store, id, Kind::Lit(Lit::Int(number))),
         None => Ok(Moved::Overflow(operation, m, n)),
     }
 }
 
 /// The step of an operation on two integers.
-fn calculated<S: Store>(
+fn arithmetic_step<S: Store>(
     alloc: Global,
     special: &Special,
     store: S,
@@ -75,29 +75,29 @@ fn calculated<S: Store>(
 ) -> Result<Moved<S>, AllocError>
     requires { id < length (S.content store) }
     ensures { IfOk result (λ moved. move_of S.content moved
-        ≡ calculated special.now (S.content store) id operation m n) }
+        ≡ arithmetic_step special.now (S.content store) id operation m n) }
 {
     match operation {
-        Prim::Add => counted(alloc, store, id, operation, m, n, m.checked_add(n)),
-        Prim::Sub => counted(alloc, store, id, operation, m, n, m.checked_sub(n)),
-        Prim::Mul => counted(alloc, store, id, operation, m, n, m.checked_mul(n)),
+        Prim::Add => result_step(alloc, store, id, operation, m, n, m.checked_add(n)),
+        Prim::Sub => result_step(alloc, store, id, operation, m, n, m.checked_sub(n)),
+        Prim::Mul => result_step(alloc, store, id, operation, m, n, m.checked_mul(n)),
         Prim::Div => {
             if n == 0 {
-                return moved::fails(alloc, store, id);
+                return moved::failing_step(alloc, store, id);
             }
-            counted(alloc, store, id, operation, m, n, floor_quotient(m, n))
+            result_step(alloc, store, id, operation, m, n, floor_quotient(m, n))
         }
         Prim::Mod => {
             if n == 0 {
-                return moved::fails(alloc, store, id);
+                return moved::failing_step(alloc, store, id);
             }
-            counted(alloc, store, id, operation, m, n, Some(floor_rest(m, n)))
+            result_step(alloc, store, id, operation, m, n, Some(floor_rest(m, n)))
         }
-        Prim::Less => moved::tells(alloc, special, store, id, m < n),
-        Prim::AtMost => moved::tells(alloc, special, store, id, m <= n),
-        Prim::Greater => moved::tells(alloc, special, store, id, m > n),
-        Prim::AtLeast => moved::tells(alloc, special, store, id, m >= n),
-        _ => moved::fails(alloc, store, id),
+        Prim::Less => moved::truth_step(alloc, special, store, id, m < n),
+        Prim::AtMost => moved::truth_step(alloc, special, store, id, m <= n),
+        Prim::Greater => moved::truth_step(alloc, special, store, id, m > n),
+        Prim::AtLeast => moved::truth_step(alloc, special, store, id, m >= n),
+        _ => moved::failing_step(alloc, store, id),
     }
 }
 
@@ -115,9 +115,9 @@ fn on_character<S: Store>(
     match character {
         Some(c) => {
             let number = Int::from(u32::from(c));
-            moved::puts(alloc, store, id, Kind::Lit(Lit::Int(number)))
+            moved::replacement_step(alloc, store, id, Kind::Lit(Lit::Int(number)))
         }
-        None => moved::fails(alloc, store, id),
+        None => moved::failing_step(alloc, store, id),
     }
 }
 
@@ -133,11 +133,11 @@ fn on_integer<S: Store>(
         ≡ on_integer (S.content store) id number) }
 {
     let Some(n) = number else {
-        return moved::fails(alloc, store, id);
+        return moved::failing_step(alloc, store, id);
     };
     match character_of(n) {
-        Some(c) => moved::puts(alloc, store, id, Kind::Lit(Lit::Char(c))),
-        None => moved::fails(alloc, store, id),
+        Some(c) => moved::replacement_step(alloc, store, id, Kind::Lit(Lit::Char(c))),
+        None => moved::failing_step(alloc, store, id),
     }
 }
 
@@ -156,7 +156,7 @@ fn on_one<S: Store>(
     match operation {
         Prim::Ord => on_character(alloc, store, id, character_in(kind)),
         Prim::Chr => on_integer(alloc, store, id, integer_in(kind)),
-        _ => moved::fails(alloc, store, id),
+        _ => moved::failing_step(alloc, store, id),
     }
 }
 
@@ -176,17 +176,17 @@ fn on_two<S: Store>(
         (integer_in right)) }
 {
     let Some(m) = integer_in(left) else {
-        return moved::fails(alloc, store, id);
+        return moved::failing_step(alloc, store, id);
     };
     let Some(n) = integer_in(right) else {
-        return moved::fails(alloc, store, id);
+        return moved::failing_step(alloc, store, id);
     };
-    calculated(alloc, special, store, id, operation, m, n)
+    arithmetic_step(alloc, special, store, id, operation, m, n)
 }
 
 /// The step of an operation on numbers or characters. On anything else it
 /// fails.
-pub(crate) fn computed<S: Store>(
+pub(crate) fn literal_step<S: Store>(
     alloc: Global,
     special: &Special,
     store: S,
@@ -196,13 +196,13 @@ pub(crate) fn computed<S: Store>(
 ) -> Result<Moved<S>, AllocError>
     requires { id < length (S.content store) }
     ensures { IfOk result (λ moved. move_of S.content moved
-        ≡ computed special.now (S.content store) id operation
+        ≡ literal_step special.now (S.content store) id operation
         (map (λ arg. (head_at (S.content store) arg).kind) args.now)) }
 {
     let kinds = operand::kinds(alloc, &store, args)?;
     match kinds.as_slice() {
         [kind] => on_one(alloc, store, id, operation, *kind),
         [left, right] => on_two(alloc, special, store, id, operation, *left, *right),
-        _ => moved::fails(alloc, store, id),
+        _ => moved::failing_step(alloc, store, id),
     }
 }

@@ -1,7 +1,7 @@
 //! Comparisons and equations of arguments in pairs.
 ghost use Rattle.std.specs.Prelude.{◌≡◌, ◌<◌, ◌≤◌, ◌-◌, ◌++◌, IfOk, OnOk, length};
 ghost use Rattle.cu_machine.specs.Build.{place_of, pushed};
-ghost use Rattle.cu_machine.specs.Rewrite.{in_pairs, joined_from_right, pair_nodes};
+ghost use Rattle.cu_machine.specs.Rewrite.{joined_from_right, pair_nodes, pairwise_step};
 ghost use Rattle.cu_step.specs.Moved.{move_of};
 ghost use Rattle.cu_step.specs.Pairs.{over_pairs};
 
@@ -83,7 +83,7 @@ fn write<S: Store>(
 
 /// The step in which a node becomes one over pairs of arguments, or True where
 /// there are none.
-pub(crate) fn in_pairs<S: Store>(
+pub(crate) fn pairwise_step<S: Store>(
     alloc: Global,
     special: &Special,
     mut store: S,
@@ -94,10 +94,10 @@ pub(crate) fn in_pairs<S: Store>(
 ) -> Result<Moved<S>, AllocError>
     requires { id < length (S.content store) }
     ensures { IfOk result (λ moved. move_of S.content moved
-        ≡ in_pairs special.now each joint (S.content store) id pairs.now) }
+        ≡ pairwise_step special.now each joint (S.content store) id pairs.now) }
 {
     if pairs.is_empty() {
-        return moved::tells(alloc, special, store, id, true);
+        return moved::truth_step(alloc, special, store, id, true);
     }
     write(&mut store, id, each, joint, pairs)?;
     moved::alone(alloc, store)

@@ -3,7 +3,7 @@ ghost use Rattle.std.specs.Prelude.{◌≡◌, ◌<◌, IfOk, IsTrue, length, no
 ghost use Rattle.cu_calculus.specs.declared.builtin.Primitive.TheVariants as prim;
 ghost use Rattle.cu_calculus.specs.WellFormed.{is_well_formed};
 ghost use Rattle.cu_machine.specs.Graph.{node_at};
-ghost use Rattle.cu_machine.specs.Rewrite.{move, operated, rewritten};
+ghost use Rattle.cu_machine.specs.Rewrite.{move, operation_step, rewrite_step};
 ghost use Rattle.cu_machine.specs.Validity.{ArgumentsThere, IsAcyclic, is_set_call};
 ghost use Rattle.cu_step.specs.Moved.{move_of};
 
@@ -14,7 +14,7 @@ use cu_graph::{Kind, Store};
 use std::alloc::{AllocError, Global};
 
 /// The step of `==` on its arguments.
-fn compared<S: Store>(
+fn comparison_step<S: Store>(
     alloc: Global,
     special: &Special,
     store: S,
@@ -23,19 +23,19 @@ fn compared<S: Store>(
 ) -> Result<Moved<S>, AllocError>
     requires { id < length (S.content store) }
     ensures { IfOk result (λ moved. move_of S.content moved
-        ≡ operated special.now (S.content store) id prim.Equal args.now) }
+        ≡ operation_step special.now (S.content store) id prim.Equal args.now) }
 {
     let [a, b] = args else {
-        return moved::sticks(alloc, store, id);
+        return moved::stuck_step(alloc, store, id);
     };
     let left = operand::at(alloc, &store, *a)?;
     let right = operand::at(alloc, &store, *b)?;
-    equal::compared(alloc, special, store, id, &left, &right)
+    equal::comparison_step(alloc, special, store, id, &left, &right)
 }
 
 /// The step of `=:=` on its arguments.
 #[tactic(auto, using(crate::proofs::Operands::operands))]
-fn equated<S: Store>(
+fn unification_step<S: Store>(
     alloc: Global,
     special: &Special,
     store: S,
@@ -46,18 +46,18 @@ fn equated<S: Store>(
     requires arguments { ArgumentsThere (S.content store) }
     requires acyclic { IsAcyclic (S.content store) }
     ensures { IfOk result (λ moved. move_of S.content moved
-        ≡ operated special.now (S.content store) id prim.Unify args.now) }
+        ≡ operation_step special.now (S.content store) id prim.Unify args.now) }
 {
     let [a, b] = args else {
-        return moved::sticks(alloc, store, id);
+        return moved::stuck_step(alloc, store, id);
     };
     let left = operand::at(alloc, &store, *a)?;
     let right = operand::at(alloc, &store, *b)?;
-    unify::equated(alloc, special, store, id, &left, &right)
+    unify::unification_step(alloc, special, store, id, &left, &right)
 }
 
 /// The step of `&` on its arguments.
-fn conjoined<S: Store>(
+fn conjunction_step<S: Store>(
     alloc: Global,
     special: &Special,
     store: S,
@@ -66,19 +66,19 @@ fn conjoined<S: Store>(
 ) -> Result<Moved<S>, AllocError>
     requires { id < length (S.content store) }
     ensures { IfOk result (λ moved. move_of S.content moved
-        ≡ operated special.now (S.content store) id prim.And args.now) }
+        ≡ operation_step special.now (S.content store) id prim.And args.now) }
 {
     let [a, b] = args else {
-        return moved::sticks(alloc, store, id);
+        return moved::stuck_step(alloc, store, id);
     };
     let left = node::kind_at(&store, head::find(&store, *a));
     let right = node::kind_at(&store, head::find(&store, *b));
-    equal::conjoined(alloc, special, store, id, left, right)
+    equal::conjunction_step(alloc, special, store, id, left, right)
 }
 
 /// The step of a built-in operation on its arguments.
 #[tactic(auto, using(crate::proofs::Operands::operands))]
-fn operated<S: Store>(
+fn operation_step<S: Store>(
     alloc: Global,
     special: &Special,
     store: S,
@@ -89,20 +89,21 @@ fn operated<S: Store>(
     requires arguments { ArgumentsThere (S.content store) }
     requires acyclic { IsAcyclic (S.content store) }
     ensures { IfOk result (λ moved. move_of S.content moved
-        ≡ operated special.now (S.content store) id operation (node_at (S.content store) id).args) }
+        ≡ operation_step special.now (S.content store) id operation
+        (node_at (S.content store) id).args) }
 {
     let args = node::args(alloc, &store, id)?;
     match operation {
-        Prim::Equal => compared(alloc, special, store, id, args.as_slice()),
-        Prim::Unify => equated(alloc, special, store, id, args.as_slice()),
-        Prim::And => conjoined(alloc, special, store, id, args.as_slice()),
-        _ => number::computed(alloc, special, store, id, operation, args.as_slice()),
+        Prim::Equal => comparison_step(alloc, special, store, id, args.as_slice()),
+        Prim::Unify => unification_step(alloc, special, store, id, args.as_slice()),
+        Prim::And => conjunction_step(alloc, special, store, id, args.as_slice()),
+        _ => number::literal_step(alloc, special, store, id, operation, args.as_slice()),
     }
 }
 
 /// What becomes of a graph where the node with this index is rewritten. The
 /// call of a set function is rewritten elsewhere, by `begin` of `set_call`.
-pub(crate) fn rewritten<S: Store>(
+pub(crate) fn rewrite_step<S: Store>(
     alloc: Global,
     program: &FlatProgram,
     store: S,
@@ -117,12 +118,12 @@ pub(crate) fn rewritten<S: Store>(
         ≡ move program.now (S.content store) id) }
 {
     match store.kind(id) {
-        Kind::Call(f) => call::unfolded(alloc, program, store, id, f),
-        Kind::Or => call::chosen(alloc, store, id),
-        Kind::Case(mode, e) => case::distinguished(alloc, program, store, id, mode, e),
-        Kind::Apply => apply::applied(alloc, program, store, id),
-        Kind::Prim(operation) => operated(alloc, program.special(), store, id, operation),
+        Kind::Call(f) => call::call_step(alloc, program, store, id, f),
+        Kind::Or => call::choice_step(alloc, store, id),
+        Kind::Case(mode, e) => case::case_step(alloc, program, store, id, mode, e),
+        Kind::Apply => apply::application_step(alloc, program, store, id),
+        Kind::Prim(operation) => operation_step(alloc, program.special(), store, id, operation),
         Kind::SetCall(_) => unreachable!(),
-        _ => moved::sticks(alloc, store, id),
+        _ => moved::stuck_step(alloc, store, id),
     }
 }

@@ -115,7 +115,7 @@ pub(crate) fn begin<S: Store>(
     } = branch;
     let args = node::args(alloc, &store, id)?;
     if occurs::are_reached(alloc, &store, Sought::Part, args.as_slice())? {
-        let graphs = moved::sticks(alloc, store, id)?;
+        let graphs = moved::stuck_step(alloc, store, id)?;
         return following(alloc, graphs, root, goals.as_slice(), limits);
     }
     let Some(values) = arguments(alloc, &store, args.as_slice(), limits.nodes)? else {

@@ -1,7 +1,7 @@
 //! Equations.
 ghost use Rattle.std.specs.Prelude.{◌≡◌, ◌<◌, IfOk, length, true};
 ghost use Rattle.cu_machine.specs.declared.Kind.TheVariants as kind;
-ghost use Rattle.cu_machine.specs.Rewrite.{equated, equated_in_pairs, imitates, renames};
+ghost use Rattle.cu_machine.specs.Rewrite.{binding_step, decomposition_step, imitation_step, unification_step};
 ghost use Rattle.cu_machine.specs.Validity.{ArgumentsThere, IsAcyclic, are_places};
 ghost use Rattle.std.specs.Prelude.{zip};
 ghost use Rattle.cu_step.specs.Moved.{move_of};
@@ -17,7 +17,7 @@ use std::alloc::{AllocError, Global};
 
 /// The step of `=:=` on two like constructors: equations of their arguments in
 /// pairs.
-fn in_pairs<S: Store>(
+fn decomposition_step<S: Store>(
     alloc: Global,
     special: &Special,
     store: S,
@@ -27,17 +27,17 @@ fn in_pairs<S: Store>(
 ) -> Result<Moved<S>, AllocError>
     requires { id < length (S.content store) }
     ensures { IfOk result (λ moved. move_of S.content moved
-        ≡ equated_in_pairs special.now (S.content store) id (zip left.now right.now)) }
+        ≡ decomposition_step special.now (S.content store) id (zip left.now right.now)) }
 {
     let pairs = build::scope_of(alloc, left, right)?;
     let each = Kind::Prim(Prim::Unify);
     let joint = Kind::Prim(Prim::And);
-    pairs::in_pairs(alloc, special, store, id, each, joint, pairs.as_slice())
+    pairs::pairwise_step(alloc, special, store, id, each, joint, pairs.as_slice())
 }
 
 /// The step in which a free variable becomes an Ind of a node, and the equation
 /// holds.
-fn renames<S: Store>(
+fn binding_step<S: Store>(
     alloc: Global,
     special: &Special,
     mut store: S,
@@ -48,16 +48,16 @@ fn renames<S: Store>(
     requires id { id < length (S.content store) }
     requires variable { variable < length (S.content store) }
     ensures { IfOk result (λ moved. move_of S.content moved
-        ≡ renames special.now (S.content store) id variable other) }
+        ≡ binding_step special.now (S.content store) id variable other) }
 {
     store.put(variable, Kind::Ind, &[other])?;
-    moved::tells(alloc, special, store, id, true)
+    moved::truth_step(alloc, special, store, id, true)
 }
 
 /// The step of an equation of a free variable with a constructor over
 /// arguments.
 #[tactic(auto, using(crate::proofs::Imitations::imitations))]
-fn imitates<S: Store>(
+fn imitation_step<S: Store>(
     alloc: Global,
     special: &Special,
     mut store: S,
@@ -72,22 +72,23 @@ fn imitates<S: Store>(
     requires arguments { ArgumentsThere (S.content store) }
     requires acyclic { IsAcyclic (S.content store) }
     ensures { IfOk result (λ moved. move_of S.content moved
-        ≡ imitates special.now (S.content store) id variable other.now.id c other.now.args.items) }
+        ≡ imitation_step special.now (S.content store) id variable other.now.id c
+        other.now.args.items) }
 {
     let args = other.args.as_slice();
     if args.is_empty() {
-        return renames(alloc, special, store, id, variable, other.id);
+        return binding_step(alloc, special, store, id, variable, other.id);
     }
     if occurs::are_reached(alloc, &store, Sought::Variable(variable), args)? {
-        return moved::fails(alloc, store, id);
+        return moved::failing_step(alloc, store, id);
     }
     let fresh = free::to_constructor(alloc, &mut store, variable, c, args.len())?;
-    in_pairs(alloc, special, store, id, fresh.as_slice(), args)
+    decomposition_step(alloc, special, store, id, fresh.as_slice(), args)
 }
 
 /// The step of `=:=`, by the heads of its sides. A partial application equals
 /// nothing.
-pub(crate) fn equated<S: Store>(
+pub(crate) fn unification_step<S: Store>(
     alloc: Global,
     special: &Special,
     store: S,
@@ -103,7 +104,7 @@ pub(crate) fn equated<S: Store>(
     requires arguments { ArgumentsThere (S.content store) }
     requires acyclic { IsAcyclic (S.content store) }
     ensures { IfOk result (λ moved. move_of S.content moved
-        ≡ equated special.now (S.content store) id
+        ≡ unification_step special.now (S.content store) id
         left.now.id left.now.kind left.now.args.items right.now.id right.now.kind
         right.now.args.items) }
 {
@@ -111,35 +112,35 @@ pub(crate) fn equated<S: Store>(
         Kind::Free => match right.kind {
             Kind::Free => {
                 if left.id == right.id {
-                    return moved::tells(alloc, special, store, id, true);
+                    return moved::truth_step(alloc, special, store, id, true);
                 }
-                renames(alloc, special, store, id, left.id, right.id)
+                binding_step(alloc, special, store, id, left.id, right.id)
             }
-            Kind::Lit(_) => renames(alloc, special, store, id, left.id, right.id),
-            Kind::Cons(d) => imitates(alloc, special, store, id, left.id, d, right),
-            _ => moved::fails(alloc, store, id),
+            Kind::Lit(_) => binding_step(alloc, special, store, id, left.id, right.id),
+            Kind::Cons(d) => imitation_step(alloc, special, store, id, left.id, d, right),
+            _ => moved::failing_step(alloc, store, id),
         },
         Kind::Lit(l) => match right.kind {
-            Kind::Free => renames(alloc, special, store, id, right.id, left.id),
+            Kind::Free => binding_step(alloc, special, store, id, right.id, left.id),
             Kind::Lit(m) => {
                 if !is_same_literal(l, m) {
-                    return moved::fails(alloc, store, id);
+                    return moved::failing_step(alloc, store, id);
                 }
-                moved::tells(alloc, special, store, id, true)
+                moved::truth_step(alloc, special, store, id, true)
             }
-            _ => moved::fails(alloc, store, id),
+            _ => moved::failing_step(alloc, store, id),
         },
         Kind::Cons(c) => match right.kind {
-            Kind::Free => imitates(alloc, special, store, id, right.id, c, left),
+            Kind::Free => imitation_step(alloc, special, store, id, right.id, c, left),
             Kind::Cons(d) => {
                 if c.0 != d.0 {
-                    return moved::fails(alloc, store, id);
+                    return moved::failing_step(alloc, store, id);
                 }
                 let (us, vs) = (left.args.as_slice(), right.args.as_slice());
-                in_pairs(alloc, special, store, id, us, vs)
+                decomposition_step(alloc, special, store, id, us, vs)
             }
-            _ => moved::fails(alloc, store, id),
+            _ => moved::failing_step(alloc, store, id),
         },
-        _ => moved::fails(alloc, store, id),
+        _ => moved::failing_step(alloc, store, id),
     }
 }

@@ -4,8 +4,8 @@ use Rattle.cu_step.specs.Needed.{need_of}
 use Rattle.cu_step.proofs.StepLemmas.{need_place}
 use Rattle.cu_step.proofs.by_need.Goals as goal
 
-pub rewritten-requires-clause-id : goal.rewritten-requires-clause-id
-rewritten-requires-clause-id g c κs within =
+pub rewrite_step-requires-clause-id : goal.rewrite_step-requires-clause-id
+rewrite_step-requires-clause-id g c κs within =
     let branch = c.args.branch in
     need_place c.special.result.now.truth (g.S.Store.content branch.store) branch.root c.in-At.id c.requires.arguments c.requires.root
     (sym (ap need_of c.in-At.is) ∙ c.in_ok-find.ensures)

@@ -5,14 +5,14 @@ use Rattle.cu_machine.specs.declared.Kind.TheVariants as kind
 use Rattle.cu_step.specs.Inside.Building.{branch_nests}
 use Rattle.cu_step.specs.Matching.{takes_pattern}
 use Rattle.cu_step.proofs.Nesting.{chosen_nests}
-use Rattle.cu_step.proofs.case.by_head.Goals as goal
+use Rattle.cu_step.proofs.case.scrutinee_step.Goals as goal
 
-pub takes_branch-requires-clause-nests : goal.takes_branch-requires-clause-nests
-takes_branch-requires-clause-nests g c κs within =
+pub branch_step-requires-clause-nests : goal.branch_step-requires-clause-nests
+branch_step-requires-clause-nests g c κs within =
     ap (branch_nests c.args.program.now) c.branch_for-branch.ensures
     ∙ chosen_nests c.args.program.now (takes_pattern (kind.Lit c.in-Lit.l)) (map branch_meaning c.args.branches.now) c.requires.nest
 
-pub takes_branch-requires-in-Cons-clause-nests : goal.takes_branch-requires-in-Cons-clause-nests
-takes_branch-requires-in-Cons-clause-nests g c κs within =
+pub branch_step-requires-in-Cons-clause-nests : goal.branch_step-requires-in-Cons-clause-nests
+branch_step-requires-in-Cons-clause-nests g c κs within =
     ap (branch_nests c.args.program.now) c.branch_for-branch-in-Cons.ensures
     ∙ chosen_nests c.args.program.now (takes_pattern (kind.Cons c.in-Cons.c)) (map branch_meaning c.args.branches.now) c.requires.nest

@@ -6,10 +6,10 @@ use Rattle.cu_calculus.specs.Code.{kept_by}
 use Rattle.cu_calculus.specs.declared.ExprId.{ExprId}
 use Rattle.cu_step.specs.Inside.Building.{branches_nest}
 use Rattle.cu_step.proofs.Nesting.{found_nests}
-use Rattle.cu_step.proofs.case.distinguished.Goals as goal
+use Rattle.cu_step.proofs.case.case_step.Goals as goal
 
-pub by_head-requires-clause-nest : goal.by_head-requires-clause-nest
-by_head-requires-clause-nest g c κs within =
+pub scrutinee_step-requires-clause-nest : goal.scrutinee_step-requires-clause-nest
+scrutinee_step-requires-clause-nest g c κs within =
     let program = c.args.program.now in
     let e : ExprId = record { 0 = c.args.e } in
     ap (λ branches. branches_nest program (map branch_meaning branches)) c.as_slice-3.ensures.value

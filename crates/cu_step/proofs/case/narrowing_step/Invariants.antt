@@ -4,7 +4,7 @@ use Rattle.std.proofs.Common.{◌≡◌, ◌++◌, ◌-◌, drop, length, map}
 use Rattle.std.specs.Prelude.{replicate}
 use Rattle.cu_flat.specs.Meaning.{branch_meaning}
 use Rattle.cu_machine.specs.Rewrite.{bound_to}
-use Rattle.cu_step.proofs.case.narrows.Given as goal
+use Rattle.cu_step.proofs.case.narrowing_step.Given as goal
 
 abbrev pub invariant-loop-pattern : goal.invariant-loop-pattern
 invariant-loop-pattern g l =
