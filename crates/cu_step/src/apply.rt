@@ -8,6 +8,7 @@ ghost use Rattle.cu_step.specs.Moved.{move_of};
 
 use crate::moved::{self, Moved};
 use crate::operand::{self, Operand};
+use crate::redex::Redex;
 use crate::{build, node};
 use cu_flat::{FlatProgram, Head};
 use cu_graph::{Kind, Store};
@@ -29,7 +30,7 @@ fn extended<S: Store>(
         (extended program.now head args.now (arity_of program.now head))) }
 {
     let Some(arity) = program.arity_if_known(head) else {
-        return moved::stuck_step(alloc, store, id);
+        return Redex { alloc, store, id }.stuck_step();
     };
     if args.len() < arity as usize {
         store.put(id, Kind::Part(head), args)?;
@@ -54,11 +55,11 @@ pub(crate) fn application_step<S: Store>(
 {
     let args = node::args(alloc, &store, id)?;
     let [function, argument] = args.as_slice() else {
-        return moved::stuck_step(alloc, store, id);
+        return Redex { alloc, store, id }.stuck_step();
     };
     let Operand { id: _, kind, args } = operand::at(alloc, &store, *function)?;
     let Kind::Part(head) = kind else {
-        return moved::failing_step(alloc, store, id);
+        return Redex { alloc, store, id }.failing_step();
     };
     let mut longer = args;
     longer.push(*argument)?;

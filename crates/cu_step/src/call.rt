@@ -7,6 +7,7 @@ ghost use Rattle.cu_machine.specs.Rewrite.{call_step, choice_step};
 ghost use Rattle.cu_step.specs.Moved.{move_of};
 
 use crate::moved::{self, Moved};
+use crate::redex::Redex;
 use crate::{build, node};
 use cu_flat::{FlatBody, FlatProgram, FunId};
 use cu_graph::{Kind, Store};
@@ -34,8 +35,8 @@ pub(crate) fn call_step<S: Store>(
             build::write(alloc, program, &mut store, scope.as_slice(), id, *body)?;
             moved::alone(alloc, store)
         }
-        Some(FlatBody::External(_)) => moved::stuck_step(alloc, store, id),
-        None => moved::stuck_step(alloc, store, id),
+        Some(FlatBody::External(_)) => Redex { alloc, store, id }.stuck_step(),
+        None => Redex { alloc, store, id }.stuck_step(),
     }
 }
 
@@ -62,7 +63,7 @@ pub(crate) fn choice_step<S: Store>(
 {
     let args = node::args(alloc, &store, id)?;
     let [left, right] = args.as_slice() else {
-        return moved::stuck_step(alloc, store, id);
+        return Redex { alloc, store, id }.stuck_step();
     };
     let (mut first, mut second) = fork_in_two(store)?;
     first.put(id, Kind::Ind, &[*left])?;

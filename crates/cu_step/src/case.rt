@@ -12,6 +12,7 @@ ghost use Rattle.cu_step.specs.Moved.{move_of};
 
 use crate::moved::{self, Moved};
 use crate::operand::{self, Operand};
+use crate::redex::Redex;
 use crate::{build, free, node};
 use cu_flat::{Expr, ExprId, FlatProgram, Lit, Mode, Pattern};
 use cu_graph::{Kind, Store};
@@ -81,7 +82,7 @@ fn branch_step<S: Store>(
         (option_map (λ branch. branch_meaning branch.now) branch.entry)) }
 {
     let Some((pattern, body)) = branch else {
-        return moved::failing_step(alloc, store, id);
+        return Redex { alloc, store, id }.failing_step();
     };
     let bound = match pattern {
         Pattern::Lit(_) => Vec::new(alloc),
@@ -170,8 +171,8 @@ fn scrutinee_step<S: Store>(
             let args = scrutinee.args.as_slice();
             branch_step(alloc, program, store, id, scope, args, branch)
         }
-        Kind::Part(_) => moved::failing_step(alloc, store, id),
-        _ => moved::stuck_step(alloc, store, id),
+        Kind::Part(_) => Redex { alloc, store, id }.failing_step(),
+        _ => Redex { alloc, store, id }.stuck_step(),
     }
 }
 
@@ -192,10 +193,10 @@ pub(crate) fn case_step<S: Store>(
 {
     let args = node::args(alloc, &store, id)?;
     let [scrutinee, values @ ..] = args.as_slice() else {
-        return moved::stuck_step(alloc, store, id);
+        return Redex { alloc, store, id }.stuck_step();
     };
     let Some(Expr::Case(_, _, branches)) = program.find(ExprId(e)) else {
-        return moved::stuck_step(alloc, store, id);
+        return Redex { alloc, store, id }.stuck_step();
     };
     let scope = build::scope_of(alloc, program.kept(ExprId(e)), values)?;
     let head = operand::at(alloc, &store, *scrutinee)?;

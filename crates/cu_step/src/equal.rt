@@ -4,8 +4,9 @@ ghost use Rattle.cu_machine.specs.Rewrite.{comparison_step, conjunction_step, is
 ghost use Rattle.cu_step.specs.Moved.{move_of};
 
 use crate::case::is_same_literal;
-use crate::moved::{self, Moved};
+use crate::moved::Moved;
 use crate::operand::Operand;
+use crate::redex::Redex;
 use crate::{build, pairs};
 use cu_flat::{Prim, Special};
 use cu_graph::{Kind, Store};
@@ -30,22 +31,22 @@ pub(crate) fn comparison_step<S: Store>(
         Kind::Cons(c) => match right.kind {
             Kind::Cons(d) => {
                 if c.0 != d.0 {
-                    return moved::truth_step(alloc, special, store, id, false);
+                    return Redex { alloc, store, id }.truth_step(special, false);
                 }
                 let pairs = build::scope_of(alloc, left.args.as_slice(), right.args.as_slice())?;
                 let each = Kind::Prim(Prim::Equal);
                 let joint = Kind::Call(special.both);
                 pairs::pairwise_step(alloc, special, store, id, each, joint, pairs.as_slice())
             }
-            Kind::Lit(_) => moved::truth_step(alloc, special, store, id, false),
-            _ => moved::failing_step(alloc, store, id),
+            Kind::Lit(_) => Redex { alloc, store, id }.truth_step(special, false),
+            _ => Redex { alloc, store, id }.failing_step(),
         },
         Kind::Lit(l) => match right.kind {
-            Kind::Cons(_) => moved::truth_step(alloc, special, store, id, false),
-            Kind::Lit(m) => moved::truth_step(alloc, special, store, id, is_same_literal(l, m)),
-            _ => moved::failing_step(alloc, store, id),
+            Kind::Cons(_) => Redex { alloc, store, id }.truth_step(special, false),
+            Kind::Lit(m) => Redex { alloc, store, id }.truth_step(special, is_same_literal(l, m)),
+            _ => Redex { alloc, store, id }.failing_step(),
         },
-        _ => moved::failing_step(alloc, store, id),
+        _ => Redex { alloc, store, id }.failing_step(),
     }
 }
 
@@ -73,8 +74,8 @@ pub(crate) fn conjunction_step<S: Store>(
         ≡ conjunction_step special.now (S.content store) id left right) }
 {
     if is_true(special, left) && is_true(special, right) {
-        moved::truth_step(alloc, special, store, id, true)
+        Redex { alloc, store, id }.truth_step(special, true)
     } else {
-        moved::failing_step(alloc, store, id)
+        Redex { alloc, store, id }.failing_step()
     }
 }

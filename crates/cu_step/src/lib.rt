@@ -20,6 +20,7 @@ mod pairs;
 mod pending;
 mod push;
 mod read;
+mod redex;
 mod rewrite;
 mod set_call;
 mod unify;

@@ -4,6 +4,7 @@ ghost use Rattle.cu_machine.specs.Graph.{alone};
 ghost use Rattle.cu_machine.specs.Rewrite.{alone_follows, failing_step, replacement_step, stuck_step, truth_step};
 ghost use Rattle.cu_step.specs.Moved.{move_of};
 
+use crate::redex::Redex;
 use cu_flat::{Int, Prim, Special};
 use cu_graph::{Kind, Store};
 use std::alloc::{AllocError, Global};
@@ -26,57 +27,51 @@ pub(crate) fn alone<S: Store>(alloc: Global, store: S) -> Result<Moved<S>, Alloc
     Ok(Moved::Become(stores))
 }
 
-/// The step that puts a node without arguments in the place of a node.
-pub(crate) fn replacement_step<S: Store>(
-    alloc: Global,
-    mut store: S,
-    id: u32,
-    kind: Kind,
-) -> Result<Moved<S>, AllocError>
-    requires { id < length (S.content store) }
-    ensures { IfOk result (λ moved. move_of S.content moved
-        ≡ replacement_step (S.content store) id (alone kind)) }
-{
-    store.put(id, kind, &[])?;
-    alone(alloc, store)
-}
+impl<S: Store> Redex<S> {
+    /// The step that puts a node without arguments in the place of the redex.
+    pub(crate) fn replacement_step(self, kind: Kind) -> Result<Moved<S>, AllocError>
+        requires { self.id < length (S.content self.store) }
+        ensures { IfOk result (λ moved. move_of S.content moved
+            ≡ replacement_step (S.content self.store) self.id (alone kind)) }
+    {
+        let Redex {
+            alloc,
+            mut store,
+            id,
+        } = self;
+        store.put(id, kind, &[])?;
+        alone(alloc, store)
+    }
 
-/// The step in which a node fails.
-pub(crate) fn failing_step<S: Store>(
-    alloc: Global,
-    store: S,
-    id: u32,
-) -> Result<Moved<S>, AllocError>
-    requires { id < length (S.content store) }
-    ensures { IfOk result (λ moved. move_of S.content moved ≡ failing_step (S.content store) id) }
-{
-    replacement_step(alloc, store, id, Kind::Fail)
-}
+    /// The step in which the redex fails.
+    pub(crate) fn failing_step(self) -> Result<Moved<S>, AllocError>
+        requires { self.id < length (S.content self.store) }
+        ensures { IfOk result (λ moved. move_of S.content moved
+            ≡ failing_step (S.content self.store) self.id) }
+    {
+        self.replacement_step(Kind::Fail)
+    }
 
-/// The step in which a node becomes stuck.
-pub(crate) fn stuck_step<S: Store>(alloc: Global, store: S, id: u32) -> Result<Moved<S>, AllocError>
-    requires { id < length (S.content store) }
-    ensures { IfOk result (λ moved. move_of S.content moved ≡ stuck_step (S.content store) id) }
-{
-    replacement_step(alloc, store, id, Kind::Stuck)
-}
+    /// The step in which the redex becomes stuck.
+    pub(crate) fn stuck_step(self) -> Result<Moved<S>, AllocError>
+        requires { self.id < length (S.content self.store) }
+        ensures { IfOk result (λ moved. move_of S.content moved
+            ≡ stuck_step (S.content self.store) self.id) }
+    {
+        self.replacement_step(Kind::Stuck)
+    }
 
-/// The step in which a node becomes True or False.
-pub(crate) fn truth_step<S: Store>(
-    alloc: Global,
-    special: &Special,
-    store: S,
-    id: u32,
-    answer: bool,
-) -> Result<Moved<S>, AllocError>
-    requires { id < length (S.content store) }
-    ensures { IfOk result (λ moved. move_of S.content moved
-        ≡ truth_step special.now (S.content store) id answer) }
-{
-    let truth = if answer {
-        special.truth
-    } else {
-        special.falsity
-    };
-    replacement_step(alloc, store, id, Kind::Cons(truth))
+    /// The step in which the redex becomes True or False.
+    pub(crate) fn truth_step(self, special: &Special, answer: bool) -> Result<Moved<S>, AllocError>
+        requires { self.id < length (S.content self.store) }
+        ensures { IfOk result (λ moved. move_of S.content moved
+            ≡ truth_step special.now (S.content self.store) self.id answer) }
+    {
+        let truth = if answer {
+            special.truth
+        } else {
+            special.falsity
+        };
+        self.replacement_step(Kind::Cons(truth))
+    }
 }

@@ -7,6 +7,7 @@ ghost use Rattle.cu_step.specs.Pairs.{over_pairs};
 
 use crate::moved::{self, Moved};
 use crate::node;
+use crate::redex::Redex;
 use cu_flat::Special;
 use cu_graph::{Kind, Store};
 use std::alloc::{AllocError, Global};
@@ -97,7 +98,7 @@ pub(crate) fn pairwise_step<S: Store>(
         ≡ pairwise_step special.now each joint (S.content store) id pairs.now) }
 {
     if pairs.is_empty() {
-        return moved::truth_step(alloc, special, store, id, true);
+        return Redex { alloc, store, id }.truth_step(special, true);
     }
     write(&mut store, id, each, joint, pairs)?;
     moved::alone(alloc, store)

@@ -7,8 +7,9 @@ ghost use Rattle.cu_machine.specs.Rewrite.{move, operation_step, rewrite_step};
 ghost use Rattle.cu_machine.specs.Validity.{ArgumentsThere, IsAcyclic, is_set_call};
 ghost use Rattle.cu_step.specs.Moved.{move_of};
 
-use crate::moved::{self, Moved};
-use crate::{apply, call, case, equal, head, node, number, operand, unify};
+use crate::moved::Moved;
+use crate::redex::Redex;
+use crate::{apply, call, case, equal, head, node, operand, unify};
 use cu_flat::{FlatProgram, Prim, Special};
 use cu_graph::{Kind, Store};
 use std::alloc::{AllocError, Global};
@@ -26,7 +27,7 @@ fn comparison_step<S: Store>(
         ≡ operation_step special.now (S.content store) id prim.Equal args.now) }
 {
     let [a, b] = args else {
-        return moved::stuck_step(alloc, store, id);
+        return Redex { alloc, store, id }.stuck_step();
     };
     let left = operand::at(alloc, &store, *a)?;
     let right = operand::at(alloc, &store, *b)?;
@@ -49,7 +50,7 @@ fn unification_step<S: Store>(
         ≡ operation_step special.now (S.content store) id prim.Unify args.now) }
 {
     let [a, b] = args else {
-        return moved::stuck_step(alloc, store, id);
+        return Redex { alloc, store, id }.stuck_step();
     };
     let left = operand::at(alloc, &store, *a)?;
     let right = operand::at(alloc, &store, *b)?;
@@ -69,7 +70,7 @@ fn conjunction_step<S: Store>(
         ≡ operation_step special.now (S.content store) id prim.And args.now) }
 {
     let [a, b] = args else {
-        return moved::stuck_step(alloc, store, id);
+        return Redex { alloc, store, id }.stuck_step();
     };
     let left = node::kind_at(&store, head::find(&store, *a));
     let right = node::kind_at(&store, head::find(&store, *b));
@@ -97,7 +98,7 @@ fn operation_step<S: Store>(
         Prim::Equal => comparison_step(alloc, special, store, id, args.as_slice()),
         Prim::Unify => unification_step(alloc, special, store, id, args.as_slice()),
         Prim::And => conjunction_step(alloc, special, store, id, args.as_slice()),
-        _ => number::literal_step(alloc, special, store, id, operation, args.as_slice()),
+        _ => Redex { alloc, store, id }.literal_step(special, operation, args.as_slice()),
     }
 }
 
@@ -124,6 +125,6 @@ pub(crate) fn rewrite_step<S: Store>(
         Kind::Apply => apply::application_step(alloc, program, store, id),
         Kind::Prim(operation) => operation_step(alloc, program.special(), store, id, operation),
         Kind::SetCall(_) => unreachable!(),
-        _ => moved::stuck_step(alloc, store, id),
+        _ => Redex { alloc, store, id }.stuck_step(),
     }
 }

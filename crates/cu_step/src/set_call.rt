@@ -13,7 +13,8 @@ ghost use Rattle.cu_step.specs.Outcome.{is_inner, next_of, state_of};
 use crate::branch::{Branch, Running, Search};
 use crate::occurs::Sought;
 use crate::push::push_value;
-use crate::{Outcome, build, following, is_too_large, moved, node, occurs, read, too_large};
+use crate::redex::Redex;
+use crate::{Outcome, build, following, is_too_large, node, occurs, read, too_large};
 use cu_flat::{FlatProgram, FunId};
 use cu_graph::Store;
 use cu_machine::Limits;
@@ -115,7 +116,7 @@ pub(crate) fn begin<S: Store>(
     } = branch;
     let args = node::args(alloc, &store, id)?;
     if occurs::are_reached(alloc, &store, Sought::Part, args.as_slice())? {
-        let graphs = moved::stuck_step(alloc, store, id)?;
+        let graphs = Redex { alloc, store, id }.stuck_step()?;
         return following(alloc, graphs, root, goals.as_slice(), limits);
     }
     let Some(values) = arguments(alloc, &store, args.as_slice(), limits.nodes)? else {

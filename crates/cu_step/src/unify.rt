@@ -7,9 +7,10 @@ ghost use Rattle.std.specs.Prelude.{zip};
 ghost use Rattle.cu_step.specs.Moved.{move_of};
 
 use crate::case::is_same_literal;
-use crate::moved::{self, Moved};
+use crate::moved::Moved;
 use crate::occurs::Sought;
 use crate::operand::Operand;
+use crate::redex::Redex;
 use crate::{build, free, occurs, pairs};
 use cu_flat::{ConId, Prim, Special};
 use cu_graph::{Kind, Store};
@@ -51,7 +52,7 @@ fn binding_step<S: Store>(
         ≡ binding_step special.now (S.content store) id variable other) }
 {
     store.put(variable, Kind::Ind, &[other])?;
-    moved::truth_step(alloc, special, store, id, true)
+    Redex { alloc, store, id }.truth_step(special, true)
 }
 
 /// The step of an equation of a free variable with a constructor over
@@ -80,7 +81,7 @@ fn imitation_step<S: Store>(
         return binding_step(alloc, special, store, id, variable, other.id);
     }
     if occurs::are_reached(alloc, &store, Sought::Variable(variable), args)? {
-        return moved::failing_step(alloc, store, id);
+        return Redex { alloc, store, id }.failing_step();
     }
     let fresh = free::to_constructor(alloc, &mut store, variable, c, args.len())?;
     decomposition_step(alloc, special, store, id, fresh.as_slice(), args)
@@ -112,35 +113,35 @@ pub(crate) fn unification_step<S: Store>(
         Kind::Free => match right.kind {
             Kind::Free => {
                 if left.id == right.id {
-                    return moved::truth_step(alloc, special, store, id, true);
+                    return Redex { alloc, store, id }.truth_step(special, true);
                 }
                 binding_step(alloc, special, store, id, left.id, right.id)
             }
             Kind::Lit(_) => binding_step(alloc, special, store, id, left.id, right.id),
             Kind::Cons(d) => imitation_step(alloc, special, store, id, left.id, d, right),
-            _ => moved::failing_step(alloc, store, id),
+            _ => Redex { alloc, store, id }.failing_step(),
         },
         Kind::Lit(l) => match right.kind {
             Kind::Free => binding_step(alloc, special, store, id, right.id, left.id),
             Kind::Lit(m) => {
                 if !is_same_literal(l, m) {
-                    return moved::failing_step(alloc, store, id);
+                    return Redex { alloc, store, id }.failing_step();
                 }
-                moved::truth_step(alloc, special, store, id, true)
+                Redex { alloc, store, id }.truth_step(special, true)
             }
-            _ => moved::failing_step(alloc, store, id),
+            _ => Redex { alloc, store, id }.failing_step(),
         },
         Kind::Cons(c) => match right.kind {
             Kind::Free => imitation_step(alloc, special, store, id, right.id, c, left),
             Kind::Cons(d) => {
                 if c.0 != d.0 {
-                    return moved::failing_step(alloc, store, id);
+                    return Redex { alloc, store, id }.failing_step();
                 }
                 let (us, vs) = (left.args.as_slice(), right.args.as_slice());
                 decomposition_step(alloc, special, store, id, us, vs)
             }
-            _ => moved::failing_step(alloc, store, id),
+            _ => Redex { alloc, store, id }.failing_step(),
         },
-        _ => moved::failing_step(alloc, store, id),
+        _ => Redex { alloc, store, id }.failing_step(),
     }
 }
