@@ -10,7 +10,7 @@ use crate::node;
 use crate::redex::Redex;
 use cu_flat::Special;
 use cu_graph::{Kind, Store};
-use std::alloc::{AllocError, Global};
+use std::alloc::AllocError;
 
 /// Pushes a node over each pair, from the left.
 fn push_each<S: Store>(store: &mut S, each: Kind, pairs: &[(u32, u32)]) -> Result<(), AllocError>
@@ -82,24 +82,29 @@ fn write<S: Store>(
     write_several(store, id, each, joint, pairs)
 }
 
-/// The step in which a node becomes one over pairs of arguments, or True where
-/// there are none.
-pub(crate) fn pairwise_step<S: Store>(
-    alloc: Global,
-    special: &Special,
-    mut store: S,
-    id: u32,
-    each: Kind,
-    joint: Kind,
-    pairs: &[(u32, u32)],
-) -> Result<Moved<S>, AllocError>
-    requires { id < length (S.content store) }
-    ensures { IfOk result (λ moved. move_of S.content moved
-        ≡ pairwise_step special.now each joint (S.content store) id pairs.now) }
-{
-    if pairs.is_empty() {
-        return Redex { alloc, store, id }.truth_step(special, true);
+impl<S: Store> Redex<S> {
+    /// The step in which the redex becomes a node over pairs of arguments, or
+    /// True where there are none.
+    pub(crate) fn pairwise_step(
+        self,
+        special: &Special,
+        each: Kind,
+        joint: Kind,
+        pairs: &[(u32, u32)],
+    ) -> Result<Moved<S>, AllocError>
+        requires { self.id < length (S.content self.store) }
+        ensures { IfOk result (λ moved. move_of S.content moved
+            ≡ pairwise_step special.now each joint (S.content self.store) self.id pairs.now) }
+    {
+        if pairs.is_empty() {
+            return self.truth_step(special, true);
+        }
+        let Redex {
+            alloc,
+            mut store,
+            id,
+        } = self;
+        write(&mut store, id, each, joint, pairs)?;
+        moved::alone(alloc, store)
     }
-    write(&mut store, id, each, joint, pairs)?;
-    moved::alone(alloc, store)
 }

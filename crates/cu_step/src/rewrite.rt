@@ -9,7 +9,7 @@ ghost use Rattle.cu_step.specs.Moved.{move_of};
 
 use crate::moved::Moved;
 use crate::redex::Redex;
-use crate::{apply, call, case, equal, head, node, operand, unify};
+use crate::{apply, call, case, head, node, operand};
 use cu_flat::{FlatProgram, Prim, Special};
 use cu_graph::{Kind, Store};
 use std::alloc::{AllocError, Global};
@@ -31,7 +31,7 @@ fn comparison_step<S: Store>(
     };
     let left = operand::at(alloc, &store, *a)?;
     let right = operand::at(alloc, &store, *b)?;
-    equal::comparison_step(alloc, special, store, id, &left, &right)
+    Redex { alloc, store, id }.comparison_step(special, &left, &right)
 }
 
 /// The step of `=:=` on its arguments.
@@ -54,7 +54,7 @@ fn unification_step<S: Store>(
     };
     let left = operand::at(alloc, &store, *a)?;
     let right = operand::at(alloc, &store, *b)?;
-    unify::unification_step(alloc, special, store, id, &left, &right)
+    Redex { alloc, store, id }.unification_step(special, &left, &right)
 }
 
 /// The step of `&` on its arguments.
@@ -74,7 +74,7 @@ fn conjunction_step<S: Store>(
     };
     let left = node::kind_at(&store, head::find(&store, *a));
     let right = node::kind_at(&store, head::find(&store, *b));
-    equal::conjunction_step(alloc, special, store, id, left, right)
+    Redex { alloc, store, id }.conjunction_step(special, left, right)
 }
 
 /// The step of a built-in operation on its arguments.
