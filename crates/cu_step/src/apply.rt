@@ -12,56 +12,56 @@ use crate::redex::Redex;
 use crate::{build, node};
 use cu_flat::{FlatProgram, Head};
 use cu_graph::{Kind, Store};
-use std::alloc::{AllocError, Global};
+use std::alloc::AllocError;
 
-/// The node of a head over more arguments: a partial application still, or a
-/// whole call.
-fn extended<S: Store>(
-    alloc: Global,
-    program: &FlatProgram,
-    mut store: S,
-    id: u32,
-    head: Head,
-    args: &[u32],
-) -> Result<Moved<S>, AllocError>
-    requires { id < length (S.content store) }
-    ensures { IfOk result (λ moved. move_of S.content moved
-        ≡ replacement_step (S.content store) id
-        (extended program.now head args.now (arity_of program.now head))) }
-{
-    let Some(arity) = program.arity_if_known(head) else {
-        return Redex { alloc, store, id }.stuck_step();
-    };
-    if args.len() < arity as usize {
-        store.put(id, Kind::Part(head), args)?;
-    } else {
-        store.put(id, build::kind_of_whole(program, head), args)?;
+impl<S: Store> Redex<S> {
+    /// The step to a head over more arguments: a partial application still, or
+    /// a whole call.
+    fn extended(
+        self,
+        program: &FlatProgram,
+        head: Head,
+        args: &[u32],
+    ) -> Result<Moved<S>, AllocError>
+        requires { self.id < length (S.content self.store) }
+        ensures { IfOk result (λ moved. move_of S.content moved
+            ≡ replacement_step (S.content self.store) self.id
+            (extended program.now head args.now (arity_of program.now head))) }
+    {
+        let Some(arity) = program.arity_if_known(head) else {
+            return self.stuck_step();
+        };
+        let Redex {
+            alloc,
+            mut store,
+            id,
+        } = self;
+        if args.len() < arity as usize {
+            store.put(id, Kind::Part(head), args)?;
+        } else {
+            store.put(id, build::kind_of_whole(program, head), args)?;
+        }
+        moved::alone(alloc, store)
     }
-    moved::alone(alloc, store)
-}
 
-/// The step of an application. A partial application takes one argument more;
-/// nothing else can be applied.
-pub(crate) fn application_step<S: Store>(
-    alloc: Global,
-    program: &FlatProgram,
-    store: S,
-    id: u32,
-) -> Result<Moved<S>, AllocError>
-    requires { id < length (S.content store) }
-    ensures { IfOk result (λ moved. move_of S.content moved
-        ≡ rewrite_step program.now (S.content store) id kind.Apply
-        (node_at (S.content store) id).args) }
-{
-    let args = node::args(alloc, &store, id)?;
-    let [function, argument] = args.as_slice() else {
-        return Redex { alloc, store, id }.stuck_step();
-    };
-    let Operand { id: _, kind, args } = operand::at(alloc, &store, *function)?;
-    let Kind::Part(head) = kind else {
-        return Redex { alloc, store, id }.failing_step();
-    };
-    let mut longer = args;
-    longer.push(*argument)?;
-    extended(alloc, program, store, id, head, longer.as_slice())
+    /// The step of an application. A partial application takes one argument
+    /// more; nothing else can be applied.
+    pub(crate) fn application_step(self, program: &FlatProgram) -> Result<Moved<S>, AllocError>
+        requires { self.id < length (S.content self.store) }
+        ensures { IfOk result (λ moved. move_of S.content moved
+            ≡ rewrite_step program.now (S.content self.store) self.id kind.Apply
+            (node_at (S.content self.store) self.id).args) }
+    {
+        let args = node::args(self.alloc, &self.store, self.id)?;
+        let [function, argument] = args.as_slice() else {
+            return self.stuck_step();
+        };
+        let Operand { id: _, kind, args } = operand::at(self.alloc, &self.store, *function)?;
+        let Kind::Part(head) = kind else {
+            return self.failing_step();
+        };
+        let mut longer = args;
+        longer.push(*argument)?;
+        self.extended(program, head, longer.as_slice())
+    }
 }

@@ -11,34 +11,7 @@ use crate::redex::Redex;
 use crate::{build, node};
 use cu_flat::{FlatBody, FlatProgram, FunId};
 use cu_graph::{Kind, Store};
-use std::alloc::{AllocError, Global};
-
-/// The step of a call, which becomes its function's right side, where the
-/// parameters stand for the arguments.
-pub(crate) fn call_step<S: Store>(
-    alloc: Global,
-    program: &FlatProgram,
-    mut store: S,
-    id: u32,
-    f: FunId,
-) -> Result<Moved<S>, AllocError>
-    requires code { IsTrue (is_well_formed program.now) }
-    requires id { id < length (S.content store) }
-    ensures { IfOk result (λ moved. move_of S.content moved
-        ≡ call_step program.now (S.content store) id
-        (node_at (S.content store) id).args (body_of program.now f)) }
-{
-    match program.body(f) {
-        Some(FlatBody::Rule(params, body)) => {
-            let args = node::args(alloc, &store, id)?;
-            let scope = build::scope_of(alloc, params.as_slice(), args.as_slice())?;
-            build::write(alloc, program, &mut store, scope.as_slice(), id, *body)?;
-            moved::alone(alloc, store)
-        }
-        Some(FlatBody::External(_)) => Redex { alloc, store, id }.stuck_step(),
-        None => Redex { alloc, store, id }.stuck_step(),
-    }
-}
+use std::alloc::AllocError;
 
 /// Two graphs with the same nodes.
 fn fork_in_two<S: Store>(store: S) -> Result<(S, S), AllocError>
@@ -51,25 +24,52 @@ fn fork_in_two<S: Store>(store: S) -> Result<(S, S), AllocError>
     Ok((first, second))
 }
 
-/// The step of a choice, which becomes its left argument, and its right one.
-pub(crate) fn choice_step<S: Store>(
-    alloc: Global,
-    store: S,
-    id: u32,
-) -> Result<Moved<S>, AllocError>
-    requires { id < length (S.content store) }
-    ensures { IfOk result (λ moved. move_of S.content moved
-        ≡ choice_step (S.content store) id (node_at (S.content store) id).args) }
-{
-    let args = node::args(alloc, &store, id)?;
-    let [left, right] = args.as_slice() else {
-        return Redex { alloc, store, id }.stuck_step();
-    };
-    let (mut first, mut second) = fork_in_two(store)?;
-    first.put(id, Kind::Ind, &[*left])?;
-    second.put(id, Kind::Ind, &[*right])?;
-    let mut stores = Vec::with_capacity(alloc, 2)?;
-    stores.push(first)?;
-    stores.push(second)?;
-    Ok(Moved::Become(stores))
+impl<S: Store> Redex<S> {
+    /// The step of a call, which becomes its function's right side, where the
+    /// parameters stand for the arguments.
+    pub(crate) fn call_step(self, program: &FlatProgram, f: FunId) -> Result<Moved<S>, AllocError>
+        requires code { IsTrue (is_well_formed program.now) }
+        requires id { self.id < length (S.content self.store) }
+        ensures { IfOk result (λ moved. move_of S.content moved
+            ≡ call_step program.now (S.content self.store) self.id
+            (node_at (S.content self.store) self.id).args (body_of program.now f)) }
+    {
+        match program.body(f) {
+            Some(FlatBody::Rule(params, body)) => {
+                let Redex {
+                    alloc,
+                    mut store,
+                    id,
+                } = self;
+                let args = node::args(alloc, &store, id)?;
+                let scope = build::scope_of(alloc, params.as_slice(), args.as_slice())?;
+                build::write(alloc, program, &mut store, scope.as_slice(), id, *body)?;
+                moved::alone(alloc, store)
+            }
+            Some(FlatBody::External(_)) => self.stuck_step(),
+            None => self.stuck_step(),
+        }
+    }
+
+    /// The step of a choice, which becomes its left argument, and its right
+    /// one.
+    pub(crate) fn choice_step(self) -> Result<Moved<S>, AllocError>
+        requires { self.id < length (S.content self.store) }
+        ensures { IfOk result (λ moved. move_of S.content moved
+            ≡ choice_step (S.content self.store) self.id
+            (node_at (S.content self.store) self.id).args) }
+    {
+        let args = node::args(self.alloc, &self.store, self.id)?;
+        let [left, right] = args.as_slice() else {
+            return self.stuck_step();
+        };
+        let Redex { alloc, store, id } = self;
+        let (mut first, mut second) = fork_in_two(store)?;
+        first.put(id, Kind::Ind, &[*left])?;
+        second.put(id, Kind::Ind, &[*right])?;
+        let mut stores = Vec::with_capacity(alloc, 2)?;
+        stores.push(first)?;
+        stores.push(second)?;
+        Ok(Moved::Become(stores))
+    }
 }

@@ -63,37 +63,6 @@ fn branch_for(branches: &[(Pattern, ExprId)], kind: Kind) -> Option<&(Pattern, E
     None
 }
 
-/// The step into a branch, which is built over the case distinction. The
-/// variables of its pattern stand for the scrutinee's arguments.
-fn branch_step<S: Store>(
-    alloc: Global,
-    program: &FlatProgram,
-    mut store: S,
-    id: u32,
-    scope: &[(u32, u32)],
-    args: &[u32],
-    branch: Option<&(Pattern, ExprId)>,
-) -> Result<Moved<S>, AllocError>
-    requires id { id < length (S.content store) }
-    requires nests { branch_nests program.now
-        (option_map (λ branch. branch_meaning branch.now) branch) ≡ true }
-    ensures { IfOk result (λ moved. move_of S.content moved
-        ≡ branch_step program.now scope.now (S.content store) id args.now
-        (option_map (λ branch. branch_meaning branch.now) branch.entry)) }
-{
-    let Some((pattern, body)) = branch else {
-        return Redex { alloc, store, id }.failing_step();
-    };
-    let bound = match pattern {
-        Pattern::Lit(_) => Vec::new(alloc),
-        Pattern::Con(_, variables) => build::scope_of(alloc, variables.as_slice(), args)?,
-    };
-    let mut inner = Vec::from_slice(alloc, scope)?;
-    inner.extend_from_slice(bound.as_slice())?;
-    build::write(alloc, program, &mut store, inner.as_slice(), id, *body)?;
-    moved::alone(alloc, store)
-}
-
 /// The graph in which a free variable became what a pattern asks for.
 fn bound_to<S: Store>(
     alloc: Global,
@@ -142,71 +111,96 @@ fn narrowing_step<S: Store>(
     Ok(Moved::Become(stores))
 }
 
-/// The step of a case distinction, by the head of its scrutinee.
-fn scrutinee_step<S: Store>(
-    alloc: Global,
-    program: &FlatProgram,
-    store: S,
-    id: u32,
-    scope: &[(u32, u32)],
-    branches: &[(Pattern, ExprId)],
-    scrutinee: &Operand,
-) -> Result<Moved<S>, AllocError>
-    requires id { id < length (S.content store) }
-    requires nest { branches_nest program.now (map branch_meaning branches.now) ≡ true }
-    requires free { scrutinee.now.kind ≡ kind.Free → scrutinee.now.id < length (S.content store) }
-    ensures { IfOk result (λ moved. move_of S.content moved
-        ≡ scrutinee_step program.now scope.now (S.content store) id
-        (map branch_meaning branches.now) scrutinee.now.id scrutinee.now.kind
-        scrutinee.now.args.items) }
-{
-    match scrutinee.kind {
-        Kind::Free => narrowing_step(alloc, store, scrutinee.id, branches),
-        Kind::Lit(l) => {
-            let branch = branch_for(branches, Kind::Lit(l));
-            branch_step(alloc, program, store, id, scope, &[], branch)
-        }
-        Kind::Cons(c) => {
-            let branch = branch_for(branches, Kind::Cons(c));
-            let args = scrutinee.args.as_slice();
-            branch_step(alloc, program, store, id, scope, args, branch)
-        }
-        Kind::Part(_) => Redex { alloc, store, id }.failing_step(),
-        _ => Redex { alloc, store, id }.stuck_step(),
+impl<S: Store> Redex<S> {
+    /// The step into a branch, which is built over the case distinction. The
+    /// variables of its pattern stand for the scrutinee's arguments.
+    fn branch_step(
+        self,
+        program: &FlatProgram,
+        scope: &[(u32, u32)],
+        args: &[u32],
+        branch: Option<&(Pattern, ExprId)>,
+    ) -> Result<Moved<S>, AllocError>
+        requires id { self.id < length (S.content self.store) }
+        requires nests { branch_nests program.now
+            (option_map (λ branch. branch_meaning branch.now) branch) ≡ true }
+        ensures { IfOk result (λ moved. move_of S.content moved
+            ≡ branch_step program.now scope.now (S.content self.store) self.id args.now
+            (option_map (λ branch. branch_meaning branch.now) branch.entry)) }
+    {
+        let Some((pattern, body)) = branch else {
+            return self.failing_step();
+        };
+        let Redex {
+            alloc,
+            mut store,
+            id,
+        } = self;
+        let bound = match pattern {
+            Pattern::Lit(_) => Vec::new(alloc),
+            Pattern::Con(_, variables) => build::scope_of(alloc, variables.as_slice(), args)?,
+        };
+        let mut inner = Vec::from_slice(alloc, scope)?;
+        inner.extend_from_slice(bound.as_slice())?;
+        build::write(alloc, program, &mut store, inner.as_slice(), id, *body)?;
+        moved::alone(alloc, store)
     }
-}
 
-/// The step of a case distinction.
-pub(crate) fn case_step<S: Store>(
-    alloc: Global,
-    program: &FlatProgram,
-    store: S,
-    id: u32,
-    mode: Mode,
-    e: usize,
-) -> Result<Moved<S>, AllocError>
-    requires code { IsTrue (is_well_formed program.now) }
-    requires id { id < length (S.content store) }
-    ensures { IfOk result (λ moved. move_of S.content moved
-        ≡ rewrite_step program.now (S.content store) id (kind.Case mode e)
-        (node_at (S.content store) id).args) }
-{
-    let args = node::args(alloc, &store, id)?;
-    let [scrutinee, values @ ..] = args.as_slice() else {
-        return Redex { alloc, store, id }.stuck_step();
-    };
-    let Some(Expr::Case(_, _, branches)) = program.find(ExprId(e)) else {
-        return Redex { alloc, store, id }.stuck_step();
-    };
-    let scope = build::scope_of(alloc, program.kept(ExprId(e)), values)?;
-    let head = operand::at(alloc, &store, *scrutinee)?;
-    scrutinee_step(
-        alloc,
-        program,
-        store,
-        id,
-        scope.as_slice(),
-        branches.as_slice(),
-        &head,
-    )
+    /// The step of a case distinction, by the head of its scrutinee.
+    fn scrutinee_step(
+        self,
+        program: &FlatProgram,
+        scope: &[(u32, u32)],
+        branches: &[(Pattern, ExprId)],
+        scrutinee: &Operand,
+    ) -> Result<Moved<S>, AllocError>
+        requires id { self.id < length (S.content self.store) }
+        requires nest { branches_nest program.now (map branch_meaning branches.now) ≡ true }
+        requires free { scrutinee.now.kind ≡ kind.Free
+            → scrutinee.now.id < length (S.content self.store) }
+        ensures { IfOk result (λ moved. move_of S.content moved
+            ≡ scrutinee_step program.now scope.now (S.content self.store) self.id
+            (map branch_meaning branches.now) scrutinee.now.id scrutinee.now.kind
+            scrutinee.now.args.items) }
+    {
+        match scrutinee.kind {
+            Kind::Free => narrowing_step(self.alloc, self.store, scrutinee.id, branches),
+            Kind::Lit(l) => {
+                let branch = branch_for(branches, Kind::Lit(l));
+                self.branch_step(program, scope, &[], branch)
+            }
+            Kind::Cons(c) => {
+                let branch = branch_for(branches, Kind::Cons(c));
+                let args = scrutinee.args.as_slice();
+                self.branch_step(program, scope, args, branch)
+            }
+            Kind::Part(_) => self.failing_step(),
+            _ => self.stuck_step(),
+        }
+    }
+
+    /// The step of a case distinction.
+    pub(crate) fn case_step(
+        self,
+        program: &FlatProgram,
+        mode: Mode,
+        e: usize,
+    ) -> Result<Moved<S>, AllocError>
+        requires code { IsTrue (is_well_formed program.now) }
+        requires id { self.id < length (S.content self.store) }
+        ensures { IfOk result (λ moved. move_of S.content moved
+            ≡ rewrite_step program.now (S.content self.store) self.id (kind.Case mode e)
+            (node_at (S.content self.store) self.id).args) }
+    {
+        let args = node::args(self.alloc, &self.store, self.id)?;
+        let [scrutinee, values @ ..] = args.as_slice() else {
+            return self.stuck_step();
+        };
+        let Some(Expr::Case(_, _, branches)) = program.find(ExprId(e)) else {
+            return self.stuck_step();
+        };
+        let scope = build::scope_of(self.alloc, program.kept(ExprId(e)), values)?;
+        let head = operand::at(self.alloc, &self.store, *scrutinee)?;
+        self.scrutinee_step(program, scope.as_slice(), branches.as_slice(), &head)
+    }
 }

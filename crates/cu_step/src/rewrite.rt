@@ -9,7 +9,7 @@ ghost use Rattle.cu_step.specs.Moved.{move_of};
 
 use crate::moved::Moved;
 use crate::redex::Redex;
-use crate::{apply, call, case, head, node, operand};
+use crate::{head, node, operand};
 use cu_flat::{FlatProgram, Prim, Special};
 use cu_graph::{Kind, Store};
 use std::alloc::{AllocError, Global};
@@ -119,10 +119,10 @@ pub(crate) fn rewrite_step<S: Store>(
         ≡ move program.now (S.content store) id) }
 {
     match store.kind(id) {
-        Kind::Call(f) => call::call_step(alloc, program, store, id, f),
-        Kind::Or => call::choice_step(alloc, store, id),
-        Kind::Case(mode, e) => case::case_step(alloc, program, store, id, mode, e),
-        Kind::Apply => apply::application_step(alloc, program, store, id),
+        Kind::Call(f) => Redex { alloc, store, id }.call_step(program, f),
+        Kind::Or => Redex { alloc, store, id }.choice_step(),
+        Kind::Case(mode, e) => Redex { alloc, store, id }.case_step(program, mode, e),
+        Kind::Apply => Redex { alloc, store, id }.application_step(program),
         Kind::Prim(operation) => operation_step(alloc, program.special(), store, id, operation),
         Kind::SetCall(_) => unreachable!(),
         _ => Redex { alloc, store, id }.stuck_step(),

@@ -6,7 +6,7 @@ use Rattle.cu_calculus.specs.Code.{kept_by}
 use Rattle.cu_calculus.specs.declared.ExprId.{ExprId}
 use Rattle.cu_step.specs.Inside.Building.{branches_nest}
 use Rattle.cu_step.proofs.Nesting.{found_nests}
-use Rattle.cu_step.proofs.case.case_step.Goals as goal
+use Rattle.cu_step.proofs.redex.Redex.case_step.Goals as goal
 
 pub scrutinee_step-requires-clause-nest : goal.scrutinee_step-requires-clause-nest
 scrutinee_step-requires-clause-nest g c κs within =

@@ -2,7 +2,7 @@
 use Rattle.std.proofs.Common.{refl}
 use Rattle.cu_flat.specs.declared.expr.FlatBody.TheVariants as body
 use Rattle.cu_step.proofs.Nesting.{rule_nests}
-use Rattle.cu_step.proofs.call.call_step.Goals as goal
+use Rattle.cu_step.proofs.redex.Redex.call_step.Goals as goal
 
 pub write-requires-clause-nests : goal.write-requires-clause-nests
 write-requires-clause-nests g c κs within =

@@ -5,7 +5,7 @@ use Rattle.cu_machine.specs.declared.Kind.TheVariants as kind
 use Rattle.cu_step.specs.Inside.Building.{branch_nests}
 use Rattle.cu_step.specs.Matching.{takes_pattern}
 use Rattle.cu_step.proofs.Nesting.{chosen_nests}
-use Rattle.cu_step.proofs.case.scrutinee_step.Goals as goal
+use Rattle.cu_step.proofs.redex.Redex.scrutinee_step.Goals as goal
 
 pub branch_step-requires-clause-nests : goal.branch_step-requires-clause-nests
 branch_step-requires-clause-nests g c κs within =
