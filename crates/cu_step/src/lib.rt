@@ -51,6 +51,7 @@ use moved::Moved;
 use need::Needed;
 pub use push::push_value;
 pub use read::Reading;
+use redex::Redex;
 use std::alloc::{AllocError, Global};
 
 /// What becomes of a branch in one step.
@@ -215,7 +216,7 @@ fn rewrite_step<S: Store>(
                 goals,
                 search: _,
             } = branch;
-            let graphs = rewrite::rewrite_step(alloc, program, store, id)?;
+            let graphs = Redex { alloc, store, id }.rewrite_step(program)?;
             following(alloc, graphs, root, goals.as_slice(), limits)
         }
     }
