@@ -4,9 +4,13 @@ ghost use Rattle.std.specs.Prelude.{◌≡◌, ◌<◌, [], ◌∷◌, ◌++◌,
 ghost use Rattle.cu_calculus.specs.Code.{body_of, expr_of};
 ghost use Rattle.cu_machine.specs.Build.{kind_of_call, kind_of_whole, place_in, write};
 ghost use Rattle.cu_machine.specs.Graph.{Graph};
+ghost use Rattle.cu_machine.specs.Rewrite.{alone_follows};
 ghost use Rattle.cu_step.specs.Inside.Building.{argument, begun, bound_last, finished, left_by, nests, node_tasks, performed, state_of, tasks_of, with_free, with_node, with_value};
+ghost use Rattle.cu_step.specs.Moved.{move_of};
 
+use crate::moved::{self, Moved};
 use crate::node;
+use crate::redex::Redex;
 use cu_flat::{Expr, ExprId, FlatBody, FlatProgram, FunId, Head, Prim};
 use cu_graph::{Kind, Store};
 use std::alloc::{AllocError, Global};
@@ -357,30 +361,35 @@ impl Work {
     }
 }
 
-/// Builds an expression over the node with this index. Its variables have
-/// values at the indices that the scope says, in which the last binding of a
-/// variable counts.
-pub(crate) fn write<S: Store>(
-    alloc: Global,
-    program: &FlatProgram,
-    store: &mut S,
-    scope: &[(u32, u32)],
-    id: u32,
-    e: ExprId,
-) -> Result<(), AllocError>
-    requires id { id < length (S.content store.old) }
-    requires nests { nests program.now e ≡ true }
-    ensures { OnOk result (S.content store.new
-        ≡ write program.now scope.now (S.content store.old) id e) }
-{
-    let mut work = Work {
-        root: id,
-        tasks: vec![in alloc; Task::Build(e, Target::Root)]?,
-        ids: Vec::new(alloc),
-        scope: Vec::from_slice(alloc, scope)?,
-    };
-    while let Some(task) = work.tasks.pop() {
-        work.perform(program, store, task)?;
+impl<S: Store> Redex<S> {
+    /// The step in which an expression is built over the redex. Its variables
+    /// have values at the indices that the scope says, in which the last
+    /// binding of a variable counts.
+    pub(crate) fn building_step(
+        self,
+        program: &FlatProgram,
+        scope: &[(u32, u32)],
+        e: ExprId,
+    ) -> Result<Moved<S>, AllocError>
+        requires id { self.id < length (S.content self.store) }
+        requires nests { nests program.now e ≡ true }
+        ensures { IfOk result (λ moved. move_of S.content moved
+            ≡ alone_follows (write program.now scope.now (S.content self.store) self.id e)) }
+    {
+        let Redex {
+            alloc,
+            mut store,
+            id,
+        } = self;
+        let mut work = Work {
+            root: id,
+            tasks: vec![in alloc; Task::Build(e, Target::Root)]?,
+            ids: Vec::new(alloc),
+            scope: Vec::from_slice(alloc, scope)?,
+        };
+        while let Some(task) = work.tasks.pop() {
+            work.perform(program, &mut store, task)?;
+        }
+        moved::alone(alloc, store)
     }
-    Ok(())
 }

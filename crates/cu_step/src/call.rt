@@ -6,7 +6,7 @@ ghost use Rattle.cu_machine.specs.Graph.{node_at};
 ghost use Rattle.cu_machine.specs.Rewrite.{call_step, choice_step};
 ghost use Rattle.cu_step.specs.Moved.{move_of};
 
-use crate::moved::{self, Moved};
+use crate::moved::Moved;
 use crate::redex::Redex;
 use crate::{build, node};
 use cu_flat::{FlatBody, FlatProgram, FunId};
@@ -36,15 +36,9 @@ impl<S: Store> Redex<S> {
     {
         match program.body(f) {
             Some(FlatBody::Rule(params, body)) => {
-                let Redex {
-                    alloc,
-                    mut store,
-                    id,
-                } = self;
-                let args = node::args(alloc, &store, id)?;
-                let scope = build::scope_of(alloc, params.as_slice(), args.as_slice())?;
-                build::write(alloc, program, &mut store, scope.as_slice(), id, *body)?;
-                moved::alone(alloc, store)
+                let args = node::args(self.alloc, &self.store, self.id)?;
+                let scope = build::scope_of(self.alloc, params.as_slice(), args.as_slice())?;
+                self.building_step(program, scope.as_slice(), *body)
             }
             Some(FlatBody::External(_)) => self.stuck_step(),
             None => self.stuck_step(),

@@ -10,7 +10,7 @@ ghost use Rattle.cu_step.specs.Inside.Building.{branch_nests, branches_nest};
 ghost use Rattle.cu_step.specs.Matching.{takes_pattern};
 ghost use Rattle.cu_step.specs.Moved.{move_of};
 
-use crate::moved::{self, Moved};
+use crate::moved::Moved;
 use crate::operand::{self, Operand};
 use crate::redex::Redex;
 use crate::{build, free, node};
@@ -131,19 +131,13 @@ impl<S: Store> Redex<S> {
         let Some((pattern, body)) = branch else {
             return self.failing_step();
         };
-        let Redex {
-            alloc,
-            mut store,
-            id,
-        } = self;
         let bound = match pattern {
-            Pattern::Lit(_) => Vec::new(alloc),
-            Pattern::Con(_, variables) => build::scope_of(alloc, variables.as_slice(), args)?,
+            Pattern::Lit(_) => Vec::new(self.alloc),
+            Pattern::Con(_, variables) => build::scope_of(self.alloc, variables.as_slice(), args)?,
         };
-        let mut inner = Vec::from_slice(alloc, scope)?;
+        let mut inner = Vec::from_slice(self.alloc, scope)?;
         inner.extend_from_slice(bound.as_slice())?;
-        build::write(alloc, program, &mut store, inner.as_slice(), id, *body)?;
-        moved::alone(alloc, store)
+        self.building_step(program, inner.as_slice(), *body)
     }
 
     /// The step of a case distinction, by the head of its scrutinee.
