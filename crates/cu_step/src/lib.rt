@@ -52,6 +52,7 @@ use need::Needed;
 pub use push::push_value;
 pub use read::Reading;
 use redex::Redex;
+use set_call::SetCall;
 use std::alloc::{AllocError, Global};
 
 /// What becomes of a branch in one step.
@@ -208,7 +209,10 @@ fn rewrite_step<S: Store>(
     ensures inner { IfOk result (λ outcome. IsFalse (is_inner outcome)) }
 {
     match branch.store.kind(id) {
-        Kind::SetCall(f) => set_call::begin(alloc, program, branch, id, f, limits),
+        Kind::SetCall(function) => {
+            let call = SetCall { id, function };
+            set_call::begin(alloc, program, branch, call, limits)
+        }
         _ => {
             let Branch {
                 store,

@@ -21,6 +21,14 @@ use cu_machine::Limits;
 use cu_values::Value;
 use std::alloc::{AllocError, Global};
 
+/// A node that calls a set function.
+#[derive(Clone, Copy)]
+pub(crate) struct SetCall {
+    /// The index of the node.
+    pub(crate) id: u32,
+    pub(crate) function: FunId,
+}
+
 /// The values of arguments, unless they have more cells together than the
 /// limit. The variables in them are numbered from 1.
 fn arguments<S: Store>(
@@ -95,17 +103,16 @@ pub(crate) fn begin<S: Store>(
     alloc: Global,
     program: &FlatProgram,
     branch: Branch<S>,
-    id: u32,
-    f: FunId,
+    call: SetCall,
     limits: &Limits,
 ) -> Result<Outcome<S>, AllocError>
-    requires id { id < length (S.content branch.store) }
-    requires call { (node_at (S.content branch.store) id).kind ≡ kind.SetCall f }
+    requires id { call.id < length (S.content branch.store) }
+    requires call { (node_at (S.content branch.store) call.id).kind ≡ kind.SetCall call.function }
     requires arguments { ArgumentsThere (S.content branch.store) }
     requires acyclic { IsAcyclic (S.content branch.store) }
     ensures next { IfOk result (λ outcome. next_of S.content outcome
-        ≡ moved program.now limits.now branch.root branch.goals.items (S.content branch.store) id
-        (move program.now (S.content branch.store) id)) }
+        ≡ moved program.now limits.now branch.root branch.goals.items (S.content branch.store)
+        call.id (move program.now (S.content branch.store) call.id)) }
     ensures inner { IfOk result (λ outcome. IsFalse (is_inner outcome)) }
 {
     let Branch {
@@ -114,15 +121,20 @@ pub(crate) fn begin<S: Store>(
         goals,
         search: _,
     } = branch;
-    let args = node::args(alloc, &store, id)?;
+    let args = node::args(alloc, &store, call.id)?;
     if occurs::are_reached(alloc, &store, Sought::Part, args.as_slice())? {
-        let graphs = Redex { alloc, store, id }.stuck_step()?;
+        let redex = Redex {
+            alloc,
+            store,
+            id: call.id,
+        };
+        let graphs = redex.stuck_step()?;
         return following(alloc, graphs, root, goals.as_slice(), limits);
     }
     let Some(values) = arguments(alloc, &store, args.as_slice(), limits.nodes)? else {
         return Ok(Outcome::Stop(too_large(limits)));
     };
-    let inner = call_on(alloc, program, f, values.as_slice())?;
+    let inner = call_on(alloc, program, call.function, values.as_slice())?;
     if is_too_large(&inner.store, limits) {
         return Ok(Outcome::Stop(too_large(limits)));
     }
@@ -132,7 +144,7 @@ pub(crate) fn begin<S: Store>(
         store,
         root,
         goals,
-        call: id,
+        call: call.id,
         found: Vec::new(alloc),
         level,
     };
