@@ -78,11 +78,11 @@ MayHave of_stuck code claims assigned kind.Stuck args v = of_stuck v
 MayHave of_stuck code claims assigned k args v =
     AtMost (Worth code claims k (map assigned args)) v
 
--- Only Bottom is such a value: nothing is known of the node.
+-- A stuck node may have Bottom alone, as in good assignments.
 abbrev pub NoValue : Value → Type 0
 NoValue v = v ≡ value.Bottom
 
--- Any value is such a value: nothing is asked of the node.
+-- A stuck node may have any value, as in loose assignments.
 abbrev pub AnyValue : Value → Type 0
 AnyValue v = Unit {0}
 

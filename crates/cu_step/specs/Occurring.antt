@@ -70,9 +70,9 @@ abbrev pub left_after : List Bool → List ℕ → ℕ → Node → List ℕ
 left_after seen left id node = if leads_on node.kind (seen_at seen id)
     then left ++ reverse node.args else left
 
--- The search is right at a moment: a node that was seen reaches what is sought only by way of a
--- lower one that is still to be looked at, and one of those that are left reaches it exactly if one
--- of the first nodes does.
+-- What holds at each moment of the search: a node that was seen reaches what is sought only by way
+-- of a lower one that is still to be looked at, and one of those that are left reaches it exactly
+-- if one of the first nodes does.
 pub record Looks (graph : Graph) (v : Sought) (ids : List ℕ) (seen : List Bool)
     (left : List ℕ) : Type 0 where
   pub there : are_places (length graph) left ≡ true

@@ -21,7 +21,8 @@ use Rattle.cu_step.specs.declared.need.Mark.TheVariants as mark
 
 -- ---- what is asked
 
--- waits for the free variables in a node's value, if there are any
+-- the need of a node whose value is there and is to have no free variables in it: it waits for
+-- those that are in it, if there are any
 abbrev pub inside_of : Graph → ℕ → Need
 inside_of graph id = waiting (free_within (length graph) graph id)
 

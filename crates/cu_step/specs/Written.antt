@@ -16,9 +16,9 @@ text number vs = spell_all (all_renumbered number (values_of vs))
 abbrev pub met_in : List ℕ → Graph → ℕ → List ℕ
 met_in variables graph id = joined variables (variables_in (spelled graph id))
 
--- The reading of a node's value is right at a moment, where these variables had been met before it:
--- what was written and the values of the nodes that are left are the whole, and the room for cells,
--- the limit, has shrunk by as much as was written.
+-- What holds at each moment of the reading of a node's value, where these variables had been met
+-- before it: what was written and the values of the nodes that are left are the whole, and the room
+-- for cells, the limit, has shrunk by as much as was written.
 pub record Written (graph : Graph) (id : ℕ) (variables : List ℕ) (room : ℕ) (written : List Cell)
     (left : List ℕ) (limit : ℕ) (met : List ℕ) : Type 0 where
   pub there : are_places (length graph) left ≡ true

@@ -172,36 +172,37 @@ abbrev pub task_nests : Code → Task → Bool
 task_nests program (task.Build e t) = nests program e
 task_nests program _ = true
 
--- the tasks that building several expressions takes in all
+-- a bound on the tasks that building several expressions takes, those that it leaves counted
 abbrev pub all_weigh : (ExprId → ℕ) → List ExprId → ℕ
 all_weigh weight [] = 0
 all_weigh weight (e ∷ es) = weight e + all_weigh weight es
 
--- the tasks that an expression takes beside those of its parts
+-- a bound on the tasks that an expression takes beside those of its parts
 abbrev pub own_weight : Option Expr → ℕ
 own_weight (Some (code.Case mode kept scrutinee branches)) = length kept + 4
 own_weight _ = 4
 
--- the tasks that building an expression takes in all
+-- a bound on the tasks that building an expression takes, those that it leaves counted
 unfoldable pub weight_within : ℕ → Code → ExprId → ℕ
 weight_within zero program e = 1
 weight_within (suc depth) program e =
     own_weight (expr_of program e) + all_weigh (weight_within depth program)
     (parts_of (expr_of program e))
 
--- the tasks that a task takes in all
+-- a bound on the tasks that a task takes: itself, and all that it leaves
 abbrev pub task_weight : Code → Task → ℕ
 task_weight program (task.Build e t) = weight_within (length program.expressions) program e
 task_weight program _ = 1
 
--- the tasks that several tasks take in all
+-- a bound on the tasks that several tasks take: themselves, and all that they leave
 unfoldable pub weight : Code → List Task → ℕ
 weight program [] = 0
 weight program (t ∷ ts) = task_weight program t + weight program ts
 
 -- ---- what holds at each moment
 
--- A building is right at a moment: what is left to do comes to what the first task comes to.
+-- What holds at each moment of a building: doing the tasks that are left, from this state on, gives
+-- the state that the first task gives from the start.
 pub record Works (program : Code) (start : State) (first : Task) (s : State)
     (left : List Task) : Type 0 where
   pub there : s.root < length s.graph

@@ -9,7 +9,7 @@ use Rattle.cu_values.specs.Cells.{arity_of}
 use Rattle.cu_step.specs.declared.push.Unfinished.{Unfinished}
 use Rattle.cu_step.specs.declared.push.Pushing.{Pushing}
 
--- the state of a pushing
+-- what is there while the cells of a value are pushed as nodes
 pub record Work : Type 0 where
   pub graph : Graph
   -- the indices of nodes that are arguments of nodes to come
@@ -17,7 +17,7 @@ pub record Work : Type 0 where
   -- the nodes to come, the innermost first
   pub unfinished : List Unfinished
 
--- the state of a pushing of the code
+-- what is there in the code while the cells of a value are pushed as nodes
 abbrev pub work_of : Graph → Pushing → Work
 work_of graph pushing =
     record { graph = graph; ids = pushing.ids.items; unfinished = reverse pushing.unfinished.items }
