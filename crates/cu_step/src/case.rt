@@ -44,7 +44,7 @@ fn takes_pattern(kind: Kind, pattern: &Pattern) -> bool
             _ => false,
         },
         Pattern::Con(d, _) => match kind {
-            Kind::Cons(c) => c.0 == d.0,
+            Kind::Cons(c) => c == *d,
             _ => false,
         },
     }

@@ -17,7 +17,7 @@ fn is_true(special: &Special, kind: Kind) -> bool
     ensures { result ≡ is_true special.now kind }
 {
     match kind {
-        Kind::Cons(c) => c.0 == special.truth.0,
+        Kind::Cons(c) => c == special.truth,
         _ => false,
     }
 }
@@ -39,7 +39,7 @@ impl<S: Store> Redex<S> {
         match left.kind {
             Kind::Cons(c) => match right.kind {
                 Kind::Cons(d) => {
-                    if c.0 != d.0 {
+                    if c != d {
                         return self.truth_step(special, false);
                     }
                     let pairs = build::scope_of(

@@ -131,7 +131,7 @@ impl<S: Store> Redex<S> {
             Kind::Cons(c) => match right.kind {
                 Kind::Free => self.imitation_step(special, right.id, c, left),
                 Kind::Cons(d) => {
-                    if c.0 != d.0 {
+                    if c != d {
                         return self.failing_step();
                     }
                     let (us, vs) = (left.args.as_slice(), right.args.as_slice());
