@@ -233,27 +233,44 @@ fn specialized_at<'a>(
     Ok(some)
 }
 
+/// Rows of which some go on into the branch of a choice.
+#[derive(Clone, Copy)]
+pub(crate) struct Candidates<'m, 'a> {
+    pub(crate) rows: &'m [Row<'a>],
+    /// The indices of the rows that demand the choice, where these alone go on.
+    pub(crate) indices: &'m [usize],
+    /// Whether the rows that demand nothing go on too.
+    pub(crate) has_variables: bool,
+}
+
 /// The rows that go on into the branch of a choice, each specialized to it.
 /// Where rows that demand nothing go on into it, all rows are looked through;
-/// otherwise those that go on have these indices.
+/// otherwise those that go on are found by their indices.
 pub(crate) fn branch_rows<'a>(
     alloc: Global,
-    rows: &[Row<'a>],
-    indices: &[usize],
+    candidates: &Candidates<'_, 'a>,
     position: usize,
     arguments: &[u32],
     choice: Choice,
-    has_variables: bool,
 ) -> Result<Vec<Row<'a>>, AllocError>
-    requires { has_variables ≡ false → AreAt position choice indices.now (all_rows rows.now) }
+    requires { candidates.now.has_variables ≡ false → AreAt position choice
+        candidates.now.indices.now (all_rows candidates.now.rows.now) }
     ensures { IfOk result (λ some. all_rows some.items ≡ specialize position arguments.now
-        (goes_on has_variables (demands_choice choice)) (all_rows rows.now)) }
+        (goes_on candidates.now.has_variables (demands_choice choice))
+        (all_rows candidates.now.rows.now)) }
 {
+    let has_variables = candidates.has_variables;
     if has_variables {
         let keep = Keep::Branch(choice, has_variables);
-        return specialize(alloc, rows, position, arguments, keep);
+        return specialize(alloc, candidates.rows, position, arguments, keep);
     }
-    specialized_at(alloc, rows, indices, position, arguments)
+    specialized_at(
+        alloc,
+        candidates.rows,
+        candidates.indices,
+        position,
+        arguments,
+    )
 }
 
 /// Positions, with those of a constructor's arguments in place of one of them.

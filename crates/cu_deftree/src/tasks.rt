@@ -5,7 +5,7 @@ ghost use Rattle.cu_deftree.specs.declared.tasks.Stop.TheVariants.{NoMemory};
 
 use crate::names::Names;
 use crate::rows::Row;
-use cu_kernel::{Mode, Term};
+use cu_kernel::{Mode, Pattern, Term};
 use std::alloc::{AllocError, AllocFailed};
 
 /// Why a term or a clause matrix isn't lowered.
@@ -59,6 +59,39 @@ pub(crate) enum Manner {
     /// The alternatives of a case distinction, of which the first that
     /// matches counts.
     Alternatives(Mode),
+}
+
+/// A position of a clause matrix.
+#[derive(Clone, Copy)]
+pub(crate) struct Column<'a> {
+    pub(crate) matrix: &'a Matrix<'a>,
+    pub(crate) position: usize,
+}
+
+/// What the branches of a case distinction on a column are made from.
+#[derive(Clone, Copy)]
+pub(crate) struct Branching<'a> {
+    pub(crate) column: Column<'a>,
+    /// What the rows of the column's matrix are made from.
+    pub(crate) manner: Manner,
+    /// Whether rows that demand nothing in the column go on into each branch.
+    pub(crate) has_variables: bool,
+}
+
+/// The parts of a term that binds a variable to the value of another.
+#[derive(Clone, Copy)]
+pub(crate) struct LetTerm<'a> {
+    pub(crate) variable: u32,
+    pub(crate) value: &'a Term,
+    pub(crate) body: &'a Term,
+}
+
+/// The parts of a term that is a case distinction.
+#[derive(Clone, Copy)]
+pub(crate) struct CaseTerm<'a> {
+    pub(crate) mode: Mode,
+    pub(crate) scrutinee: &'a Term,
+    pub(crate) alternatives: &'a [(Pattern, Term)],
 }
 
 /// What is to be lowered.

@@ -17,9 +17,11 @@ use crate::groups::Groups;
 use crate::names::Names;
 use crate::patterns::{Choice, Demand, Keep, leftmost, numbers, variables};
 use crate::rows::{
-    Row, alternative_rows, branch_rows, demanded_by_all, kept, some_is_free, spliced,
+    Candidates, Row, alternative_rows, branch_rows, demanded_by_all, kept, some_is_free, spliced,
 };
-use crate::tasks::{Manner, Matrix, Scope, Stop, Task, spend};
+use crate::tasks::{
+    Branching, CaseTerm, Column, LetTerm, Manner, Matrix, Scope, Stop, Task, spend,
+};
 use cu_kernel::{ConId, FunId, Head, Heads, Lit, Mode, Pattern, Term};
 use std::alloc::{AllocError, Global};
 
@@ -119,34 +121,40 @@ impl<'a> Lowerer<'a> {
     fn open<'b>(
         &self,
         has_variables: bool,
-        matrix: &Matrix<'b>,
+        column: &Column<'b>,
         indices: &[usize],
-        position: usize,
         choice: Choice,
     ) -> Result<Opened<'b>, AllocError>
-        requires within { position < length matrix.now.positions.now }
-        requires indices { has_variables ≡ false
-            → AreAt position choice indices.now (all_rows matrix.now.rows.now) }
+        requires within { column.now.position < length column.now.matrix.now.positions.now }
+        requires indices { has_variables ≡ false → AreAt column.now.position choice indices.now
+            (all_rows column.now.matrix.now.rows.now) }
         ensures arguments { IfOk result (λ opened. opened.arguments.items
-            ≡ numbers matrix.now.next (opened_count (program_in self.now) choice)) }
+            ≡ numbers column.now.matrix.now.next (opened_count (program_in self.now) choice)) }
         ensures positions { IfOk result (λ opened. opened.positions.items
-            ≡ spliced position opened.arguments.items matrix.now.positions.now) }
+            ≡ spliced column.now.position opened.arguments.items
+            column.now.matrix.now.positions.now) }
         ensures next { IfOk result (λ opened. opened.next
-            ≡ matrix.now.next + opened_count (program_in self.now) choice) }
+            ≡ column.now.matrix.now.next + opened_count (program_in self.now) choice) }
         ensures rows { IfOk result (λ opened. all_rows opened.rows.items
-            ≡ specialize position opened.arguments.items
-            (goes_on has_variables (demands_choice choice)) (all_rows matrix.now.rows.now)) }
+            ≡ specialize column.now.position opened.arguments.items
+            (goes_on has_variables (demands_choice choice))
+            (all_rows column.now.matrix.now.rows.now)) }
     {
+        let matrix = column.matrix;
+        let position = column.position;
         let (arguments, next) = fresh_numbers(self.alloc, matrix.next, self.opened_count(choice))?;
         let positions = spliced(self.alloc, matrix.positions, position, arguments.as_slice())?;
+        let candidates = Candidates {
+            rows: matrix.rows,
+            indices,
+            has_variables,
+        };
         let rows = branch_rows(
             self.alloc,
-            matrix.rows,
-            indices,
+            &candidates,
             position,
             arguments.as_slice(),
             choice,
-            has_variables,
         )?;
         Ok(Opened {
             arguments,
@@ -260,11 +268,25 @@ impl<'a> Lowerer<'a> {
                 )?;
                 Ok(Term::Or(both.0, both.1))
             }
-            Term::Let(x, value, body) => self.binding(scope, *x, value, body, left),
+            Term::Let(x, value, body) => self.binding(
+                scope,
+                &LetTerm {
+                    variable: *x,
+                    value,
+                    body,
+                },
+                left,
+            ),
             Term::Free(x, body) => self.free(scope, *x, body, left),
-            Term::Case(mode, scrutinee, alternatives) => {
-                self.case(scope, *mode, scrutinee, alternatives, left)
-            }
+            Term::Case(mode, scrutinee, alternatives) => self.case(
+                scope,
+                &CaseTerm {
+                    mode: *mode,
+                    scrutinee,
+                    alternatives,
+                },
+                left,
+            ),
         }
     }
 
@@ -274,25 +296,28 @@ impl<'a> Lowerer<'a> {
     fn binding<'b>(
         &self,
         scope: &Scope<'b>,
-        x: u32,
-        value: &'b Term,
-        body: &'b Term,
+        definition: &LetTerm<'b>,
         left: &mut u32,
     ) -> Result<Term, Stop>
         requires { IsReady self.now }
         ensures { Within term_of size (TermLowers (program_in self.now) scope.now
-            (clean.Let x (term_of value.now) (term_of body.now))) left.old left.new result }
+            (clean.Let definition.now.variable (term_of definition.now.value.now)
+            (term_of definition.now.body.now))) left.old left.new result }
     {
         let Some(next) = scope.next.checked_add(1) else {
             return Err(Stop::NoMemory);
         };
         spend(left, 1)?;
-        let names = Names::With(x, scope.next, scope.names);
+        let names = Names::With(definition.variable, scope.next, scope.names);
         let inner = Scope {
             names: &names,
             next,
         };
-        let both = self.two(&Task::Term(*scope, value), &Task::Term(inner, body), left)?;
+        let both = self.two(
+            &Task::Term(*scope, definition.value),
+            &Task::Term(inner, definition.body),
+            left,
+        )?;
         Ok(Term::Let(scope.next, both.0, both.1))
     }
 
@@ -330,28 +355,29 @@ impl<'a> Lowerer<'a> {
     fn case<'b>(
         &self,
         scope: &Scope<'b>,
-        mode: Mode,
-        scrutinee: &'b Term,
-        alternatives: &'b [(Pattern, Term)],
+        distinction: &CaseTerm<'b>,
         left: &mut u32,
     ) -> Result<Term, Stop>
         requires { IsReady self.now }
         ensures { Within term_of size (TermLowers (program_in self.now) scope.now
-            (clean.Case mode (term_of scrutinee.now) (alternatives_of alternatives.now))) left.old
-            left.new result }
+            (clean.Case distinction.now.mode (term_of distinction.now.scrutinee.now)
+            (alternatives_of distinction.now.alternatives.now))) left.old left.new result }
     {
-        let Some(x) = variable_of(scrutinee) else {
-            return self.case_on_term(scope, mode, scrutinee, alternatives, left);
+        let Some(x) = variable_of(distinction.scrutinee) else {
+            return self.case_on_term(scope, distinction, left);
         };
         let position = scope.names.name(x);
-        let rows = alternative_rows(self.alloc, alternatives, position, scope.names)?;
+        let rows = alternative_rows(self.alloc, distinction.alternatives, position, scope.names)?;
         let positions = [position];
         let matrix = Matrix {
             positions: &positions,
             next: scope.next,
             rows: rows.as_slice(),
         };
-        self.lower(&Task::Rows(Manner::Alternatives(mode), matrix), left)
+        self.lower(
+            &Task::Rows(Manner::Alternatives(distinction.mode), matrix),
+            left,
+        )
     }
 
     /// Lowers a case distinction on a term that is no variable: a new
@@ -361,21 +387,24 @@ impl<'a> Lowerer<'a> {
     fn case_on_term<'b>(
         &self,
         scope: &Scope<'b>,
-        mode: Mode,
-        scrutinee: &'b Term,
-        alternatives: &'b [(Pattern, Term)],
+        distinction: &CaseTerm<'b>,
         left: &mut u32,
     ) -> Result<Term, Stop>
         requires ready { IsReady self.now }
-        requires other { is_variable (term_of scrutinee.now) ≡ false }
+        requires other { is_variable (term_of distinction.now.scrutinee.now) ≡ false }
         ensures { Within term_of size (TermLowers (program_in self.now) scope.now
-            (clean.Case mode (term_of scrutinee.now) (alternatives_of alternatives.now))) left.old
-            left.new result }
+            (clean.Case distinction.now.mode (term_of distinction.now.scrutinee.now)
+            (alternatives_of distinction.now.alternatives.now))) left.old left.new result }
     {
         let Some(next) = scope.next.checked_add(1) else {
             return Err(Stop::NoMemory);
         };
-        let rows = alternative_rows(self.alloc, alternatives, scope.next, scope.names)?;
+        let rows = alternative_rows(
+            self.alloc,
+            distinction.alternatives,
+            scope.next,
+            scope.names,
+        )?;
         let positions = [scope.next];
         let matrix = Matrix {
             positions: &positions,
@@ -384,110 +413,107 @@ impl<'a> Lowerer<'a> {
         };
         spend(left, 1)?;
         let both = self.two(
-            &Task::Term(*scope, scrutinee),
-            &Task::Rows(Manner::Alternatives(mode), matrix),
+            &Task::Term(*scope, distinction.scrutinee),
+            &Task::Rows(Manner::Alternatives(distinction.mode), matrix),
             left,
         )?;
         Ok(Term::Let(scope.next, both.0, both.1))
     }
 
-    /// The branch of a choice in a case distinction on a position.
+    /// The branch of a choice in a case distinction on a column.
     #[tactic(none)]
     #[cycle(lowering)]
     fn branch(
         &self,
-        manner: Manner,
-        has_variables: bool,
-        matrix: &Matrix,
+        branching: &Branching,
         indices: &[usize],
-        position: usize,
         choice: Choice,
         left: &mut u32,
     ) -> Result<(Pattern, Term), Stop>
         requires ready { IsReady self.now }
-        requires opened { IsOpened position (all_rows matrix.now.rows.now) }
-        requires within { position < length matrix.now.positions.now }
-        requires indices { has_variables ≡ false
-            → AreAt position choice indices.now (all_rows matrix.now.rows.now) }
+        requires opened { IsOpened branching.now.column.position
+            (all_rows branching.now.column.matrix.now.rows.now) }
+        requires within { branching.now.column.position
+            < length branching.now.column.matrix.now.positions.now }
+        requires indices { branching.now.has_variables ≡ false
+            → AreAt branching.now.column.position choice indices.now
+            (all_rows branching.now.column.matrix.now.rows.now) }
         ensures { Within branch_of branch_size
-            (BranchLowers (program_in self.now) manner has_variables matrix.now position choice)
+            (BranchLowers (program_in self.now) branching.now.manner branching.now.has_variables
+            branching.now.column.matrix.now branching.now.column.position choice)
             left.old left.new result }
     {
-        let opened = self.open(has_variables, matrix, indices, position, choice)?;
+        let opened = self.open(branching.has_variables, &branching.column, indices, choice)?;
         let pattern = pattern_for(self.alloc, choice, opened.arguments.as_slice())?;
         let inner = Matrix {
             positions: opened.positions.as_slice(),
             next: opened.next,
             rows: opened.rows.as_slice(),
         };
-        let body = self.lower(&Task::Rows(manner, inner), left)?;
+        let body = self.lower(&Task::Rows(branching.manner, inner), left)?;
         Ok((pattern, body))
     }
 
-    /// The branches of these choices in a case distinction on a position.
+    /// The branches of these choices in a case distinction on a column.
     #[tactic(none)]
     #[cycle(lowering)]
     fn branches(
         &self,
-        manner: Manner,
-        has_variables: bool,
-        matrix: &Matrix,
-        position: usize,
+        branching: &Branching,
         choices: &[Choice],
         left: &mut u32,
     ) -> Result<Vec<(Pattern, Term)>, Stop>
         requires ready { IsReady self.now }
-        requires opened { IsOpened position (all_rows matrix.now.rows.now) }
-        requires within { position < length matrix.now.positions.now }
-        ensures { Within branches_of (total branch_size)
-            (Each (BranchLowers (program_in self.now) manner has_variables matrix.now position)
-            choices.now)
+        requires opened { IsOpened branching.now.column.position
+            (all_rows branching.now.column.matrix.now.rows.now) }
+        requires within { branching.now.column.position
+            < length branching.now.column.matrix.now.positions.now }
+        ensures { Within branches_of (total branch_size) (Each (BranchLowers (program_in self.now)
+            branching.now.manner branching.now.has_variables branching.now.column.matrix.now
+            branching.now.column.position) choices.now)
             left.old left.new result }
     {
         let mut all = Vec::new(self.alloc);
-        let groups = Groups::new(self.alloc, matrix.rows, position)?;
+        let groups = Groups::new(
+            self.alloc,
+            branching.column.matrix.rows,
+            branching.column.position,
+        )?;
         for choice in choices {
             let indices = groups.of(*choice);
-            let one = self.branch(
-                manner,
-                has_variables,
-                matrix,
-                indices,
-                position,
-                *choice,
-                left,
-            )?;
+            let one = self.branch(branching, indices, *choice, left)?;
             all.push(one)?;
         }
         Ok(all)
     }
 
-    /// A case distinction on a position.
+    /// A case distinction on a column.
     #[tactic(none)]
     #[cycle(lowering)]
     fn case_at(
         &self,
-        manner: Manner,
-        has_variables: bool,
-        matrix: &Matrix,
-        position: usize,
+        branching: &Branching,
         choices: &[Choice],
         left: &mut u32,
     ) -> Result<Term, Stop>
         requires ready { IsReady self.now }
-        requires opened { IsOpened position (all_rows matrix.now.rows.now) }
+        requires opened { IsOpened branching.now.column.position
+            (all_rows branching.now.column.matrix.now.rows.now) }
         ensures { Within term_of size
-            (CaseLowers (program_in self.now) manner has_variables matrix.now position choices.now)
+            (CaseLowers (program_in self.now) branching.now.manner branching.now.has_variables
+            branching.now.column.matrix.now branching.now.column.position choices.now)
             left.old left.new result }
     {
+        let matrix = branching.column.matrix;
+        let position = branching.column.position;
         if position >= matrix.positions.len() {
             return Err(Stop::NoMemory);
         }
         let scrutinee = Term::Var(matrix.positions[position]);
         spend(left, 2)?;
-        let branches = self.branches(manner, has_variables, matrix, position, choices, left)?;
+        let branches = self.branches(branching, choices, left)?;
         let scrutinee = Box::new(self.alloc, scrutinee)?;
-        Ok(Term::Case(manner.mode(), scrutinee, branches))
+        Ok(Term::Case(branching.manner.mode(), scrutinee, branches))
     }
 
     /// A call of `failed`, the operation without a value.
@@ -521,10 +547,14 @@ impl<'a> Lowerer<'a> {
             Some(common) => {
                 let choices = demanded_choices(self.alloc, self.heads, rows, common)?;
                 self.case_at(
-                    Manner::Rules,
-                    false,
-                    matrix,
-                    common,
+                    &Branching {
+                        column: Column {
+                            matrix: &*matrix,
+                            position: common,
+                        },
+                        manner: Manner::Rules,
+                        has_variables: false,
+                    },
                     choices.as_slice(),
                     left,
                 )
@@ -616,10 +646,14 @@ impl<'a> Lowerer<'a> {
         }
         let choices = demanded_choices(self.alloc, self.heads, rows, position)?;
         self.case_at(
-            Manner::Alternatives(mode),
-            false,
-            matrix,
-            position,
+            &Branching {
+                column: Column {
+                    matrix: &*matrix,
+                    position,
+                },
+                manner: Manner::Alternatives(mode),
+                has_variables: false,
+            },
             choices.as_slice(),
             left,
         )
@@ -666,15 +700,29 @@ impl<'a> Lowerer<'a> {
             Demand::Constructor(constructor) => {
                 let choices = siblings(self.alloc, self.heads, constructor)?;
                 self.case_at(
-                    Manner::Alternatives(mode),
-                    true,
-                    matrix,
-                    position,
+                    &Branching {
+                        column: Column {
+                            matrix: &*matrix,
+                            position,
+                        },
+                        manner: Manner::Alternatives(mode),
+                        has_variables: true,
+                    },
                     choices.as_slice(),
                     left,
                 )
             }
-            Demand::Literal(literal) => self.literal_test(mode, matrix, position, literal, left),
+            Demand::Literal(literal) => {
+                self.literal_test(
+                    mode,
+                    &Column {
+                        matrix: &*matrix,
+                        position,
+                    },
+                    literal,
+                    left,
+                )
+            }
         }
     }
 
@@ -684,24 +732,25 @@ impl<'a> Lowerer<'a> {
     fn literal_test(
         &self,
         mode: Mode,
-        matrix: &Matrix,
-        position: usize,
+        column: &Column,
         literal: Lit,
         left: &mut u32,
     ) -> Result<Term, Stop>
         requires ready { IsReady self.now }
-        requires mixed { IsMixed position (all_rows matrix.now.rows.now) }
-        requires literal { FirstDemands position (calculus.ALiteral literal)
-            (all_rows matrix.now.rows.now) }
+        requires mixed { IsMixed column.now.position (all_rows column.now.matrix.now.rows.now) }
+        requires literal { FirstDemands column.now.position (calculus.ALiteral literal)
+            (all_rows column.now.matrix.now.rows.now) }
         ensures { Within term_of size
-            (MatrixLowers (program_in self.now) (manner.Alternatives mode) matrix.now) left.old
-            left.new result }
+            (MatrixLowers (program_in self.now) (manner.Alternatives mode) column.now.matrix.now)
+            left.old left.new result }
     {
+        let matrix = column.matrix;
+        let position = column.position;
         if position >= matrix.positions.len() {
             return Err(Stop::NoMemory);
         }
         let tested = matrix.positions[position];
-        let opened = self.open(true, matrix, &[], position, Choice::Literal(literal))?;
+        let opened = self.open(true, column, &[], Choice::Literal(literal))?;
         let others = kept(self.alloc, matrix.rows, position, Keep::OtherThan(literal))?;
         let first = Matrix {
             positions: opened.positions.as_slice(),

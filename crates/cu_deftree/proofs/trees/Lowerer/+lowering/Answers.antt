@@ -31,7 +31,7 @@ use Rattle.cu_deftree.proofs.trees.Lowerer.+lowering.Goals as goal
 pub binding-returns-in_err-spend : goal.binding-returns-in_err-spend
 binding-returns-in_err-spend t c =
     spent_exit term_of c.args.left.now c.spend.new.left c.spend.new.left c.from_residual.result c.in_err-spend.field-0.0
-    (let_in (program_in c.args.self.now) c.args.scope.now c.args.x c.in-Some.next (term_of c.args.value.now) (term_of c.args.body.now) (omega (arith, c.in-Some.ensures))) c.from_residual.ensures.1 c.in_err-spend.ensures
+    (let_in (program_in c.args.self.now) c.args.scope.now c.args.definition.now.variable c.in-Some.next (term_of c.args.definition.now.value.now) (term_of c.args.definition.now.body.now) (omega (arith, c.in-Some.ensures))) c.from_residual.ensures.1 c.in_err-spend.ensures
 
 pub binding-two-requires : goal.binding-two-requires
 binding-two-requires t c =
@@ -40,12 +40,12 @@ binding-two-requires t c =
 pub binding-returns-in_err-both : goal.binding-returns-in_err-both
 binding-returns-in_err-both t c =
     node_exit term_of both_of c.args.left.now c.spend.new.left c.two.new.left c.two.new.left c.from_residual-in_err-both.result c.in_err-both.field-0.0
-    (let_in (program_in c.args.self.now) c.args.scope.now c.args.x c.in-Some.next (term_of c.args.value.now) (term_of c.args.body.now) (omega (arith, c.in-Some.ensures))) c.in_ok-spend.ensures c.from_residual-in_err-both.ensures.1 c.in_err-both.ensures
+    (let_in (program_in c.args.self.now) c.args.scope.now c.args.definition.now.variable c.in-Some.next (term_of c.args.definition.now.value.now) (term_of c.args.definition.now.body.now) (omega (arith, c.in-Some.ensures))) c.in_ok-spend.ensures c.from_residual-in_err-both.ensures.1 c.in_err-both.ensures
 
 pub binding-returns : goal.binding-returns
 binding-returns t c =
     node_ok term_of both_of c.args.left.now c.spend.new.left c.two.new.left c.in_ok-both.both _
-    (let_in (program_in c.args.self.now) c.args.scope.now c.args.x c.in-Some.next (term_of c.args.value.now) (term_of c.args.body.now) (omega (arith, c.in-Some.ensures))) c.in_ok-spend.ensures (term_of-Let c.args.scope.now.next c.in_ok-both.both.0 c.in_ok-both.both.1) c.in_ok-both.ensures
+    (let_in (program_in c.args.self.now) c.args.scope.now c.args.definition.now.variable c.in-Some.next (term_of c.args.definition.now.value.now) (term_of c.args.definition.now.body.now) (omega (arith, c.in-Some.ensures))) c.in_ok-spend.ensures (term_of-Let c.args.scope.now.next c.in_ok-both.both.0 c.in_ok-both.both.1) c.in_ok-both.ensures
 
 pub branch-open-requires : goal.branch-open-requires
 branch-open-requires t c =
@@ -61,23 +61,23 @@ branch-returns-in_err-pattern t c =
 
 pub branch-lower-requires : goal.branch-lower-requires
 branch-lower-requires t c =
-    (let l = opened_lighter c.args.matrix.now.rows.now c.as_slice-3.result.now c.in_ok-opened.opened.rows.items c.args.position c.in_ok-opened.opened.arguments.items (goes_on c.args.has_variables (demands_choice c.args.choice)) c.requires.opened c.as_slice-3.ensures.value c.in_ok-opened.ensures.rows in omega (arith, l, c.decreases), search rules)
+    (let l = opened_lighter c.args.branching.now.column.matrix.now.rows.now c.as_slice-3.result.now c.in_ok-opened.opened.rows.items c.args.branching.now.column.position c.in_ok-opened.opened.arguments.items (goes_on c.args.branching.now.has_variables (demands_choice c.args.choice)) c.requires.opened c.as_slice-3.ensures.value c.in_ok-opened.ensures.rows in omega (arith, l, c.decreases), search rules)
 
 pub branch-returns-in_err-body : goal.branch-returns-in_err-body
 branch-returns-in_err-body t c =
     node_exit branch_of term_of c.args.left.now c.args.left.now c.lower.new.left c.lower.new.left c.from_residual-in_err-body.result c.in_err-body.field-0.0
-    (branch_in (program_in c.args.self.now) c.args.manner c.args.has_variables c.args.matrix.now c.args.position c.args.choice c.in_ok-opened.opened.arguments.items c.as_slice-2.result.now c.in_ok-opened.opened.positions.items c.in_ok-opened.opened.next c.in_ok-opened.opened.rows.items c.as_slice-3.result.now
+    (branch_in (program_in c.args.self.now) c.args.branching.now.manner c.args.branching.now.has_variables c.args.branching.now.column.matrix.now c.args.branching.now.column.position c.args.choice c.in_ok-opened.opened.arguments.items c.as_slice-2.result.now c.in_ok-opened.opened.positions.items c.in_ok-opened.opened.next c.in_ok-opened.opened.rows.items c.as_slice-3.result.now
     c.in_ok-opened.ensures.arguments c.in_ok-opened.ensures.positions c.as_slice-2.ensures.value c.in_ok-opened.ensures.next c.in_ok-opened.ensures.rows c.as_slice-3.ensures.value) (omega arith) c.from_residual-in_err-body.ensures.1 c.in_err-body.ensures
 
 pub branch-returns : goal.branch-returns
 branch-returns t c =
     node_ok branch_of term_of c.args.left.now c.args.left.now c.lower.new.left c.in_ok-body.body (c.in_ok-pattern.pattern, c.in_ok-body.body)
-    (branch_in (program_in c.args.self.now) c.args.manner c.args.has_variables c.args.matrix.now c.args.position c.args.choice c.in_ok-opened.opened.arguments.items c.as_slice-2.result.now c.in_ok-opened.opened.positions.items c.in_ok-opened.opened.next c.in_ok-opened.opened.rows.items c.as_slice-3.result.now
+    (branch_in (program_in c.args.self.now) c.args.branching.now.manner c.args.branching.now.has_variables c.args.branching.now.column.matrix.now c.args.branching.now.column.position c.args.choice c.in_ok-opened.opened.arguments.items c.as_slice-2.result.now c.in_ok-opened.opened.positions.items c.in_ok-opened.opened.next c.in_ok-opened.opened.rows.items c.as_slice-3.result.now
     c.in_ok-opened.ensures.arguments c.in_ok-opened.ensures.positions c.as_slice-2.ensures.value c.in_ok-opened.ensures.next c.in_ok-opened.ensures.rows c.as_slice-3.ensures.value) (omega arith) (ap (λ (p : clean.Pattern). (p, term_of c.in_ok-body.body)) (c.in_ok-pattern.ensures ∙ ap (branch_pattern c.args.choice) (c.as_slice.ensures.value ∙ c.in_ok-opened.ensures.arguments))) c.in_ok-body.ensures
 
 pub branches-loop-choice-init : goal.branches-loop-choice-init
 branches-loop-choice-init t c =
-    begun_with (BranchLowers (program_in c.args.self.now) c.args.manner c.args.has_variables c.args.matrix.now c.args.position) branch_size c.args.choices.now _ c.args.left.now (ap (map branch_of) c.new-all.ensures.items)
+    begun_with (BranchLowers (program_in c.args.self.now) c.args.branching.now.manner c.args.branching.now.has_variables c.args.branching.now.column.matrix.now c.args.branching.now.column.position) branch_size c.args.choices.now _ c.args.left.now (ap (map branch_of) c.new-all.ensures.items)
 
 pub branches-offset_bounds-choices-choice-index : goal.branches-offset_bounds-choices-choice-index
 branches-offset_bounds-choices-choice-index t c =
@@ -89,12 +89,12 @@ branches-returns-in_err-groups t c =
 
 pub branches-branch-self-requires : goal.branches-branch-self-requires
 branches-branch-self-requires t c =
-    (search rules, (c.requires.ready, (c.requires.opened, (c.requires.within, λ _. are_at c.in_ok-groups.groups c.args.position _ c.of-indices.result.now (all_rows c.args.matrix.now.rows.now) c.in_ok-groups.ensures c.of-indices.ensures))))
+    (search rules, (c.requires.ready, (c.requires.opened, (c.requires.within, λ _. are_at c.in_ok-groups.groups c.args.branching.now.column.position _ c.of-indices.result.now (all_rows c.args.branching.now.column.matrix.now.rows.now) c.in_ok-groups.ensures c.of-indices.ensures))))
 
 pub branches-returns-in_err-one : goal.branches-returns-in_err-one
 branches-returns-in_err-one t c =
     passed_on branches_of (total branch_size) _ c.args.left.now c.branch-self.new.left c.from_residual-in_err-one.result c.in_err-one.field-0.0 c.from_residual-in_err-one.ensures.1
-    (gone_wrong branches_of branch_of (BranchLowers (program_in c.args.self.now) c.args.manner c.args.has_variables c.args.matrix.now c.args.position) branch_size c.args.choices.now (drop c.loop-choice.choice-index c.args.choices.now) (drop (c.loop-choice.choice-index + 1) c.args.choices.now) _ (branches_of c.loop-choice.all) c.loop-choice.left c.branch-self.new.left c.branch-self.new.left c.args.left.now c.in_err-one.field-0.0
+    (gone_wrong branches_of branch_of (BranchLowers (program_in c.args.self.now) c.args.branching.now.manner c.args.branching.now.has_variables c.args.branching.now.column.matrix.now c.args.branching.now.column.position) branch_size c.args.choices.now (drop c.loop-choice.choice-index c.args.choices.now) (drop (c.loop-choice.choice-index + 1) c.args.choices.now) _ (branches_of c.loop-choice.all) c.loop-choice.left c.branch-self.new.left c.branch-self.new.left c.args.left.now c.in_err-one.field-0.0
     (left_at c.args.choices.now c.loop-choice.choice-index _ c.loop-choice-test.true) c.loop-choice.invariant c.in_err-one.ensures)
 
 pub branches-returns-in_err-push : goal.branches-returns-in_err-push
@@ -107,13 +107,13 @@ branches-loop-choice-smaller t c =
 
 pub branches-loop-choice-preserved : goal.branches-loop-choice-preserved
 branches-loop-choice-preserved t c =
-    gone_on (BranchLowers (program_in c.args.self.now) c.args.manner c.args.has_variables c.args.matrix.now c.args.position) branch_size c.args.choices.now (drop c.loop-choice.choice-index c.args.choices.now) (drop (c.loop-choice.choice-index + 1) c.args.choices.now) _ (branch_of c.in_ok-one.one) (branches_of c.loop-choice.all) (branches_of c.push.new.self) c.loop-choice.left c.branch-self.new.left c.args.left.now
-    (left_at c.args.choices.now c.loop-choice.choice-index _ c.loop-choice-test.true) c.in_ok-one.ensures.0 (λ z q. branch_one (program_in c.args.self.now) c.args.manner c.args.has_variables c.args.matrix.now c.args.position _ (branch_of c.in_ok-one.one) z c.in_ok-one.ensures.0 q) c.in_ok-one.ensures.1
+    gone_on (BranchLowers (program_in c.args.self.now) c.args.branching.now.manner c.args.branching.now.has_variables c.args.branching.now.column.matrix.now c.args.branching.now.column.position) branch_size c.args.choices.now (drop c.loop-choice.choice-index c.args.choices.now) (drop (c.loop-choice.choice-index + 1) c.args.choices.now) _ (branch_of c.in_ok-one.one) (branches_of c.loop-choice.all) (branches_of c.push.new.self) c.loop-choice.left c.branch-self.new.left c.args.left.now
+    (left_at c.args.choices.now c.loop-choice.choice-index _ c.loop-choice-test.true) c.in_ok-one.ensures.0 (λ z q. branch_one (program_in c.args.self.now) c.args.branching.now.manner c.args.branching.now.has_variables c.args.branching.now.column.matrix.now c.args.branching.now.column.position _ (branch_of c.in_ok-one.one) z c.in_ok-one.ensures.0 q) c.in_ok-one.ensures.1
     (ap (map branch_of) c.in_ok-push.ensures.items ∙ map-append branch_of c.loop-choice.all.items (c.in_ok-one.one ∷ [])) c.loop-choice.invariant
 
 pub branches-returns : goal.branches-returns
 branches-returns t c =
-    finished branches_of (BranchLowers (program_in c.args.self.now) c.args.manner c.args.has_variables c.args.matrix.now c.args.position) branch_size c.args.choices.now (drop c.loop-choice.choice-index c.args.choices.now) (branches_of c.loop-choice.all) c.loop-choice.left c.args.left.now c.loop-choice.all
+    finished branches_of (BranchLowers (program_in c.args.self.now) c.args.branching.now.manner c.args.branching.now.has_variables c.args.branching.now.column.matrix.now c.args.branching.now.column.position) branch_size c.args.choices.now (drop c.loop-choice.choice-index c.args.choices.now) (branches_of c.loop-choice.all) c.loop-choice.left c.args.left.now c.loop-choice.all
     (at_drop_all (λ (ys : List Choice). ys) c.args.choices.now c.loop-choice.choice-index c.loop-choice-test.false) refl c.loop-choice.invariant
 
 pub by_first-bounds-matrix-0 : goal.by_first-bounds-matrix-0
@@ -159,7 +159,7 @@ case-slice_bounds-matrix-end t c =
 
 pub case-lower-requires : goal.case-lower-requires
 case-lower-requires t c =
-    (let l = cases_less c.in_ok-rows.rows.items c.as_slice.result.now (names_of c.args.scope.now.names.now) c.name-position.result (alternatives_of c.args.alternatives.now) c.as_slice.ensures.value c.in_ok-rows.ensures in omega (arith, l, c.decreases), search rules)
+    (let l = cases_less c.in_ok-rows.rows.items c.as_slice.result.now (names_of c.args.scope.now.names.now) c.name-position.result (alternatives_of c.args.distinction.now.alternatives.now) c.as_slice.ensures.value c.in_ok-rows.ensures in omega (arith, l, c.decreases), search rules)
 
 pub case-case_on_term-requires : goal.case-case_on_term-requires
 case-case_on_term-requires t c =
@@ -168,7 +168,7 @@ case-case_on_term-requires t c =
 pub case-returns : goal.case-returns
 case-returns t c =
     through term_of c.args.left.now c.lower.new.left c.lower.result
-    (variable_case_in (program_in c.args.self.now) c.args.scope.now c.args.mode c.in-Some.x c.name-position.result (term_of c.args.scrutinee.now) (alternatives_of c.args.alternatives.now) c.in_ok-rows.rows.items c.as_slice.result.now c.in-Some.ensures c.name-position.ensures c.in_ok-rows.ensures c.as_slice.ensures.value) c.lower.ensures
+    (variable_case_in (program_in c.args.self.now) c.args.scope.now c.args.distinction.now.mode c.in-Some.x c.name-position.result (term_of c.args.distinction.now.scrutinee.now) (alternatives_of c.args.distinction.now.alternatives.now) c.in_ok-rows.rows.items c.as_slice.result.now c.in-Some.ensures c.name-position.ensures c.in_ok-rows.ensures c.as_slice.ensures.value) c.lower.ensures
 
 pub case-returns-in_default : goal.case-returns-in_default
 case-returns-in_default t c =
@@ -185,7 +185,7 @@ case_at-bounds-matrix-position t c =
 pub case_at-returns-in_err-spend : goal.case_at-returns-in_err-spend
 case_at-returns-in_err-spend t c =
     spent_exit term_of c.args.left.now c.spend.new.left c.spend.new.left c.from_residual.result c.in_err-spend.field-0.0
-    (case_node (program_in c.args.self.now) c.args.manner c.args.has_variables c.args.matrix.now c.args.position c.args.choices.now (get_or c.args.matrix.now.positions.now c.args.position 0) (get_at c.args.matrix.now.positions.now c.args.position c.if-position-matrix.false)) c.from_residual.ensures.1 c.in_err-spend.ensures
+    (case_node (program_in c.args.self.now) c.args.branching.now.manner c.args.branching.now.has_variables c.args.branching.now.column.matrix.now c.args.branching.now.column.position c.args.choices.now (get_or c.args.branching.now.column.matrix.now.positions.now c.args.branching.now.column.position 0) (get_at c.args.branching.now.column.matrix.now.positions.now c.args.branching.now.column.position c.if-position-matrix.false)) c.from_residual.ensures.1 c.in_err-spend.ensures
 
 pub case_at-branches-requires : goal.case_at-branches-requires
 case_at-branches-requires t c =
@@ -194,7 +194,7 @@ case_at-branches-requires t c =
 pub case_at-returns-in_err-branches : goal.case_at-returns-in_err-branches
 case_at-returns-in_err-branches t c =
     node_exit term_of branches_of c.args.left.now c.spend.new.left c.branches.new.left c.branches.new.left c.from_residual-in_err-branches.result c.in_err-branches.field-0.0
-    (case_node (program_in c.args.self.now) c.args.manner c.args.has_variables c.args.matrix.now c.args.position c.args.choices.now (get_or c.args.matrix.now.positions.now c.args.position 0) (get_at c.args.matrix.now.positions.now c.args.position c.if-position-matrix.false)) c.in_ok-spend.ensures c.from_residual-in_err-branches.ensures.1 c.in_err-branches.ensures
+    (case_node (program_in c.args.self.now) c.args.branching.now.manner c.args.branching.now.has_variables c.args.branching.now.column.matrix.now c.args.branching.now.column.position c.args.choices.now (get_or c.args.branching.now.column.matrix.now.positions.now c.args.branching.now.column.position 0) (get_at c.args.branching.now.column.matrix.now.positions.now c.args.branching.now.column.position c.if-position-matrix.false)) c.in_ok-spend.ensures c.from_residual-in_err-branches.ensures.1 c.in_err-branches.ensures
 
 pub case_at-returns-in_err-scrutinee : goal.case_at-returns-in_err-scrutinee
 case_at-returns-in_err-scrutinee t c =
@@ -203,7 +203,7 @@ case_at-returns-in_err-scrutinee t c =
 pub case_at-returns : goal.case_at-returns
 case_at-returns t c =
     node_ok term_of branches_of c.args.left.now c.spend.new.left c.branches.new.left c.in_ok-branches.branches _
-    (case_node (program_in c.args.self.now) c.args.manner c.args.has_variables c.args.matrix.now c.args.position c.args.choices.now (get_or c.args.matrix.now.positions.now c.args.position 0) (get_at c.args.matrix.now.positions.now c.args.position c.if-position-matrix.false)) c.in_ok-spend.ensures (case_written c.mode.result (mode_of c.args.manner) c.in_ok-scrutinee.scrutinee c.in_ok-branches.branches (get_or c.args.matrix.now.positions.now c.args.position 0) c.mode.ensures c.in_ok-scrutinee.ensures.ok) c.in_ok-branches.ensures
+    (case_node (program_in c.args.self.now) c.args.branching.now.manner c.args.branching.now.has_variables c.args.branching.now.column.matrix.now c.args.branching.now.column.position c.args.choices.now (get_or c.args.branching.now.column.matrix.now.positions.now c.args.branching.now.column.position 0) (get_at c.args.branching.now.column.matrix.now.positions.now c.args.branching.now.column.position c.if-position-matrix.false)) c.in_ok-spend.ensures (case_written c.mode.result (mode_of c.args.branching.now.manner) c.in_ok-scrutinee.scrutinee c.in_ok-branches.branches (get_or c.args.branching.now.column.matrix.now.positions.now c.args.branching.now.column.position 0) c.mode.ensures c.in_ok-scrutinee.ensures.ok) c.in_ok-branches.ensures
 
 pub case_on_term-returns-in_err-rows : goal.case_on_term-returns-in_err-rows
 case_on_term-returns-in_err-rows t c =
@@ -216,21 +216,21 @@ case_on_term-slice_bounds-matrix-end t c =
 pub case_on_term-returns-in_err-spend : goal.case_on_term-returns-in_err-spend
 case_on_term-returns-in_err-spend t c =
     spent_exit term_of c.args.left.now c.spend.new.left c.spend.new.left c.from_residual-in_err-spend.result c.in_err-spend.field-0.0
-    (term_case_in (program_in c.args.self.now) c.args.scope.now c.args.mode c.in-Some.next (term_of c.args.scrutinee.now) (alternatives_of c.args.alternatives.now) c.in_ok-rows.rows.items c.as_slice.result.now c.requires.other (omega (arith, c.in-Some.ensures)) c.in_ok-rows.ensures c.as_slice.ensures.value) c.from_residual-in_err-spend.ensures.1 c.in_err-spend.ensures
+    (term_case_in (program_in c.args.self.now) c.args.scope.now c.args.distinction.now.mode c.in-Some.next (term_of c.args.distinction.now.scrutinee.now) (alternatives_of c.args.distinction.now.alternatives.now) c.in_ok-rows.rows.items c.as_slice.result.now c.requires.other (omega (arith, c.in-Some.ensures)) c.in_ok-rows.ensures c.as_slice.ensures.value) c.from_residual-in_err-spend.ensures.1 c.in_err-spend.ensures
 
 pub case_on_term-two-requires : goal.case_on_term-two-requires
 case_on_term-two-requires t c =
-    (let l = cases_less c.in_ok-rows.rows.items c.as_slice.result.now (names_of c.args.scope.now.names.now) c.args.scope.now.next (alternatives_of c.args.alternatives.now) c.as_slice.ensures.value c.in_ok-rows.ensures in omega (arith, l, c.decreases), search rules)
+    (let l = cases_less c.in_ok-rows.rows.items c.as_slice.result.now (names_of c.args.scope.now.names.now) c.args.scope.now.next (alternatives_of c.args.distinction.now.alternatives.now) c.as_slice.ensures.value c.in_ok-rows.ensures in omega (arith, l, c.decreases), search rules)
 
 pub case_on_term-returns-in_err-both : goal.case_on_term-returns-in_err-both
 case_on_term-returns-in_err-both t c =
     node_exit term_of both_of c.args.left.now c.spend.new.left c.two.new.left c.two.new.left c.from_residual-in_err-both.result c.in_err-both.field-0.0
-    (term_case_in (program_in c.args.self.now) c.args.scope.now c.args.mode c.in-Some.next (term_of c.args.scrutinee.now) (alternatives_of c.args.alternatives.now) c.in_ok-rows.rows.items c.as_slice.result.now c.requires.other (omega (arith, c.in-Some.ensures)) c.in_ok-rows.ensures c.as_slice.ensures.value) c.in_ok-spend.ensures c.from_residual-in_err-both.ensures.1 c.in_err-both.ensures
+    (term_case_in (program_in c.args.self.now) c.args.scope.now c.args.distinction.now.mode c.in-Some.next (term_of c.args.distinction.now.scrutinee.now) (alternatives_of c.args.distinction.now.alternatives.now) c.in_ok-rows.rows.items c.as_slice.result.now c.requires.other (omega (arith, c.in-Some.ensures)) c.in_ok-rows.ensures c.as_slice.ensures.value) c.in_ok-spend.ensures c.from_residual-in_err-both.ensures.1 c.in_err-both.ensures
 
 pub case_on_term-returns : goal.case_on_term-returns
 case_on_term-returns t c =
     node_ok term_of both_of c.args.left.now c.spend.new.left c.two.new.left c.in_ok-both.both _
-    (term_case_in (program_in c.args.self.now) c.args.scope.now c.args.mode c.in-Some.next (term_of c.args.scrutinee.now) (alternatives_of c.args.alternatives.now) c.in_ok-rows.rows.items c.as_slice.result.now c.requires.other (omega (arith, c.in-Some.ensures)) c.in_ok-rows.ensures c.as_slice.ensures.value) c.in_ok-spend.ensures (term_of-Let c.args.scope.now.next c.in_ok-both.both.0 c.in_ok-both.both.1) c.in_ok-both.ensures
+    (term_case_in (program_in c.args.self.now) c.args.scope.now c.args.distinction.now.mode c.in-Some.next (term_of c.args.distinction.now.scrutinee.now) (alternatives_of c.args.distinction.now.alternatives.now) c.in_ok-rows.rows.items c.as_slice.result.now c.requires.other (omega (arith, c.in-Some.ensures)) c.in_ok-rows.ensures c.as_slice.ensures.value) c.in_ok-spend.ensures (term_of-Let c.args.scope.now.next c.in_ok-both.both.0 c.in_ok-both.both.1) c.in_ok-both.ensures
 
 pub distinction-returns-then-is_empty : goal.distinction-returns-then-is_empty
 distinction-returns-then-is_empty t c =
@@ -329,18 +329,18 @@ literal_test-returns-in_err-others t c =
 pub literal_test-returns-in_err-spend : goal.literal_test-returns-in_err-spend
 literal_test-returns-in_err-spend t c =
     spent_exit term_of c.args.left.now c.spend.new.left c.spend.new.left c.from_residual-in_err-spend.result c.in_err-spend.field-0.0
-    (literal_in (program_in c.args.self.now) c.args.mode c.args.matrix.now.positions.now c.as_slice.result.now c.in_ok-opened.opened.positions.items c.in_ok-opened.opened.arguments.items c.args.matrix.now.next c.in_ok-opened.opened.next c.args.position (get_or c.args.matrix.now.positions.now c.args.position 0) c.args.self.now.equal c.args.literal (all_rows c.args.matrix.now.rows.now) c.in_ok-opened.opened.rows.items c.as_slice-2.result.now c.in_ok-others.others.items c.as_slice-3.result.now
-    c.requires.mixed c.requires.literal (get_at c.args.matrix.now.positions.now c.args.position c.if-position-matrix.false) c.requires.ready.equal c.in_ok-opened.ensures.arguments c.in_ok-opened.ensures.positions c.as_slice.ensures.value c.in_ok-opened.ensures.next c.in_ok-opened.ensures.rows c.as_slice-2.ensures.value c.in_ok-others.ensures c.as_slice-3.ensures.value) c.from_residual-in_err-spend.ensures.1 c.in_err-spend.ensures
+    (literal_in (program_in c.args.self.now) c.args.mode c.args.column.now.matrix.now.positions.now c.as_slice.result.now c.in_ok-opened.opened.positions.items c.in_ok-opened.opened.arguments.items c.args.column.now.matrix.now.next c.in_ok-opened.opened.next c.args.column.now.position (get_or c.args.column.now.matrix.now.positions.now c.args.column.now.position 0) c.args.self.now.equal c.args.literal (all_rows c.args.column.now.matrix.now.rows.now) c.in_ok-opened.opened.rows.items c.as_slice-2.result.now c.in_ok-others.others.items c.as_slice-3.result.now
+    c.requires.mixed c.requires.literal (get_at c.args.column.now.matrix.now.positions.now c.args.column.now.position c.if-position-matrix.false) c.requires.ready.equal c.in_ok-opened.ensures.arguments c.in_ok-opened.ensures.positions c.as_slice.ensures.value c.in_ok-opened.ensures.next c.in_ok-opened.ensures.rows c.as_slice-2.ensures.value c.in_ok-others.ensures c.as_slice-3.ensures.value) c.from_residual-in_err-spend.ensures.1 c.in_err-spend.ensures
 
 pub literal_test-two-requires : goal.literal_test-two-requires
 literal_test-two-requires t c =
-    (let l = opened_lighter c.args.matrix.now.rows.now c.as_slice-2.result.now c.in_ok-opened.opened.rows.items c.args.position c.in_ok-opened.opened.arguments.items (goes_on true (demands_literal c.args.literal)) (opened_mixed c.args.position (all_rows c.args.matrix.now.rows.now) c.requires.mixed) c.as_slice-2.ensures.value c.in_ok-opened.ensures.rows in let m = other_literals_less (all_rows c.args.matrix.now.rows.now) c.as_slice-3.result.now c.in_ok-others.others.items c.args.position c.args.literal c.requires.literal c.as_slice-3.ensures.value c.in_ok-others.ensures in omega (arith, l, m, c.decreases), search rules)
+    (let l = opened_lighter c.args.column.now.matrix.now.rows.now c.as_slice-2.result.now c.in_ok-opened.opened.rows.items c.args.column.now.position c.in_ok-opened.opened.arguments.items (goes_on true (demands_literal c.args.literal)) (opened_mixed c.args.column.now.position (all_rows c.args.column.now.matrix.now.rows.now) c.requires.mixed) c.as_slice-2.ensures.value c.in_ok-opened.ensures.rows in let m = other_literals_less (all_rows c.args.column.now.matrix.now.rows.now) c.as_slice-3.result.now c.in_ok-others.others.items c.args.column.now.position c.args.literal c.requires.literal c.as_slice-3.ensures.value c.in_ok-others.ensures in omega (arith, l, m, c.decreases), search rules)
 
 pub literal_test-returns-in_err-both : goal.literal_test-returns-in_err-both
 literal_test-returns-in_err-both t c =
     node_exit term_of both_of c.args.left.now c.spend.new.left c.two.new.left c.two.new.left c.from_residual-in_err-both.result c.in_err-both.field-0.0
-    (literal_in (program_in c.args.self.now) c.args.mode c.args.matrix.now.positions.now c.as_slice.result.now c.in_ok-opened.opened.positions.items c.in_ok-opened.opened.arguments.items c.args.matrix.now.next c.in_ok-opened.opened.next c.args.position (get_or c.args.matrix.now.positions.now c.args.position 0) c.args.self.now.equal c.args.literal (all_rows c.args.matrix.now.rows.now) c.in_ok-opened.opened.rows.items c.as_slice-2.result.now c.in_ok-others.others.items c.as_slice-3.result.now
-    c.requires.mixed c.requires.literal (get_at c.args.matrix.now.positions.now c.args.position c.if-position-matrix.false) c.requires.ready.equal c.in_ok-opened.ensures.arguments c.in_ok-opened.ensures.positions c.as_slice.ensures.value c.in_ok-opened.ensures.next c.in_ok-opened.ensures.rows c.as_slice-2.ensures.value c.in_ok-others.ensures c.as_slice-3.ensures.value) c.in_ok-spend.ensures c.from_residual-in_err-both.ensures.1 c.in_err-both.ensures
+    (literal_in (program_in c.args.self.now) c.args.mode c.args.column.now.matrix.now.positions.now c.as_slice.result.now c.in_ok-opened.opened.positions.items c.in_ok-opened.opened.arguments.items c.args.column.now.matrix.now.next c.in_ok-opened.opened.next c.args.column.now.position (get_or c.args.column.now.matrix.now.positions.now c.args.column.now.position 0) c.args.self.now.equal c.args.literal (all_rows c.args.column.now.matrix.now.rows.now) c.in_ok-opened.opened.rows.items c.as_slice-2.result.now c.in_ok-others.others.items c.as_slice-3.result.now
+    c.requires.mixed c.requires.literal (get_at c.args.column.now.matrix.now.positions.now c.args.column.now.position c.if-position-matrix.false) c.requires.ready.equal c.in_ok-opened.ensures.arguments c.in_ok-opened.ensures.positions c.as_slice.ensures.value c.in_ok-opened.ensures.next c.in_ok-opened.ensures.rows c.as_slice-2.ensures.value c.in_ok-others.ensures c.as_slice-3.ensures.value) c.in_ok-spend.ensures c.from_residual-in_err-both.ensures.1 c.in_err-both.ensures
 
 pub literal_test-returns-in_err-test : goal.literal_test-returns-in_err-test
 literal_test-returns-in_err-test t c =
@@ -349,8 +349,8 @@ literal_test-returns-in_err-test t c =
 pub literal_test-returns : goal.literal_test-returns
 literal_test-returns t c =
     node_ok term_of both_of c.args.left.now c.spend.new.left c.two.new.left c.in_ok-both.both c.in_ok-test.test
-    (literal_in (program_in c.args.self.now) c.args.mode c.args.matrix.now.positions.now c.as_slice.result.now c.in_ok-opened.opened.positions.items c.in_ok-opened.opened.arguments.items c.args.matrix.now.next c.in_ok-opened.opened.next c.args.position (get_or c.args.matrix.now.positions.now c.args.position 0) c.args.self.now.equal c.args.literal (all_rows c.args.matrix.now.rows.now) c.in_ok-opened.opened.rows.items c.as_slice-2.result.now c.in_ok-others.others.items c.as_slice-3.result.now
-    c.requires.mixed c.requires.literal (get_at c.args.matrix.now.positions.now c.args.position c.if-position-matrix.false) c.requires.ready.equal c.in_ok-opened.ensures.arguments c.in_ok-opened.ensures.positions c.as_slice.ensures.value c.in_ok-opened.ensures.next c.in_ok-opened.ensures.rows c.as_slice-2.ensures.value c.in_ok-others.ensures c.as_slice-3.ensures.value) c.in_ok-spend.ensures (c.in_ok-test.ensures ∙ ap₂ (λ (a b : Term). literal_case (program_in c.args.self.now) c.args.self.now.equal (get_or c.args.matrix.now.positions.now c.args.position 0) c.args.literal (term_of a) (term_of b)) c.into_inner-same.ensures c.into_inner-other.ensures) c.in_ok-both.ensures
+    (literal_in (program_in c.args.self.now) c.args.mode c.args.column.now.matrix.now.positions.now c.as_slice.result.now c.in_ok-opened.opened.positions.items c.in_ok-opened.opened.arguments.items c.args.column.now.matrix.now.next c.in_ok-opened.opened.next c.args.column.now.position (get_or c.args.column.now.matrix.now.positions.now c.args.column.now.position 0) c.args.self.now.equal c.args.literal (all_rows c.args.column.now.matrix.now.rows.now) c.in_ok-opened.opened.rows.items c.as_slice-2.result.now c.in_ok-others.others.items c.as_slice-3.result.now
+    c.requires.mixed c.requires.literal (get_at c.args.column.now.matrix.now.positions.now c.args.column.now.position c.if-position-matrix.false) c.requires.ready.equal c.in_ok-opened.ensures.arguments c.in_ok-opened.ensures.positions c.as_slice.ensures.value c.in_ok-opened.ensures.next c.in_ok-opened.ensures.rows c.as_slice-2.ensures.value c.in_ok-others.ensures c.as_slice-3.ensures.value) c.in_ok-spend.ensures (c.in_ok-test.ensures ∙ ap₂ (λ (a b : Term). literal_case (program_in c.args.self.now) c.args.self.now.equal (get_or c.args.column.now.matrix.now.positions.now c.args.column.now.position 0) c.args.literal (term_of a) (term_of b)) c.into_inner-same.ensures c.into_inner-other.ensures) c.in_ok-both.ensures
 
 pub lower-term-requires : goal.lower-term-requires
 lower-term-requires t c =

@@ -22,16 +22,18 @@ abbrev pub decreases-term : goal.decreases-term
 decreases-term l = 8 * term_weight (term_of l.term.now) + 4
 
 abbrev pub decreases-binding : goal.decreases-binding
-decreases-binding l = 8 * (1 + (term_weight (term_of l.value.now) + term_weight (term_of l.body.now))) + 3
+decreases-binding l = 8 * (1 + (term_weight (term_of l.definition.now.value.now) + term_weight (term_of l.definition.now.body.now))) + 3
 
 abbrev pub decreases-free : goal.decreases-free
 decreases-free l = 8 * (1 + term_weight (term_of l.body.now)) + 3
 
 abbrev pub decreases-case : goal.decreases-case
-decreases-case l = 8 * (1 + (term_weight (term_of l.scrutinee.now) + alternatives_weight (alternatives_of l.alternatives.now))) + 3
+decreases-case l =
+    8 * (1 + (term_weight (term_of l.distinction.now.scrutinee.now) + alternatives_weight (alternatives_of l.distinction.now.alternatives.now))) + 3
 
 abbrev pub decreases-case_on_term : goal.decreases-case_on_term
-decreases-case_on_term l = 8 * (1 + (term_weight (term_of l.scrutinee.now) + alternatives_weight (alternatives_of l.alternatives.now))) + 2
+decreases-case_on_term l =
+    8 * (1 + (term_weight (term_of l.distinction.now.scrutinee.now) + alternatives_weight (alternatives_of l.distinction.now.alternatives.now))) + 2
 
 abbrev pub decreases-tree : goal.decreases-tree
 decreases-tree l = 8 * rows_weight (all_rows l.matrix.now.rows.now) + 4
@@ -52,20 +54,20 @@ abbrev pub decreases-by_first : goal.decreases-by_first
 decreases-by_first l = 8 * rows_weight (all_rows l.matrix.now.rows.now) + 3
 
 abbrev pub decreases-literal_test : goal.decreases-literal_test
-decreases-literal_test l = 8 * rows_weight (all_rows l.matrix.now.rows.now) + 2
+decreases-literal_test l = 8 * rows_weight (all_rows l.column.now.matrix.now.rows.now) + 2
 
 abbrev pub decreases-case_at : goal.decreases-case_at
-decreases-case_at l = 8 * rows_weight (all_rows l.matrix.now.rows.now) + 2
+decreases-case_at l = 8 * rows_weight (all_rows l.branching.now.column.matrix.now.rows.now) + 2
 
 abbrev pub decreases-branches : goal.decreases-branches
-decreases-branches l = 8 * rows_weight (all_rows l.matrix.now.rows.now) + 1
+decreases-branches l = 8 * rows_weight (all_rows l.branching.now.column.matrix.now.rows.now) + 1
 
 abbrev pub decreases-branch : goal.decreases-branch
-decreases-branch l = 8 * rows_weight (all_rows l.matrix.now.rows.now)
+decreases-branch l = 8 * rows_weight (all_rows l.branching.now.column.matrix.now.rows.now)
 
 abbrev pub invariant-branches-loop-choice : goal.invariant-branches-loop-choice
 invariant-branches-loop-choice l =
-    Progress (BranchLowers (program_in l.self) l.manner l.has_variables l.matrix l.position) branch_size l.choices
+    Progress (BranchLowers (program_in l.self) l.branching.manner l.branching.has_variables l.branching.column.matrix.now l.branching.column.position) branch_size l.choices
     (drop l.choice-index l.choices) (branches_of l.all) l.left l.fn.left
 
 abbrev pub invariant-terms-loop-term : goal.invariant-terms-loop-term
