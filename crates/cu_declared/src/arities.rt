@@ -15,15 +15,30 @@ use crate::numbers::Numbers;
 use cu_entities::{Entity, Space};
 use cu_modules::Scopes;
 
-/// The type that a name means in the module of a number, where it means one
-/// alone.
-pub(crate) fn meaning(scopes: &Scopes, number: u32, used: TypeUse) -> Option<Entity>
-    ensures meaning { (w : World) → IsAt w number scopes.now → UseIsOf w.owner w.names used
-        → option_map (entity_meaning w.names) result
-        ≡ entity_meant (bindings_of w) (use_meaning w.names used) }
-    ensures known { (w : World) → IsAt w number scopes.now → IfSome result (EntityIsKnown w.names) }
-{
-    scopes.meaning(number, Space::Types, used.name.qualifier, used.name.base)
+/// What names mean in the module of a number.
+#[derive(Clone, Copy)]
+pub(crate) struct ModuleScope<'s> {
+    pub(crate) scopes: &'s Scopes,
+    pub(crate) number: u32,
+}
+
+impl ModuleScope<'_> {
+    /// The type that a name means in the module, where it means one alone.
+    pub(crate) fn meaning(self, used: TypeUse) -> Option<Entity>
+        ensures meaning { (w : World) → IsAt w self.entry.number self.entry.scopes.now
+            → UseIsOf w.owner w.names used
+            → option_map (entity_meaning w.names) result
+            ≡ entity_meant (bindings_of w) (use_meaning w.names used) }
+        ensures known { (w : World) → IsAt w self.entry.number self.entry.scopes.now
+            → IfSome result (EntityIsKnown w.names) }
+    {
+        self.scopes.meaning(
+            self.number,
+            Space::Types,
+            used.name.qualifier,
+            used.name.base,
+        )
+    }
 }
 
 /// Whether a type hasn't as many parameters as there are arguments: their
@@ -38,25 +53,27 @@ fn differs(parameters: Option<usize>, arguments: usize) -> bool
 }
 
 /// Whether a use has a wrong number of arguments.
-fn is_wrong(scopes: &Scopes, number: u32, types: &Numbers, used: TypeUse) -> bool
-    ensures { (w : World) (numbers : List Numbered) → IsAt w number scopes.now
+fn is_wrong(scope: ModuleScope<'_>, types: &Numbers, used: TypeUse) -> bool
+    ensures { (w : World) (numbers : List Numbered)
+        → IsAt w scope.entry.number scope.entry.scopes.now
         → UseIsOf w.owner w.names used → Have w.names numbers types.now
         → result ≡ is_wrong numbers (bindings_of w) (use_meaning w.names used) }
 {
-    match meaning(scopes, number, used) {
+    match scope.meaning(used) {
         None => false,
         Some(entity) => differs(types.of(entity), used.arguments),
     }
 }
 
 /// Tells a use that has a wrong number of arguments.
-fn tell_arity(scopes: &Scopes, number: u32, types: &Numbers, used: TypeUse, first: &mut FirstFault)
-    ensures { (w : World) (numbers : List Numbered) → IsAt w number scopes.now
+fn tell_arity(scope: ModuleScope<'_>, types: &Numbers, used: TypeUse, first: &mut FirstFault)
+    ensures { (w : World) (numbers : List Numbered)
+        → IsAt w scope.entry.number scope.entry.scopes.now
         → UseIsOf w.owner w.names used → Have w.names numbers types.now
         → Told w first.old (use_faults numbers (bindings_of w) (use_meaning w.names used))
         first.new }
 {
-    if is_wrong(scopes, number, types, used) {
+    if is_wrong(scope, types, used) {
         first.tell(Fault {
             wrong: Wrong::TypeArity,
             place: used.name.place,
@@ -66,18 +83,18 @@ fn tell_arity(scopes: &Scopes, number: u32, types: &Numbers, used: TypeUse, firs
 
 /// Tells the uses that have a wrong number of arguments.
 pub(crate) fn tell_arities(
-    scopes: &Scopes,
-    number: u32,
+    scope: ModuleScope<'_>,
     types: &Numbers,
     uses: &[TypeUse],
     first: &mut FirstFault,
 )
-    ensures { (w : World) (numbers : List Numbered) → IsAt w number scopes.now
+    ensures { (w : World) (numbers : List Numbered)
+        → IsAt w scope.entry.number scope.entry.scopes.now
         → All (UseIsOf w.owner w.names) uses.now → Have w.names numbers types.now
         → Told w first.old (arity_faults numbers (bindings_of w) (uses_meaning w.names uses.now))
         first.new }
 {
     for used in uses {
-        tell_arity(scopes, number, types, *used, first);
+        tell_arity(scope, types, *used, first);
     }
 }

@@ -16,7 +16,7 @@ ghost use Rattle.cu_declared.specs.Parameters.{all_parameters, built_in_paramete
 ghost use Rattle.cu_declared.specs.Telling.{FaultIsKnown, GoalFaultIsKnown, TellsFault, TellsGoalFault};
 ghost use Rattle.cu_declared.specs.TypeFaults.{AreRight, IsGoalRight, IsGoalWrong, IsWrong};
 
-use crate::arities::tell_arities;
+use crate::arities::{ModuleScope, tell_arities};
 use crate::expressions::expression;
 use crate::first_fault::FirstFault;
 use crate::found::{Fault, Wrong};
@@ -85,16 +85,10 @@ fn module_fault(
     let mut uses = Vec::new(alloc);
     items_uses(alloc, text, &mut uses)?;
     let synonyms = synonyms(alloc, text)?;
+    let scope = ModuleScope { scopes, number };
     let mut first = FirstFault::new();
-    tell_arities(scopes, number, types, uses.as_slice(), &mut first);
-    tell_cycles(
-        alloc,
-        scopes,
-        number,
-        module.name(),
-        synonyms.as_slice(),
-        &mut first,
-    )?;
+    tell_arities(scope, types, uses.as_slice(), &mut first);
+    tell_cycles(alloc, scope, module.name(), synonyms.as_slice(), &mut first)?;
     Ok(first.fault())
 }
 
@@ -177,8 +171,12 @@ pub fn declared_types_goal(
     let types = parameters(alloc, names, modules)?;
     let mut uses = Vec::new(alloc);
     expression(alloc, goal.expression(), &mut uses)?;
+    let scope = ModuleScope {
+        scopes,
+        number: root,
+    };
     let mut first = FirstFault::new();
-    tell_arities(scopes, root, &types, uses.as_slice(), &mut first);
+    tell_arities(scope, &types, uses.as_slice(), &mut first);
     match first.fault() {
         Some(fault) => Err(TypeArity::At(fault.place)),
         None => Ok(()),

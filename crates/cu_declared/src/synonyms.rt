@@ -13,13 +13,12 @@ ghost use Rattle.cu_declared.specs.Inside.Told.{IsAt, Told, World, bindings_of};
 ghost use Rattle.cu_declared.specs.Parameters.{Numbered};
 ghost use Rattle.cu_declared.specs.TypeFaults as meant;
 
-use crate::arities::meaning;
+use crate::arities::ModuleScope;
 use crate::first_fault::FirstFault;
 use crate::found::{Fault, TypeUse, Wrong};
 use crate::numbers::Numbers;
 use crate::types::type_term;
 use cu_cycles::on_cycles;
-use cu_modules::Scopes;
 use cu_names::{NameId, Place};
 use cu_syntax::{Item, ItemNode};
 use std::alloc::{AllocError, Global};
@@ -90,12 +89,12 @@ fn synonym_numbers(
 }
 
 /// The number of the synonym that a name means, if it means one.
-fn target(scopes: &Scopes, number: u32, numbers: &Numbers, used: TypeUse) -> Option<usize>
-    ensures { (w : World) (kept : List Numbered) → IsAt w number scopes.now
+fn target(scope: ModuleScope<'_>, numbers: &Numbers, used: TypeUse) -> Option<usize>
+    ensures { (w : World) (kept : List Numbered) → IsAt w scope.entry.number scope.entry.scopes.now
         → UseIsOf w.owner w.names used → Have w.names kept numbers.now
         → result ≡ target_of kept (bindings_of w) (use_meaning w.names used) }
 {
-    match meaning(scopes, number, used) {
+    match scope.meaning(used) {
         None => None,
         Some(entity) => numbers.of(entity),
     }
@@ -104,19 +103,18 @@ fn target(scopes: &Scopes, number: u32, numbers: &Numbers, used: TypeUse) -> Opt
 /// The numbers of the synonyms that names mean.
 fn row(
     alloc: Global,
-    scopes: &Scopes,
-    number: u32,
+    scope: ModuleScope<'_>,
     numbers: &Numbers,
     uses: &[TypeUse],
 ) -> Result<Vec<usize>, AllocError>
-    ensures { (w : World) (kept : List Numbered) → IsAt w number scopes.now
+    ensures { (w : World) (kept : List Numbered) → IsAt w scope.entry.number scope.entry.scopes.now
         → All (UseIsOf w.owner w.names) uses.now → Have w.names kept numbers.now
         → IfOk result (λ row. row.items
         ≡ targets kept (bindings_of w) (uses_meaning w.names uses.now)) }
 {
     let mut row = Vec::new(alloc);
     'uses: for used in uses {
-        let Some(target) = target(scopes, number, numbers, *used) else {
+        let Some(target) = target(scope, numbers, *used) else {
             continue;
         };
         row.push(target)?;
@@ -127,19 +125,18 @@ fn row(
 /// For each synonym the numbers of those that the names on its right mean.
 fn graph(
     alloc: Global,
-    scopes: &Scopes,
-    number: u32,
+    scope: ModuleScope<'_>,
     numbers: &Numbers,
     synonyms: &[Synonym],
 ) -> Result<Vec<Vec<usize>>, AllocError>
-    ensures { (w : World) (kept : List Numbered) → IsAt w number scopes.now
+    ensures { (w : World) (kept : List Numbered) → IsAt w scope.entry.number scope.entry.scopes.now
         → All (SynonymIsOf w.owner w.names) synonyms.now → Have w.names kept numbers.now
         → IfOk result (λ rows. rows_in rows.items
         ≡ map (row_of kept (bindings_of w)) (map (kept_by w.names) synonyms.now)) }
 {
     let mut rows = Vec::new(alloc);
     for synonym in synonyms {
-        let row = row(alloc, scopes, number, numbers, synonym.uses.as_slice())?;
+        let row = row(alloc, scope, numbers, synonym.uses.as_slice())?;
         rows.push(row)?;
     }
     Ok(rows)
@@ -173,19 +170,19 @@ fn tell_all_flagged(flags: &[bool], synonyms: &[Synonym], first: &mut FirstFault
 /// Tells the synonyms that lead to themselves.
 pub(crate) fn tell_cycles(
     alloc: Global,
-    scopes: &Scopes,
-    number: u32,
+    scope: ModuleScope<'_>,
     owner: NameId,
     synonyms: &[Synonym],
     first: &mut FirstFault,
 ) -> Result<(), AllocError>
-    requires { (w : World) × AreSynonyms w number owner scopes.now synonyms.now }
-    ensures { (w : World) → AreSynonyms w number owner scopes.now synonyms.now
+    requires { (w : World) × AreSynonyms w scope.number owner scope.scopes.now synonyms.now }
+    ensures { (w : World)
+        → AreSynonyms w scope.entry.number owner scope.entry.scopes.now synonyms.now
         → OnOk result ((faults : List meant.Fault) × AreCycles w faults
         × Told w first.old faults first.new) }
 {
     let numbers = synonym_numbers(alloc, owner, synonyms)?;
-    let graph = graph(alloc, scopes, number, &numbers, synonyms)?;
+    let graph = graph(alloc, scope, &numbers, synonyms)?;
     let flags = on_cycles(alloc, graph.as_slice())?;
     tell_all_flagged(flags.as_slice(), synonyms, first);
     Ok(())

@@ -10,5 +10,5 @@ use Rattle.cu_declared.proofs.synonyms.graph.Given as goal
 
 abbrev pub invariant-loop-synonym : goal.invariant-loop-synonym
 invariant-loop-synonym l =
-    (w : World) (kept : List Numbered) → IsAt w l.number l.scopes → All (SynonymIsOf w.owner w.names) l.synonyms → Have w.names kept l.numbers
+    (w : World) (kept : List Numbered) → IsAt w l.scope.number l.scope.scopes.now → All (SynonymIsOf w.owner w.names) l.synonyms → Have w.names kept l.numbers
     → rows_in l.rows.items ++ rows_left w.names kept (bindings_of w) (drop l.synonym-index l.synonyms) ≡ rows_left w.names kept (bindings_of w) l.synonyms

@@ -9,5 +9,5 @@ use Rattle.cu_declared.proofs.synonyms.row.Given as goal
 
 abbrev pub invariant-uses : goal.invariant-uses
 invariant-uses l =
-    (w : World) (kept : List Numbered) → IsAt w l.number l.scopes → All (UseIsOf w.owner w.names) l.uses → Have w.names kept l.numbers
+    (w : World) (kept : List Numbered) → IsAt w l.scope.number l.scope.scopes.now → All (UseIsOf w.owner w.names) l.uses → Have w.names kept l.numbers
     → l.row.items ++ targets kept (bindings_of w) (uses_meaning w.names (drop l.used-index l.uses)) ≡ targets kept (bindings_of w) (uses_meaning w.names l.uses)
