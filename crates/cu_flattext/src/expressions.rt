@@ -16,6 +16,30 @@ struct Looked<'p> {
     depth: usize,
 }
 
+/// The arguments of a head, and how deep each may nest.
+#[derive(Clone, Copy)]
+struct Arguments<'p> {
+    es: &'p [ExprId],
+    depth: usize,
+}
+
+/// A variable with the expression in which it is bound, and how deep that may
+/// nest.
+#[derive(Clone, Copy)]
+struct Scoped {
+    x: u32,
+    body: ExprId,
+    depth: usize,
+}
+
+/// A case distinction.
+#[derive(Clone, Copy)]
+struct Distinction<'p> {
+    mode: Mode,
+    scrutinee: ExprId,
+    branches: &'p [(Pattern, ExprId)],
+}
+
 /// The tasks that are left while an expression is written, as a stack.
 #[derive(Drop)]
 pub(crate) struct Expressions<'p> {
@@ -155,14 +179,39 @@ impl<'p> Expressions<'p> {
         match expr {
             Expr::Var(x) => self.variable(*x, page),
             Expr::Lit(literal) => self.literal(*literal, page),
-            Expr::Whole(head, es) => self.whole(*head, es.as_slice(), depth, page),
-            Expr::Part(head, es) => self.part(*head, es.as_slice(), depth, page),
+            Expr::Whole(head, es) => {
+                let es = es.as_slice();
+                self.whole(*head, Arguments { es, depth }, page)
+            }
+            Expr::Part(head, es) => {
+                let es = es.as_slice();
+                self.part(*head, Arguments { es, depth }, page)
+            }
             Expr::Apply(function, argument) => self.application(*function, *argument, depth, page),
-            Expr::Let(x, bound, body) => self.binding(*x, *bound, *body, depth, page),
-            Expr::Free(x, body) => self.free(*x, *body, depth, page),
+            Expr::Let(x, bound, body) => {
+                let scoped = Scoped {
+                    x: *x,
+                    body: *body,
+                    depth,
+                };
+                self.binding(*bound, scoped, page)
+            }
+            Expr::Free(x, body) => {
+                let scoped = Scoped {
+                    x: *x,
+                    body: *body,
+                    depth,
+                };
+                self.free(scoped, page)
+            }
             Expr::Or(left, right) => self.choice(*left, *right, depth, page),
             Expr::Case(mode, e, branches) => {
-                self.distinction(*mode, *e, branches.as_slice(), depth, page)
+                let distinction = Distinction {
+                    mode: *mode,
+                    scrutinee: *e,
+                    branches: branches.as_slice(),
+                };
+                self.distinction(distinction, depth, page)
             }
         }
     }
@@ -227,72 +276,66 @@ impl<'p> Expressions<'p> {
 
     /// Pushes the tasks for what is in the scope of a variable, which gets its
     /// old number back then.
-    fn leave(&mut self, x: u32, before: u64, body: ExprId, depth: usize) -> Result<(), AllocError>
-        ensures tasks { OnOk result (Leaves x before body depth self.old self.new) }
+    fn leave(&mut self, scoped: Scoped, before: u64) -> Result<(), AllocError>
+        ensures tasks { OnOk result
+            (Leaves scoped.x before scoped.body scoped.depth self.old self.new) }
         ensures numbers { OnOk result (numbers_of self.new.numbers ≡ numbers_of self.old.numbers) }
         ensures next { OnOk result (self.new.next ≡ self.old.next) }
         ensures wording { OnOk result (self.new.wording ≡ self.old.wording) }
     {
-        self.tasks.push(Task::Number(x, before))?;
+        self.tasks.push(Task::Number(scoped.x, before))?;
         self.tasks.push(Task::Text(")"))?;
-        self.tasks.push(Task::Expression(body, depth))?;
+        self.tasks
+            .push(Task::Expression(scoped.body, scoped.depth))?;
         Ok(())
     }
 
     /// Binds a variable, and pushes the tasks for what is in its scope.
-    fn scope(&mut self, x: u32, body: ExprId, depth: usize) -> Result<(), AllocError>
-        ensures tasks { OnOk result (Scopes x body depth self.old self.new) }
+    fn scope(&mut self, scoped: Scoped) -> Result<(), AllocError>
+        ensures tasks { OnOk result
+            (Scopes scoped.x scoped.body scoped.depth self.old self.new) }
         ensures numbers { OnOk result (numbers_of self.new.numbers
-            ≡ numbered x self.old.next (numbers_of self.old.numbers)) }
+            ≡ numbered scoped.x self.old.next (numbers_of self.old.numbers)) }
         ensures next { OnOk result (self.new.next ≡ self.old.next + 1) }
         ensures wording { OnOk result (self.new.wording ≡ self.old.wording) }
     {
-        let before = self.bind(x)?;
-        self.leave(x, before, body, depth)?;
+        let before = self.bind(scoped.x)?;
+        self.leave(scoped, before)?;
         Ok(())
     }
 
-    /// Writes a local definition.
-    fn binding(
-        &mut self,
-        x: u32,
-        bound: ExprId,
-        body: ExprId,
-        depth: usize,
-        page: &mut Page,
-    ) -> Result<(), AllocError>
+    /// Writes a local definition, whose right side may nest as deep as what the
+    /// variable is bound in.
+    fn binding(&mut self, bound: ExprId, scoped: Scoped, page: &mut Page) -> Result<(), AllocError>
         ensures { OnOk result (Writes
             page.old.text.items
-            (left_with_term (Let x (term_within depth self.old.wording.flat.now bound)
-            (term_within depth self.old.wording.flat.now body)) self.old)
+            (left_with_term
+            (Let scoped.x (term_within scoped.depth self.old.wording.flat.now bound)
+            (term_within scoped.depth self.old.wording.flat.now scoped.body)) self.old)
             page.new.text.items (left_of self.new)) }
     {
         page.push_str("Let [(")?;
         page.push_number(self.next)?;
         page.push_str(",")?;
-        self.scope(x, body, depth)?;
+        self.scope(scoped)?;
         self.tasks.push(Task::Text(")] ("))?;
-        self.tasks.push(Task::Expression(bound, depth))?;
+        self.tasks.push(Task::Expression(bound, scoped.depth))?;
         Ok(())
     }
 
     /// Writes an expression with a free variable.
-    fn free(
-        &mut self,
-        x: u32,
-        body: ExprId,
-        depth: usize,
-        page: &mut Page,
-    ) -> Result<(), AllocError>
+    fn free(&mut self, scoped: Scoped, page: &mut Page) -> Result<(), AllocError>
         ensures { OnOk result (Writes
             page.old.text.items
-            (left_with_term (Free x (term_within depth self.old.wording.flat.now body)) self.old)
+            (left_with_term
+            (Free scoped.x (term_within scoped.depth self.old.wording.flat.now scoped.body))
+            self.old)
             page.new.text.items (left_of self.new)) }
     {
         page.push_str("Free [")?;
         page.push_number(self.next)?;
         page.push_str("] (")?;
-        self.scope(x, body, depth)?;
+        self.scope(scoped)?;
         Ok(())
     }
 
@@ -318,29 +361,30 @@ impl<'p> Expressions<'p> {
         Ok(())
     }
 
-    /// Writes a case distinction.
+    /// Writes a case distinction, whose parts may nest so deep.
     fn distinction(
         &mut self,
-        mode: Mode,
-        e: ExprId,
-        branches: &'p [(Pattern, ExprId)],
+        distinction: Distinction<'p>,
         depth: usize,
         page: &mut Page,
     ) -> Result<(), AllocError>
         ensures { OnOk result (Writes
             page.old.text.items
-            (left_with_term (Case mode (term_within depth self.old.wording.flat.now e)
+            (left_with_term (Case distinction.entry.mode
+            (term_within depth self.old.wording.flat.now distinction.entry.scrutinee)
             (alternatives_of (term_within depth self.old.wording.flat.now)
-            (map branch_meaning branches.now))) self.old)
+            (map branch_meaning distinction.entry.branches.now))) self.old)
             page.new.text.items (left_of self.new)) }
     {
         page.push_str("Case ")?;
-        page.push_str(mode_word(mode))?;
+        page.push_str(mode_word(distinction.mode))?;
         page.push_str(" (")?;
         self.tasks.push(Task::Text("]"))?;
-        self.tasks.push(Task::Branches(branches, depth))?;
+        self.tasks
+            .push(Task::Branches(distinction.branches, depth))?;
         self.tasks.push(Task::Text(") ["))?;
-        self.tasks.push(Task::Expression(e, depth))?;
+        self.tasks
+            .push(Task::Expression(distinction.scrutinee, depth))?;
         Ok(())
     }
 
@@ -348,37 +392,37 @@ impl<'p> Expressions<'p> {
     fn whole(
         &mut self,
         head: Head,
-        es: &'p [ExprId],
-        depth: usize,
+        arguments: Arguments<'p>,
         page: &mut Page,
     ) -> Result<(), AllocError>
         ensures { OnOk result (Writes
             page.old.text.items
             (left_with_term (Whole head
-            (terms_of (term_within depth self.old.wording.flat.now) es.now)) self.old)
+            (terms_of (term_within arguments.entry.depth self.old.wording.flat.now)
+            arguments.entry.es.now)) self.old)
             page.new.text.items (left_of self.new)) }
     {
         page.push_str("Comb ")?;
         page.push_str(call_kind(head))?;
         page.push_str(" ")?;
-        self.arguments(head, es, depth, page)
+        self.arguments(head, arguments, page)
     }
 
     /// Writes a head with some of its arguments.
     fn part(
         &mut self,
         head: Head,
-        es: &'p [ExprId],
-        depth: usize,
+        arguments: Arguments<'p>,
         page: &mut Page,
     ) -> Result<(), AllocError>
         ensures { OnOk result (Writes
             page.old.text.items
             (left_with_term (Part head
-            (terms_of (term_within depth self.old.wording.flat.now) es.now)) self.old)
+            (terms_of (term_within arguments.entry.depth self.old.wording.flat.now)
+            arguments.entry.es.now)) self.old)
             page.new.text.items (left_of self.new)) }
     {
-        self.counted_part(head, es.len(), es, depth, page)
+        self.counted_part(head, arguments.es.len(), arguments, page)
     }
 
     /// Writes the partial application of a head to so many arguments.
@@ -386,36 +430,38 @@ impl<'p> Expressions<'p> {
         &mut self,
         head: Head,
         count: usize,
-        es: &'p [ExprId],
-        depth: usize,
+        arguments: Arguments<'p>,
         page: &mut Page,
     ) -> Result<(), AllocError>
         ensures { OnOk result (Writes
             page.old.text.items
             (left_with_part head count
-            (terms_of (term_within depth self.old.wording.flat.now) es.now) self.old)
+            (terms_of (term_within arguments.entry.depth self.old.wording.flat.now)
+            arguments.entry.es.now) self.old)
             page.new.text.items (left_of self.new)) }
     {
         page.push_str("Comb ")?;
         push_kind(page, head, missing(&self.wording, head, count))?;
         page.push_str(" ")?;
-        self.arguments(head, es, depth, page)
+        self.arguments(head, arguments, page)
     }
 
     /// Writes a head and its arguments.
     fn arguments(
         &mut self,
         head: Head,
-        es: &'p [ExprId],
-        depth: usize,
+        arguments: Arguments<'p>,
         page: &mut Page,
     ) -> Result<(), AllocError>
         ensures { OnOk result (Writes
             page.old.text.items
             (left_with_arguments head
-            (terms_of (term_within depth self.old.wording.flat.now) es.now) self.old)
+            (terms_of (term_within arguments.entry.depth self.old.wording.flat.now)
+            arguments.entry.es.now) self.old)
             page.new.text.items (left_of self.new)) }
     {
+        let es = arguments.es;
+        let depth = arguments.depth;
         push_head(page, &self.wording, head)?;
         page.push_str(" [")?;
         self.tasks.push(Task::Text("]"))?;

@@ -9,11 +9,11 @@ use Rattle.cu_flattext.proofs.expressions.Expressions.scope.Goals as goal
 
 pub returns-clause-tasks : goal.returns-clause-tasks
 returns-clause-tasks c = λ program code n.
-    let x = c.args.x in
+    let x = c.args.scoped.x in
     let k = c.args.self.now.next in
     let numbers = numbers_of c.args.self.now.numbers in
     let inner = numbered x k numbers in
-    let t = term_within c.args.depth code c.args.body in
+    let t = term_within c.args.scoped.depth code c.args.scoped.body in
     let text = expression_text program n inner t in
     let m = n + bindings t in
     ap (λ (v : Numbers). all_parts program code (reverse c.leave.new.self.tasks.items) n v) (c.in_ok-leave.ensures.numbers ∙ c.in_ok-before.ensures.numbers)
