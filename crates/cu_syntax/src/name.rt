@@ -14,8 +14,8 @@ ghost use Rattle.cu_syntax.specs.Syntax as syntax;
 ghost use Rattle.cu_syntax.specs.Table.{rule_of};
 ghost use Rattle.cu_syntax.specs.declared.symbol.Symbol.TheVariants as symbol;
 
-use crate::rows::rule;
 use crate::rule::Rule;
+use crate::rules::rule;
 use crate::subtree::Subtree;
 use crate::symbol::Symbol;
 use cu_int::Int;

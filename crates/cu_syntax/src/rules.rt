@@ -1,802 +1,601 @@
-//! The rules of the grammar, in the order of the symbols.
-ghost use Rattle.std.specs.Prelude.{◌≡◌, map};
+//! The rules of the grammar.
+ghost use Rattle.std.specs.Prelude.{◌≡◌};
 ghost use Rattle.cu_syntax.specs.Meaning.{rule_meaning};
-ghost use Rattle.cu_syntax.specs.Table.{blocks, declarations, expressions, goals, headers, names, patterns, rule_of, tokens, types};
+ghost use Rattle.cu_syntax.specs.Table.{rule_of};
 
 use crate::rule::Rule;
 use crate::symbol::Symbol;
 use cu_lex::{Keyword, Mark, ReservedOperator, Special};
 use cu_peg::{Class, NameKind};
 
-/// The rules for tokens.
-pub(crate) fn token_rules() -> &'static [Rule]
-    ensures { map rule_meaning result.now ≡ map rule_of tokens }
+/// The rule of a symbol.
+pub(crate) fn rule(symbol: Symbol) -> Rule
+    ensures { rule_meaning result ≡ rule_of symbol }
 {
-    &TOKENS
+    match symbol {
+        // Tokens.
+        Symbol::VarId => Rule::Token(Class::Unqualified(NameKind::VarId)),
+        Symbol::ConId => Rule::Token(Class::Unqualified(NameKind::ConId)),
+        Symbol::VarSym => Rule::Token(Class::Unqualified(NameKind::VarOp)),
+        Symbol::ConSym => Rule::Token(Class::Unqualified(NameKind::ConOp)),
+        Symbol::QVarId => Rule::Token(Class::Name(NameKind::VarId)),
+        Symbol::QConId => Rule::Token(Class::Name(NameKind::ConId)),
+        Symbol::QVarSym => Rule::Token(Class::Name(NameKind::VarOp)),
+        Symbol::QConSym => Rule::Token(Class::Name(NameKind::ConOp)),
+        Symbol::Qualified => Rule::Token(Class::Special(Special::Qualified)),
+        Symbol::As => Rule::Token(Class::Special(Special::As)),
+        Symbol::Hiding => Rule::Token(Class::Special(Special::Hiding)),
+        Symbol::Minus => Rule::Token(Class::Special(Special::Minus)),
+        Symbol::Case => Rule::Token(Class::Keyword(Keyword::Case)),
+        Symbol::Data => Rule::Token(Class::Keyword(Keyword::Data)),
+        Symbol::Else => Rule::Token(Class::Keyword(Keyword::Else)),
+        Symbol::Fcase => Rule::Token(Class::Keyword(Keyword::Fcase)),
+        Symbol::Free => Rule::Token(Class::Keyword(Keyword::Free)),
+        Symbol::If => Rule::Token(Class::Keyword(Keyword::If)),
+        Symbol::Import => Rule::Token(Class::Keyword(Keyword::Import)),
+        Symbol::In => Rule::Token(Class::Keyword(Keyword::In)),
+        Symbol::Infix => Rule::Token(Class::Keyword(Keyword::Infix)),
+        Symbol::Infixl => Rule::Token(Class::Keyword(Keyword::Infixl)),
+        Symbol::Infixr => Rule::Token(Class::Keyword(Keyword::Infixr)),
+        Symbol::Let => Rule::Token(Class::Keyword(Keyword::Let)),
+        Symbol::Module => Rule::Token(Class::Keyword(Keyword::Module)),
+        Symbol::Newtype => Rule::Token(Class::Keyword(Keyword::Newtype)),
+        Symbol::Of => Rule::Token(Class::Keyword(Keyword::Of)),
+        Symbol::Then => Rule::Token(Class::Keyword(Keyword::Then)),
+        Symbol::Type => Rule::Token(Class::Keyword(Keyword::Type)),
+        Symbol::Where => Rule::Token(Class::Keyword(Keyword::Where)),
+        Symbol::DotDot => Rule::Token(Class::Reserved(ReservedOperator::DotDot)),
+        Symbol::DoubleColon => Rule::Token(Class::Reserved(ReservedOperator::DoubleColon)),
+        Symbol::Equals => Rule::Token(Class::Reserved(ReservedOperator::Equals)),
+        Symbol::Backslash => Rule::Token(Class::Reserved(ReservedOperator::Backslash)),
+        Symbol::Bar => Rule::Token(Class::Reserved(ReservedOperator::Bar)),
+        Symbol::LeftArrow => Rule::Token(Class::Reserved(ReservedOperator::LeftArrow)),
+        Symbol::RightArrow => Rule::Token(Class::Reserved(ReservedOperator::RightArrow)),
+        Symbol::At => Rule::Token(Class::Reserved(ReservedOperator::At)),
+        Symbol::OpenParen => Rule::Token(Class::Mark(Mark::OpenParen)),
+        Symbol::CloseParen => Rule::Token(Class::Mark(Mark::CloseParen)),
+        Symbol::OpenSquare => Rule::Token(Class::Mark(Mark::OpenSquare)),
+        Symbol::CloseSquare => Rule::Token(Class::Mark(Mark::CloseSquare)),
+        Symbol::OpenBrace => Rule::Token(Class::Mark(Mark::OpenBrace)),
+        Symbol::CloseBrace => Rule::Token(Class::Mark(Mark::CloseBrace)),
+        Symbol::Comma => Rule::Token(Class::Mark(Mark::Comma)),
+        Symbol::Semicolon => Rule::Token(Class::Mark(Mark::Semicolon)),
+        Symbol::Backquote => Rule::Token(Class::Mark(Mark::Backquote)),
+        Symbol::Underscore => Rule::Token(Class::Mark(Mark::Underscore)),
+        Symbol::Int => Rule::Token(Class::Int),
+        Symbol::Digit => Rule::Token(Class::Digit),
+        Symbol::Char => Rule::Token(Class::Char),
+        Symbol::String => Rule::Token(Class::String),
+
+        // Names and operators.
+        Symbol::VarOp => Rule::Choice(&[Symbol::VarSym, Symbol::QuotedVar]),
+        Symbol::QuotedVar => Rule::Sequence(&[Symbol::Backquote, Symbol::VarId, Symbol::Backquote]),
+        Symbol::ConOp => Rule::Choice(&[Symbol::ConSym, Symbol::QuotedCon]),
+        Symbol::QuotedCon => Rule::Sequence(&[Symbol::Backquote, Symbol::ConId, Symbol::Backquote]),
+        Symbol::QVarOp => Rule::Choice(&[Symbol::QVarSym, Symbol::QuotedQVar]),
+        Symbol::QuotedQVar => Rule::Sequence(&[
+            Symbol::Backquote,
+            Symbol::QVarId,
+            Symbol::Backquote,
+        ]),
+        Symbol::QConOp => Rule::Choice(&[Symbol::QConSym, Symbol::QuotedQCon]),
+        Symbol::QuotedQCon => Rule::Sequence(&[
+            Symbol::Backquote,
+            Symbol::QConId,
+            Symbol::Backquote,
+        ]),
+        Symbol::Op => Rule::Choice(&[Symbol::VarOp, Symbol::ConOp]),
+        Symbol::QOp => Rule::Choice(&[Symbol::QVarOp, Symbol::QConOp]),
+        Symbol::Var => Rule::Choice(&[Symbol::VarId, Symbol::ParenthesizedVarOp]),
+        Symbol::ParenthesizedVarOp => Rule::Sequence(&[
+            Symbol::OpenParen,
+            Symbol::VarOp,
+            Symbol::CloseParen,
+        ]),
+        Symbol::Con => Rule::Choice(&[Symbol::ConId, Symbol::ParenthesizedConOp]),
+        Symbol::ParenthesizedConOp => Rule::Sequence(&[
+            Symbol::OpenParen,
+            Symbol::ConOp,
+            Symbol::CloseParen,
+        ]),
+        Symbol::QVar => Rule::Choice(&[Symbol::QVarId, Symbol::ParenthesizedQVarOp]),
+        Symbol::ParenthesizedQVarOp => Rule::Sequence(&[
+            Symbol::OpenParen,
+            Symbol::QVarOp,
+            Symbol::CloseParen,
+        ]),
+        Symbol::QCon => Rule::Choice(&[Symbol::QConId, Symbol::ParenthesizedQConOp]),
+        Symbol::ParenthesizedQConOp => Rule::Sequence(&[
+            Symbol::OpenParen,
+            Symbol::QConOp,
+            Symbol::CloseParen,
+        ]),
+        Symbol::Literal => Rule::Choice(&[Symbol::Int, Symbol::Char, Symbol::String]),
+
+        // Headers and imports.
+        Symbol::Header => Rule::Sequence(&[
+            Symbol::Module,
+            Symbol::ModuleName,
+            Symbol::OptionalExports,
+            Symbol::Where,
+        ]),
+        Symbol::ModuleName => Rule::Choice(&[Symbol::VarId, Symbol::QConId]),
+        Symbol::OptionalExports => Rule::Optional(Symbol::Exports),
+        Symbol::Exports => Rule::Sequence(&[
+            Symbol::OpenParen,
+            Symbol::OptionalExportList,
+            Symbol::CloseParen,
+        ]),
+        Symbol::OptionalExportList => Rule::Optional(Symbol::ExportList),
+        Symbol::ExportList => Rule::SeparatedBy(Symbol::Export, Symbol::Comma),
+        Symbol::Export => Rule::Choice(&[Symbol::ModuleExport, Symbol::Entity]),
+        Symbol::ModuleExport => Rule::Sequence(&[Symbol::Module, Symbol::ModuleName]),
+        Symbol::Entity => Rule::Choice(&[Symbol::QVar, Symbol::TypeEntity]),
+        Symbol::TypeEntity => Rule::Sequence(&[Symbol::QCon, Symbol::OptionalConstructors]),
+        Symbol::OptionalConstructors => Rule::Optional(Symbol::Constructors),
+        Symbol::Constructors => Rule::Sequence(&[
+            Symbol::OpenParen,
+            Symbol::ConstructorNames,
+            Symbol::CloseParen,
+        ]),
+        Symbol::ConstructorNames => Rule::Choice(&[
+            Symbol::DotDot,
+            Symbol::OptionalConstructorList,
+        ]),
+        Symbol::OptionalConstructorList => Rule::Optional(Symbol::ConstructorList),
+        Symbol::ConstructorList => Rule::SeparatedBy(Symbol::Con, Symbol::Comma),
+        Symbol::ImportDecl => Rule::Sequence(&[
+            Symbol::Import,
+            Symbol::OptionalQualified,
+            Symbol::ModuleName,
+            Symbol::OptionalAlias,
+            Symbol::OptionalImports,
+        ]),
+        Symbol::OptionalQualified => Rule::Optional(Symbol::Qualified),
+        Symbol::OptionalAlias => Rule::Optional(Symbol::Alias),
+        Symbol::Alias => Rule::Sequence(&[Symbol::As, Symbol::ModuleName]),
+        Symbol::OptionalImports => Rule::Optional(Symbol::Imports),
+        Symbol::Imports => Rule::Sequence(&[
+            Symbol::OptionalHiding,
+            Symbol::OpenParen,
+            Symbol::OptionalEntityList,
+            Symbol::CloseParen,
+        ]),
+        Symbol::OptionalHiding => Rule::Optional(Symbol::Hiding),
+        Symbol::OptionalEntityList => Rule::Optional(Symbol::EntityList),
+        Symbol::EntityList => Rule::SeparatedBy(Symbol::Entity, Symbol::Comma),
+
+        // Declarations of a module.
+        Symbol::Item => Rule::Choice(&[
+            Symbol::FixityDecl,
+            Symbol::DataDecl,
+            Symbol::SynonymDecl,
+            Symbol::Signature,
+            Symbol::TopRule,
+        ]),
+        Symbol::FixityDecl => Rule::Sequence(&[
+            Symbol::FixityWord,
+            Symbol::OptionalDigit,
+            Symbol::OpList,
+        ]),
+        Symbol::FixityWord => Rule::Choice(&[Symbol::Infixl, Symbol::Infixr, Symbol::Infix]),
+        Symbol::OptionalDigit => Rule::Optional(Symbol::Digit),
+        Symbol::OpList => Rule::SeparatedBy(Symbol::Op, Symbol::Comma),
+        Symbol::DataDecl => Rule::Sequence(&[
+            Symbol::DataWord,
+            Symbol::ConId,
+            Symbol::TypeVars,
+            Symbol::OptionalConDecls,
+        ]),
+        Symbol::DataWord => Rule::Choice(&[Symbol::Data, Symbol::Newtype]),
+        Symbol::TypeVars => Rule::Many(Symbol::VarId),
+        Symbol::OptionalConDecls => Rule::Optional(Symbol::ConDecls),
+        Symbol::ConDecls => Rule::Sequence(&[Symbol::Equals, Symbol::ConDeclList]),
+        Symbol::ConDeclList => Rule::SeparatedBy(Symbol::ConDecl, Symbol::Bar),
+        Symbol::ConDecl => Rule::Choice(&[Symbol::InfixConDecl, Symbol::PrefixConDecl]),
+        Symbol::InfixConDecl => Rule::Sequence(&[Symbol::BType, Symbol::ConOp, Symbol::BType]),
+        Symbol::PrefixConDecl => Rule::Sequence(&[Symbol::Con, Symbol::ATypes]),
+        Symbol::ATypes => Rule::Many(Symbol::AType),
+        Symbol::SynonymDecl => Rule::Sequence(&[
+            Symbol::Type,
+            Symbol::ConId,
+            Symbol::TypeVars,
+            Symbol::Equals,
+            Symbol::TypeExp,
+        ]),
+        Symbol::Signature => Rule::Sequence(&[
+            Symbol::VarList,
+            Symbol::DoubleColon,
+            Symbol::TypeExp,
+        ]),
+        Symbol::VarList => Rule::SeparatedBy(Symbol::Var, Symbol::Comma),
+
+        // Types.
+        Symbol::TypeExp => Rule::SeparatedBy(Symbol::BType, Symbol::RightArrow),
+        Symbol::BType => Rule::Choice(&[Symbol::TypeApplication, Symbol::AType]),
+        Symbol::TypeApplication => Rule::Sequence(&[Symbol::QConId, Symbol::TypeArguments]),
+        Symbol::TypeArguments => Rule::AtLeastOne(Symbol::AType),
+        Symbol::AType => Rule::Choice(&[
+            Symbol::QConId,
+            Symbol::VarId,
+            Symbol::Unit,
+            Symbol::TupleType,
+            Symbol::ListType,
+        ]),
+        Symbol::Unit => Rule::Sequence(&[Symbol::OpenParen, Symbol::CloseParen]),
+        Symbol::TupleType => Rule::Sequence(&[
+            Symbol::OpenParen,
+            Symbol::NoSixteenTypes,
+            Symbol::TypeList,
+            Symbol::CloseParen,
+        ]),
+        Symbol::TypeList => Rule::SeparatedBy(Symbol::TypeExp, Symbol::Comma),
+        Symbol::ListType => Rule::Sequence(&[
+            Symbol::OpenSquare,
+            Symbol::TypeExp,
+            Symbol::CloseSquare,
+        ]),
+        Symbol::NoSixteenTypes => Rule::NotAhead(Symbol::SixteenTypes),
+        Symbol::SixteenTypes => Rule::Sequence(&SIXTEEN_TYPES),
+
+        // Rules and blocks.
+        Symbol::TopRule => Rule::Sequence(&[Symbol::FunctionLhs, Symbol::Rhs]),
+        Symbol::Rule => Rule::Sequence(&[Symbol::Lhs, Symbol::Rhs]),
+        Symbol::FunctionLhs => Rule::Choice(&[
+            Symbol::InfixLhs,
+            Symbol::ParenthesizedLhs,
+            Symbol::PrefixLhs,
+        ]),
+        Symbol::Lhs => Rule::Choice(&[
+            Symbol::InfixLhs,
+            Symbol::ParenthesizedLhs,
+            Symbol::PrefixLhs,
+            Symbol::PatternLhs,
+        ]),
+        Symbol::InfixLhs => Rule::Sequence(&[Symbol::Pat, Symbol::VarOp, Symbol::Pat]),
+        Symbol::ParenthesizedLhs => Rule::Sequence(&[
+            Symbol::OpenParen,
+            Symbol::Lhs,
+            Symbol::CloseParen,
+            Symbol::PatArguments,
+        ]),
+        Symbol::PrefixLhs => Rule::Sequence(&[Symbol::Var, Symbol::APats, Symbol::RhsAhead]),
+        Symbol::APats => Rule::Many(Symbol::APat),
+        Symbol::RhsAhead => Rule::Ahead(Symbol::RhsStart),
+        Symbol::RhsStart => Rule::Choice(&[Symbol::Equals, Symbol::Bar]),
+        Symbol::PatternLhs => Rule::Sequence(&[Symbol::Pat, Symbol::EqualsAhead]),
+        Symbol::EqualsAhead => Rule::Ahead(Symbol::Equals),
+        Symbol::Rhs => Rule::Sequence(&[Symbol::RhsBody, Symbol::OptionalWhere]),
+        Symbol::RhsBody => Rule::Choice(&[Symbol::PlainRhs, Symbol::GuardedRhs]),
+        Symbol::PlainRhs => Rule::Sequence(&[Symbol::Equals, Symbol::Exp]),
+        Symbol::GuardedRhs => Rule::AtLeastOne(Symbol::GuardedExp),
+        Symbol::GuardedExp => Rule::Sequence(&[
+            Symbol::Bar,
+            Symbol::Exp,
+            Symbol::Equals,
+            Symbol::Exp,
+        ]),
+        Symbol::OptionalWhere => Rule::Optional(Symbol::WhereBlock),
+        Symbol::WhereBlock => Rule::Sequence(&[Symbol::Where, Symbol::Block]),
+        Symbol::Block => Rule::Sequence(&[Symbol::OpenBrace, Symbol::DeclList, Symbol::CloseBrace]),
+        Symbol::DeclList => Rule::SeparatedBy(Symbol::OptionalDecl, Symbol::Semicolon),
+        Symbol::OptionalDecl => Rule::Optional(Symbol::Decl),
+        Symbol::Decl => Rule::Choice(&[Symbol::FreeDecl, Symbol::Signature, Symbol::Rule]),
+        Symbol::FreeDecl => Rule::Sequence(&[Symbol::VarIdList, Symbol::Free]),
+        Symbol::VarIdList => Rule::SeparatedBy(Symbol::VarId, Symbol::Comma),
+
+        // Expressions.
+        Symbol::Exp => Rule::Sequence(&[
+            Symbol::OptionalMinus,
+            Symbol::Operand,
+            Symbol::FurtherOperands,
+        ]),
+        Symbol::OptionalMinus => Rule::Optional(Symbol::Minus),
+        Symbol::FurtherOperands => Rule::Many(Symbol::FurtherOperand),
+        Symbol::FurtherOperand => Rule::Sequence(&[
+            Symbol::QOp,
+            Symbol::OptionalMinus,
+            Symbol::Operand,
+        ]),
+        Symbol::Operand => Rule::Choice(&[
+            Symbol::Lambda,
+            Symbol::LetExp,
+            Symbol::IfExp,
+            Symbol::CaseExp,
+            Symbol::Application,
+        ]),
+        Symbol::Lambda => Rule::Sequence(&[
+            Symbol::Backslash,
+            Symbol::PatArguments,
+            Symbol::RightArrow,
+            Symbol::Exp,
+        ]),
+        Symbol::LetExp => Rule::Sequence(&[Symbol::Let, Symbol::Block, Symbol::In, Symbol::Exp]),
+        Symbol::IfExp => Rule::Sequence(&[
+            Symbol::If,
+            Symbol::Exp,
+            Symbol::Then,
+            Symbol::Exp,
+            Symbol::Else,
+            Symbol::Exp,
+        ]),
+        Symbol::CaseExp => Rule::Sequence(&[
+            Symbol::CaseWord,
+            Symbol::Exp,
+            Symbol::Of,
+            Symbol::OpenBrace,
+            Symbol::AltList,
+            Symbol::CloseBrace,
+        ]),
+        Symbol::CaseWord => Rule::Choice(&[Symbol::Case, Symbol::Fcase]),
+        Symbol::AltList => Rule::SeparatedBy(Symbol::OptionalAlt, Symbol::Semicolon),
+        Symbol::OptionalAlt => Rule::Optional(Symbol::Alt),
+        Symbol::Application => Rule::AtLeastOne(Symbol::Atom),
+        Symbol::Alt => Rule::Sequence(&[Symbol::Pat, Symbol::AltBody, Symbol::OptionalWhere]),
+        Symbol::AltBody => Rule::Choice(&[Symbol::PlainAlt, Symbol::GuardedAlts]),
+        Symbol::PlainAlt => Rule::Sequence(&[Symbol::RightArrow, Symbol::Exp]),
+        Symbol::GuardedAlts => Rule::AtLeastOne(Symbol::GuardedAlt),
+        Symbol::GuardedAlt => Rule::Sequence(&[
+            Symbol::Bar,
+            Symbol::Exp,
+            Symbol::RightArrow,
+            Symbol::Exp,
+        ]),
+        Symbol::Atom => Rule::Choice(&[
+            Symbol::Literal,
+            Symbol::QVar,
+            Symbol::QCon,
+            Symbol::Unit,
+            Symbol::TupleCon,
+            Symbol::RightSection,
+            Symbol::LeftSection,
+            Symbol::Tuple,
+            Symbol::EmptyList,
+            Symbol::FromThen,
+            Symbol::From,
+            Symbol::Comprehension,
+            Symbol::ListExp,
+        ]),
+        Symbol::TupleCon => Rule::Sequence(&[
+            Symbol::OpenParen,
+            Symbol::NoFifteenCommas,
+            Symbol::Commas,
+            Symbol::CloseParen,
+        ]),
+        Symbol::Commas => Rule::AtLeastOne(Symbol::Comma),
+        Symbol::NoFifteenCommas => Rule::NotAhead(Symbol::FifteenCommas),
+        Symbol::FifteenCommas => Rule::Sequence(&FIFTEEN_COMMAS),
+        Symbol::RightSection => Rule::Sequence(&[
+            Symbol::OpenParen,
+            Symbol::NoMinus,
+            Symbol::QOp,
+            Symbol::Exp,
+            Symbol::CloseParen,
+        ]),
+        Symbol::NoMinus => Rule::NotAhead(Symbol::Minus),
+        Symbol::LeftSection => Rule::Sequence(&[
+            Symbol::OpenParen,
+            Symbol::Exp,
+            Symbol::QOp,
+            Symbol::CloseParen,
+        ]),
+        Symbol::Tuple => Rule::Sequence(&[
+            Symbol::OpenParen,
+            Symbol::NoSixteenExps,
+            Symbol::ExpList,
+            Symbol::CloseParen,
+        ]),
+        Symbol::ExpList => Rule::SeparatedBy(Symbol::Exp, Symbol::Comma),
+        Symbol::NoSixteenExps => Rule::NotAhead(Symbol::SixteenExps),
+        Symbol::SixteenExps => Rule::Sequence(&SIXTEEN_EXPS),
+        Symbol::EmptyList => Rule::Sequence(&[Symbol::OpenSquare, Symbol::CloseSquare]),
+        Symbol::FromThen => Rule::Sequence(&[
+            Symbol::OpenSquare,
+            Symbol::Exp,
+            Symbol::Comma,
+            Symbol::Exp,
+            Symbol::DotDot,
+            Symbol::OptionalExp,
+            Symbol::CloseSquare,
+        ]),
+        Symbol::From => Rule::Sequence(&[
+            Symbol::OpenSquare,
+            Symbol::Exp,
+            Symbol::DotDot,
+            Symbol::OptionalExp,
+            Symbol::CloseSquare,
+        ]),
+        Symbol::OptionalExp => Rule::Optional(Symbol::Exp),
+        Symbol::Comprehension => Rule::Sequence(&[
+            Symbol::OpenSquare,
+            Symbol::Exp,
+            Symbol::Bar,
+            Symbol::QualList,
+            Symbol::CloseSquare,
+        ]),
+        Symbol::QualList => Rule::SeparatedBy(Symbol::Qual, Symbol::Comma),
+        Symbol::ListExp => Rule::Sequence(&[
+            Symbol::OpenSquare,
+            Symbol::ExpList,
+            Symbol::CloseSquare,
+        ]),
+        Symbol::Qual => Rule::Choice(&[Symbol::Generator, Symbol::LetQual, Symbol::Exp]),
+        Symbol::Generator => Rule::Sequence(&[Symbol::Pat, Symbol::LeftArrow, Symbol::Exp]),
+        Symbol::LetQual => Rule::Sequence(&[Symbol::Let, Symbol::Block, Symbol::NoIn]),
+        Symbol::NoIn => Rule::NotAhead(Symbol::In),
+
+        // Patterns.
+        Symbol::Pat => Rule::Sequence(&[Symbol::ConPat, Symbol::FurtherConPats]),
+        Symbol::FurtherConPats => Rule::Many(Symbol::FurtherConPat),
+        Symbol::FurtherConPat => Rule::Sequence(&[Symbol::ConOp, Symbol::ConPat]),
+        Symbol::ConPat => Rule::Choice(&[
+            Symbol::NegativePat,
+            Symbol::ConApplication,
+            Symbol::APat,
+        ]),
+        Symbol::NegativePat => Rule::Sequence(&[Symbol::Minus, Symbol::Int]),
+        Symbol::ConApplication => Rule::Sequence(&[Symbol::QCon, Symbol::PatArguments]),
+        Symbol::PatArguments => Rule::AtLeastOne(Symbol::APat),
+        Symbol::APat => Rule::Choice(&[
+            Symbol::AliasPat,
+            Symbol::VarId,
+            Symbol::Underscore,
+            Symbol::Literal,
+            Symbol::QCon,
+            Symbol::Unit,
+            Symbol::TuplePat,
+            Symbol::ListPat,
+        ]),
+        Symbol::AliasPat => Rule::Sequence(&[Symbol::VarId, Symbol::At, Symbol::APat]),
+        Symbol::TuplePat => Rule::Sequence(&[
+            Symbol::OpenParen,
+            Symbol::NoSixteenPats,
+            Symbol::PatList,
+            Symbol::CloseParen,
+        ]),
+        Symbol::PatList => Rule::SeparatedBy(Symbol::Pat, Symbol::Comma),
+        Symbol::NoSixteenPats => Rule::NotAhead(Symbol::SixteenPats),
+        Symbol::SixteenPats => Rule::Sequence(&SIXTEEN_PATS),
+        Symbol::ListPat => Rule::Sequence(&[
+            Symbol::OpenSquare,
+            Symbol::OptionalPatList,
+            Symbol::CloseSquare,
+        ]),
+        Symbol::OptionalPatList => Rule::Optional(Symbol::PatList),
+
+        // Goals.
+        Symbol::Goal => Rule::Sequence(&[Symbol::Exp, Symbol::OptionalGoalWhere]),
+        Symbol::OptionalGoalWhere => Rule::Optional(Symbol::GoalWhere),
+        Symbol::GoalWhere => Rule::Sequence(&[
+            Symbol::Where,
+            Symbol::OpenBrace,
+            Symbol::FreeDeclList,
+            Symbol::CloseBrace,
+        ]),
+        Symbol::FreeDeclList => Rule::SeparatedBy(Symbol::FreeDecl, Symbol::Semicolon),
+    }
 }
 
-const TOKENS: [Rule; 52] = [
-    // VarId
-    Rule::Token(Class::Unqualified(NameKind::VarId)),
-    // ConId
-    Rule::Token(Class::Unqualified(NameKind::ConId)),
-    // VarSym
-    Rule::Token(Class::Unqualified(NameKind::VarOp)),
-    // ConSym
-    Rule::Token(Class::Unqualified(NameKind::ConOp)),
-    // QVarId
-    Rule::Token(Class::Name(NameKind::VarId)),
-    // QConId
-    Rule::Token(Class::Name(NameKind::ConId)),
-    // QVarSym
-    Rule::Token(Class::Name(NameKind::VarOp)),
-    // QConSym
-    Rule::Token(Class::Name(NameKind::ConOp)),
-    // Qualified
-    Rule::Token(Class::Special(Special::Qualified)),
-    // As
-    Rule::Token(Class::Special(Special::As)),
-    // Hiding
-    Rule::Token(Class::Special(Special::Hiding)),
-    // Minus
-    Rule::Token(Class::Special(Special::Minus)),
-    // Case
-    Rule::Token(Class::Keyword(Keyword::Case)),
-    // Data
-    Rule::Token(Class::Keyword(Keyword::Data)),
-    // Else
-    Rule::Token(Class::Keyword(Keyword::Else)),
-    // Fcase
-    Rule::Token(Class::Keyword(Keyword::Fcase)),
-    // Free
-    Rule::Token(Class::Keyword(Keyword::Free)),
-    // If
-    Rule::Token(Class::Keyword(Keyword::If)),
-    // Import
-    Rule::Token(Class::Keyword(Keyword::Import)),
-    // In
-    Rule::Token(Class::Keyword(Keyword::In)),
-    // Infix
-    Rule::Token(Class::Keyword(Keyword::Infix)),
-    // Infixl
-    Rule::Token(Class::Keyword(Keyword::Infixl)),
-    // Infixr
-    Rule::Token(Class::Keyword(Keyword::Infixr)),
-    // Let
-    Rule::Token(Class::Keyword(Keyword::Let)),
-    // Module
-    Rule::Token(Class::Keyword(Keyword::Module)),
-    // Newtype
-    Rule::Token(Class::Keyword(Keyword::Newtype)),
-    // Of
-    Rule::Token(Class::Keyword(Keyword::Of)),
-    // Then
-    Rule::Token(Class::Keyword(Keyword::Then)),
-    // Type
-    Rule::Token(Class::Keyword(Keyword::Type)),
-    // Where
-    Rule::Token(Class::Keyword(Keyword::Where)),
-    // DotDot
-    Rule::Token(Class::Reserved(ReservedOperator::DotDot)),
-    // DoubleColon
-    Rule::Token(Class::Reserved(ReservedOperator::DoubleColon)),
-    // Equals
-    Rule::Token(Class::Reserved(ReservedOperator::Equals)),
-    // Backslash
-    Rule::Token(Class::Reserved(ReservedOperator::Backslash)),
-    // Bar
-    Rule::Token(Class::Reserved(ReservedOperator::Bar)),
-    // LeftArrow
-    Rule::Token(Class::Reserved(ReservedOperator::LeftArrow)),
-    // RightArrow
-    Rule::Token(Class::Reserved(ReservedOperator::RightArrow)),
-    // At
-    Rule::Token(Class::Reserved(ReservedOperator::At)),
-    // OpenParen
-    Rule::Token(Class::Mark(Mark::OpenParen)),
-    // CloseParen
-    Rule::Token(Class::Mark(Mark::CloseParen)),
-    // OpenSquare
-    Rule::Token(Class::Mark(Mark::OpenSquare)),
-    // CloseSquare
-    Rule::Token(Class::Mark(Mark::CloseSquare)),
-    // OpenBrace
-    Rule::Token(Class::Mark(Mark::OpenBrace)),
-    // CloseBrace
-    Rule::Token(Class::Mark(Mark::CloseBrace)),
-    // Comma
-    Rule::Token(Class::Mark(Mark::Comma)),
-    // Semicolon
-    Rule::Token(Class::Mark(Mark::Semicolon)),
-    // Backquote
-    Rule::Token(Class::Mark(Mark::Backquote)),
-    // Underscore
-    Rule::Token(Class::Mark(Mark::Underscore)),
-    // Int
-    Rule::Token(Class::Int),
-    // Digit
-    Rule::Token(Class::Digit),
-    // Char
-    Rule::Token(Class::Char),
-    // String
-    Rule::Token(Class::String),
+/// Sixteen types with commas between them.
+const SIXTEEN_TYPES: [Symbol; 31] = [
+    Symbol::TypeExp,
+    Symbol::Comma,
+    Symbol::TypeExp,
+    Symbol::Comma,
+    Symbol::TypeExp,
+    Symbol::Comma,
+    Symbol::TypeExp,
+    Symbol::Comma,
+    Symbol::TypeExp,
+    Symbol::Comma,
+    Symbol::TypeExp,
+    Symbol::Comma,
+    Symbol::TypeExp,
+    Symbol::Comma,
+    Symbol::TypeExp,
+    Symbol::Comma,
+    Symbol::TypeExp,
+    Symbol::Comma,
+    Symbol::TypeExp,
+    Symbol::Comma,
+    Symbol::TypeExp,
+    Symbol::Comma,
+    Symbol::TypeExp,
+    Symbol::Comma,
+    Symbol::TypeExp,
+    Symbol::Comma,
+    Symbol::TypeExp,
+    Symbol::Comma,
+    Symbol::TypeExp,
+    Symbol::Comma,
+    Symbol::TypeExp,
 ];
 
-/// The rules for names and operators.
-pub(crate) fn name_rules() -> &'static [Rule]
-    ensures { map rule_meaning result.now ≡ map rule_of names }
-{
-    &NAMES
-}
-
-const NAMES: [Rule; 19] = [
-    // VarOp
-    Rule::Choice(&[Symbol::VarSym, Symbol::QuotedVar]),
-    // QuotedVar
-    Rule::Sequence(&[Symbol::Backquote, Symbol::VarId, Symbol::Backquote]),
-    // ConOp
-    Rule::Choice(&[Symbol::ConSym, Symbol::QuotedCon]),
-    // QuotedCon
-    Rule::Sequence(&[Symbol::Backquote, Symbol::ConId, Symbol::Backquote]),
-    // QVarOp
-    Rule::Choice(&[Symbol::QVarSym, Symbol::QuotedQVar]),
-    // QuotedQVar
-    Rule::Sequence(&[Symbol::Backquote, Symbol::QVarId, Symbol::Backquote]),
-    // QConOp
-    Rule::Choice(&[Symbol::QConSym, Symbol::QuotedQCon]),
-    // QuotedQCon
-    Rule::Sequence(&[Symbol::Backquote, Symbol::QConId, Symbol::Backquote]),
-    // Op
-    Rule::Choice(&[Symbol::VarOp, Symbol::ConOp]),
-    // QOp
-    Rule::Choice(&[Symbol::QVarOp, Symbol::QConOp]),
-    // Var
-    Rule::Choice(&[Symbol::VarId, Symbol::ParenthesizedVarOp]),
-    // ParenthesizedVarOp
-    Rule::Sequence(&[Symbol::OpenParen, Symbol::VarOp, Symbol::CloseParen]),
-    // Con
-    Rule::Choice(&[Symbol::ConId, Symbol::ParenthesizedConOp]),
-    // ParenthesizedConOp
-    Rule::Sequence(&[Symbol::OpenParen, Symbol::ConOp, Symbol::CloseParen]),
-    // QVar
-    Rule::Choice(&[Symbol::QVarId, Symbol::ParenthesizedQVarOp]),
-    // ParenthesizedQVarOp
-    Rule::Sequence(&[Symbol::OpenParen, Symbol::QVarOp, Symbol::CloseParen]),
-    // QCon
-    Rule::Choice(&[Symbol::QConId, Symbol::ParenthesizedQConOp]),
-    // ParenthesizedQConOp
-    Rule::Sequence(&[Symbol::OpenParen, Symbol::QConOp, Symbol::CloseParen]),
-    // Literal
-    Rule::Choice(&[Symbol::Int, Symbol::Char, Symbol::String]),
+/// Fifteen commas.
+const FIFTEEN_COMMAS: [Symbol; 15] = [
+    Symbol::Comma,
+    Symbol::Comma,
+    Symbol::Comma,
+    Symbol::Comma,
+    Symbol::Comma,
+    Symbol::Comma,
+    Symbol::Comma,
+    Symbol::Comma,
+    Symbol::Comma,
+    Symbol::Comma,
+    Symbol::Comma,
+    Symbol::Comma,
+    Symbol::Comma,
+    Symbol::Comma,
+    Symbol::Comma,
 ];
 
-/// The rules for headers and imports.
-pub(crate) fn header_rules() -> &'static [Rule]
-    ensures { map rule_meaning result.now ≡ map rule_of headers }
-{
-    &HEADERS
-}
-
-const HEADERS: [Rule; 24] = [
-    // Header
-    Rule::Sequence(&[
-        Symbol::Module,
-        Symbol::ModuleName,
-        Symbol::OptionalExports,
-        Symbol::Where,
-    ]),
-    // ModuleName
-    Rule::Choice(&[Symbol::VarId, Symbol::QConId]),
-    // OptionalExports
-    Rule::Optional(Symbol::Exports),
-    // Exports
-    Rule::Sequence(&[
-        Symbol::OpenParen,
-        Symbol::OptionalExportList,
-        Symbol::CloseParen,
-    ]),
-    // OptionalExportList
-    Rule::Optional(Symbol::ExportList),
-    // ExportList
-    Rule::SeparatedBy(Symbol::Export, Symbol::Comma),
-    // Export
-    Rule::Choice(&[Symbol::ModuleExport, Symbol::Entity]),
-    // ModuleExport
-    Rule::Sequence(&[Symbol::Module, Symbol::ModuleName]),
-    // Entity
-    Rule::Choice(&[Symbol::QVar, Symbol::TypeEntity]),
-    // TypeEntity
-    Rule::Sequence(&[Symbol::QCon, Symbol::OptionalConstructors]),
-    // OptionalConstructors
-    Rule::Optional(Symbol::Constructors),
-    // Constructors
-    Rule::Sequence(&[
-        Symbol::OpenParen,
-        Symbol::ConstructorNames,
-        Symbol::CloseParen,
-    ]),
-    // ConstructorNames
-    Rule::Choice(&[Symbol::DotDot, Symbol::OptionalConstructorList]),
-    // OptionalConstructorList
-    Rule::Optional(Symbol::ConstructorList),
-    // ConstructorList
-    Rule::SeparatedBy(Symbol::Con, Symbol::Comma),
-    // ImportDecl
-    Rule::Sequence(&[
-        Symbol::Import,
-        Symbol::OptionalQualified,
-        Symbol::ModuleName,
-        Symbol::OptionalAlias,
-        Symbol::OptionalImports,
-    ]),
-    // OptionalQualified
-    Rule::Optional(Symbol::Qualified),
-    // OptionalAlias
-    Rule::Optional(Symbol::Alias),
-    // Alias
-    Rule::Sequence(&[Symbol::As, Symbol::ModuleName]),
-    // OptionalImports
-    Rule::Optional(Symbol::Imports),
-    // Imports
-    Rule::Sequence(&[
-        Symbol::OptionalHiding,
-        Symbol::OpenParen,
-        Symbol::OptionalEntityList,
-        Symbol::CloseParen,
-    ]),
-    // OptionalHiding
-    Rule::Optional(Symbol::Hiding),
-    // OptionalEntityList
-    Rule::Optional(Symbol::EntityList),
-    // EntityList
-    Rule::SeparatedBy(Symbol::Entity, Symbol::Comma),
+/// Sixteen expressions with commas between them.
+const SIXTEEN_EXPS: [Symbol; 31] = [
+    Symbol::Exp,
+    Symbol::Comma,
+    Symbol::Exp,
+    Symbol::Comma,
+    Symbol::Exp,
+    Symbol::Comma,
+    Symbol::Exp,
+    Symbol::Comma,
+    Symbol::Exp,
+    Symbol::Comma,
+    Symbol::Exp,
+    Symbol::Comma,
+    Symbol::Exp,
+    Symbol::Comma,
+    Symbol::Exp,
+    Symbol::Comma,
+    Symbol::Exp,
+    Symbol::Comma,
+    Symbol::Exp,
+    Symbol::Comma,
+    Symbol::Exp,
+    Symbol::Comma,
+    Symbol::Exp,
+    Symbol::Comma,
+    Symbol::Exp,
+    Symbol::Comma,
+    Symbol::Exp,
+    Symbol::Comma,
+    Symbol::Exp,
+    Symbol::Comma,
+    Symbol::Exp,
 ];
 
-/// The rules for declarations of a module.
-pub(crate) fn declaration_rules() -> &'static [Rule]
-    ensures { map rule_meaning result.now ≡ map rule_of declarations }
-{
-    &DECLARATIONS
-}
-
-const DECLARATIONS: [Rule; 18] = [
-    // Item
-    Rule::Choice(&[
-        Symbol::FixityDecl,
-        Symbol::DataDecl,
-        Symbol::SynonymDecl,
-        Symbol::Signature,
-        Symbol::TopRule,
-    ]),
-    // FixityDecl
-    Rule::Sequence(&[Symbol::FixityWord, Symbol::OptionalDigit, Symbol::OpList]),
-    // FixityWord
-    Rule::Choice(&[Symbol::Infixl, Symbol::Infixr, Symbol::Infix]),
-    // OptionalDigit
-    Rule::Optional(Symbol::Digit),
-    // OpList
-    Rule::SeparatedBy(Symbol::Op, Symbol::Comma),
-    // DataDecl
-    Rule::Sequence(&[
-        Symbol::DataWord,
-        Symbol::ConId,
-        Symbol::TypeVars,
-        Symbol::OptionalConDecls,
-    ]),
-    // DataWord
-    Rule::Choice(&[Symbol::Data, Symbol::Newtype]),
-    // TypeVars
-    Rule::Many(Symbol::VarId),
-    // OptionalConDecls
-    Rule::Optional(Symbol::ConDecls),
-    // ConDecls
-    Rule::Sequence(&[Symbol::Equals, Symbol::ConDeclList]),
-    // ConDeclList
-    Rule::SeparatedBy(Symbol::ConDecl, Symbol::Bar),
-    // ConDecl
-    Rule::Choice(&[Symbol::InfixConDecl, Symbol::PrefixConDecl]),
-    // InfixConDecl
-    Rule::Sequence(&[Symbol::BType, Symbol::ConOp, Symbol::BType]),
-    // PrefixConDecl
-    Rule::Sequence(&[Symbol::Con, Symbol::ATypes]),
-    // ATypes
-    Rule::Many(Symbol::AType),
-    // SynonymDecl
-    Rule::Sequence(&[
-        Symbol::Type,
-        Symbol::ConId,
-        Symbol::TypeVars,
-        Symbol::Equals,
-        Symbol::TypeExp,
-    ]),
-    // Signature
-    Rule::Sequence(&[Symbol::VarList, Symbol::DoubleColon, Symbol::TypeExp]),
-    // VarList
-    Rule::SeparatedBy(Symbol::Var, Symbol::Comma),
-];
-
-/// The rules for types.
-pub(crate) fn type_rules() -> &'static [Rule]
-    ensures { map rule_meaning result.now ≡ map rule_of types }
-{
-    &TYPES
-}
-
-const TYPES: [Rule; 11] = [
-    // TypeExp
-    Rule::SeparatedBy(Symbol::BType, Symbol::RightArrow),
-    // BType
-    Rule::Choice(&[Symbol::TypeApplication, Symbol::AType]),
-    // TypeApplication
-    Rule::Sequence(&[Symbol::QConId, Symbol::TypeArguments]),
-    // TypeArguments
-    Rule::AtLeastOne(Symbol::AType),
-    // AType
-    Rule::Choice(&[
-        Symbol::QConId,
-        Symbol::VarId,
-        Symbol::Unit,
-        Symbol::TupleType,
-        Symbol::ListType,
-    ]),
-    // Unit
-    Rule::Sequence(&[Symbol::OpenParen, Symbol::CloseParen]),
-    // TupleType
-    Rule::Sequence(&[
-        Symbol::OpenParen,
-        Symbol::NoSixteenTypes,
-        Symbol::TypeList,
-        Symbol::CloseParen,
-    ]),
-    // TypeList
-    Rule::SeparatedBy(Symbol::TypeExp, Symbol::Comma),
-    // ListType
-    Rule::Sequence(&[Symbol::OpenSquare, Symbol::TypeExp, Symbol::CloseSquare]),
-    // NoSixteenTypes
-    Rule::NotAhead(Symbol::SixteenTypes),
-    // SixteenTypes
-    Rule::Sequence(&[
-        Symbol::TypeExp,
-        Symbol::Comma,
-        Symbol::TypeExp,
-        Symbol::Comma,
-        Symbol::TypeExp,
-        Symbol::Comma,
-        Symbol::TypeExp,
-        Symbol::Comma,
-        Symbol::TypeExp,
-        Symbol::Comma,
-        Symbol::TypeExp,
-        Symbol::Comma,
-        Symbol::TypeExp,
-        Symbol::Comma,
-        Symbol::TypeExp,
-        Symbol::Comma,
-        Symbol::TypeExp,
-        Symbol::Comma,
-        Symbol::TypeExp,
-        Symbol::Comma,
-        Symbol::TypeExp,
-        Symbol::Comma,
-        Symbol::TypeExp,
-        Symbol::Comma,
-        Symbol::TypeExp,
-        Symbol::Comma,
-        Symbol::TypeExp,
-        Symbol::Comma,
-        Symbol::TypeExp,
-        Symbol::Comma,
-        Symbol::TypeExp,
-    ]),
-];
-
-/// The rules for rules and blocks of declarations.
-pub(crate) fn block_rules() -> &'static [Rule]
-    ensures { map rule_meaning result.now ≡ map rule_of blocks }
-{
-    &BLOCKS
-}
-
-const BLOCKS: [Rule; 25] = [
-    // TopRule
-    Rule::Sequence(&[Symbol::FunctionLhs, Symbol::Rhs]),
-    // Rule
-    Rule::Sequence(&[Symbol::Lhs, Symbol::Rhs]),
-    // FunctionLhs
-    Rule::Choice(&[
-        Symbol::InfixLhs,
-        Symbol::ParenthesizedLhs,
-        Symbol::PrefixLhs,
-    ]),
-    // Lhs
-    Rule::Choice(&[
-        Symbol::InfixLhs,
-        Symbol::ParenthesizedLhs,
-        Symbol::PrefixLhs,
-        Symbol::PatternLhs,
-    ]),
-    // InfixLhs
-    Rule::Sequence(&[Symbol::Pat, Symbol::VarOp, Symbol::Pat]),
-    // ParenthesizedLhs
-    Rule::Sequence(&[
-        Symbol::OpenParen,
-        Symbol::Lhs,
-        Symbol::CloseParen,
-        Symbol::PatArguments,
-    ]),
-    // PrefixLhs
-    Rule::Sequence(&[Symbol::Var, Symbol::APats, Symbol::RhsAhead]),
-    // APats
-    Rule::Many(Symbol::APat),
-    // RhsAhead
-    Rule::Ahead(Symbol::RhsStart),
-    // RhsStart
-    Rule::Choice(&[Symbol::Equals, Symbol::Bar]),
-    // PatternLhs
-    Rule::Sequence(&[Symbol::Pat, Symbol::EqualsAhead]),
-    // EqualsAhead
-    Rule::Ahead(Symbol::Equals),
-    // Rhs
-    Rule::Sequence(&[Symbol::RhsBody, Symbol::OptionalWhere]),
-    // RhsBody
-    Rule::Choice(&[Symbol::PlainRhs, Symbol::GuardedRhs]),
-    // PlainRhs
-    Rule::Sequence(&[Symbol::Equals, Symbol::Exp]),
-    // GuardedRhs
-    Rule::AtLeastOne(Symbol::GuardedExp),
-    // GuardedExp
-    Rule::Sequence(&[Symbol::Bar, Symbol::Exp, Symbol::Equals, Symbol::Exp]),
-    // OptionalWhere
-    Rule::Optional(Symbol::WhereBlock),
-    // WhereBlock
-    Rule::Sequence(&[Symbol::Where, Symbol::Block]),
-    // Block
-    Rule::Sequence(&[Symbol::OpenBrace, Symbol::DeclList, Symbol::CloseBrace]),
-    // DeclList
-    Rule::SeparatedBy(Symbol::OptionalDecl, Symbol::Semicolon),
-    // OptionalDecl
-    Rule::Optional(Symbol::Decl),
-    // Decl
-    Rule::Choice(&[Symbol::FreeDecl, Symbol::Signature, Symbol::Rule]),
-    // FreeDecl
-    Rule::Sequence(&[Symbol::VarIdList, Symbol::Free]),
-    // VarIdList
-    Rule::SeparatedBy(Symbol::VarId, Symbol::Comma),
-];
-
-/// The rules for expressions.
-pub(crate) fn expression_rules() -> &'static [Rule]
-    ensures { map rule_meaning result.now ≡ map rule_of expressions }
-{
-    &EXPRESSIONS
-}
-
-const EXPRESSIONS: [Rule; 41] = [
-    // Exp
-    Rule::Sequence(&[
-        Symbol::OptionalMinus,
-        Symbol::Operand,
-        Symbol::FurtherOperands,
-    ]),
-    // OptionalMinus
-    Rule::Optional(Symbol::Minus),
-    // FurtherOperands
-    Rule::Many(Symbol::FurtherOperand),
-    // FurtherOperand
-    Rule::Sequence(&[Symbol::QOp, Symbol::OptionalMinus, Symbol::Operand]),
-    // Operand
-    Rule::Choice(&[
-        Symbol::Lambda,
-        Symbol::LetExp,
-        Symbol::IfExp,
-        Symbol::CaseExp,
-        Symbol::Application,
-    ]),
-    // Lambda
-    Rule::Sequence(&[
-        Symbol::Backslash,
-        Symbol::PatArguments,
-        Symbol::RightArrow,
-        Symbol::Exp,
-    ]),
-    // LetExp
-    Rule::Sequence(&[Symbol::Let, Symbol::Block, Symbol::In, Symbol::Exp]),
-    // IfExp
-    Rule::Sequence(&[
-        Symbol::If,
-        Symbol::Exp,
-        Symbol::Then,
-        Symbol::Exp,
-        Symbol::Else,
-        Symbol::Exp,
-    ]),
-    // CaseExp
-    Rule::Sequence(&[
-        Symbol::CaseWord,
-        Symbol::Exp,
-        Symbol::Of,
-        Symbol::OpenBrace,
-        Symbol::AltList,
-        Symbol::CloseBrace,
-    ]),
-    // CaseWord
-    Rule::Choice(&[Symbol::Case, Symbol::Fcase]),
-    // AltList
-    Rule::SeparatedBy(Symbol::OptionalAlt, Symbol::Semicolon),
-    // OptionalAlt
-    Rule::Optional(Symbol::Alt),
-    // Application
-    Rule::AtLeastOne(Symbol::Atom),
-    // Alt
-    Rule::Sequence(&[Symbol::Pat, Symbol::AltBody, Symbol::OptionalWhere]),
-    // AltBody
-    Rule::Choice(&[Symbol::PlainAlt, Symbol::GuardedAlts]),
-    // PlainAlt
-    Rule::Sequence(&[Symbol::RightArrow, Symbol::Exp]),
-    // GuardedAlts
-    Rule::AtLeastOne(Symbol::GuardedAlt),
-    // GuardedAlt
-    Rule::Sequence(&[Symbol::Bar, Symbol::Exp, Symbol::RightArrow, Symbol::Exp]),
-    // Atom
-    Rule::Choice(&[
-        Symbol::Literal,
-        Symbol::QVar,
-        Symbol::QCon,
-        Symbol::Unit,
-        Symbol::TupleCon,
-        Symbol::RightSection,
-        Symbol::LeftSection,
-        Symbol::Tuple,
-        Symbol::EmptyList,
-        Symbol::FromThen,
-        Symbol::From,
-        Symbol::Comprehension,
-        Symbol::ListExp,
-    ]),
-    // TupleCon
-    Rule::Sequence(&[
-        Symbol::OpenParen,
-        Symbol::NoFifteenCommas,
-        Symbol::Commas,
-        Symbol::CloseParen,
-    ]),
-    // Commas
-    Rule::AtLeastOne(Symbol::Comma),
-    // NoFifteenCommas
-    Rule::NotAhead(Symbol::FifteenCommas),
-    // FifteenCommas
-    Rule::Sequence(&[
-        Symbol::Comma,
-        Symbol::Comma,
-        Symbol::Comma,
-        Symbol::Comma,
-        Symbol::Comma,
-        Symbol::Comma,
-        Symbol::Comma,
-        Symbol::Comma,
-        Symbol::Comma,
-        Symbol::Comma,
-        Symbol::Comma,
-        Symbol::Comma,
-        Symbol::Comma,
-        Symbol::Comma,
-        Symbol::Comma,
-    ]),
-    // RightSection
-    Rule::Sequence(&[
-        Symbol::OpenParen,
-        Symbol::NoMinus,
-        Symbol::QOp,
-        Symbol::Exp,
-        Symbol::CloseParen,
-    ]),
-    // NoMinus
-    Rule::NotAhead(Symbol::Minus),
-    // LeftSection
-    Rule::Sequence(&[
-        Symbol::OpenParen,
-        Symbol::Exp,
-        Symbol::QOp,
-        Symbol::CloseParen,
-    ]),
-    // Tuple
-    Rule::Sequence(&[
-        Symbol::OpenParen,
-        Symbol::NoSixteenExps,
-        Symbol::ExpList,
-        Symbol::CloseParen,
-    ]),
-    // ExpList
-    Rule::SeparatedBy(Symbol::Exp, Symbol::Comma),
-    // NoSixteenExps
-    Rule::NotAhead(Symbol::SixteenExps),
-    // SixteenExps
-    Rule::Sequence(&[
-        Symbol::Exp,
-        Symbol::Comma,
-        Symbol::Exp,
-        Symbol::Comma,
-        Symbol::Exp,
-        Symbol::Comma,
-        Symbol::Exp,
-        Symbol::Comma,
-        Symbol::Exp,
-        Symbol::Comma,
-        Symbol::Exp,
-        Symbol::Comma,
-        Symbol::Exp,
-        Symbol::Comma,
-        Symbol::Exp,
-        Symbol::Comma,
-        Symbol::Exp,
-        Symbol::Comma,
-        Symbol::Exp,
-        Symbol::Comma,
-        Symbol::Exp,
-        Symbol::Comma,
-        Symbol::Exp,
-        Symbol::Comma,
-        Symbol::Exp,
-        Symbol::Comma,
-        Symbol::Exp,
-        Symbol::Comma,
-        Symbol::Exp,
-        Symbol::Comma,
-        Symbol::Exp,
-    ]),
-    // EmptyList
-    Rule::Sequence(&[Symbol::OpenSquare, Symbol::CloseSquare]),
-    // FromThen
-    Rule::Sequence(&[
-        Symbol::OpenSquare,
-        Symbol::Exp,
-        Symbol::Comma,
-        Symbol::Exp,
-        Symbol::DotDot,
-        Symbol::OptionalExp,
-        Symbol::CloseSquare,
-    ]),
-    // From
-    Rule::Sequence(&[
-        Symbol::OpenSquare,
-        Symbol::Exp,
-        Symbol::DotDot,
-        Symbol::OptionalExp,
-        Symbol::CloseSquare,
-    ]),
-    // OptionalExp
-    Rule::Optional(Symbol::Exp),
-    // Comprehension
-    Rule::Sequence(&[
-        Symbol::OpenSquare,
-        Symbol::Exp,
-        Symbol::Bar,
-        Symbol::QualList,
-        Symbol::CloseSquare,
-    ]),
-    // QualList
-    Rule::SeparatedBy(Symbol::Qual, Symbol::Comma),
-    // ListExp
-    Rule::Sequence(&[Symbol::OpenSquare, Symbol::ExpList, Symbol::CloseSquare]),
-    // Qual
-    Rule::Choice(&[Symbol::Generator, Symbol::LetQual, Symbol::Exp]),
-    // Generator
-    Rule::Sequence(&[Symbol::Pat, Symbol::LeftArrow, Symbol::Exp]),
-    // LetQual
-    Rule::Sequence(&[Symbol::Let, Symbol::Block, Symbol::NoIn]),
-    // NoIn
-    Rule::NotAhead(Symbol::In),
-];
-
-/// The rules for patterns.
-pub(crate) fn pattern_rules() -> &'static [Rule]
-    ensures { map rule_meaning result.now ≡ map rule_of patterns }
-{
-    &PATTERNS
-}
-
-const PATTERNS: [Rule; 15] = [
-    // Pat
-    Rule::Sequence(&[Symbol::ConPat, Symbol::FurtherConPats]),
-    // FurtherConPats
-    Rule::Many(Symbol::FurtherConPat),
-    // FurtherConPat
-    Rule::Sequence(&[Symbol::ConOp, Symbol::ConPat]),
-    // ConPat
-    Rule::Choice(&[Symbol::NegativePat, Symbol::ConApplication, Symbol::APat]),
-    // NegativePat
-    Rule::Sequence(&[Symbol::Minus, Symbol::Int]),
-    // ConApplication
-    Rule::Sequence(&[Symbol::QCon, Symbol::PatArguments]),
-    // PatArguments
-    Rule::AtLeastOne(Symbol::APat),
-    // APat
-    Rule::Choice(&[
-        Symbol::AliasPat,
-        Symbol::VarId,
-        Symbol::Underscore,
-        Symbol::Literal,
-        Symbol::QCon,
-        Symbol::Unit,
-        Symbol::TuplePat,
-        Symbol::ListPat,
-    ]),
-    // AliasPat
-    Rule::Sequence(&[Symbol::VarId, Symbol::At, Symbol::APat]),
-    // TuplePat
-    Rule::Sequence(&[
-        Symbol::OpenParen,
-        Symbol::NoSixteenPats,
-        Symbol::PatList,
-        Symbol::CloseParen,
-    ]),
-    // PatList
-    Rule::SeparatedBy(Symbol::Pat, Symbol::Comma),
-    // NoSixteenPats
-    Rule::NotAhead(Symbol::SixteenPats),
-    // SixteenPats
-    Rule::Sequence(&[
-        Symbol::Pat,
-        Symbol::Comma,
-        Symbol::Pat,
-        Symbol::Comma,
-        Symbol::Pat,
-        Symbol::Comma,
-        Symbol::Pat,
-        Symbol::Comma,
-        Symbol::Pat,
-        Symbol::Comma,
-        Symbol::Pat,
-        Symbol::Comma,
-        Symbol::Pat,
-        Symbol::Comma,
-        Symbol::Pat,
-        Symbol::Comma,
-        Symbol::Pat,
-        Symbol::Comma,
-        Symbol::Pat,
-        Symbol::Comma,
-        Symbol::Pat,
-        Symbol::Comma,
-        Symbol::Pat,
-        Symbol::Comma,
-        Symbol::Pat,
-        Symbol::Comma,
-        Symbol::Pat,
-        Symbol::Comma,
-        Symbol::Pat,
-        Symbol::Comma,
-        Symbol::Pat,
-    ]),
-    // ListPat
-    Rule::Sequence(&[
-        Symbol::OpenSquare,
-        Symbol::OptionalPatList,
-        Symbol::CloseSquare,
-    ]),
-    // OptionalPatList
-    Rule::Optional(Symbol::PatList),
-];
-
-/// The rules for goals.
-pub(crate) fn goal_rules() -> &'static [Rule]
-    ensures { map rule_meaning result.now ≡ map rule_of goals }
-{
-    &GOALS
-}
-
-const GOALS: [Rule; 4] = [
-    // Goal
-    Rule::Sequence(&[Symbol::Exp, Symbol::OptionalGoalWhere]),
-    // OptionalGoalWhere
-    Rule::Optional(Symbol::GoalWhere),
-    // GoalWhere
-    Rule::Sequence(&[
-        Symbol::Where,
-        Symbol::OpenBrace,
-        Symbol::FreeDeclList,
-        Symbol::CloseBrace,
-    ]),
-    // FreeDeclList
-    Rule::SeparatedBy(Symbol::FreeDecl, Symbol::Semicolon),
+/// Sixteen patterns with commas between them.
+const SIXTEEN_PATS: [Symbol; 31] = [
+    Symbol::Pat,
+    Symbol::Comma,
+    Symbol::Pat,
+    Symbol::Comma,
+    Symbol::Pat,
+    Symbol::Comma,
+    Symbol::Pat,
+    Symbol::Comma,
+    Symbol::Pat,
+    Symbol::Comma,
+    Symbol::Pat,
+    Symbol::Comma,
+    Symbol::Pat,
+    Symbol::Comma,
+    Symbol::Pat,
+    Symbol::Comma,
+    Symbol::Pat,
+    Symbol::Comma,
+    Symbol::Pat,
+    Symbol::Comma,
+    Symbol::Pat,
+    Symbol::Comma,
+    Symbol::Pat,
+    Symbol::Comma,
+    Symbol::Pat,
+    Symbol::Comma,
+    Symbol::Pat,
+    Symbol::Comma,
+    Symbol::Pat,
+    Symbol::Comma,
+    Symbol::Pat,
 ];

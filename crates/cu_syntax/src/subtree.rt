@@ -8,8 +8,8 @@ ghost use Rattle.cu_syntax.specs.Fits.{fits};
 ghost use Rattle.cu_syntax.specs.Subtrees.{is_choice, others_of, over, token_at};
 ghost use Rattle.cu_syntax.specs.Table.{Choice, rule_of};
 
-use crate::rows::rule;
 use crate::rule::Rule;
+use crate::rules::rule;
 use crate::symbol::Symbol;
 use cu_lex::Token;
 use cu_peg::{Form, Node};
