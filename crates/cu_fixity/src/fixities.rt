@@ -43,12 +43,12 @@ impl Fixities {
         ensures fixities { (operator : NameId) → fixity_in result operator
             ≡ built_in result.colon operator }
     {
-        match names.find(":") {
-            Some(cons) => Fixities {
-                cons,
-                declared: IndexMap::new(alloc),
-            },
-            None => unreachable!(),
+        let Some(cons) = names.find(":") else {
+            unreachable!()
+        };
+        Fixities {
+            cons,
+            declared: IndexMap::new(alloc),
         }
     }
 

@@ -46,9 +46,8 @@ pub fn group(alloc: Global, pieces: &[Piece]) -> Result<Option<Tree>, AllocError
     let mut cells = Vec::new(alloc);
     let mut tasks = vec![in alloc; whole(pieces)]?;
     while let Some(task) = tasks.pop() {
-        let cell = match head(pieces, task) {
-            Some(cell) => cell,
-            None => return Ok(None),
+        let Some(cell) = head(pieces, task) else {
+            return Ok(None);
         };
         cells.push(cell)?;
         add_parts(&mut tasks, task, cell)?;
@@ -73,9 +72,8 @@ fn head(pieces: &[Piece], task: Task) -> Option<Cell>
     ensures some { IfSome result (IsHead pieces.now task) }
     ensures none { IfNone result (HasNoHead pieces.now task) }
 {
-    let n = match root(pieces, task.from, task.to) {
-        Some(n) => n,
-        None => return operand(task),
+    let Some(n) = root(pieces, task.from, task.to) else {
+        return operand(task);
     };
     if !fits(pieces, task.under, n) {
         return None;

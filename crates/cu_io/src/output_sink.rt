@@ -14,10 +14,10 @@ fn write_whole<W: Write>(writer: &mut W, piece: &[u8]) -> Put
 {
     let mut done = 0;
     while done < piece.len() {
-        match gone(writer.write(&piece[done..])) {
-            Some(count) => done += count,
-            None => return Put::Failed,
-        }
+        let Some(count) = gone(writer.write(&piece[done..])) else {
+            return Put::Failed;
+        };
+        done += count;
     }
     Put::Done
 }

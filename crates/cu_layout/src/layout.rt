@@ -206,9 +206,8 @@ fn end(
     if !form.goes_on() {
         return Ok(());
     }
-    let cut = match to_partner(stack.as_slice(), form) {
-        None => return Ok(()),
-        Some(cut) => cut,
+    let Some(cut) = to_partner(stack.as_slice(), form) else {
+        return Ok(());
     };
     if form.is_comma() {
         if cut.closed > 0 && only_names(stack.as_slice()) {

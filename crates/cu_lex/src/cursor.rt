@@ -68,9 +68,8 @@ impl<'a> Cursor<'a> {
         ensures shorter { length result.text.now ≤ length self.entry.text.now }
     {
         let mut chars = self.text.chars();
-        let first = match chars.next() {
-            None => return self,
-            Some(first) => first,
+        let Some(first) = chars.next() else {
+            return self;
         };
         let text = chars.as_str();
         let (line, column) = if first == '\n' {

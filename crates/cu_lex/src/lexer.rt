@@ -78,9 +78,8 @@ fn add_token(tokens: &mut Vec<Token>, kind: Option<TokenKind>, place: Place) -> 
     ensures ok { OnOk result (tokens.new.items ≡ with_token tokens.old.items kind place) }
     ensures err { IfErr result (λ fault. fault ≡ NoMemory) }
 {
-    let kind = match kind {
-        Some(kind) => kind,
-        None => return Ok(()),
+    let Some(kind) = kind else {
+        return Ok(());
     };
     tokens.push(Token { kind, place })?;
     Ok(())
@@ -240,9 +239,8 @@ fn int<'a>(module: NameId, start: Cursor<'a>) -> Result<(Option<TokenKind>, Curs
     requires { begins_with is_ascii_digit (characters (left start)) ≡ true }
     ensures { (names : List (List ℕ)) → Lexes «module» names (left start.entry) result }
 {
-    let found = match number_at(start) {
-        Some(found) => found,
-        None => return Err(LexFault::BadToken(start.place(module))),
+    let Some(found) = number_at(start) else {
+        return Err(LexFault::BadToken(start.place(module)));
     };
     match int_value(found.value) {
         Some(value) => Ok((Some(TokenKind::Int(value)), found.end)),

@@ -39,9 +39,8 @@ pub fn string_literal<'a>(alloc: Global, start: Cursor<'a>) -> Result<Literal<'a
     let mut bad = None;
     let mut rest = start.after();
     while rest.peek() != Some('"') {
-        let item = match item_at(rest, '"') {
-            Some(item) => item,
-            None => return Ok(Literal::Bad),
+        let Some(item) = item_at(rest, '"') else {
+            return Ok(Literal::Bad);
         };
         bad = add_code(&mut value, bad, item.code, rest)?;
         rest = item.end;
@@ -63,9 +62,8 @@ fn add_code<'a>(
     ensures { IfOk result (λ found. Adds (so_far value.old bad.entry) code (position at.entry)
         (so_far value.new found)) }
 {
-    let code = match code {
-        Some(code) => code,
-        None => return Ok(bad),
+    let Some(code) = code else {
+        return Ok(bad);
     };
     match char::from_u32(code) {
         Some(c) => {
@@ -98,13 +96,11 @@ pub fn char_literal<'a>(start: Cursor<'a>) -> CharLiteral<'a>
     ensures { IsCharLiteral (left start.entry) result }
 {
     let inside = start.after();
-    let item = match item_at(inside, '\'') {
-        Some(item) => item,
-        None => return CharLiteral::Bad,
+    let Some(item) = item_at(inside, '\'') else {
+        return CharLiteral::Bad;
     };
-    let code = match item.code {
-        Some(code) => code,
-        None => return CharLiteral::Bad,
+    let Some(code) = item.code else {
+        return CharLiteral::Bad;
     };
     if item.end.peek() != Some('\'') {
         return CharLiteral::Bad;

@@ -36,9 +36,8 @@ pub fn matches(
     let rows = grammar.rows();
     let marks = reached_rows(alloc, rows, start)?;
     let table = grammar.ends(alloc, marks.as_slice(), tokens)?;
-    let end = match table.end(start, tokens.len()) {
-        Some(end) => end,
-        None => return Ok(None),
+    let Some(end) = table.end(start, tokens.len()) else {
+        return Ok(None);
     };
     if end.left > 0 {
         return Ok(None);

@@ -229,10 +229,10 @@ pub fn read(
         tokens.len(),
     )?;
     while let Some(parts) = pending.pop() {
-        let (part, next) = match next_part(rows, table, parts) {
-            Some(found) => found,
-            None => unreachable!(),
+        let Some(found) = next_part(rows, table, parts) else {
+            unreachable!()
         };
+        let (part, next) = found;
         push_parts(&mut pending, next)?;
         visit(
             rows,

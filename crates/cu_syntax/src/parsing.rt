@@ -64,9 +64,8 @@ pub fn parse_module(alloc: Global, tokens: &[Token]) -> Result<Module, ParseFaul
     ensures owned { (owner : NameId) (names : List (List ℕ)) → AreOf owner names tokens.now
         → IfOk result (ModuleIsOf owner names) }
 {
-    let opening = match first_open(tokens) {
-        Some(opening) => opening,
-        None => return Err(ParseFault::Syntax(1)),
+    let Some(opening) = first_open(tokens) else {
+        return Err(ParseFault::Syntax(1));
     };
     let grammar = grammar(alloc)?;
     let header = read_header(alloc, &grammar, &tokens[..opening])?;
@@ -293,9 +292,8 @@ fn parse(
         → All (IsTokenOf owner names) tokens.now
         → IfOk result (λ found. IfSome found (ParsedIsOf owner names)) }
 {
-    let tree = match matches(alloc, grammar, number(symbol), tokens)? {
-        Some(tree) => tree,
-        None => return Ok(None),
+    let Some(tree) = matches(alloc, grammar, number(symbol), tokens)? else {
+        return Ok(None);
     };
     let tokens = copy(alloc, tokens)?;
     Ok(Some(Parsed {

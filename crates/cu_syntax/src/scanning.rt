@@ -124,10 +124,10 @@ fn is_longer(tokens: &[Token], limit: usize) -> bool
 {
     let mut room = limit;
     for token in tokens {
-        match room_after(room, &token.kind) {
-            Some(left) => room = left,
-            None => return true,
-        }
+        let Some(left) = room_after(room, &token.kind) else {
+            return true;
+        };
+        room = left;
     }
     false
 }

@@ -48,10 +48,10 @@ impl<'t> Subtree<'t> {
         ensures owned { (owner : NameId) (names : List (List ℕ)) → IsOf owner names self.entry
             → IsTokenOf owner names result.now }
     {
-        match token_of(self.nodes[0], self.tokens) {
-            Some(token) => token,
-            None => unreachable!(),
-        }
+        let Some(token) = token_of(self.nodes[0], self.tokens) else {
+            unreachable!()
+        };
+        token
     }
 
     /// The tree of the alternative that a choice took.

@@ -12,10 +12,10 @@ loop-task-init c =
     (subst (λ tasks. Builds c.args.pieces.now [] tasks) (sym (ap reverse c.in_ok-tasks.ensures.items ∙ ap (λ t. reverse (t ∷ [])) c.whole.ensures))
     (build_first c.args.pieces.now))
 
-pub returns-in-None-clause-none : goal.returns-in-None-clause-none
-returns-in-None-clause-none c =
+pub returns-in_default-head-clause-none : goal.returns-in_default-head-clause-none
+returns-in_default-head-clause-none c =
     turn_stuck c.args.pieces.now c.loop-task.cells.items c.loop-task.tasks.items c.pop.new.self.items c.in-Some.task c.in-Some.ensures.items
-    c.loop-task.invariant c.in-None.ensures.none
+    c.loop-task.invariant c.in_default-head.ensures.none
 
 pub loop-task-preserved : goal.loop-task-preserved
 loop-task-preserved c =

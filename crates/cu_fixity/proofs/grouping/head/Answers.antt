@@ -4,11 +4,11 @@ use Rattle.cu_fixity.specs.declared.piece.Piece.TheVariants as piece
 use Rattle.cu_fixity.proofs.HeadLemmas.{is_found, minus_found, no_operator, operand_inside, operator_head, unfit}
 use Rattle.cu_fixity.proofs.grouping.head.Goals as goal
 
-pub returns-in-None-clause-some : goal.returns-in-None-clause-some
-returns-in-None-clause-some c = (no_operator c.args.pieces.now c.args.task c.operand.result c.requires c.in-None.ensures.root c.operand.ensures).0
+pub returns-in_default-clause-some : goal.returns-in_default-clause-some
+returns-in_default-clause-some c = (no_operator c.args.pieces.now c.args.task c.operand.result c.requires c.in_default.ensures.root c.operand.ensures).0
 
-pub returns-in-None-clause-none : goal.returns-in-None-clause-none
-returns-in-None-clause-none c = (no_operator c.args.pieces.now c.args.task c.operand.result c.requires c.in-None.ensures.root c.operand.ensures).1
+pub returns-in_default-clause-none : goal.returns-in_default-clause-none
+returns-in_default-clause-none c = (no_operator c.args.pieces.now c.args.task c.operand.result c.requires c.in_default.ensures.root c.operand.ensures).1
 
 pub returns-then-not-fits-clause-none : goal.returns-then-not-fits-clause-none
 returns-then-not-fits-clause-none c =

@@ -9,8 +9,8 @@ use Rattle.cu_lex.specs.Scanning.{left}
 use Rattle.cu_lex.proofs.LexLemmas.{no-number-piece, number-scan, int-piece, int-fault}
 use Rattle.cu_lex.proofs.lexer.int.Goals as goal
 
-pub returns-in-None : goal.returns-in-None
-returns-in-None c = λ names. (c.place.ensures.owner, no-number-piece (left c.args.start) c.requires c.in-None.ensures, c.place.ensures.at)
+pub returns-in_default : goal.returns-in_default
+returns-in_default c = λ names. (c.place.ensures.owner, no-number-piece (left c.args.start) c.requires c.in_default.ensures, c.place.ensures.at)
 
 pub returns-in-Some-int_value : goal.returns-in-Some-int_value
 returns-in-Some-int_value c = λ names.
@@ -23,7 +23,7 @@ returns-in-Some-int_value c = λ names.
       known = tt;
     }
 
-pub returns-in-None-int_value : goal.returns-in-None-int_value
-returns-in-None-int_value c = λ names.
+pub returns-in-None : goal.returns-in-None
+returns-in-None c = λ names.
     let s = number-scan (left c.args.start) c.in-Some.found.value (left c.in-Some.found.end) c.requires c.in-Some.ensures in
-    (c.place-in-None-int_value.ensures.owner, left c.in-Some.found.end, int-fault (left c.args.start) c.in-Some.found.value (left c.in-Some.found.end) _ c.requires c.place-in-None-int_value.ensures.at s (sym c.in-None-int_value.is ∙ c.int_value.ensures s.number s.held_as))
+    (c.place-in-None.ensures.owner, left c.in-Some.found.end, int-fault (left c.args.start) c.in-Some.found.value (left c.in-Some.found.end) _ c.requires c.place-in-None.ensures.at s (sym c.in-None.is ∙ c.int_value.ensures s.number s.held_as))

@@ -7,10 +7,10 @@ use Rattle.cu_lex.specs.Scanning.{first_of, later, left, position}
 use Rattle.cu_lex.proofs.LiteralLemmas.{found-item, cut-code, left-at, no-item, step-item, quote-ends, ended, quoted, quoted-first, same-char, other-char, all-read}
 use Rattle.cu_lex.proofs.literal.string_literal.Goals as goal
 
-pub returns-in-None : goal.returns-in-None
-returns-in-None c = λ end q.
+pub returns-in_default : goal.returns-in_default
+returns-in_default c = λ end q.
     let over : (string_items (left c.args.start)).left ≡ left c.loop-rest.rest =
-    sym c.loop-rest.invariant.left_over ∙ ap (λ cut. cut.left) (ended 34 (left c.loop-rest.rest) (no-item (item_scan 34 (left c.loop-rest.rest)) c.in-None.ensures)) in
+    sym c.loop-rest.invariant.left_over ∙ ap (λ cut. cut.left) (ended 34 (left c.loop-rest.rest) (no-item (item_scan 34 (left c.loop-rest.rest)) c.in_default.ensures)) in
     other-char c.peek.result 34 c.ne.result c.ne.ensures c.loop-rest-test.true (c.peek.ensures ∙ ap first_of (sym over) ∙ quoted-first 34 (string_items (left c.args.start)).left end q)
 
 pub loop-rest-smaller : goal.loop-rest-smaller
@@ -48,5 +48,5 @@ returns c =
     let over = ap (λ x. x.left) (sym cut) ∙ c.loop-rest.invariant.left_over in (
       subst (λ t. IsQuoted 34 t (left c.after.result)) over (quoted 34 (left c.loop-rest.rest) (left c.after.result) first c.after.ensures.left),
       all-read c.loop-rest.value (codes_of (string_items (left c.args.start)).pieces)
-          (ap (λ x. joined (Ok c.loop-rest.value) (codes_of x.pieces)) (sym cut) ∙ ap (λ bad. joined (so_far c.loop-rest.value bad) (codes_of (cut_all (item 34) (left c.loop-rest.rest)).pieces)) (sym c.in-None-bad.is) ∙ c.loop-rest.invariant.codes),
+          (ap (λ x. joined (Ok c.loop-rest.value) (codes_of x.pieces)) (sym cut) ∙ ap (λ bad. joined (so_far c.loop-rest.value bad) (codes_of (cut_all (item 34) (left c.loop-rest.rest)).pieces)) (sym c.in-None.is) ∙ c.loop-rest.invariant.codes),
     )

@@ -35,13 +35,13 @@ reached-of : (rows rows' : List Row) (start : ℕ) (marks marks' : List Bool) �
 reached-of rows rows' start marks marks' same is reached =
     subst (λ (ms : List Bool). IsReached rows start ms) (sym is) (subst (λ (rs : List Row). IsReached rs start marks') same reached)
 
-pub returns-in-None-clause-none : goal.returns-in-None-clause-none
-returns-in-None-clause-none c = λ names.
+pub returns-in_default-clause-none : goal.returns-in_default-clause-none
+returns-in_default-clause-none c = λ names.
     let marks = c.as_slice.result.now in
     let reached = reached-of c.args.grammar.now c.rows-rows.result.now c.args.start marks c.in_ok-marks.marks.items c.rows-rows.ensures.rows c.as_slice.ensures.value c.in_ok-marks.ensures in
     no-tree-of c.args.grammar.now c.args.start marks reached (map (lexeme_of names) c.args.tokens.now)
     (no_end (kept marks c.args.grammar.now) (map (lexeme_of names) c.args.tokens.now) (length c.args.tokens.now) (length-map c.args.tokens.now (lexeme_of names)) c.in_ok-table.table.columns
-    (c.in_ok-table.ensures.right names) c.in_ok-table.ensures.long c.args.start (within-kept marks c.args.grammar.now c.args.start c.requires) (sym c.end.ensures ∙ c.in-None.is))
+    (c.in_ok-table.ensures.right names) c.in_ok-table.ensures.long c.args.start (within-kept marks c.args.grammar.now c.args.start c.requires) (sym c.end.ensures ∙ c.in_default.is))
 
 pub returns-then-end-gt0-clause-none : goal.returns-then-end-gt0-clause-none
 returns-then-end-gt0-clause-none c = λ names.

@@ -47,7 +47,7 @@ unreachable-requires c =
     let goes = continues R has n c.args.table.now.columns (c.requires.right.right []) c.requires.long c.args.start c.args.end c.requires.end c.requires.few
     c.loop-parts.nodes.items c.pop.new.self.items c.loop-parts.pending.items c.in-Some.parts c.in-Some.ensures.items
     (c.loop-parts.invariant c.requires.right.marks c.requires.right.reached [] (c.requires.right.right []) c.requires.long) whole.tree whole.matched in
-    never_none c.next_part.result (next_part (end_at c.args.table.now.columns) goes.owner c.in-Some.parts) goes.part goes.parts (c.next_part.ensures goes.owner (owner-real c.requires.right.marks c.args.rows.now cell goes.owner c.in-Some.parts goes.part goes.parts goes.owned goes.found)) goes.found c.in-None.is
+    never_none c.next_part.result (next_part (end_at c.args.table.now.columns) goes.owner c.in-Some.parts) goes.part goes.parts (c.next_part.ensures goes.owner (owner-real c.requires.right.marks c.args.rows.now cell goes.owner c.in-Some.parts goes.part goes.parts goes.owned goes.found)) goes.found c.in_default-next_part.is
 
 pub visit-requires-in-Some-clause-row : goal.visit-requires-in-Some-clause-row
 visit-requires-in-Some-clause-row c =

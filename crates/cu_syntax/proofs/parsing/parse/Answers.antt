@@ -9,10 +9,10 @@ use Rattle.cu_syntax.proofs.PartLemmas.{if_none, if_some, none_of, tree_fits, tr
 use Rattle.cu_syntax.proofs.SplitLemmas.{lexemes}
 use Rattle.cu_syntax.proofs.parsing.parse.Goals as goal
 
-pub returns-in-None-clause-none : goal.returns-in-None-clause-none
-returns-in-None-clause-none c = λ names.
+pub returns-in_default-clause-none : goal.returns-in_default-clause-none
+returns-in_default-clause-none c = λ names.
     none_of c.args.grammar.now c.number.result c.args.symbol (map (lexeme_of names) c.args.tokens.now) c.requires.rows c.number.ensures
-    (if_none c.in_ok-tree.field-0 _ c.in-None.is (c.in_ok-tree.ensures.none names))
+    (if_none c.in_ok-tree.field-0 _ c.in_default.is (c.in_ok-tree.ensures.none names))
 
 pub invariant_of-result : goal.invariant_of-result
 invariant_of-result c = record {

@@ -10,8 +10,8 @@ use Rattle.cu_syntax.proofs.SplitLemmas.{lexemes}
 use Rattle.cu_syntax.proofs.OwnerLemmas.{all_after}
 use Rattle.cu_syntax.proofs.parsing.parse_module.Goals as goal
 
-pub returns-in-None-clause-fault : goal.returns-in-None-clause-fault
-returns-in-None-clause-fault c = λ names. no_block names c.args.tokens.now (sym (c.in-None.ensures.number names))
+pub returns-in_default-clause-fault : goal.returns-in_default-clause-fault
+returns-in_default-clause-fault c = λ names. no_block names c.args.tokens.now (sym (c.in_default.ensures.number names))
 
 pub returns-in_err-header-clause-fault : goal.returns-in_err-header-clause-fault
 returns-in_err-header-clause-fault c = λ names.

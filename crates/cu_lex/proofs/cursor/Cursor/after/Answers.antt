@@ -6,9 +6,9 @@ use Rattle.cu_lex.proofs.CursorLemmas.{at_pair, later-end, later-char, utf8-late
 use Rattle.cu_lex.proofs.cursor.Cursor.after.Goals as goal
 use Rattle.cu_lex.proofs.cursor.Cursor.after.Goals.{then-first-eq10, else-first-eq10+then-first-eq9, else-first-eq10+else-first-eq9}
 
-pub returns-in-None-clause-left : goal.returns-in-None-clause-left
+pub returns-in_default-clause-left : goal.returns-in_default-clause-left
 unfolding left
-returns-in-None-clause-left c = later-end (position c.args.self) c.args.self.text.now (ap length (sym c.chars-chars.ensures.rest) ∙ c.in-None.ensures.steps.0.0)
+returns-in_default-clause-left c = later-end (position c.args.self) c.args.self.text.now (ap length (sym c.chars-chars.ensures.rest) ∙ c.in_default.ensures.steps.0.0)
 
 pub invariant_of-result : goal.invariant_of-result
 invariant_of-result c =
