@@ -59,7 +59,7 @@ impl Class {
     }
 
     /// What is left after the first characters that are of the class.
-    pub fn skip<'a>(self, cursor: Cursor<'a>) -> Cursor<'a>
+    pub fn skip(self, cursor: Cursor<'_>) -> Cursor<'_>
         ensures { left result ≡ skip (has self) (left cursor.entry) }
     {
         let mut rest = cursor;

@@ -8,7 +8,7 @@ use crate::cursor::Cursor;
 
 /// What is left after the comment whose `{-` stands before the start, if it is
 /// closed.
-pub fn after_comment<'a>(start: Cursor<'a>) -> Option<Cursor<'a>>
+pub fn after_comment(start: Cursor<'_>) -> Option<Cursor<'_>>
     ensures { option_map left result ≡ comment_end 1 (left start.entry) }
 {
     let mut depth: usize = 1;
@@ -23,7 +23,7 @@ pub fn after_comment<'a>(start: Cursor<'a>) -> Option<Cursor<'a>>
 
 /// One step of the search for the end of a comment, where so many comments are
 /// open: how many are open then, and what is left.
-fn step<'a>(depth: usize, start: Cursor<'a>) -> Option<(usize, Cursor<'a>)>
+fn step(depth: usize, start: Cursor<'_>) -> Option<(usize, Cursor<'_>)>
     requires inside { 0 < depth }
     requires fits { depth < 2 ^ 32 }
     ensures { StepsTo depth (left start.entry) result }

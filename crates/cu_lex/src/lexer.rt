@@ -134,16 +134,13 @@ fn piece<'a>(
     }
 }
 
-fn opens_comment<'a>(start: Cursor<'a>) -> bool
+fn opens_comment(start: Cursor<'_>) -> bool
     ensures { IsTrue result ↔ OpensComment (left start.entry) }
 {
     start.peek() == Some('{') && start.peek_second() == Some('-')
 }
 
-fn comment<'a>(
-    module: NameId,
-    start: Cursor<'a>,
-) -> Result<(Option<TokenKind>, Cursor<'a>), LexFault>
+fn comment(module: NameId, start: Cursor<'_>) -> Result<(Option<TokenKind>, Cursor<'_>), LexFault>
     requires opens { OpensComment (left start) }
     requires plain { IsPlain (left start) }
     ensures { (names : List (List ℕ)) → Lexes «module» names (left start.entry) result }
@@ -154,10 +151,7 @@ fn comment<'a>(
     }
 }
 
-fn mark_at<'a>(
-    module: NameId,
-    start: Cursor<'a>,
-) -> Result<(Option<TokenKind>, Cursor<'a>), LexFault>
+fn mark_at(module: NameId, start: Cursor<'_>) -> Result<(Option<TokenKind>, Cursor<'_>), LexFault>
     requires plain { IsPlain (left start) }
     requires words { HasNoWord (left start) }
     requires comments { ¬ (OpensComment (left start)) }
@@ -170,7 +164,7 @@ fn mark_at<'a>(
 }
 
 /// The mark that the first character is, if it is one.
-fn first_mark<'a>(start: Cursor<'a>) -> Option<Mark>
+fn first_mark(start: Cursor<'_>) -> Option<Mark>
     ensures { result ≡ first_mark (left start.entry) }
 {
     mark(start.peek()?)
@@ -235,7 +229,7 @@ fn spelling<'a>(
     })
 }
 
-fn int<'a>(module: NameId, start: Cursor<'a>) -> Result<(Option<TokenKind>, Cursor<'a>), LexFault>
+fn int(module: NameId, start: Cursor<'_>) -> Result<(Option<TokenKind>, Cursor<'_>), LexFault>
     requires { begins_with is_ascii_digit (characters (left start)) ≡ true }
     ensures { (names : List (List ℕ)) → Lexes «module» names (left start.entry) result }
 {
@@ -259,10 +253,7 @@ fn int_value(value: Option<u128>) -> Option<Int>
     None
 }
 
-fn character<'a>(
-    module: NameId,
-    start: Cursor<'a>,
-) -> Result<(Option<TokenKind>, Cursor<'a>), LexFault>
+fn character(module: NameId, start: Cursor<'_>) -> Result<(Option<TokenKind>, Cursor<'_>), LexFault>
     requires { begins_with (λ c. c == 39) (characters (left start)) ≡ true }
     ensures { (names : List (List ℕ)) → Lexes «module» names (left start.entry) result }
 {
@@ -273,11 +264,11 @@ fn character<'a>(
     }
 }
 
-fn string<'a>(
+fn string(
     alloc: Global,
     module: NameId,
-    start: Cursor<'a>,
-) -> Result<(Option<TokenKind>, Cursor<'a>), LexFault>
+    start: Cursor<'_>,
+) -> Result<(Option<TokenKind>, Cursor<'_>), LexFault>
     requires { begins_with (λ c. c == 34) (characters (left start)) ≡ true }
     ensures { (names : List (List ℕ)) → Lexes «module» names (left start.entry) result }
 {

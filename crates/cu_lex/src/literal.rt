@@ -32,7 +32,7 @@ struct Item<'a> {
 }
 
 /// The string literal that begins at a quote.
-pub fn string_literal<'a>(alloc: Global, start: Cursor<'a>) -> Result<Literal<'a>, AllocError>
+pub fn string_literal(alloc: Global, start: Cursor<'_>) -> Result<Literal<'_>, AllocError>
     ensures { IfOk result (IsString (left start.entry)) }
 {
     let mut value = Characters::new(alloc);
@@ -92,7 +92,7 @@ pub enum CharLiteral<'a> {
 }
 
 /// The character literal that begins at a quote.
-pub fn char_literal<'a>(start: Cursor<'a>) -> CharLiteral<'a>
+pub fn char_literal(start: Cursor<'_>) -> CharLiteral<'_>
     ensures { IsCharLiteral (left start.entry) result }
 {
     let inside = start.after();
@@ -111,7 +111,7 @@ pub fn char_literal<'a>(start: Cursor<'a>) -> CharLiteral<'a>
     }
 }
 
-fn item_at<'a>(start: Cursor<'a>, quote: char) -> Option<Item<'a>>
+fn item_at(start: Cursor<'_>, quote: char) -> Option<Item<'_>>
     ensures { option_map read_item result ≡ option_map capped (item_scan quote (left start.entry)) }
 {
     let c = start.peek()?;
@@ -128,7 +128,7 @@ fn item_at<'a>(start: Cursor<'a>, quote: char) -> Option<Item<'a>>
 }
 
 /// The escape whose backslash stands before the start.
-fn escape<'a>(start: Cursor<'a>) -> Option<Item<'a>>
+fn escape(start: Cursor<'_>) -> Option<Item<'_>>
     ensures { option_map read_item result ≡ option_map capped (escape_scan (left start.entry)) }
 {
     let c = start.peek()?;
@@ -151,7 +151,7 @@ fn escape<'a>(start: Cursor<'a>) -> Option<Item<'a>>
     }
 }
 
-fn numeric<'a>(start: Cursor<'a>, base: u32) -> Option<Item<'a>>
+fn numeric(start: Cursor<'_>, base: u32) -> Option<Item<'_>>
     requires { 0 < base }
     ensures { option_map read_item result
         ≡ option_map capped (numeric_scan base (left start.entry)) }

@@ -18,7 +18,7 @@ pub struct Number<'a> {
 
 /// The longest number that begins at a digit. There is none where a dot and a
 /// digit follow decimal digits.
-pub fn number_at<'a>(start: Cursor<'a>) -> Option<Number<'a>>
+pub fn number_at(start: Cursor<'_>) -> Option<Number<'_>>
     ensures { option_map found_number result ≡ option_map held (number_scan (left start.entry)) }
 {
     match based_at(start) {
@@ -28,7 +28,7 @@ pub fn number_at<'a>(start: Cursor<'a>) -> Option<Number<'a>>
 }
 
 /// The number that begins with `0x`, `0o` or `0b`.
-fn based_at<'a>(start: Cursor<'a>) -> Option<Number<'a>>
+fn based_at(start: Cursor<'_>) -> Option<Number<'_>>
     ensures { option_map found_number result ≡ option_map held (based_scan (left start.entry)) }
 {
     let base = base_at(start)?;
@@ -39,7 +39,7 @@ fn based_at<'a>(start: Cursor<'a>) -> Option<Number<'a>>
     None
 }
 
-fn base_at<'a>(start: Cursor<'a>) -> Option<u32>
+fn base_at(start: Cursor<'_>) -> Option<u32>
     ensures base { result ≡ prefix_base (left start.entry) }
     ensures some { IfSome result (λ base. 0 < base) }
 {
@@ -64,7 +64,7 @@ fn base_of(letter: char) -> Option<u32>
     }
 }
 
-fn decimal_at<'a>(start: Cursor<'a>) -> Option<Number<'a>>
+fn decimal_at(start: Cursor<'_>) -> Option<Number<'_>>
     ensures { option_map found_number result ≡ option_map held (decimal_scan (left start.entry)) }
 {
     let found = digits_at(start, 10);
@@ -75,7 +75,7 @@ fn decimal_at<'a>(start: Cursor<'a>) -> Option<Number<'a>>
 }
 
 /// Whether another digit, or a dot and a digit, follow.
-fn goes_on<'a>(end: Cursor<'a>) -> bool
+fn goes_on(end: Cursor<'_>) -> bool
     ensures { result ≡ goes_on_with_number (characters (left end.entry)) }
 {
     match end.peek() {
@@ -85,7 +85,7 @@ fn goes_on<'a>(end: Cursor<'a>) -> bool
 }
 
 /// The digits of a base, up to the first other character.
-fn digits_at<'a>(start: Cursor<'a>, base: u32) -> Number<'a>
+fn digits_at(start: Cursor<'_>, base: u32) -> Number<'_>
     requires { 0 < base }
     ensures value { result.value ≡ within (digits_from base 0 (digits base (left start.entry))) }
     ensures end { left result.end ≡ skip (is_digit_of base) (left start.entry) }
@@ -113,7 +113,7 @@ fn with_digit(value: Option<u128>, base: u32, digit: u32) -> Option<u128>
 }
 
 /// The code that digits of a base write, up to a limit that is no scalar value.
-pub fn code_at<'a>(start: Cursor<'a>, base: u32) -> (u32, Cursor<'a>)
+pub fn code_at(start: Cursor<'_>, base: u32) -> (u32, Cursor<'_>)
     requires { 0 < base }
     ensures code { result.0 ≡ cap (digits_from base 0 (digits base (left start.entry))) }
     ensures end { left result.1 ≡ skip (is_digit_of base) (left start.entry) }

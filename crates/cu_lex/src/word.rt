@@ -34,7 +34,7 @@ pub struct Word<'a> {
 }
 
 /// The longest word without a qualifier.
-pub fn unqualified<'a>(start: Cursor<'a>) -> Option<Word<'a>>
+pub fn unqualified(start: Cursor<'_>) -> Option<Word<'_>>
     ensures { FindsWord (left start.entry) result }
 {
     if Class::Capital.begins(start) {
@@ -46,7 +46,7 @@ pub fn unqualified<'a>(start: Cursor<'a>) -> Option<Word<'a>>
     }
 }
 
-fn constructor<'a>(start: Cursor<'a>) -> Word<'a>
+fn constructor(start: Cursor<'_>) -> Word<'_>
     requires { begins_with is_ascii_uppercase (characters (left start)) ≡ true }
     ensures word { IsWord (left start.entry) result.kind (left result.end) }
     ensures kind { result.kind ≡ con_id_kind }
@@ -57,7 +57,7 @@ fn constructor<'a>(start: Cursor<'a>) -> Word<'a>
     }
 }
 
-fn variable<'a>(start: Cursor<'a>) -> Option<Word<'a>>
+fn variable(start: Cursor<'_>) -> Option<Word<'_>>
     ensures { MatchOption result (HasNoVariable (left start.entry))
         (λ w. IsWord (left start.entry) w.kind (left w.end)) }
 {
@@ -81,7 +81,7 @@ fn variable_kind(text: &str) -> WordKind
     }
 }
 
-fn operator<'a>(start: Cursor<'a>) -> Option<Word<'a>>
+fn operator(start: Cursor<'_>) -> Option<Word<'_>>
     ensures { MatchOption result (begins_with is_symbol (characters (left start.entry)) ≡ false)
         (λ w. IsWord (left start.entry) w.kind (left w.end)) }
 {
@@ -145,7 +145,7 @@ pub struct Qualified<'a> {
 }
 
 /// The longest qualified word at a capital letter.
-pub fn qualified_at<'a>(start: Cursor<'a>) -> Qualified<'a>
+pub fn qualified_at(start: Cursor<'_>) -> Qualified<'_>
     requires { begins_with is_ascii_uppercase (characters (left start)) ≡ true }
     ensures { IsQualified (left start.entry) result }
 {
@@ -161,7 +161,7 @@ pub fn qualified_at<'a>(start: Cursor<'a>) -> Qualified<'a>
 }
 
 /// The name or operator that follows a ConId and a dot.
-fn after_dot<'a>(kind: WordKind, end: Cursor<'a>) -> Option<Word<'a>>
+fn after_dot(kind: WordKind, end: Cursor<'_>) -> Option<Word<'_>>
     ensures none { IsNone result → kind ≡ con_id_kind → first_of (left end.entry) ≡ Some (byte ".")
         → HasNoBase (later (left end.entry)) }
     ensures some { IfSome result (IsLink kind (left end.entry)) }

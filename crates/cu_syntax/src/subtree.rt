@@ -244,7 +244,7 @@ fn alternatives(symbol: Symbol) -> &'static [Symbol]
 }
 
 /// The nodes of the first of some trees, and those of the others.
-fn first_tree<'t>(nodes: &'t [Node]) -> (&'t [Node], &'t [Node])
+fn first_tree(nodes: &[Node]) -> (&[Node], &[Node])
     requires some { ¬ (nodes.now ≡ []) }
     requires trees { spelled_all (read_all nodes.now) ≡ nodes.now }
     ensures first { result.0.now ≡ spelled (first_of (read_all nodes.now)) }
@@ -255,7 +255,7 @@ fn first_tree<'t>(nodes: &'t [Node]) -> (&'t [Node], &'t [Node])
 }
 
 /// The token of a leaf, if the node is one.
-fn token_of<'t>(node: Node, tokens: &'t [Token]) -> Option<&'t Token>
+fn token_of(node: Node, tokens: &[Token]) -> Option<&Token>
     ensures { option_copied result ≡ token_at tokens.now node.form }
 {
     match node.form {
