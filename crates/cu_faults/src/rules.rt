@@ -10,7 +10,7 @@ use cu_sites::{Group, Rule};
 use cu_translation::{Fault, Wrong};
 
 /// The most rules of a function.
-const MOST_RULES: usize = 4096;
+const MAX_RULES: usize = 4096;
 
 /// Tells the first rule of a function with another number of patterns than the
 /// function's first one.
@@ -36,7 +36,7 @@ pub(crate) fn tell_length(group: &Group<'_>, first: &mut First)
     ensures { (owner : NameId) (names : List (List ℕ)) → GroupIsOf owner names group.now
         → Told owner first.old (length_faults (group_meaning names group.now)) first.new }
 {
-    if let Some(rule) = group.others.get(MOST_RULES - 1) {
+    if let Some(rule) = group.others.get(MAX_RULES - 1) {
         first.tell(Fault {
             wrong: Wrong::TooLong,
             place: rule.place,

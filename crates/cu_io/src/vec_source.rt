@@ -9,7 +9,7 @@ use crate::source::{Source, Took};
 use std::marker::Model;
 
 /// How many reads of a source in memory may take bytes.
-const MOST_READS: u64 = 1 << 63;
+const MAX_READS: u64 = 1 << 63;
 
 /// A source in memory. Some of its reads fail.
 #[derive(Drop)]
@@ -52,7 +52,7 @@ impl VecSource {
         VecSource {
             bytes,
             at: 0,
-            reads: MOST_READS,
+            reads: MAX_READS,
             failing,
             calls: Calls::new(),
         }

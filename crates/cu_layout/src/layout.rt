@@ -17,7 +17,7 @@ use cu_names::{NameId, Place};
 use std::alloc::Global;
 
 /// The most entries of the stack.
-const MOST_ENTRIES: usize = 256;
+const MAX_ENTRIES: usize = 256;
 
 /// The tokens with the braces and semicolons that the layout rules put in. The
 /// text is a whole module, or else an expression.
@@ -126,7 +126,7 @@ fn lay_out(
 fn within_limit(stack: &[Entry], place: Place) -> Result<(), TooDeep>
     ensures { IsWithin place (stack_of stack.now) result }
 {
-    if stack.len() > MOST_ENTRIES {
+    if stack.len() > MAX_ENTRIES {
         return Err(TooDeep::At(place));
     }
     Ok(())

@@ -21,7 +21,7 @@ use std::alloc::{AllocError, Global};
 use std::vec;
 
 /// The most modules that are fetched.
-const MOST_MODULES: usize = 1000;
+const MAX_MODULES: usize = 1000;
 
 /// A module on the path, with the imports that come after the one at hand.
 #[derive(Drop)]
@@ -266,7 +266,7 @@ fn look_up<L: Library>(
     if let Some(text) = cu_prelude::text(names.text(name)) {
         return read(alloc, names, name, text.as_bytes());
     }
-    if *fetched == MOST_MODULES {
+    if *fetched == MAX_MODULES {
         return Err(OrderFault::TooManyModules(name));
     }
     *fetched += 1;

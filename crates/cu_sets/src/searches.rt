@@ -19,7 +19,7 @@ use std::mem;
 
 /// How many searches may run within each other. A step of a search within
 /// another takes some of the thread's stack, of which a worker has 2 MiB.
-const MOST_NESTED: u32 = 128;
+const MAX_NESTED: u32 = 128;
 
 /// One step of a branch in every state. Where a search for all values of a
 /// function runs in it, the level of the search takes one step, and so do the
@@ -40,7 +40,7 @@ pub fn advance<S: Store>(
         (λ outcome. All (λ branch. IsValid program.now (state_of S.content branch))
         (branches_of outcome)) }
 {
-    advance_within(alloc, program, branch, limits, MOST_NESTED)
+    advance_within(alloc, program, branch, limits, MAX_NESTED)
 }
 
 /// One step of a branch in which at most so many searches run within each

@@ -7,7 +7,7 @@ ghost use Rattle.cu_syntax.specs.Scanning.{first_open, is_within, last_line, par
 use cu_lex::{LayoutMark, Mark, Token, TokenKind};
 
 /// The most tokens of an item.
-const MOST_TOKENS: usize = 4096;
+const MAX_TOKENS: usize = 4096;
 
 /// Where a part of a module's block ends.
 #[derive(Clone, Copy, Debug)]
@@ -114,7 +114,7 @@ fn line_after(last: u32, token: &Token) -> u32
 pub(crate) fn is_long(tokens: &[Token]) -> bool
     ensures { (names : List (List ℕ)) → result ≡ is_long (map (lexeme_of names) tokens.now) }
 {
-    is_longer(tokens, MOST_TOKENS)
+    is_longer(tokens, MAX_TOKENS)
 }
 
 /// Whether the length of these tokens is above a limit.

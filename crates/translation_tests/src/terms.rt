@@ -6,7 +6,7 @@ use cu_names::{NameId, Names};
 use std::alloc::{AllocError, Global};
 
 /// The most parts of a line.
-const MOST_PARTS: usize = 10_000;
+const MAX_PARTS: usize = 10_000;
 
 /// A part of a line that is still to be written.
 #[derive(Clone, Copy)]
@@ -215,7 +215,7 @@ impl<'a> Writer<'a> {
 
     /// Writes all parts.
     fn finish(mut self) -> Result<String, AllocError> {
-        for _ in 0..MOST_PARTS {
+        for _ in 0..MAX_PARTS {
             match self.parts.pop() {
                 Some(part) => self.write(part)?,
                 None => return Ok(self.line),
