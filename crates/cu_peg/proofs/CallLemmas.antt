@@ -15,7 +15,7 @@ use Rattle.cu_peg.specs.declared.row.Row.{Row}
 use Rattle.cu_peg.specs.declared.row.Row.TheVariants as row
 use Rattle.cu_peg.specs.Order.{IsOrder}
 use Rattle.cu_peg.specs.WellFormed as w
-use Rattle.cu_peg.specs.WellFormed.{Calls, IsBad, IsClosed, IsLeftRecursive, IsNullable, IsWellFormed, Reaches, RepeatsNullable, RowCalls, RowIsNullable, RowRepeatsNullable}
+use Rattle.cu_peg.specs.WellFormed.{Calls, IsClosed, IsEndless, IsLeftRecursive, IsNullable, IsWellFormed, Reaches, RepeatsNullable, RowCalls, RowIsNullable, RowRepeatsNullable}
 use Rattle.cu_peg.proofs.ClosureLemmas.{Among, all_from, all_pass, any_from, both, derived_have, derived_keep, here, marked-set, none_marked, or_right, some_passes, there}
 use Rattle.cu_peg.proofs.FoundedRows.{Founded, all_founded, calls_within, founded}
 
@@ -35,14 +35,14 @@ source_of f rows r c e = by (slice_get rows r) refl (sym (slice_get-map f rows r
 pub condition_at : (f : Row → Condition) (rows : List Row) (r : ℕ) (e : Row) → slice_get rows r ≡ Some e → slice_get (map f rows) r ≡ Some (f e)
 condition_at f rows r e is = slice_get-map f rows r ∙ ap (option_map f) is
 
--- a bad row is in the table
+-- a row that may match without end is in the table
 pub reaches_within : (rows : List Row) (r q : ℕ) → Reaches rows r q → r < length rows
 reaches_within rows _ _ (w.one r q d) = slice_get_within rows r d.caller d.is
 reaches_within rows _ _ (w.more r p q d far) = slice_get_within rows r d.caller d.is
 
-pub bad_within : (rows : List Row) (r : ℕ) → IsBad rows r → r < length rows
-bad_within rows r (inl far) = reaches_within rows r r far
-bad_within rows r (inr e) = slice_get_within rows r e.repeater e.is
+pub endless_within : (rows : List Row) (r : ℕ) → IsEndless rows r → r < length rows
+endless_within rows r (inl far) = reaches_within rows r r far
+endless_within rows r (inr e) = slice_get_within rows r e.repeater e.is
 
 -- nullable rows
 module _ (rows : List Row) where
@@ -171,13 +171,13 @@ module _ (rows : List Row) where
     by_repeats _ (w.repeated_at_least_one p n) = (tells p).1 n
     by_repeats _ (w.repeated_separated p s n k) = rw ((tells p).1 n) ((tells s).1 k)
 
-    -- whether a row repeats nothing, and whether it is bad
+    -- whether a row repeats nothing, and whether it may match without end
     pub repeats_nullable_by : (r : ℕ) (e : Row) → slice_get rows r ≡ Some e → RepeatsNullable rows r → repeats nullable e ≡ true
     repeats_nullable_by r e is d = let same : d.repeater ≡ e = same_row_at r d.repeater e d.is is in ap (repeats nullable) (sym same) ∙ by_repeats d.repeater d.repeats
 
-    pub bad_by : (r : ℕ) (e : Row) → slice_get rows r ≡ Some e → repeats nullable e ≡ false → IsBad rows r → IsLeftRecursive rows r
-    bad_by r e is not_so (inl far) = far
-    bad_by r e is not_so (inr d) = absurd (true≢false (sym (repeats_nullable_by r e is d) ∙ not_so))
+    pub endless_by : (r : ℕ) (e : Row) → slice_get rows r ≡ Some e → repeats nullable e ≡ false → IsEndless rows r → IsLeftRecursive rows r
+    endless_by r e is not_so (inl far) = far
+    endless_by r e is not_so (inr d) = absurd (true≢false (sym (repeats_nullable_by r e is d) ∙ not_so))
 
     -- what a condition on calls asks for
     module _ (conditions : List Condition) (is : conditions ≡ map (calls_by quantifier.Any nullable) rows) where

@@ -9,7 +9,7 @@ use Rattle.std.proofs.lemmas.Map.Steps.{length-le_from_distinct_below}
 use Rattle.cu_peg.specs.declared.row.Row.{Row}
 use Rattle.cu_peg.specs.declared.row.Row.TheVariants as row
 use Rattle.cu_peg.specs.WellFormed as w
-use Rattle.cu_peg.specs.WellFormed.{Calls, IsBad, IsClosed, IsNullable, IsWellFormed, Reaches, RowCalls, named}
+use Rattle.cu_peg.specs.WellFormed.{Calls, IsClosed, IsEndless, IsNullable, IsWellFormed, Reaches, RowCalls, named}
 
 -- All calls that begin at a row end.
 pub data Founded (rows : List Row) : ℕ → Type 0 where

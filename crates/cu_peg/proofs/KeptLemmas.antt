@@ -8,7 +8,7 @@ use Rattle.cu_peg.specs.declared.row.Row.TheVariants as row
 use Rattle.cu_peg.specs.Order.{IsGrammar}
 use Rattle.cu_peg.specs.Reached.{kept, kept_row}
 use Rattle.cu_peg.specs.WellFormed as w
-use Rattle.cu_peg.specs.WellFormed.{Calls, IsBad, IsClosed, IsNullable, IsWellFormed, Reaches, RepeatsNullable, RowCalls, RowIsNullable, RowRepeatsNullable, named}
+use Rattle.cu_peg.specs.WellFormed.{Calls, IsClosed, IsEndless, IsNullable, IsWellFormed, Reaches, RepeatsNullable, RowCalls, RowIsNullable, RowRepeatsNullable, named}
 
 pub length-kept : (marks : List Bool) (rows : List Row) → length (kept marks rows) ≡ length rows
 length-kept [] [] = refl
@@ -156,14 +156,14 @@ module _ (marks : List Bool) (rows : List Row) where
   repeats-in r d =
       let inside = row-repeats-in d.repeats in record { repeater = d.repeater; is = kept-real marks rows r d.repeater d.is (repeats-some rows d.repeater inside); repeats = inside }
 
-  bad-in : (r : ℕ) → IsBad (kept marks rows) r → IsBad rows r
-  bad-in r (inl d) = inl (reaches-in d)
-  bad-in r (inr d) = inr (repeats-in r d)
+  endless-in : (r : ℕ) → IsEndless (kept marks rows) r → IsEndless rows r
+  endless-in r (inl d) = inl (reaches-in d)
+  endless-in r (inr d) = inr (repeats-in r d)
 
   pub grammar-kept : (order : List ℕ) → IsGrammar rows order → IsGrammar (kept marks rows) order
   grammar-kept order g = record {
     closed = closed-kept marks rows g.closed;
-    well_formed = λ r bad. g.well_formed r (bad-in r bad);
+    well_formed = λ r endless. g.well_formed r (endless-in r endless);
     ordered = record {
       within = subst (λ n. All (λ r. r < n) order) (sym (length-kept marks rows)) g.ordered.within;
       complete = λ r h. g.ordered.complete r (subst (λ n. r < n) (length-kept marks rows) h);

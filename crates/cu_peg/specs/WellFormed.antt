@@ -90,15 +90,16 @@ pub record RepeatsNullable (rows : List Row) (r : ℕ) : Type 0 where
   pub is : slice_get rows r ≡ Some repeater
   pub repeats : RowRepeatsNullable rows repeater
 
--- A row is bad: it is left recursive, or it repeats what may match without taking a token.
-abbrev pub IsBad : List Row → ℕ → Type 0
-IsBad rows r = IsLeftRecursive rows r ⊎ RepeatsNullable rows r
+-- A row may match without end: it is left recursive, or it repeats what may match without taking a
+-- token.
+abbrev pub IsEndless : List Row → ℕ → Type 0
+IsEndless rows r = IsLeftRecursive rows r ⊎ RepeatsNullable rows r
 
--- No row is bad.
+-- No row may match without end.
 abbrev pub IsWellFormed : List Row → Type 0
-IsWellFormed rows = (r : ℕ) → ¬ (IsBad rows r)
+IsWellFormed rows = (r : ℕ) → ¬ (IsEndless rows r)
 
--- A row is the first that is bad.
-pub record IsFirstBad (rows : List Row) (r : ℕ) : Type 0 where
-  pub bad : IsBad rows r
-  pub first : (q : ℕ) → q < r → ¬ (IsBad rows q)
+-- A row is the first that may match without end.
+pub record IsFirstEndless (rows : List Row) (r : ℕ) : Type 0 where
+  pub endless : IsEndless rows r
+  pub first : (q : ℕ) → q < r → ¬ (IsEndless rows q)

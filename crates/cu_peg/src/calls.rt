@@ -4,7 +4,7 @@ ghost use Rattle.std.specs.Prelude.{◌≡◌, map, IfOk, length, MatchOption, I
 ghost use Rattle.cu_peg.specs.declared.row.Row.{Row};
 ghost use Rattle.cu_peg.specs.CallTables.{callees, called, calls_by, nullable_by, repeats, TellsNullable};
 ghost use Rattle.cu_peg.specs.Order.{IsOrder};
-ghost use Rattle.cu_peg.specs.WellFormed.{IsBad, IsClosed, IsFirstBad, IsLeftRecursive, IsWellFormed};
+ghost use Rattle.cu_peg.specs.WellFormed.{IsClosed, IsEndless, IsFirstEndless, IsLeftRecursive, IsWellFormed};
 
 use crate::closure::{Condition, Quantifier, is_marked, saturate};
 use crate::{Row, RowNumbers};
@@ -96,18 +96,18 @@ fn called(alloc: Global, parts: &[u32], nullable: &[bool]) -> Result<Vec<u32>, A
 }
 
 /// The first row that may match without end, if there is one.
-pub fn first_bad(
+pub fn first_endless_row(
     alloc: Global,
     rows: &[Row],
     nullable: &[bool],
 ) -> Result<Option<usize>, AllocError>
     requires { TellsNullable rows.now nullable.now }
     ensures { IfOk result (λ found. MatchOption found (IsWellFormed rows.now)
-        (IsFirstBad rows.now)) }
+        (IsFirstEndless rows.now)) }
 {
     let calls = call_conditions(alloc, rows, nullable, Quantifier::Any)?;
     for number in 0..rows.len() {
-        if is_bad(alloc, rows, nullable, calls.as_slice(), number)? {
+        if is_endless(alloc, rows, nullable, calls.as_slice(), number)? {
             return Ok(Some(number));
         }
     }
@@ -115,7 +115,7 @@ pub fn first_bad(
 }
 
 /// Whether a row may match without end.
-fn is_bad(
+fn is_endless(
     alloc: Global,
     rows: &[Row],
     nullable: &[bool],
@@ -125,7 +125,7 @@ fn is_bad(
     requires nullable { TellsNullable rows.now nullable.now }
     requires calls { calls.now ≡ map (calls_by Quantifier.Any nullable.now) rows.now }
     requires number { number < length rows.now }
-    ensures { IfOk result (λ found. IsTrue found ↔ IsBad rows.now number) }
+    ensures { IfOk result (λ found. IsTrue found ↔ IsEndless rows.now number) }
 {
     if repeats_nullable(&rows[number], nullable) {
         return Ok(true);

@@ -7,10 +7,10 @@ ghost use Rattle.cu_peg.specs.Reached.{kept};
 ghost use Rattle.cu_peg.specs.Result.{has_at};
 ghost use Rattle.cu_peg.specs.WellFormed.{IsClosed, IsWellFormed, is_closed, named};
 ghost use Rattle.cu_peg.specs.declared.grammar.BadGrammar.TheVariants.{NoMemory};
-ghost use Rattle.cu_peg.specs.Answer.{TellsBad};
+ghost use Rattle.cu_peg.specs.Answer.{TellsEndless};
 
 use crate::Row;
-use crate::calls::{call_order, first_bad, nullable_rows};
+use crate::calls::{call_order, first_endless_row, nullable_rows};
 use crate::closure::is_marked;
 use crate::ends::add_place;
 use crate::table::Table;
@@ -73,12 +73,12 @@ impl Grammar {
         requires { IsClosed rows.items }
         ensures rows { IfOk result (λ grammar. grammar ≡ rows.items) }
         ensures well_formed { OnOk result (IsWellFormed rows.items) }
-        ensures bad { IfErr result (TellsBad rows.items) }
+        ensures endless { IfErr result (TellsEndless rows.items) }
     {
         let table = rows.as_slice();
         let marks = nullable_rows(alloc, table)?;
         let nullable = marks.as_slice();
-        if let Some(row) = first_bad(alloc, table, nullable)? {
+        if let Some(row) = first_endless_row(alloc, table, nullable)? {
             return Err(BadGrammar::Row(row));
         }
         let order = call_order(alloc, table, nullable)?;

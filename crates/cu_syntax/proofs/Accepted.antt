@@ -8,10 +8,10 @@ use Rattle.cu_peg.specs.declared.grammar.BadGrammar.{BadGrammar}
 use Rattle.cu_peg.specs.declared.grammar.BadGrammar.TheVariants as answer
 use Rattle.cu_peg.specs.declared.row.Row.{Row}
 use Rattle.cu_peg.specs.declared.row.Row.TheVariants as row
-use Rattle.cu_peg.specs.Answer.{TellsBad}
+use Rattle.cu_peg.specs.Answer.{TellsEndless}
 use Rattle.cu_peg.specs.CallTables.{callees, called, nullable_by, repeats}
 use Rattle.cu_peg.specs.Closure.{holds, marked}
-use Rattle.cu_peg.specs.WellFormed.{Calls, IsBad, IsFirstBad, IsNullable, IsWellFormed, Reaches, RowCalls, RowIsNullable, RowRepeatsNullable}
+use Rattle.cu_peg.specs.WellFormed.{Calls, IsEndless, IsFirstEndless, IsNullable, IsWellFormed, Reaches, RowCalls, RowIsNullable, RowRepeatsNullable}
 use Rattle.cu_syntax.specs.declared.symbol.Symbol.{Symbol}
 use Rattle.cu_syntax.specs.declared.symbol.Symbol.TheVariants as symbol
 use Rattle.cu_syntax.specs.Table.{rows, symbols}
@@ -343,7 +343,7 @@ rows_fit = refl
 pub accepted : IsWellFormed rows
 accepted = well_formed marks ranks rows rows_fit
 
-pub never_bad : (table : List Row) (bad : BadGrammar) (r : ℕ) → table ≡ rows → bad ≡ answer.Row r → TellsBad table bad → ⊥
-never_bad table bad r e is tells =
-    let first : IsFirstBad table r = subst (TellsBad table) is tells in
-    accepted r (subst (λ t. IsBad t r) e first.bad)
+pub never_endless : (table : List Row) (bad : BadGrammar) (r : ℕ) → table ≡ rows → bad ≡ answer.Row r → TellsEndless table bad → ⊥
+never_endless table bad r e is tells =
+    let first : IsFirstEndless table r = subst (TellsEndless table) is tells in
+    accepted r (subst (λ t. IsEndless t r) e first.endless)

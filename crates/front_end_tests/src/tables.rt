@@ -50,7 +50,7 @@ fn tree(alloc: Global, grammar: &Grammar, tokens: &[Token]) -> Result<String, Al
     }
 }
 
-/// Which row is bad, if one is.
+/// Why rows are no grammar, if they are none.
 fn bad(alloc: Global, rows: Vec<Row>) -> Option<BadGrammar> {
     match grammar(alloc, rows) {
         Ok(_) => None,
@@ -149,7 +149,7 @@ fn all_tokens_are_matched(rt: HostRuntime) -> Result<(), Fail> {
 }
 
 #[test]
-fn bad_rows(rt: HostRuntime) -> Result<(), Fail> {
+fn endless_rows(rt: HostRuntime) -> Result<(), Fail> {
     let alloc = rt.alloc();
     // A row that is itself.
     let mut rows = Vec::new(alloc);
@@ -162,7 +162,7 @@ fn bad_rows(rt: HostRuntime) -> Result<(), Fail> {
     rows.push(Row::Optional(0))?;
     rows.push(Row::Choice(of(alloc, &[0, 1])?))?;
     assert_eq!(rt; bad(alloc, rows), Some(BadGrammar::Row(1)));
-    // A row that reaches a bad one is none.
+    // A row that reaches an endless one isn't endless itself.
     let mut rows = Vec::new(alloc);
     rows.push(Row::Sequence(of(alloc, &[1])?))?;
     rows.push(Row::Many(2))?;
