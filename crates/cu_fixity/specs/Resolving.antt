@@ -40,13 +40,15 @@ abbrev pub HaveFixities : List (List ℕ) → (Name → Fixity) → Table → Li
 HaveFixities table fixity declared operators =
     All (λ name. fixity (name_meaning table name) ≡ fixity_in declared name.text) operators
 
+-- the operators between the operands of an expression
 abbrev pub operators_of : Items → List names.Name
 operators_of items = map (λ item. item.operator) items.rest.items
 
+-- the constructors between the operands of a pattern
 abbrev pub constructors_of : PatItems → List names.Name
 constructors_of items = map (λ item. item.operator) items.rest.items
 
--- A clash is told at this place, and this holds. An allocation failure says nothing.
+-- A clash has this place, and P holds. Of an allocation failure nothing is said.
 abbrev pub Clashes : Place → Type 0 → FixityClash → Type 0
 Clashes place P (clash.At at) = (at ≡ place) × P
 Clashes place P clash.NoMemory = Unit {0}

@@ -14,11 +14,11 @@ use std::alloc::{AllocError, Global};
 enum Under {
     /// Below no operator: the tree is the whole.
     Nothing,
-    /// As the operand of the minus of this number.
+    /// The tree is the operand of the minus of this number.
     Minus(usize),
-    /// As the left operand of the operator of this number.
+    /// The tree is the left operand of the operator of this number.
     LeftOf(usize),
-    /// As the right operand of the operator of this number.
+    /// The tree is the right operand of the operator of this number.
     RightOf(usize),
 }
 

@@ -1,5 +1,6 @@
 -- The layout rules: what they put before a token, and what they do to the stack of what stands open
--- (after the Curry Report, appendix on syntax, section on layout).
+-- (after the Curry Report, appendix on syntax, section on layout). Rule 1 rests on rule 2, which
+-- therefore comes first; the others stand in the order of their numbers.
 use Rattle.std.specs.Prelude.{ℕ, Bool, true, false, not, ◌&&◌, ◌||◌, ◌==◌, nat_lt, nat_le, List, [], ◌∷◌, ◌++◌, length, drop, Option, None, Some, if◌then◌else◌}
 use Rattle.std.specs.Option.{option_and_then, option_map}
 use Rattle.cu_lex.specs.declared.token.Keyword.TheVariants as keyword
@@ -36,7 +37,7 @@ no_marks stack = record { marks = []; stack = stack }
 abbrev pub marks_then : List LayoutMark → Step → Step
 marks_then marks step = record { marks = marks ++ step.marks; stack = step.stack }
 
--- ---- rule 2: the first token of a line, on which rule 1 stands
+-- ---- rule 2: the first token of a line
 
 -- A token that stands left of the innermost block, or a `where` on its column, closes the block,
 -- and is compared with the next block. Another token on its column separates two items, unless it

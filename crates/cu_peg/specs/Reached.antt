@@ -20,7 +20,7 @@ pub record IsReached (rows : List Row) (start : ℕ) (marks : List Bool) : Type 
   pub start_in : marked marks start ≡ true
   pub closed : IsClosedSet rows marks
 
--- a row that is marked, or in place of another a row that matches nothing
+-- the row itself where it is marked, and else a row that matches nothing
 abbrev pub kept_row : Bool → Row → Row
 kept_row true e = e
 kept_row false e = row.Choice []

@@ -12,11 +12,11 @@ const MAX_TOKENS: usize = 4096;
 /// Where a part of a module's block ends.
 #[derive(Clone, Copy, Debug)]
 pub(crate) enum PartEnd {
-    /// After so many tokens, at a semicolon.
+    /// The part ends after so many tokens, at a semicolon.
     Separator(usize),
-    /// After so many tokens, at the brace that closes the block.
+    /// The part ends after so many tokens, at the brace that closes the block.
     Close(usize),
-    /// Nowhere: the block isn't closed.
+    /// The part ends nowhere: the block isn't closed.
     Missing,
 }
 

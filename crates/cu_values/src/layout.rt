@@ -241,7 +241,8 @@ impl Layout<'_> {
         self.value(at, tasks, text)
     }
 
-    /// Goes on with a list that has an end, after one of its elements.
+    /// Begins what follows an element of a list that has an end: a comma and
+    /// the next element, or nothing.
     fn elements(
         &self,
         at: usize,
@@ -262,7 +263,8 @@ impl Layout<'_> {
         Ok(at + 1)
     }
 
-    /// Goes on with a list that ends in a variable, after one of its elements.
+    /// Begins what follows an element of a list that ends in a variable: a
+    /// colon, and the next element or the variable.
     fn open_rest(
         &self,
         at: usize,

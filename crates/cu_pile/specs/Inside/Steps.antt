@@ -64,8 +64,8 @@ AreInOrder {O} pairs outcomes =
     (sorted : List (ℕ × O)) × IsPermutation pairs sorted × IsNonDecreasingBy (λ pair. pair.0) sorted
     × (outcomes ≡ map (λ pair. pair.1) sorted)
 
--- There are outcomes in all where there are outcomes on both sides, and these are the first ones
--- and then the second ones.
+-- Where there are outcomes in all, each side has outcomes, and all are those of the first side and
+-- then those of the second.
 abbrev pub AreBoth : {T E A : Type 0} → Result (Vec T A) E → Result (Vec T A) E
     → Result (Vec T A) E → Type 0
 AreBoth first second both =
