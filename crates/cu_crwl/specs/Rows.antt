@@ -1,29 +1,14 @@
 -- The clause matrix (Maranget 2008) among whose rows the checker chooses an alternative, and what a
 -- look at it finds, as the code's values stand for them.
 use Rattle.std.specs.Prelude.{Bool, ◌||◌, List, map}
-use denote.Ref.{Bor}
 use Rattle.cu_calculus.specs.Choose as calculus
 use Rattle.cu_calculus.specs.Choose.{not_literal, demands_constructor, demands_literal, demands_nothing}
-use Rattle.cu_calculus.specs.Term as clean
-use Rattle.cu_kernel.specs.TermsOf.{pattern_of}
-use Rattle.cu_kernel.specs.declared.term.Pattern.{Pattern}
-use Rattle.cu_crwl.specs.declared.choose.Demand.{Demand}
-use Rattle.cu_crwl.specs.declared.choose.Demand.TheVariants as demand
+use Rattle.cu_matrix.specs.Meaning.{patterns_at}
 use Rattle.cu_crwl.specs.declared.choose.Keep.{Keep}
 use Rattle.cu_crwl.specs.declared.choose.Keep.TheVariants as keep
 use Rattle.cu_crwl.specs.declared.choose.Look.{Look}
 use Rattle.cu_crwl.specs.declared.choose.Look.TheVariants as look
 use Rattle.cu_crwl.specs.declared.choose.Row.{Row}
-
--- the demand that a demand of the code stands for
-abbrev pub demand_meaning : Demand → calculus.Demand
-demand_meaning demand.Nothing = calculus.Nothing
-demand_meaning (demand.Literal l) = calculus.ALiteral l
-demand_meaning (demand.Constructor c) = calculus.AConstructor c
-
--- the patterns that references to patterns of the code stand for
-abbrev pub patterns_at : List (Bor Pattern) → List clean.Pattern
-patterns_at ps = map (λ p. pattern_of p.now) ps
 
 -- the row that a row of the code stands for
 abbrev pub row_meaning : Row → calculus.Row

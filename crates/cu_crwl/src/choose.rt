@@ -1,26 +1,17 @@
 //! Which alternative of a case distinction a value takes.
-ghost use Rattle.std.specs.Prelude.{◌≡◌, ◌∷◌, [], ◌++◌, ◌<◌, ◌≤◌, Bool, IfOk, IsTrue, List, OnOk, filter, replicate, length, map, option_map, take, drop, slice_get};
+ghost use Rattle.std.specs.Prelude.{◌≡◌, ◌∷◌, [], ◌++◌, ◌<◌, ◌≤◌, Bool, IfOk, IsTrue, List, OnOk, filter, length, map, option_map, take, drop, slice_get};
 ghost use Rattle.cu_calculus.specs.Choose as calculus;
-ghost use Rattle.cu_calculus.specs.Choose.{arguments_of, demand_at, demand_of, has_variable, is_demanding, leftmost, specialized_row, not_literal, rows_from, same_type, spliced};
+ghost use Rattle.cu_calculus.specs.Choose.{demand_at, has_variable, specialized_row, not_literal, rows_from, spliced};
 ghost use Rattle.cu_calculus.specs.Chosen.{chosen};
 ghost use Rattle.cu_kernel.specs.Heads.{heads_program};
-ghost use Rattle.cu_kernel.specs.TermsOf.{alternatives_of, pattern_of};
-ghost use Rattle.cu_crwl.specs.Rows.{demand_meaning, keeps, look_meaning, patterns_at, row_meaning, rows_meaning};
+ghost use Rattle.cu_kernel.specs.TermsOf.{alternatives_of};
+ghost use Rattle.cu_matrix.specs.Meaning.{demand_meaning};
+ghost use Rattle.cu_crwl.specs.Rows.{keeps, look_meaning, row_meaning, rows_meaning};
 
 use cu_kernel::{ConId, Heads, Lit, Pattern, Term};
+use cu_matrix::{Demand, demanded, leftmost, of_one_type, opened_patterns};
 use cu_values::{Cell, Value};
 use std::alloc::{AllocError, Global};
-
-/// What a pattern demands of a value.
-#[derive(Clone, Copy)]
-pub(crate) enum Demand {
-    /// The pattern demands nothing.
-    Nothing,
-    /// The pattern demands this literal.
-    Literal(Lit),
-    /// The pattern demands this constructor.
-    Constructor(ConId),
-}
 
 /// A row of the clause matrix: the patterns of an alternative that are still to
 /// be looked at, one for each value that is looked at.
@@ -68,32 +59,6 @@ pub(crate) enum Look<'a> {
     Specialize(Vec<Row<'a>>, Vec<Value>),
 }
 
-/// What a pattern demands of a value.
-#[tactic(auto, using(cu_kernel::specs::TermsOf::patterns_of_variants))]
-fn demanded(pattern: &Pattern) -> Demand
-    ensures { demand_meaning result ≡ demand_of (pattern_of pattern.now) }
-{
-    match pattern {
-        Pattern::Var(_) => Demand::Nothing,
-        Pattern::Lit(literal) => Demand::Literal(*literal),
-        Pattern::Con(constructor, _) => Demand::Constructor(*constructor),
-        Pattern::Alias(_, pattern) => demanded(pattern),
-    }
-}
-
-impl Demand {
-    /// Whether the demand is a literal or a constructor.
-    fn is_some(self) -> bool
-        ensures { result ≡ is_demanding (demand_meaning self) }
-    {
-        match self {
-            Demand::Nothing => false,
-            Demand::Literal(_) => true,
-            Demand::Constructor(_) => true,
-        }
-    }
-}
-
 impl Keep {
     /// Whether a row with this demand stays by the test.
     fn admits(self, demand: Demand) -> bool
@@ -119,18 +84,6 @@ impl Keep {
             (Keep::ConstructorOrNothing(_), Demand::Literal(_)) => false,
         }
     }
-}
-
-/// The leftmost position at which patterns demand something.
-fn first_demanded(patterns: &[&Pattern]) -> Option<usize>
-    ensures { result ≡ leftmost (patterns_at patterns.now) }
-{
-    for (position, pattern) in patterns.iter().enumerate() {
-        if demanded(pattern).is_some() {
-            return Some(position);
-        }
-    }
-    None
 }
 
 impl<'a> Row<'a> {
@@ -171,10 +124,7 @@ impl<'a> Row<'a> {
         if position >= self.patterns.len() {
             return self.copied(alloc);
         }
-        let mut patterns = Vec::new(alloc);
-        patterns.extend_from_slice(&self.patterns.as_slice()[..position])?;
-        push_arguments(&mut patterns, self.patterns[position], count)?;
-        patterns.extend_from_slice(&self.patterns.as_slice()[position + 1..])?;
+        let patterns = opened_patterns(alloc, self.patterns.as_slice(), position, count)?;
         Ok(Row {
             patterns,
             choice: self.choice,
@@ -192,50 +142,6 @@ fn some_is_free(rows: &[Row], position: usize) -> bool
         }
     }
     false
-}
-
-/// Adds the patterns for the arguments of what stands at a position.
-#[tactic(auto, using(cu_kernel::specs::TermsOf::patterns_of_variants))]
-fn push_arguments<'a>(
-    patterns: &mut Vec<&'a Pattern>,
-    pattern: &'a Pattern,
-    count: usize,
-) -> Result<(), AllocError>
-    ensures { OnOk result (patterns_at patterns.new.items
-        ≡ patterns_at patterns.old.items ++ arguments_of count (pattern_of pattern.now)) }
-{
-    match pattern {
-        Pattern::Var(_) => push_repeated(patterns, pattern, count),
-        Pattern::Lit(_) => Ok(()),
-        Pattern::Con(_, arguments) => push_all(patterns, arguments),
-        Pattern::Alias(_, pattern) => push_arguments(patterns, pattern, count),
-    }
-}
-
-/// Adds a pattern so many times.
-fn push_repeated<'a>(
-    patterns: &mut Vec<&'a Pattern>,
-    pattern: &'a Pattern,
-    count: usize,
-) -> Result<(), AllocError>
-    ensures { OnOk result (patterns_at patterns.new.items
-        ≡ patterns_at patterns.old.items ++ replicate count (pattern_of pattern.now)) }
-{
-    for _ in 0..count {
-        patterns.push(pattern)?;
-    }
-    Ok(())
-}
-
-/// Adds patterns, in order.
-fn push_all<'a>(patterns: &mut Vec<&'a Pattern>, arguments: &'a [Pattern]) -> Result<(), AllocError>
-    ensures { OnOk result (patterns_at patterns.new.items
-        ≡ patterns_at patterns.old.items ++ map pattern_of arguments.now) }
-{
-    for argument in arguments {
-        patterns.push(argument)?;
-    }
-    Ok(())
 }
 
 /// Adds copies of values.
@@ -300,19 +206,6 @@ fn all_specialized<'a>(
         all.push(row.specialized_row(alloc, position, count)?)?;
     }
     Ok(all)
-}
-
-/// Whether two constructors are the program's and of one type.
-fn of_one_type(heads: &Heads, constructor: ConId, other: ConId) -> bool
-    ensures { result ≡ same_type (heads_program heads.now) constructor other }
-{
-    match heads.constructor(constructor) {
-        Some(shape) => match heads.constructor(other) {
-            Some(second) => shape.of_type == second.of_type,
-            None => false,
-        },
-        None => false,
-    }
 }
 
 impl<'a> Column<'_, 'a> {
@@ -436,7 +329,7 @@ fn one_look<'a>(
         return Ok(Look::Nowhere);
     }
     let first = &rows[0];
-    match first_demanded(first.patterns.as_slice()) {
+    match leftmost(first.patterns.as_slice()) {
         None => Ok(Look::Take(first.choice)),
         Some(position) => {
             let column = Column {

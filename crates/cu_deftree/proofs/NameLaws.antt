@@ -1,9 +1,9 @@
 -- Names and numbers, as the code finds and writes them.
-use Rattle.std.proofs.Common.{◌≡◌, ℕ, zero, suc, ◌+◌, ◌-◌, ◌<◌, ◌≤◌, Bool, true, false, List, [], ◌∷◌, ◌++◌, Option, None, Some, if◌then◌else◌, nat_eq, drop, map, min, replicate, ◌⊎◌, inl, inr, length, get_or, refl, ap, ap₂, sym, ◌∙◌, subst, arith, append_assoc, append-nil, add-one, drop-cons}
+use Rattle.std.proofs.Common.{◌≡◌, ℕ, suc, ◌+◌, ◌-◌, ◌<◌, ◌≤◌, Bool, true, false, List, [], ◌∷◌, ◌++◌, Option, None, Some, if◌then◌else◌, nat_eq, drop, map, min, ◌⊎◌, inl, inr, length, get_or, refl, ap, ap₂, sym, ◌∙◌, subst, arith, append_assoc, append-nil, add-one, drop-cons}
 use Rattle.std.proofs.lemmas.Bool.{cases_order}
 use Rattle.std.proofs.lemmas.List.{at_drop_all}
 use denote.Ref.{Bor}
-use Rattle.cu_calculus.specs.Choose.{arguments_of, list_patterns}
+use Rattle.cu_calculus.specs.Choose.{list_patterns}
 use Rattle.cu_calculus.specs.Term as clean
 use Rattle.cu_calculus.specs.declared.ConId.{ConId}
 use Rattle.cu_calculus.specs.declared.Lit.{Lit}
@@ -100,21 +100,9 @@ all_variables_written done xs i whole past before =
 
 -- ---- patterns by their variants
 
-pub literal_arguments : (p : Pattern) (l : Lit) (n : ℕ) (ps : List clean.Pattern) → p ≡ pattern.Lit l → ps ≡ ps ++ arguments_of n (pattern_of p)
-literal_arguments p l n ps is = rw (is, pattern_of-Lit l, append-nil ps) refl
-
 pub listed : (qs : List Pattern) → map pattern_of qs ≡ list_patterns (patterns_of qs)
 listed [] = refl
 listed (q ∷ qs) = ap (λ rest. pattern_of q ∷ rest) (listed qs)
-
-pub built_arguments : (p : Pattern) (c : ConId) (qs : Vec Pattern Global) (us : List Pattern) (n : ℕ) → p ≡ pattern.Con c qs → us ≡ qs.items
-    → map pattern_of us ≡ arguments_of n (pattern_of p)
-built_arguments p c qs us n is same =
-    ap (map pattern_of) same ∙ listed qs.items ∙ sym (ap (arguments_of n) (ap pattern_of is ∙ pattern_of-Con c qs))
-
-pub repeated : {A : Type 0} (n : ℕ) (x : A) → replicate n x ++ x ∷ [] ≡ replicate (suc n) x
-repeated zero x = refl
-repeated (suc n) x = ap (λ rest. x ∷ rest) (repeated n x)
 
 pub literal_names : (xs : rows.Names) (position : ℕ) (p : Pattern) (l : Lit) → p ≡ pattern.Lit l → xs ≡ xs ++ names_at position (pattern_of p)
 literal_names xs position p l is =

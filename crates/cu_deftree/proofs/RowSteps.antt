@@ -3,13 +3,13 @@ use Rattle.std.proofs.Common.{◌≡◌, ℕ, zero, suc, ◌+◌, ◌-◌, ◌<�
 use Rattle.std.specs.Bool.{◌==◌}
 use Rattle.std.specs.Vec.{vec_len}
 use Rattle.std.specs.List.{list_all}
-use Rattle.std.proofs.lemmas.List.{drop-map, length-map, map-append, take-map}
+use Rattle.std.proofs.lemmas.List.{length-map}
 use Rattle.std.proofs.lemmas.Option.{slice_get-map, slice_get_past, slice_get_read}
 use denote.Ref.{Bor}
 use Rattle.cu_calculus.specs.Choose.{arguments_of, list_patterns, spliced}
 use Rattle.cu_calculus.specs.Term as clean
 use Rattle.cu_deftree.specs.Inside.NamesOf.{names_of}
-use Rattle.cu_deftree.specs.Inside.RowsOf.{all_rows, arguments_at, patterns_at, row_of}
+use Rattle.cu_deftree.specs.Inside.RowsOf.{all_rows, row_of}
 use Rattle.cu_deftree.specs.Rows.{Names, Row, argument_names, demanded_from, demands, names_at_all, row_of_rule, specialized}
 use Rattle.cu_deftree.specs.declared.rows.Row as code
 use Rattle.cu_deftree.proofs.NameLaws.{listed}
@@ -17,6 +17,7 @@ use Rattle.cu_kernel.specs.KernelOf.{rule_meaning}
 use Rattle.cu_kernel.specs.TermsOf.{pattern_of, patterns_of, term_of}
 use Rattle.cu_kernel.specs.declared.term.Pattern.{Pattern}
 use Rattle.cu_kernel.specs.declared.term.Rule.{Rule}
+use Rattle.cu_matrix.specs.Meaning.{arguments_at, patterns_at}
 
 -- ---- the position that all demand
 
@@ -107,23 +108,6 @@ found_at items k p below is =
 
 abbrev over : ℕ → Option clean.Pattern → List clean.Pattern
 over n found = elim found [ Some p ↦ arguments_of n p | None ↦ [] ]
-
-pub opened_here : (items : List (Bor Pattern)) (k n : ℕ) (p : Bor Pattern) (begun first mid new : List (Bor Pattern)) → k < length items
-    → p ≡ get_or items k p → begun ≡ [] → first ≡ begun ++ take k items → patterns_at mid ≡ patterns_at first ++ arguments_of n (pattern_of p.now)
-    → new ≡ mid ++ take (length items - (k + 1)) (drop (k + 1) items)
-    → patterns_at new ≡ spliced k (arguments_at n k (patterns_at items)) (patterns_at items)
-opened_here items k n p begun first mid new below is none prefix middle all =
-    let at = λ (q : Bor Pattern). pattern_of q.now in
-    let ps = patterns_at items in
-    let beginning : patterns_at first ≡ take k ps =
-    ap patterns_at (prefix ∙ ap (λ (xs : List (Bor Pattern)). xs ++ take k items) none) ∙ sym (take-map at k items) in
-    let rest : take (length items - (k + 1)) (drop (k + 1) items) ≡ drop (k + 1) items =
-    take_all (length items - (k + 1)) (drop (k + 1) items) (omega (arith, length-drop (k + 1) items)) in
-    let found : slice_get ps k ≡ Some (pattern_of p.now) = found_at items k p below is in
-    ap patterns_at all ∙ map-append at mid (take (length items - (k + 1)) (drop (k + 1) items))
-    ∙ ap₂ (λ (xs ys : List clean.Pattern). xs ++ ys)
-    (middle ∙ ap₂ (λ (xs ys : List clean.Pattern). xs ++ ys) beginning (sym (ap (over n) found)))
-    (ap patterns_at rest ∙ sym (drop-map at (k + 1) items))
 
 abbrev shaped : ℕ → List ℕ → Row → Option clean.Pattern → Row
 shaped k new row found = record {

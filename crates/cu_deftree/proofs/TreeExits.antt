@@ -7,7 +7,7 @@ use Rattle.cu_calculus.specs.Program.{Program}
 use Rattle.cu_calculus.specs.Term as clean
 use Rattle.cu_calculus.specs.declared.Mode.{Mode}
 use Rattle.cu_deftree.specs.Inside.NamesOf.{names_of, names_of-WithAll}
-use Rattle.cu_deftree.specs.Inside.RowsOf.{all_rows, choices, patterns_at, row_of, demands_choice}
+use Rattle.cu_deftree.specs.Inside.RowsOf.{all_rows, choices, row_of, demands_choice}
 use Rattle.cu_deftree.specs.Inside.Tasks.{BranchLowers, CaseLowers, FirstDemands, IsFree, IsMixed, IsOpened, IsSplit, MatrixLowers, RowsLower, TermLowers, Within, alternatives_in, both_size, branch_of, branch_pattern, branches_of, branch_size, opened_count}
 use Rattle.cu_deftree.specs.LoweredProgram.{size}
 use Rattle.cu_deftree.specs.Lowering.{Distinguishes, IsOperation, Lowers, Tree, failure, goes_on, is_variable, literal_case}
@@ -28,6 +28,7 @@ use Rattle.cu_deftree.specs.declared.rows.Row as code
 use Rattle.cu_calculus.specs.declared.ConId.{ConId}
 use Rattle.cu_deftree.specs.declared.patterns.Choice.TheVariants as choice
 use Rattle.cu_deftree.specs.declared.tasks.Manner.TheVariants as manner
+use Rattle.cu_matrix.specs.Meaning.{patterns_at}
 use Rattle.cu_deftree.proofs.Weights.{all_demanding, alternatives_lighter, alternatives_weight, demanding_lighter, leftmost_demands, not_literal_lighter, others_lighter, rows_weight, specialize_lighter, term_weight}
 use Rattle.cu_deftree.specs.declared.tasks.Manner.{Manner}
 use Rattle.cu_deftree.specs.declared.tasks.Matrix.{Matrix}

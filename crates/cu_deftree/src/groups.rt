@@ -1,12 +1,14 @@
 //! The rows of a clause matrix, grouped by what they demand.
 ghost use Rattle.std.specs.Prelude.{◌≡◌, ◌++◌, ◌∷◌, [], IfOk, OnOk, cond};
 ghost use Rattle.cu_deftree.specs.Inside.Groups.{choice_demand, found_indices, indices, indices_of};
-ghost use Rattle.cu_deftree.specs.Inside.RowsOf.{all_rows, demand_meaning, demands_choice};
+ghost use Rattle.cu_deftree.specs.Inside.RowsOf.{all_rows, demands_choice};
 ghost use Rattle.cu_deftree.specs.Rows.{demand_at};
 ghost use Rattle.cu_deftree.specs.declared.patterns.Choice.{Choice};
+ghost use Rattle.cu_matrix.specs.Meaning.{demand_meaning};
 
-use crate::patterns::{Choice, Demand, Key};
+use crate::patterns::{Choice, Key};
 use crate::rows::Row;
+use cu_matrix::Demand;
 use indexmap::IndexMap;
 use std::alloc::{AllocError, Global};
 
@@ -50,7 +52,7 @@ impl Groups {
         ensures { (c : Choice) → OnOk result (indices self.new c ≡ indices self.old c
             ++ cond (demands_choice c (demand_meaning demand)) (index ∷ []) []) }
     {
-        match demand.choice() {
+        match Choice::of(demand) {
             Some(choice) => self.put(alloc, choice, index),
             None => Ok(()),
         }

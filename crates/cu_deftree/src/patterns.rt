@@ -1,26 +1,17 @@
-//! What patterns demand, bind and hold.
-ghost use Rattle.std.specs.Prelude.{◌≡◌, ◌+◌, ◌<◌, ◌^◌, ◌++◌, IfOk, OnOk, map, replicate};
-ghost use Rattle.cu_calculus.specs.Choose.{arguments_of, demand_of, is_demanding, leftmost, list_patterns};
+//! What demands choose, and what patterns bind.
+ghost use Rattle.std.specs.Prelude.{◌≡◌, ◌+◌, ◌<◌, ◌^◌, ◌++◌, IfOk, OnOk};
+ghost use Rattle.cu_calculus.specs.Choose.{list_patterns};
 ghost use Rattle.cu_deftree.specs.Inside.Groups.{demanded_choice, key_of};
-ghost use Rattle.cu_deftree.specs.Inside.RowsOf.{demand_meaning, keeps, list_from_option, patterns_at, demands_choice};
+ghost use Rattle.cu_deftree.specs.Inside.RowsOf.{keeps, list_from_option, demands_choice};
 ghost use Rattle.cu_deftree.specs.Lowering.{variables};
 ghost use Rattle.cu_deftree.specs.Rows.{argument_names, literal_in, names_at, names_at_all, numbers};
 ghost use Rattle.cu_kernel.specs.TermsOf.{pattern_of, patterns_of};
+ghost use Rattle.cu_matrix.specs.Meaning.{demand_meaning};
 
 use cu_int::Int;
 use cu_kernel::{ConId, Lit, Pattern};
+use cu_matrix::Demand;
 use std::alloc::{AllocError, Global};
-
-/// What a pattern demands of a value.
-#[derive(Clone, Copy)]
-pub(crate) enum Demand {
-    /// A variable demands nothing: it matches each value.
-    Nothing,
-    /// A literal.
-    Literal(Lit),
-    /// A constructor.
-    Constructor(ConId),
-}
 
 /// The constructor or literal for which a branch of a case distinction is
 /// taken.
@@ -58,57 +49,29 @@ pub(crate) enum Keep {
     Branch(Choice, bool),
 }
 
-/// What a pattern demands of the value that it is matched with.
-#[tactic(auto, using(cu_kernel::specs::TermsOf::patterns_of_variants))]
-pub(crate) fn demanded(pattern: &Pattern) -> Demand
-    ensures { demand_meaning result ≡ demand_of (pattern_of pattern.now) }
+/// The literal that is demanded, if it is one.
+pub(crate) fn demanded_literal(demand: Demand) -> Option<Lit>
+    ensures { list_from_option result ≡ literal_in (demand_meaning demand) }
 {
-    match pattern {
-        Pattern::Var(_) => Demand::Nothing,
-        Pattern::Lit(literal) => Demand::Literal(*literal),
-        Pattern::Con(constructor, _) => Demand::Constructor(*constructor),
-        Pattern::Alias(_, pattern) => demanded(pattern),
+    match demand {
+        Demand::Nothing => None,
+        Demand::Literal(literal) => Some(literal),
+        Demand::Constructor(_) => None,
     }
 }
 
-impl Demand {
-    /// Whether a constructor or a literal is demanded.
-    pub(crate) fn is_some(self) -> bool
-        ensures { result ≡ is_demanding (demand_meaning self) }
-    {
-        match self {
-            Demand::Nothing => false,
-            Demand::Literal(_) => true,
-            Demand::Constructor(_) => true,
-        }
-    }
-}
-
-impl Demand {
-    /// The literal that is demanded, if it is one.
-    pub(crate) fn literal(self) -> Option<Lit>
-        ensures { list_from_option result ≡ literal_in (demand_meaning self) }
-    {
-        match self {
-            Demand::Nothing => None,
-            Demand::Literal(literal) => Some(literal),
-            Demand::Constructor(_) => None,
-        }
-    }
-
+impl Choice {
     /// The choice that is demanded, if something is demanded.
-    pub(crate) fn choice(self) -> Option<Choice>
-        ensures { demanded_choice result ≡ demand_meaning self }
+    pub(crate) fn of(demand: Demand) -> Option<Choice>
+        ensures { demanded_choice result ≡ demand_meaning demand }
     {
-        match self {
+        match demand {
             Demand::Nothing => None,
             Demand::Literal(literal) => Some(Choice::Literal(literal)),
             Demand::Constructor(constructor) => Some(Choice::Constructor(constructor)),
         }
     }
-}
 
-impl Choice {
     /// This choice as the key of a map.
     pub(crate) fn key(self) -> Key
         ensures { result ≡ key_of self }
@@ -150,67 +113,6 @@ impl Keep {
             }
         }
     }
-}
-
-/// The leftmost position at which patterns demand something.
-pub(crate) fn leftmost(patterns: &[&Pattern]) -> Option<usize>
-    ensures { result ≡ leftmost (patterns_at patterns.now) }
-{
-    for (position, pattern) in patterns.iter().enumerate() {
-        if demanded(pattern).is_some() {
-            return Some(position);
-        }
-    }
-    None
-}
-
-/// Adds what a pattern has for the arguments of a constructor that takes so
-/// many: the patterns that it has under a constructor, or its variable once
-/// for each argument.
-#[tactic(auto, using(cu_kernel::specs::TermsOf::patterns_of_variants))]
-pub(crate) fn push_arguments<'a>(
-    patterns: &mut Vec<&'a Pattern>,
-    pattern: &'a Pattern,
-    count: usize,
-) -> Result<(), AllocError>
-    ensures { OnOk result (patterns_at patterns.new.items
-        ≡ patterns_at patterns.old.items ++ arguments_of count (pattern_of pattern.now)) }
-{
-    match pattern {
-        Pattern::Var(_) => push_repeated(patterns, pattern, count),
-        Pattern::Lit(_) => Ok(()),
-        Pattern::Con(_, arguments) => push_all(patterns, arguments),
-        Pattern::Alias(_, pattern) => push_arguments(patterns, pattern, count),
-    }
-}
-
-/// Adds one pattern as often as `count` says.
-fn push_repeated<'a>(
-    patterns: &mut Vec<&'a Pattern>,
-    pattern: &'a Pattern,
-    count: usize,
-) -> Result<(), AllocError>
-    ensures { OnOk result (patterns_at patterns.new.items
-        ≡ patterns_at patterns.old.items ++ replicate count (pattern_of pattern.now)) }
-{
-    for _ in 0..count {
-        patterns.push(pattern)?;
-    }
-    Ok(())
-}
-
-/// Adds these patterns, in order.
-pub(crate) fn push_all<'a>(
-    patterns: &mut Vec<&'a Pattern>,
-    arguments: &'a [Pattern],
-) -> Result<(), AllocError>
-    ensures { OnOk result (patterns_at patterns.new.items
-        ≡ patterns_at patterns.old.items ++ map pattern_of arguments.now) }
-{
-    for argument in arguments {
-        patterns.push(argument)?;
-    }
-    Ok(())
 }
 
 /// Adds the names of the variables of a pattern that stand for the whole

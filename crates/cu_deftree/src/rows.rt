@@ -4,18 +4,17 @@ ghost use Rattle.std.specs.List.{list_all, list_any};
 ghost use Rattle.cu_calculus.specs.Choose.{spliced};
 ghost use Rattle.cu_deftree.specs.Inside.Groups.{AreAt, picked};
 ghost use Rattle.cu_deftree.specs.Inside.NamesOf.{names_of};
-ghost use Rattle.cu_deftree.specs.Inside.RowsOf.{all_rows, alternative_row, arguments_at, demand_meaning, keeps, patterns_at, row_of, demands_choice};
+ghost use Rattle.cu_deftree.specs.Inside.RowsOf.{all_rows, alternative_row, keeps, row_of, demands_choice};
 ghost use Rattle.cu_deftree.specs.Lowering.{goes_on};
 ghost use Rattle.cu_deftree.specs.Rows.{argument_names, demand_at, demanded_by_all, demands, row_of_rule, rows_of, specialize, specialized};
 ghost use Rattle.cu_kernel.specs.KernelOf.{rule_meaning};
 ghost use Rattle.cu_kernel.specs.TermsOf.{alternatives_of, pattern_of, term_of};
+ghost use Rattle.cu_matrix.specs.Meaning.{demand_meaning};
 
 use crate::names::Names;
-use crate::patterns::{
-    Choice, Demand, Keep, demanded, push_all, push_all_names, push_argument_names, push_arguments,
-    push_names,
-};
+use crate::patterns::{Choice, Keep, push_all_names, push_argument_names, push_names};
 use cu_kernel::{Pattern, Rule, Term};
+use cu_matrix::{Demand, demanded, opened_patterns, push_all};
 use std::alloc::{AllocError, Global};
 
 /// A row of a clause matrix: the patterns of a rule or an alternative at the
@@ -32,27 +31,6 @@ pub(crate) struct Row<'a> {
     pub(crate) around: &'a Names<'a>,
     /// The right side of the rule or the alternative.
     pub(crate) body: &'a Term,
-}
-
-/// The patterns of a row, with what the pattern at a position has for the
-/// arguments of a constructor in its place. The constructor takes as many as
-/// `count` says.
-fn opened_patterns<'a>(
-    alloc: Global,
-    patterns: &[&'a Pattern],
-    position: usize,
-    count: usize,
-) -> Result<Vec<&'a Pattern>, AllocError>
-    requires { position < length patterns.now }
-    ensures { IfOk result (λ opened. patterns_at opened.items
-        ≡ spliced position (arguments_at count position (patterns_at patterns.now))
-        (patterns_at patterns.now)) }
-{
-    let mut opened = Vec::new(alloc);
-    opened.extend_from_slice(&patterns[..position])?;
-    push_arguments(&mut opened, patterns[position], count)?;
-    opened.extend_from_slice(&patterns[position + 1..])?;
-    Ok(opened)
 }
 
 /// The names of a pattern's variables that stand for a whole argument of a

@@ -15,7 +15,7 @@ ghost use Rattle.cu_kernel.specs.TermsOf.{alternatives_of, pattern_of, term_of};
 use crate::choices::{demanded_choices, siblings};
 use crate::groups::Groups;
 use crate::names::Names;
-use crate::patterns::{Choice, Demand, Keep, leftmost, numbers, variables};
+use crate::patterns::{Choice, Keep, numbers, variables};
 use crate::rows::{
     Candidates, Row, alternative_rows, branch_rows, demanded_by_all, kept, some_is_free, spliced,
 };
@@ -23,6 +23,7 @@ use crate::tasks::{
     Branching, CaseTerm, Column, LetTerm, Manner, Matrix, Scope, Stop, Task, spend,
 };
 use cu_kernel::{ConId, FunId, Head, Heads, Lit, Mode, Pattern, Term};
+use cu_matrix::{Demand, leftmost};
 use std::alloc::{AllocError, Global};
 
 /// What is needed to lower the terms of a program.

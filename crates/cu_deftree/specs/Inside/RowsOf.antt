@@ -1,9 +1,8 @@
 -- The rows that the code works on.
-use Rattle.std.specs.Prelude.{ℕ, Option, Bool, not, List, ◌∷◌, [], ◌++◌, Some, None, filter, map, slice_get}
+use Rattle.std.specs.Prelude.{ℕ, Option, Bool, not, List, ◌∷◌, [], ◌++◌, Some, None, filter, map}
 use Rattle.std.specs.List.{list_any}
-use denote.Ref.{Bor}
 use Rattle.cu_calculus.specs.Choose as calculus
-use Rattle.cu_calculus.specs.Choose.{arguments_of, is_demanding, not_literal, demands_constructor, demands_literal}
+use Rattle.cu_calculus.specs.Choose.{is_demanding, not_literal, demands_constructor, demands_literal}
 use Rattle.cu_calculus.specs.Term as clean
 use Rattle.cu_calculus.specs.declared.ConId.{ConId}
 use Rattle.cu_calculus.specs.declared.Lit.{Lit}
@@ -12,18 +11,11 @@ use Rattle.cu_deftree.specs.Lowering.{goes_on}
 use Rattle.cu_deftree.specs.Rows as definition
 use Rattle.cu_deftree.specs.declared.patterns.Choice.{Choice}
 use Rattle.cu_deftree.specs.declared.patterns.Choice.TheVariants as choice
-use Rattle.cu_deftree.specs.declared.patterns.Demand.{Demand}
-use Rattle.cu_deftree.specs.declared.patterns.Demand.TheVariants as demand
 use Rattle.cu_deftree.specs.declared.patterns.Keep.{Keep}
 use Rattle.cu_deftree.specs.declared.patterns.Keep.TheVariants as keep
 use Rattle.cu_deftree.specs.declared.rows.Row.{Row}
-use Rattle.cu_kernel.specs.TermsOf.{pattern_of, term_of}
-use Rattle.cu_kernel.specs.declared.term.Pattern.{Pattern}
-
-abbrev pub demand_meaning : Demand → calculus.Demand
-demand_meaning demand.Nothing = calculus.Nothing
-demand_meaning (demand.Literal l) = calculus.ALiteral l
-demand_meaning (demand.Constructor c) = calculus.AConstructor c
+use Rattle.cu_kernel.specs.TermsOf.{term_of}
+use Rattle.cu_matrix.specs.Meaning.{patterns_at}
 
 abbrev pub demands_choice : Choice → calculus.Demand → Bool
 demands_choice (choice.Constructor c) = demands_constructor c
@@ -36,10 +28,6 @@ keeps keep.Undemanding d = not (is_demanding d)
 keeps (keep.OtherThan l) d = not_literal l d
 keeps (keep.Branch c has_variables) d = goes_on has_variables (demands_choice c) d
 
--- the patterns that references are to
-abbrev pub patterns_at : List (Bor Pattern) → List clean.Pattern
-patterns_at ps = map (λ p. pattern_of p.now) ps
-
 abbrev pub row_of : Row → definition.Row
 row_of row = record {
   patterns = patterns_at row.patterns.items;
@@ -49,10 +37,6 @@ row_of row = record {
 
 abbrev pub all_rows : List Row → List definition.Row
 all_rows rows = map row_of rows
-
--- the patterns for the n arguments of what stands at a position
-abbrev pub arguments_at : ℕ → ℕ → List clean.Pattern → List clean.Pattern
-arguments_at n k ps = elim (slice_get ps k) [ Some p ↦ arguments_of n p | None ↦ [] ]
 
 -- the row of an alternative, where the variables around it are called so
 abbrev pub alternative_row : definition.Names → ℕ → clean.Pattern → clean.Term → definition.Row

@@ -7,7 +7,5 @@ returns-then-position-len c = rw (← specialized_past c.args.self.now c.args.po
 
 pub returns : goal.returns
 returns c =
-    specialized_here c.args.self.now c.args.position c.args.count c.index.result.now c.new-patterns.result.items c.as_slice.result.now c.as_slice-2.result.now
-    c.extend_from_slice.new.self.items c.push_arguments.new.patterns.items c.extend_from_slice-2.new.self.items (omega (arith, c.len.ensures, c.if-position-len.false)) c.index.ensures
-    c.new-patterns.ensures.items c.as_slice.ensures.value c.as_slice-2.ensures.value c.in_ok-extend_from_slice.ensures.items c.in_ok-push_arguments.ensures
-    c.in_ok-extend_from_slice-2.ensures.items
+    specialized_here c.args.self.now c.args.position c.args.count c.as_slice.result.now c.in_ok-patterns.patterns.items
+    c.as_slice.ensures.value c.in_ok-patterns.ensures

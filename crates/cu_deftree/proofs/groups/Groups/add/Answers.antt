@@ -2,7 +2,8 @@ use Rattle.std.proofs.Common.{◌≡◌, ◌++◌, ◌∷◌, [], cond, subst}
 use Rattle.std.specs.Prelude.{OnOk}
 use Rattle.cu_calculus.specs.Choose.{Demand}
 use Rattle.cu_deftree.specs.Inside.Groups.{indices}
-use Rattle.cu_deftree.specs.Inside.RowsOf.{demand_meaning, demands_choice}
+use Rattle.cu_deftree.specs.Inside.RowsOf.{demands_choice}
+use Rattle.cu_matrix.specs.Meaning.{demand_meaning}
 use Rattle.cu_deftree.proofs.GroupSteps.{none_in}
 use Rattle.cu_deftree.proofs.groups.Groups.add.Goals as goal
 

@@ -3,7 +3,7 @@ use Rattle.cu_calculus.specs.Term as clean
 use Rattle.cu_deftree.specs.declared.tasks.Manner.TheVariants as manner
 use Rattle.cu_deftree.specs.declared.patterns.Choice.{Choice}
 use Rattle.cu_deftree.specs.Inside.NamesOf.{names_of}
-use Rattle.cu_deftree.specs.Inside.RowsOf.{all_rows, demand_meaning, demands_choice}
+use Rattle.cu_deftree.specs.Inside.RowsOf.{all_rows, demands_choice}
 use Rattle.cu_deftree.specs.Inside.Tasks.{BranchLowers, TermLowers, both_of, both_size, branch_of, branch_pattern, branch_size, branches_of, terms_in, total}
 use Rattle.cu_deftree.specs.LoweredProgram.{size}
 use Rattle.cu_deftree.specs.Inside.Ready.{program_in}
@@ -26,6 +26,7 @@ use Rattle.cu_deftree.proofs.OneTree.{lowers_one}
 use Rattle.cu_deftree.proofs.Weights.{term_weight}
 use Rattle.cu_kernel.specs.declared.term.Term.{Term}
 use Rattle.cu_kernel.specs.TermsOf.{alternatives_of, term_of, term_of-Apply, term_of-Free, term_of-Let, term_of-Or}
+use Rattle.cu_matrix.specs.Meaning.{demand_meaning}
 use Rattle.cu_deftree.proofs.trees.Lowerer.+lowering.Goals as goal
 
 pub binding-returns-in_err-spend : goal.binding-returns-in_err-spend

@@ -1,7 +1,7 @@
 use Rattle.std.proofs.Common.{◌≡◌, ◌++◌, map, drop}
 use Rattle.cu_kernel.specs.TermsOf.{pattern_of}
-use Rattle.cu_crwl.specs.Rows.{patterns_at}
-use Rattle.cu_crwl.proofs.choose.push_all.Given as goal
+use Rattle.cu_matrix.specs.Meaning.{patterns_at}
+use Rattle.cu_matrix.proofs.patterns.push_all.Given as goal
 
 abbrev pub invariant-loop-argument : goal.invariant-loop-argument
 invariant-loop-argument l =

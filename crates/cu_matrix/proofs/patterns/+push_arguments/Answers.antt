@@ -1,6 +1,6 @@
-use Rattle.cu_deftree.proofs.NameLaws.{built_arguments, literal_arguments}
-use Rattle.cu_deftree.specs.Inside.RowsOf.{patterns_at}
-use Rattle.cu_deftree.proofs.patterns.+push_arguments.Goals as goal
+use Rattle.cu_matrix.proofs.PatternLemmas.{built_arguments, literal_arguments}
+use Rattle.cu_matrix.specs.Meaning.{patterns_at}
+use Rattle.cu_matrix.proofs.patterns.+push_arguments.Goals as goal
 
 pub returns-in-Lit : goal.returns-in-Lit
 returns-in-Lit t c = literal_arguments c.args.pattern.now c.in-Lit.field-0 c.args.count (patterns_at c.args.patterns.now.items) c.in-Lit.is

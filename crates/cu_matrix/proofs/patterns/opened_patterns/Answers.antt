@@ -1,5 +1,5 @@
-use Rattle.cu_deftree.proofs.RowSteps.{opened_here}
-use Rattle.cu_deftree.proofs.rows.opened_patterns.Goals as goal
+use Rattle.cu_matrix.proofs.PatternLemmas.{opened_here}
+use Rattle.cu_matrix.proofs.patterns.opened_patterns.Goals as goal
 
 pub returns : goal.returns
 returns c =
