@@ -1,4 +1,4 @@
--- Lists that stand for the same patterns, terms or alternatives.
+-- Lists that stand for the same terms or alternatives.
 use Rattle.std.proofs.lemmas.List.{at_drop_all}
 use Rattle.std.specs.declared.alloc.Global.{Global}
 use Rattle.std.specs.declared.boxed.Box.{Box}
@@ -7,16 +7,12 @@ use Rattle.cu_calculus.specs.declared.Mode.{Mode}
 use Rattle.cu_kernel.specs.declared.term.Term.TheVariants as term
 use Rattle.std.proofs.Common.{◌≡◌, ℕ, ◌≤◌, List, [], ◌∷◌, ◌++◌, append-nil, drop, length, map, refl, ap, ap₂, sym, ◌∙◌}
 use Rattle.cu_calculus.specs.Term as clean
-use Rattle.cu_kernel.specs.TermsOf.{alternatives_of, pattern_of, patterns_of, term_of, term_of-Case, terms_of}
+use Rattle.cu_kernel.specs.TermsOf.{alternatives_of, pattern_of, term_of, term_of-Case, terms_of}
 use Rattle.cu_kernel.specs.declared.term.Pattern.{Pattern}
 use Rattle.cu_kernel.specs.declared.term.Term.{Term}
 
 abbrev pub row_of : Pattern × Term → clean.Pattern × clean.Term
 row_of a = (pattern_of a.0, term_of a.1)
-
-abbrev pattern_list : List clean.Pattern → clean.Patterns
-pattern_list [] = clean.NoPattern
-pattern_list (p ∷ ps) = clean.MorePatterns p (pattern_list ps)
 
 abbrev term_list : List clean.Term → clean.Terms
 term_list [] = clean.NoTerm
@@ -26,10 +22,6 @@ abbrev row_list : List (clean.Pattern × clean.Term) → clean.Alternatives
 row_list [] = clean.NoAlternative
 row_list (a ∷ rows) = clean.MoreAlternatives a.0 a.1 (row_list rows)
 
-patterns_listed : (ps : List Pattern) → patterns_of ps ≡ pattern_list (map pattern_of ps)
-patterns_listed [] = refl
-patterns_listed (p ∷ ps) = ap (clean.MorePatterns (pattern_of p)) (patterns_listed ps)
-
 terms_listed : (ts : List Term) → terms_of ts ≡ term_list (map term_of ts)
 terms_listed [] = refl
 terms_listed (t ∷ ts) = ap (clean.MoreTerms (term_of t)) (terms_listed ts)
@@ -37,9 +29,6 @@ terms_listed (t ∷ ts) = ap (clean.MoreTerms (term_of t)) (terms_listed ts)
 rows_listed : (rows : List (Pattern × Term)) → alternatives_of rows ≡ row_list (map row_of rows)
 rows_listed [] = refl
 rows_listed (a ∷ rows) = ap (clean.MoreAlternatives (pattern_of a.0) (term_of a.1)) (rows_listed rows)
-
-pub same_patterns : (ps qs : List Pattern) → map pattern_of ps ≡ map pattern_of qs → patterns_of ps ≡ patterns_of qs
-same_patterns ps qs e = patterns_listed ps ∙ ap pattern_list e ∙ sym (patterns_listed qs)
 
 pub same_terms : (ts us : List Term) → map term_of ts ≡ map term_of us → terms_of ts ≡ terms_of us
 same_terms ts us e = terms_listed ts ∙ ap term_list e ∙ sym (terms_listed us)

@@ -1,45 +1,12 @@
 //! Copies of terms and statements.
 ghost use Rattle.std.specs.Prelude.{◌≡◌, IfOk};
-ghost use Rattle.cu_kernel.specs.TermsOf.{alternatives_of, pattern_of, patterns_of, term_of, terms_of};
+ghost use Rattle.cu_kernel.specs.TermsOf.{alternatives_of, term_of, terms_of};
 ghost use Rattle.cu_crwl.specs.Meaning.{statement_of};
 
 use crate::Statement;
-use cu_kernel::{Pattern, Term};
+use cu_kernel::{Pattern, Term, copy_pattern};
 use cu_values::Value;
 use std::alloc::{AllocError, Global};
-
-/// A copy of a pattern.
-#[cycle(patterns)]
-#[tactic(auto, using(cu_kernel::specs::TermsOf::patterns_of_variants))]
-fn copy_pattern(alloc: Global, pattern: &Pattern) -> Result<Pattern, AllocError>
-    ensures { IfOk result (λ copy. pattern_of copy ≡ pattern_of pattern.now) }
-{
-    match pattern {
-        Pattern::Var(variable) => Ok(Pattern::Var(*variable)),
-        Pattern::Lit(literal) => Ok(Pattern::Lit(*literal)),
-        Pattern::Con(constructor, patterns) => {
-            let copies = copy_patterns(alloc, patterns)?;
-            Ok(Pattern::Con(*constructor, copies))
-        }
-        Pattern::Alias(variable, pattern) => {
-            let copy = copy_pattern(alloc, pattern)?;
-            let boxed = Box::new(alloc, copy)?;
-            Ok(Pattern::Alias(*variable, boxed))
-        }
-    }
-}
-
-/// Copies of patterns.
-#[cycle(patterns)]
-fn copy_patterns(alloc: Global, patterns: &[Pattern]) -> Result<Vec<Pattern>, AllocError>
-    ensures { IfOk result (λ copies. patterns_of copies.items ≡ patterns_of patterns.now) }
-{
-    let mut copies = Vec::new(alloc);
-    for pattern in patterns {
-        copies.push(copy_pattern(alloc, pattern)?)?;
-    }
-    Ok(copies)
-}
 
 /// A copy of a term.
 #[cycle(terms)]

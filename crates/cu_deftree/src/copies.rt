@@ -1,66 +1,11 @@
 //! Copies of what a program has beside its functions.
 ghost use Rattle.std.specs.Prelude.{◌≡◌, IfOk, map, option_map};
 ghost use Rattle.cu_kernel.specs.KernelOf.{constructor_meaning, goal_meaning, mark_meaning, module_meaning, synonym_meaning, type_meaning};
-ghost use Rattle.cu_kernel.specs.TypesOf.{type_of, types_of};
 
-use cu_kernel::{Constructor, DataType, Goal, Mark, ModuleInfo, Synonym, TypeTerm};
+use cu_kernel::{
+    Constructor, DataType, Goal, Mark, ModuleInfo, Synonym, copy_mark, copy_type, copy_types,
+};
 use std::alloc::{AllocError, Global};
-
-/// A copy of a type.
-#[cycle(types)]
-#[tactic(auto, using(cu_kernel::specs::TypesOf::types_of_variants))]
-fn copy_type(alloc: Global, term: &TypeTerm) -> Result<TypeTerm, AllocError>
-    ensures { IfOk result (λ copy. type_of copy ≡ type_of term.now) }
-{
-    match term {
-        TypeTerm::Var(variable) => Ok(TypeTerm::Var(*variable)),
-        TypeTerm::Arrow(from, to) => {
-            let first = copy_boxed(alloc, from)?;
-            let second = copy_boxed(alloc, to)?;
-            Ok(TypeTerm::Arrow(first, second))
-        }
-        TypeTerm::Named(name, terms) => {
-            let copies = copy_types(alloc, terms)?;
-            Ok(TypeTerm::Named(*name, copies))
-        }
-    }
-}
-
-/// A copy of a type, in a box.
-#[cycle(types)]
-fn copy_boxed(alloc: Global, term: &TypeTerm) -> Result<Box<TypeTerm>, AllocError>
-    ensures { IfOk result (λ copy. type_of copy.value ≡ type_of term.now) }
-{
-    let copy = copy_type(alloc, term)?;
-    let boxed = Box::new(alloc, copy)?;
-    Ok(boxed)
-}
-
-/// Copies of types.
-#[cycle(types)]
-fn copy_types(alloc: Global, terms: &[TypeTerm]) -> Result<Vec<TypeTerm>, AllocError>
-    ensures each { IfOk result (λ copies. map type_of copies.items ≡ map type_of terms.now) }
-    ensures whole { IfOk result (λ copies. types_of copies.items ≡ types_of terms.now) }
-{
-    let mut copies = Vec::new(alloc);
-    for term in terms {
-        copies.push(copy_type(alloc, term)?)?;
-    }
-    Ok(copies)
-}
-
-/// A copy of a declared type, if there is one.
-fn copy_declared(alloc: Global, declared: &Option<TypeTerm>) -> Result<Option<TypeTerm>, AllocError>
-    ensures { IfOk result (λ copy. option_map type_of copy ≡ option_map type_of declared.now) }
-{
-    match declared {
-        Some(term) => {
-            let copy = copy_type(alloc, term)?;
-            Ok(Some(copy))
-        }
-        None => Ok(None),
-    }
-}
 
 /// A copy of a constructor.
 fn copy_constructor(alloc: Global, constructor: &Constructor) -> Result<Constructor, AllocError>
@@ -169,20 +114,6 @@ pub(crate) fn copy_modules(
         copies.push(copy_module(alloc, info)?)?;
     }
     Ok(copies)
-}
-
-/// A copy of a mark.
-fn copy_mark(alloc: Global, mark: &Mark) -> Result<Mark, AllocError>
-    ensures { IfOk result (λ copy. mark_meaning copy ≡ mark_meaning mark.now) }
-{
-    let declared = copy_declared(alloc, &mark.declared)?;
-    Ok(Mark {
-        module: mark.module,
-        public: mark.public,
-        declared,
-        captured: mark.captured,
-        place: mark.place,
-    })
 }
 
 /// Copies of marks.

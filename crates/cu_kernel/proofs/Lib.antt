@@ -1,5 +1,6 @@
 pub mod Conjunction
 pub mod ConstructorLemmas
+pub mod CopyLemmas
 pub mod Decides
 pub mod FirstTypeLemmas
 pub mod HeadLemmas

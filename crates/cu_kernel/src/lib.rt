@@ -4,6 +4,7 @@
 #![tactic(auto)]
 
 mod constructors;
+mod copies;
 mod declarations;
 mod declared;
 mod first_types;
@@ -20,11 +21,13 @@ mod type_term;
 mod valid;
 
 pub use constructors::Placed;
+pub use copies::{copy_declared, copy_mark, copy_pattern, copy_patterns, copy_type, copy_types};
 pub use cu_calculus::{ConId, FunId, Head, Int, Lit, Mode, Prim, Special};
 pub use declarations::{Constructor, DataType, Goal, Mark, ModuleInfo, Operator, Side, Synonym};
 pub use heads::{Heads, Shape};
 pub use local::{LocalBody, LocalFunction, LocalHead, LocalRule, LocalTerm, TopFunction};
 pub use local_program::{Counts, LocalParts, LocalProgram};
+pub use patterns::{push_all_variables, push_variables};
 pub use program::{Program, ProgramParts};
 pub use term::{Body, Function, Pattern, Rule, Term};
 pub use type_term::{Interface, SynonymId, TypeId, TypeName, TypeTerm};

@@ -53,7 +53,7 @@ pub(crate) fn patterns_fit(heads: &Heads, patterns: &[Pattern]) -> bool
 /// Pushes the variables that a pattern binds, from left to right.
 #[cycle(variables)]
 #[tactic(auto, using(crate::specs::TermsOf::patterns_of_variants))]
-pub(crate) fn push_variables(variables: &mut Vec<u32>, pattern: &Pattern) -> Result<(), AllocError>
+pub fn push_variables(variables: &mut Vec<u32>, pattern: &Pattern) -> Result<(), AllocError>
     ensures { OnOk result (variables.new.items
         ≡ variables.old.items ++ variables_of (pattern_of pattern.now)) }
 {
@@ -73,10 +73,7 @@ pub(crate) fn push_variables(variables: &mut Vec<u32>, pattern: &Pattern) -> Res
 
 /// Pushes the variables that these patterns bind, from left to right.
 #[cycle(variables)]
-pub(crate) fn push_all_variables(
-    variables: &mut Vec<u32>,
-    patterns: &[Pattern],
-) -> Result<(), AllocError>
+pub fn push_all_variables(variables: &mut Vec<u32>, patterns: &[Pattern]) -> Result<(), AllocError>
     ensures { OnOk result (variables.new.items
         ≡ variables.old.items ++ all_variables (patterns_of patterns.now)) }
 {

@@ -14,9 +14,6 @@ use Rattle.cu_kernel.specs.declared.term.Pattern.TheVariants as pattern
 use Rattle.cu_kernel.specs.declared.term.Pattern.{Pattern}
 use Rattle.cu_kernel.specs.declared.term.Term.TheVariants as term
 use Rattle.cu_kernel.specs.declared.term.Term.{Term}
-use Rattle.cu_kernel.specs.TypeExpr as clean_type
-use Rattle.cu_kernel.specs.TypesOf.{type_of, types_of}
-use Rattle.cu_kernel.specs.declared.type_term.TypeTerm.{TypeTerm}
 use Rattle.cu_lift.specs.Lifting.{Lifting, after_parameters, after_variables, lifted_alternatives, lifted_term, lifted_terms}
 
 -- all were made
@@ -25,10 +22,6 @@ pub all_made : {A B C : Type 0} (f : A → C) (g : B → C) (made : List A) (xs 
 all_made f g made xs i past before =
     sym (ap (λ rest. map f made ++ rest) (at_drop_all (map g) xs i past) ∙ append-nil (map f made)) ∙ before
 
-abbrev pattern_list : List clean.Pattern → clean.Patterns
-pattern_list [] = clean.NoPattern
-pattern_list (p ∷ ps) = clean.MorePatterns p (pattern_list ps)
-
 abbrev term_list : List clean.Term → clean.Terms
 term_list [] = clean.NoTerm
 term_list (t ∷ ts) = clean.MoreTerms t (term_list ts)
@@ -36,13 +29,6 @@ term_list (t ∷ ts) = clean.MoreTerms t (term_list ts)
 abbrev row_list : List (clean.Pattern × clean.Term) → clean.Alternatives
 row_list [] = clean.NoAlternative
 row_list (a ∷ rows) = clean.MoreAlternatives a.0 a.1 (row_list rows)
-
-patterns_listed : (ps : List Pattern) → patterns_of ps ≡ pattern_list (map pattern_of ps)
-patterns_listed [] = refl
-patterns_listed (p ∷ ps) = ap (clean.MorePatterns (pattern_of p)) (patterns_listed ps)
-
-pub same_patterns : (ps qs : List Pattern) → map pattern_of ps ≡ map pattern_of qs → patterns_of ps ≡ patterns_of qs
-same_patterns ps qs e = patterns_listed ps ∙ ap pattern_list e ∙ sym (patterns_listed qs)
 
 abbrev pub lifted_by : Lifting → LocalTerm → clean.Term
 lifted_by l t = lifted_term l (local_term_of t)
@@ -114,14 +100,3 @@ map_twice g h (x ∷ xs) = ap (λ ys. h (g x) ∷ ys) (map_twice g h xs)
 pub each_made : {A B C D : Type 0} (f : A → D) (g : B → C) (h : C → D) (made : List A) (xs : List B) (i : ℕ) → length xs ≤ i
     → map f made ≡ map (λ x. h (g x)) (take i xs) → map f made ≡ map h (map g xs)
 each_made f g h made xs i past before = before ∙ ap (map (λ x. h (g x))) (take_all i xs past) ∙ map_twice g h xs
-
-abbrev type_list : List clean_type.TypeExpr → clean_type.TypeExprs
-type_list [] = clean_type.NoType
-type_list (t ∷ ts) = clean_type.MoreTypes t (type_list ts)
-
-types_listed : (ts : List TypeTerm) → types_of ts ≡ type_list (map type_of ts)
-types_listed [] = refl
-types_listed (t ∷ ts) = ap (clean_type.MoreTypes (type_of t)) (types_listed ts)
-
-pub same_types : (ts us : List TypeTerm) → map type_of ts ≡ map type_of us → types_of ts ≡ types_of us
-same_types ts us e = types_listed ts ∙ ap type_list e ∙ sym (types_listed us)

@@ -3,12 +3,14 @@ ghost use Rattle.std.specs.Prelude.{◌≡◌, IfOk, map, slice_index_or};
 ghost use Rattle.cu_kernel.specs.KernelOf.{rule_meaning};
 ghost use Rattle.cu_kernel.specs.LocalKernelOf.{local_rule_meaning};
 ghost use Rattle.cu_kernel.specs.LocalTermsOf.{local_alternatives_of, local_term_of, local_terms_of};
-ghost use Rattle.cu_kernel.specs.TermsOf.{alternatives_of, pattern_of, patterns_of, term_of, terms_of};
+ghost use Rattle.cu_kernel.specs.TermsOf.{alternatives_of, patterns_of, term_of, terms_of};
 ghost use Rattle.cu_lift.specs.Inside.LiftedPlaces.{captured_in, lifting_meaning};
 ghost use Rattle.cu_lift.specs.Lifting.{after_parameters, after_variables, lifted_alternatives, lifted_head, lifted_rule, lifted_term, lifted_terms, moved, passed};
 
 use crate::placement::Placement;
-use cu_kernel::{FunId, Head, LocalHead, LocalRule, LocalTerm, Pattern, Rule, Term};
+use cu_kernel::{
+    FunId, Head, LocalHead, LocalRule, LocalTerm, Pattern, Rule, Term, copy_pattern, copy_patterns,
+};
 use std::alloc::{AllocError, Global};
 
 /// What becomes of the functions that the rules of a top-level function and
@@ -76,39 +78,6 @@ fn passed<'a>(renaming: &Renaming<'a>, head: LocalHead) -> &'a [u32]
         LocalHead::Global(_) => &[],
         LocalHead::Local(number) => captured_by(renaming.placement, number as usize),
     }
-}
-
-/// A copy of a pattern.
-#[cycle(patterns)]
-#[tactic(auto, using(cu_kernel::specs::TermsOf::patterns_of_variants))]
-fn copy_pattern(alloc: Global, pattern: &Pattern) -> Result<Pattern, AllocError>
-    ensures { IfOk result (λ copy. pattern_of copy ≡ pattern_of pattern.now) }
-{
-    match pattern {
-        Pattern::Var(variable) => Ok(Pattern::Var(*variable)),
-        Pattern::Lit(literal) => Ok(Pattern::Lit(*literal)),
-        Pattern::Con(constructor, patterns) => {
-            let copies = copy_patterns(alloc, patterns)?;
-            Ok(Pattern::Con(*constructor, copies))
-        }
-        Pattern::Alias(variable, pattern) => {
-            let copy = copy_pattern(alloc, pattern)?;
-            let boxed = Box::new(alloc, copy)?;
-            Ok(Pattern::Alias(*variable, boxed))
-        }
-    }
-}
-
-/// Copies of patterns.
-#[cycle(patterns)]
-fn copy_patterns(alloc: Global, patterns: &[Pattern]) -> Result<Vec<Pattern>, AllocError>
-    ensures { IfOk result (λ copies. patterns_of copies.items ≡ patterns_of patterns.now) }
-{
-    let mut copies = Vec::new(alloc);
-    for pattern in patterns {
-        copies.push(copy_pattern(alloc, pattern)?)?;
-    }
-    Ok(copies)
 }
 
 /// Patterns after variables.

@@ -1,46 +1,16 @@
 //! Which variables terms before lifting bind.
 ghost use Rattle.std.specs.Prelude.{◌≡◌, ◌++◌, IfOk, OnOk, flat_map, map};
-ghost use Rattle.cu_calculus.specs.Valid.{all_variables, holds, variables_of};
+ghost use Rattle.cu_calculus.specs.Valid.{holds, variables_of};
 ghost use Rattle.cu_kernel.specs.LocalKernelOf.{local_body_meaning, local_function_meaning, local_rule_meaning, top_function_meaning};
 ghost use Rattle.cu_kernel.specs.LocalTermsOf.{local_alternatives_of, local_term_of, local_terms_of};
 ghost use Rattle.cu_kernel.specs.LocalValid.{all_binders, alternative_binders, binders, binders_all, local_binders, rules_binders, rules_of};
-ghost use Rattle.cu_kernel.specs.TermsOf.{pattern_of, patterns_of};
+ghost use Rattle.cu_kernel.specs.TermsOf.{pattern_of};
 
-use cu_kernel::{LocalBody, LocalFunction, LocalRule, LocalTerm, Pattern, TopFunction};
+use cu_kernel::{
+    LocalBody, LocalFunction, LocalRule, LocalTerm, Pattern, TopFunction, push_all_variables,
+    push_variables,
+};
 use std::alloc::{AllocError, Global};
-
-/// Pushes the variables that a pattern binds, from left to right.
-#[cycle(bound)]
-#[tactic(auto, using(cu_kernel::specs::TermsOf::patterns_of_variants))]
-pub(crate) fn push_pattern(found: &mut Vec<u32>, pattern: &Pattern) -> Result<(), AllocError>
-    ensures { OnOk result (found.new.items
-        ≡ found.old.items ++ variables_of (pattern_of pattern.now)) }
-{
-    match pattern {
-        Pattern::Var(x) => {
-            found.push(*x)?;
-            Ok(())
-        }
-        Pattern::Lit(_) => Ok(()),
-        Pattern::Con(_, parts) => push_patterns(found, parts),
-        Pattern::Alias(x, part) => {
-            found.push(*x)?;
-            push_pattern(found, part)
-        }
-    }
-}
-
-/// Pushes the variables that these patterns bind, from left to right.
-#[cycle(bound)]
-pub(crate) fn push_patterns(found: &mut Vec<u32>, patterns: &[Pattern]) -> Result<(), AllocError>
-    ensures { OnOk result (found.new.items
-        ≡ found.old.items ++ all_variables (patterns_of patterns.now)) }
-{
-    for pattern in patterns {
-        push_pattern(found, pattern)?;
-    }
-    Ok(())
-}
 
 /// Pushes the variables that a term binds, in the order in which they stand.
 #[cycle(binders)]
@@ -104,7 +74,7 @@ fn push_alternative(
         ≡ found.old.items ++ (variables_of (pattern_of pattern.now)
         ++ binders (local_term_of body.now))) }
 {
-    push_pattern(found, pattern)?;
+    push_variables(found, pattern)?;
     push_term(found, body)
 }
 
@@ -129,7 +99,7 @@ pub(crate) fn push_rules(found: &mut Vec<u32>, rules: &[LocalRule]) -> Result<()
         ≡ found.old.items ++ rules_binders (map local_rule_meaning rules.now)) }
 {
     for rule in rules {
-        push_patterns(found, rule.params.as_slice())?;
+        push_all_variables(found, rule.params.as_slice())?;
         push_term(found, &rule.body)?;
     }
     Ok(())

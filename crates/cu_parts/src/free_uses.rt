@@ -7,9 +7,11 @@ ghost use Rattle.cu_kernel.specs.TermsOf.{pattern_of};
 ghost use Rattle.cu_parts.specs.Inside.FreeUses.{free_in_all, free_in_alternatives, free_in_function, free_in_local, free_in_rule, free_in_rules, free_uses, unless};
 ghost use Rattle.cu_parts.specs.Inside.Scope.{bound_in};
 
-use crate::binders::{push_pattern, push_patterns, rules_of};
+use crate::binders::rules_of;
 use crate::scope::Scope;
-use cu_kernel::{LocalFunction, LocalRule, LocalTerm, Pattern, TopFunction};
+use cu_kernel::{
+    LocalFunction, LocalRule, LocalTerm, Pattern, TopFunction, push_all_variables, push_variables,
+};
 use std::alloc::{AllocError, Global};
 
 /// Pushes the variables of a term that are not bound where they stand.
@@ -119,7 +121,7 @@ fn push_alternative(
         (local_term_of body.now)) }
 {
     let mut variables = Vec::new(alloc);
-    push_pattern(&mut variables, pattern)?;
+    push_variables(&mut variables, pattern)?;
     push_term(
         alloc,
         found,
@@ -153,7 +155,7 @@ fn push_rule(alloc: Global, found: &mut Vec<u32>, rule: &LocalRule) -> Result<()
         ≡ found.old.items ++ free_in_rule (local_rule_meaning rule.now)) }
 {
     let mut variables = Vec::new(alloc);
-    push_patterns(&mut variables, rule.params.as_slice())?;
+    push_all_variables(&mut variables, rule.params.as_slice())?;
     push_term(
         alloc,
         found,

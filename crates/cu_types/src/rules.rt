@@ -12,10 +12,9 @@ ghost use Rattle.cu_types.specs.Inside.Walking.{Walks, heads, scope};
 use crate::SharedType;
 use crate::builtin::external_type;
 use crate::known::{Known, Member, Scheme};
-use crate::variables::push_all_variables;
 use crate::walk::Walk;
 use cu_calculus::Primitive;
-use cu_kernel::{Body, FunId, Rule};
+use cu_kernel::{Body, FunId, Rule, push_all_variables};
 use std::alloc::AllocError;
 
 impl Walk<'_> {

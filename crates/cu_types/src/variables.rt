@@ -1,11 +1,8 @@
 //! The type variables of variables.
-ghost use Rattle.std.specs.Prelude.{◌≡◌, ◌++◌, IfOk, OnOk, reverse};
-ghost use Rattle.cu_calculus.specs.Valid.{all_variables, variables_of};
-ghost use Rattle.cu_kernel.specs.TermsOf.{pattern_of, patterns_of};
+ghost use Rattle.std.specs.Prelude.{◌≡◌, IfOk, OnOk, reverse};
 ghost use Rattle.cu_types.specs.Equations.{bind, bind_from};
 ghost use Rattle.cu_types.specs.Inside.Variables.{environment, undone};
 
-use cu_kernel::Pattern;
 use indexmap::IndexMap;
 use std::alloc::{AllocError, Global};
 
@@ -96,40 +93,4 @@ impl Variables {
         }
         Ok(())
     }
-}
-
-/// Pushes the variables that a pattern binds, from left to right.
-#[cycle(bound)]
-#[tactic(auto, using(cu_kernel::specs::TermsOf::patterns_of_variants))]
-pub(crate) fn push_variables(variables: &mut Vec<u32>, pattern: &Pattern) -> Result<(), AllocError>
-    ensures { OnOk result (variables.new.items
-        ≡ variables.old.items ++ variables_of (pattern_of pattern.now)) }
-{
-    match pattern {
-        Pattern::Var(x) => {
-            variables.push(*x)?;
-            Ok(())
-        }
-        Pattern::Lit(_) => Ok(()),
-        Pattern::Con(_, parts) => push_all_variables(variables, parts),
-        Pattern::Alias(x, part) => {
-            variables.push(*x)?;
-            push_variables(variables, part)
-        }
-    }
-}
-
-/// Pushes the variables that patterns bind, from left to right.
-#[cycle(bound)]
-pub(crate) fn push_all_variables(
-    variables: &mut Vec<u32>,
-    patterns: &[Pattern],
-) -> Result<(), AllocError>
-    ensures { OnOk result (variables.new.items
-        ≡ variables.old.items ++ all_variables (patterns_of patterns.now)) }
-{
-    for pattern in patterns {
-        push_variables(variables, pattern)?;
-    }
-    Ok(())
 }

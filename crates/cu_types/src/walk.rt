@@ -10,8 +10,8 @@ ghost use Rattle.cu_types.specs.Inside.Walking.{Walks, alternative_asks, applica
 
 use crate::asking::Asking;
 use crate::known::Signing;
-use crate::variables::{Variables, push_variables};
-use cu_kernel::{FunId, Head, Pattern, Term};
+use crate::variables::Variables;
+use cu_kernel::{FunId, Head, Pattern, Term, push_variables};
 use std::alloc::{AllocError, Global};
 
 /// A walk that reads off equations, with the variables that are bound where it

@@ -2,7 +2,7 @@ use Rattle.std.proofs.Common.{◌≡◌, ◌+◌, ◌*◌, ◌++◌, drop, map}
 use denote.Param.Weighed.{most}
 use Rattle.cu_kernel.specs.TypesOf.{type_of}
 use Rattle.cu_kernel.specs.declared.type_term.TypeTerm.{size-TypeTerm}
-use Rattle.cu_deftree.proofs.copies.+types.Given as goal
+use Rattle.cu_kernel.proofs.copies.+types.Given as goal
 
 abbrev pub decreases-copy_type : goal.decreases-copy_type
 decreases-copy_type l = 2 * size-TypeTerm l.term.now

@@ -1,6 +1,6 @@
 use Rattle.cu_kernel.specs.TypesOf.{type_of}
-use Rattle.cu_deftree.proofs.CopiedParts.{all_copied, same_types}
-use Rattle.cu_deftree.proofs.copies.+types.Goals as goal
+use Rattle.cu_kernel.proofs.CopyLemmas.{all_copied, same_types}
+use Rattle.cu_kernel.proofs.copies.+types.Goals as goal
 
 pub copy_types-returns-clause-each : goal.copy_types-returns-clause-each
 copy_types-returns-clause-each t c =

@@ -1,6 +1,6 @@
 use Rattle.std.proofs.Common.{◌≡◌, ◌++◌, drop, map}
 use Rattle.cu_kernel.specs.TermsOf.{pattern_of}
-use Rattle.cu_lift.proofs.renaming.+patterns.Given as goal
+use Rattle.cu_kernel.proofs.copies.+patterns.Given as goal
 
 -- the copies and the patterns that are left are all
 abbrev pub invariant-copy_patterns-loop-pattern : goal.invariant-copy_patterns-loop-pattern
