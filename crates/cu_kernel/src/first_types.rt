@@ -111,7 +111,7 @@ fn has_list_constructors(special: &Special) -> bool
 
 /// Whether the types begin with those that every program begins with, and the
 /// built-in entities name the constructors of lists.
-pub(crate) fn has_first_types(special: &Special, types: &[DataType]) -> bool
+pub fn has_first_types(special: &Special, types: &[DataType]) -> bool
     ensures { result ≡ has_first_types special.now (map type_meaning types.now) }
 {
     begin_with(first_types(), types) && has_list_constructors(special)

@@ -50,7 +50,7 @@ fn push_shapes(
 }
 
 /// The constructors of all types, in order.
-fn shapes(alloc: Global, types: &[DataType]) -> Result<Vec<Shape>, AllocError>
+pub fn shapes(alloc: Global, types: &[DataType]) -> Result<Vec<Shape>, AllocError>
     ensures { IfOk result (λ shapes. map shape_meaning shapes.items
         ≡ constructors_from 0 (map type_meaning types.now)) }
 {

@@ -13,7 +13,7 @@ use crate::{Body, ConId, Function, Head, Mode, Pattern, Rule, Special, Term};
 
 /// Whether a pattern is this constructor without arguments.
 #[tactic(auto, using(crate::specs::TermsOf::patterns_of_variants, crate::proofs::ListCounts::counts))]
-fn is_constant_pattern(constructor: ConId, pattern: &Pattern) -> bool
+pub fn is_constant_pattern(constructor: ConId, pattern: &Pattern) -> bool
     ensures { result ≡ is_constant_pattern constructor (pattern_of pattern.now) }
 {
     match pattern {
@@ -25,7 +25,7 @@ fn is_constant_pattern(constructor: ConId, pattern: &Pattern) -> bool
 }
 
 /// Whether a head is this constructor.
-fn is_constant_head(constructor: ConId, head: Head) -> bool
+pub fn is_constant_head(constructor: ConId, head: Head) -> bool
     ensures { result ≡ is_constant_head constructor head }
 {
     match head {
@@ -49,7 +49,7 @@ fn is_constant_term(constructor: ConId, term: &Term) -> bool
 
 /// The variable that a pattern is, if it is one.
 #[tactic(auto, using(crate::specs::TermsOf::patterns_of_variants))]
-fn pattern_variable(pattern: &Pattern) -> Option<u32>
+pub fn pattern_variable(pattern: &Pattern) -> Option<u32>
     ensures { result ≡ pattern_variable (pattern_of pattern.now) }
 {
     match pattern {
@@ -70,7 +70,7 @@ fn term_variable(term: &Term) -> Option<u32>
 }
 
 /// Whether both are variables, and the same one.
-fn same_variable(first: Option<u32>, second: Option<u32>) -> bool
+pub fn same_variable(first: Option<u32>, second: Option<u32>) -> bool
     ensures { result ≡ same_variable first second }
 {
     match (first, second) {
@@ -80,7 +80,7 @@ fn same_variable(first: Option<u32>, second: Option<u32>) -> bool
 }
 
 /// Whether both are variables, and different ones.
-fn different_variables(first: Option<u32>, second: Option<u32>) -> bool
+pub fn different_variables(first: Option<u32>, second: Option<u32>) -> bool
     ensures { result ≡ different_variables first second }
 {
     match (first, second) {
@@ -147,7 +147,7 @@ fn is_distinction(special: &Special, x: Option<u32>, y: Option<u32>, term: &Term
 }
 
 /// Whether a case distinction binds a free variable.
-fn is_flex(mode: Mode) -> bool
+pub fn is_flex(mode: Mode) -> bool
     ensures { result ≡ is_flex mode }
 {
     match mode {

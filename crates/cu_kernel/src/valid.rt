@@ -20,7 +20,7 @@ use std::alloc::{AllocError, Global};
 const ARITY_END: u32 = u32::MAX;
 
 /// How many arguments a built-in operation takes.
-fn external_arity(operation: Prim) -> u32
+pub fn external_arity(operation: Prim) -> u32
     ensures { result ≡ external_arity operation }
 {
     match operation {

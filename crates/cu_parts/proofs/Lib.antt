@@ -9,7 +9,6 @@ pub mod LetLemmas
 pub mod CapturingSteps
 pub mod ScopedLemmas
 pub mod ScopedSteps
-pub mod FirstTypeLemmas
 pub mod LocalVariants
 pub mod LocalBoth
 pub mod JoinedLemmas

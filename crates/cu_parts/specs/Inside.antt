@@ -14,8 +14,6 @@ pub mod Exposed
 pub mod Capturing
 -- What is asked of each variable of a top-level function, and of the other parts of it.
 pub mod Scoping
--- The outlines of types that the code names.
-pub mod OutlineOf
 -- The tests by which it is decided whether rules before lifting are those of `&&`.
 pub mod LocalConjunction
 -- The tests by which it is decided whether the parts of a program fit together.

@@ -2,35 +2,13 @@
 ghost use Rattle.std.specs.Prelude.{◌≡◌, map};
 ghost use Rattle.cu_kernel.specs.LocalKernelOf.{local_body_meaning, local_rule_meaning};
 ghost use Rattle.cu_kernel.specs.LocalTermsOf.{local_alternatives_of, local_term_of};
-ghost use Rattle.cu_kernel.specs.TermsOf.{pattern_of, patterns_of};
-ghost use Rattle.cu_kernel.specs.Tests.{different_variables, is_constant_head, is_constant_pattern, is_flex, pattern_variable, same_variable};
+ghost use Rattle.cu_kernel.specs.TermsOf.{patterns_of};
 ghost use Rattle.cu_parts.specs.Inside.LocalConjunction.{are_local_branches, are_local_rules, is_local_case, is_local_conjunction, is_local_constant, is_local_distinction, is_local_false, is_local_head, is_local_true, local_variable};
 
-use cu_kernel::{ConId, Head, LocalBody, LocalHead, LocalRule, LocalTerm, Mode, Pattern, Special};
-
-/// Whether a pattern is this constructor without arguments.
-#[tactic(auto, using(cu_kernel::specs::TermsOf::patterns_of_variants, cu_kernel::proofs::ListCounts::counts))]
-fn is_constant_pattern(constructor: ConId, pattern: &Pattern) -> bool
-    ensures { result ≡ is_constant_pattern constructor (pattern_of pattern.now) }
-{
-    match pattern {
-        Pattern::Var(_) => false,
-        Pattern::Lit(_) => false,
-        Pattern::Con(other, parts) => parts.is_empty() && constructor.0 == other.0,
-        Pattern::Alias(_, _) => false,
-    }
-}
-
-/// Whether a head of the program is this constructor.
-fn is_constant_head(constructor: ConId, head: Head) -> bool
-    ensures { result ≡ is_constant_head constructor head }
-{
-    match head {
-        Head::Fun(_) => false,
-        Head::Con(other) => constructor.0 == other.0,
-        Head::Set(_) => false,
-    }
-}
+use cu_kernel::{
+    ConId, LocalBody, LocalHead, LocalRule, LocalTerm, Pattern, Special, different_variables,
+    is_constant_head, is_constant_pattern, is_flex, pattern_variable, same_variable,
+};
 
 /// Whether a head is this constructor.
 fn is_head(constructor: ConId, head: LocalHead) -> bool
@@ -53,17 +31,6 @@ fn is_constant(constructor: ConId, term: &LocalTerm) -> bool
     }
 }
 
-/// The variable that a pattern is, if it is one.
-#[tactic(auto, using(cu_kernel::specs::TermsOf::patterns_of_variants))]
-fn pattern_variable(pattern: &Pattern) -> Option<u32>
-    ensures { result ≡ pattern_variable (pattern_of pattern.now) }
-{
-    match pattern {
-        Pattern::Var(x) => Some(*x),
-        _ => None,
-    }
-}
-
 /// The variable that a term is, if it is one.
 #[tactic(auto, using(cu_kernel::specs::LocalTermsOf::local_terms_of_variants))]
 fn term_variable(term: &LocalTerm) -> Option<u32>
@@ -72,26 +39,6 @@ fn term_variable(term: &LocalTerm) -> Option<u32>
     match term {
         LocalTerm::Var(x) => Some(*x),
         _ => None,
-    }
-}
-
-/// Whether both are variables, and the same one.
-fn same_variable(first: Option<u32>, second: Option<u32>) -> bool
-    ensures { result ≡ same_variable first second }
-{
-    match (first, second) {
-        (Some(x), Some(y)) => x == y,
-        _ => false,
-    }
-}
-
-/// Whether both are variables, and different ones.
-fn different_variables(first: Option<u32>, second: Option<u32>) -> bool
-    ensures { result ≡ different_variables first second }
-{
-    match (first, second) {
-        (Some(x), Some(y)) => x != y,
-        _ => false,
     }
 }
 
@@ -151,16 +98,6 @@ fn is_distinction(special: &Special, x: Option<u32>, y: Option<u32>, term: &Loca
                 && are_branches(special, y, alternatives)
         }
         _ => false,
-    }
-}
-
-/// Whether a case distinction binds a free variable.
-fn is_flex(mode: Mode) -> bool
-    ensures { result ≡ is_flex mode }
-{
-    match mode {
-        Mode::Flex => true,
-        Mode::Rigid => false,
     }
 }
 

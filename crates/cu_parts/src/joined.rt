@@ -10,14 +10,15 @@ ghost use Rattle.cu_parts.specs.Inside.Joining.{begins, heads_fit, names_fit};
 ghost use Rattle.cu_parts.specs.Inside.LocalConjunction.{has_entities, has_values, is_local_both};
 
 use crate::conjunction::is_conjunction;
-use crate::first_types::has_first_types;
 use crate::heads::{Known, builds};
-use crate::program_heads::{heads_of, shapes};
+use crate::program_heads::heads_of;
 use crate::scoped::all_rules_pass;
 use crate::type_names::{
     goal_fits, local_signatures_fit, marks_are_placed, synonyms_are_placed, types_are_placed,
 };
-use cu_kernel::{ConId, Counts, Heads, LocalParts, LocalProgram, Special, TopFunction};
+use cu_kernel::{
+    ConId, Counts, Heads, LocalParts, LocalProgram, Special, TopFunction, has_first_types, shapes,
+};
 use std::alloc::{AllocError, Global};
 
 /// Whether the numbers of a part begin with 0, since nothing comes before it.

@@ -5,7 +5,6 @@
 mod binders;
 mod capturing;
 mod conjunction;
-mod first_types;
 mod free_uses;
 mod heads;
 mod joined;

@@ -2,7 +2,7 @@
 //! calls of local functions, and variables.
 ghost use Rattle.std.specs.Prelude.{◌≡◌, ◌↔◌, ℕ, true, IfOk, IsTrue, flat_map, length, map};
 ghost use Rattle.std.specs.List.{list_all};
-ghost use Rattle.cu_calculus.specs.Valid.{external_arity, is_linear};
+ghost use Rattle.cu_calculus.specs.Valid.{is_linear};
 ghost use Rattle.cu_kernel.specs.LocalKernelOf.{local_body_meaning, local_function_meaning, local_rule_meaning, top_function_meaning};
 ghost use Rattle.cu_kernel.specs.LocalValid.{IsScoped, all_binders, all_rules, fits_arity, fits_local, has_arity, local_rules, rule_passes};
 ghost use Rattle.cu_parts.specs.Inside.KnownHeads.{known_heads};
@@ -13,24 +13,12 @@ use crate::capturing::{capturing, rules_use};
 use crate::free_uses::free_uses;
 use crate::heads::{Known, rules_pass};
 use crate::linear::{holds, is_linear};
-use cu_kernel::{LocalBody, LocalFunction, LocalRule, Prim, TopFunction};
+use cu_kernel::{LocalBody, LocalFunction, LocalRule, TopFunction, external_arity};
 use std::alloc::{AllocError, Global};
 use std::collections::BTreeSet;
 
 /// An arity is below this number.
 const ARITY_END: u32 = u32::MAX;
-
-/// How many arguments a built-in operation takes.
-fn external_arity(operation: Prim) -> u32
-    ensures { result ≡ external_arity operation }
-{
-    match operation {
-        Prim::Failed => 0,
-        Prim::Ord => 1,
-        Prim::Chr => 1,
-        _ => 2,
-    }
-}
 
 /// Whether a rule has a pattern for each of so many parameters.
 #[tactic(auto, using(cu_kernel::proofs::ListCounts::counts))]

@@ -1,7 +1,6 @@
 //! The operations that are built in.
 ghost use Rattle.std.specs.Prelude.{◌≡◌, ◌++◌, List, ℕ, IfOk, OnOk, map};
 ghost use Rattle.std.specs.List.{All, Contains};
-ghost use Rattle.cu_calculus.specs.Valid.{external_arity};
 ghost use Rattle.cu_kernel.specs.KernelOf.{mark_meaning};
 ghost use Rattle.cu_kernel.specs.LocalKernelOf.{top_function_meaning};
 ghost use Rattle.cu_names.specs.Texts.{AllDiffer, IsKnown, text_of};
@@ -22,7 +21,7 @@ use crate::external_types::external_type;
 use crate::given::found;
 use crate::listing::{Declared, Listing};
 use cu_entities::Space;
-use cu_kernel::{LocalBody, Mark, Prim, TopFunction};
+use cu_kernel::{LocalBody, Mark, Prim, TopFunction, external_arity};
 use cu_names::{NameId, Names, Place};
 use std::alloc::{AllocError, Global};
 
@@ -44,17 +43,6 @@ pub(crate) const EXTERNALS: [(&str, Prim); 15] = [
     ("chr", Prim::Chr),
     ("failed", Prim::Failed),
 ];
-
-/// How many arguments an operation takes.
-fn arity(operation: Prim) -> u32
-    ensures { result ≡ external_arity operation }
-{
-    match operation {
-        Prim::Failed => 0,
-        Prim::Ord | Prim::Chr => 1,
-        _ => 2,
-    }
-}
 
 /// Adds operations to what a module declares.
 ///
@@ -80,7 +68,7 @@ pub(crate) fn add_externals(
         listing.add(Declared {
             owner,
             name,
-            arity: arity(*operation) as usize,
+            arity: external_arity(*operation) as usize,
         })?;
     }
     Ok(())
@@ -93,7 +81,7 @@ fn function(alloc: Global, names: &Names, text: &str, operation: Prim) -> TopFun
 {
     TopFunction {
         name: number_of(names, named(names, text)),
-        arity: arity(operation),
+        arity: external_arity(operation),
         body: LocalBody::External(operation),
         locals: Vec::new(alloc),
     }

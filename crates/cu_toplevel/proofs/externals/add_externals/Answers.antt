@@ -16,7 +16,7 @@ externals-preserved c = λ before differ has.
     let arity : Bor (List ℕ) × Primitive → ℕ = λ g. external_arity g.1 in
     let d : Bor (List ℕ) × Primitive = (record { ref_ptr = (0, 0); now = [] }, prim.Add) in
     given_more external_text arity c.args.names.now before c.args.externals.now c.externals.text-index d c.args.owner c.found-name.result _ c.externals.listing c.add.new.self
-    c.externals-test.true c.requires.known c.found-name.ensures c.arity.ensures (λ all known listed. c.in_ok-add.ensures c.args.names.now all differ known listed)
+    c.externals-test.true c.requires.known c.found-name.ensures c.external_arity.ensures (λ all known listed. c.in_ok-add.ensures c.args.names.now all differ known listed)
     (c.externals.invariant before differ has)
 
 pub returns : goal.returns
