@@ -19,6 +19,13 @@ use std::alloc::Global;
 /// The most entries of the stack.
 const MAX_ENTRIES: usize = 256;
 
+/// What layout sees of a token: its form, and where it stands.
+#[derive(Clone, Copy)]
+struct Sight {
+    form: Form,
+    place: Place,
+}
+
 /// The tokens with the braces and semicolons that the layout rules put in. The
 /// text is a whole module, or else an expression.
 ///
@@ -42,7 +49,8 @@ pub fn block(alloc: Global, tokens: Vec<Token>, whole: bool) -> Result<Vec<Token
         let form = Form::of(&token.kind);
         let place = token.place;
         let first = begins_line(last, place);
-        lay_out(&mut laid, &mut stack, due, first, form, place)?;
+        let sight = Sight { form, place };
+        lay_out(&mut laid, &mut stack, due, first, sight)?;
         laid.push(token)?;
         due = form.is_block_keyword();
         last = Some(place);
@@ -106,20 +114,19 @@ fn lay_out(
     stack: &mut Vec<Entry>,
     due: bool,
     first: bool,
-    form: Form,
-    place: Place,
+    sight: Sight,
 ) -> Result<(), TooDeep>
     ensures ok { OnOk result
-        (LaysOut due first form place laid.old.items laid.new.items stack.old.items
+        (LaysOut due first sight.form sight.place laid.old.items laid.new.items stack.old.items
         stack.new.items) }
-    ensures fault { IfErr result (IsBeyond due first form place stack.old.items) }
+    ensures fault { IfErr result (IsBeyond due first sight.form sight.place stack.old.items) }
 {
-    open(laid, stack, due, first, form, place)?;
-    within_limit(stack.as_slice(), place)?;
-    end(laid, stack, form, place)?;
-    close_brace(laid, stack, form, place)?;
-    enter(stack, form)?;
-    within_limit(stack.as_slice(), place)?;
+    open(laid, stack, due, first, sight)?;
+    within_limit(stack.as_slice(), sight.place)?;
+    end(laid, stack, sight)?;
+    close_brace(laid, stack, sight)?;
+    enter(stack, sight.form)?;
+    within_limit(stack.as_slice(), sight.place)?;
     Ok(())
 }
 
@@ -139,14 +146,14 @@ fn open(
     stack: &mut Vec<Entry>,
     due: bool,
     first: bool,
-    form: Form,
-    place: Place,
+    sight: Sight,
 ) -> Result<(), TooDeep>
-    ensures ok { OnOk result (Lays place laid.old.items laid.new.items stack.new.items
-        (due_block due first (sight_at form place) (stack_of stack.old.items))) }
+    ensures ok { OnOk result (Lays sight.place laid.old.items laid.new.items stack.new.items
+        (due_block due first (sight_at sight.form sight.place) (stack_of stack.old.items))) }
     ensures err { IfErr result (λ fault. fault ≡ NoMemory) }
 {
-    if due && !form.is_open_brace() {
+    let place = sight.place;
+    if due && !sight.form.is_open_brace() {
         emit(laid, LayoutMark::Open, place)?;
         if block_column(stack.as_slice()) < place.column {
             stack.push(Entry::Block(place.column, Begun::Names))?;
@@ -155,7 +162,7 @@ fn open(
         emit(laid, LayoutMark::Close, place)?;
     }
     if first {
-        begin_line(laid, stack, form, place)?;
+        begin_line(laid, stack, sight)?;
     }
     Ok(())
 }
@@ -172,17 +179,14 @@ fn block_column(stack: &[Entry]) -> u32
 }
 
 /// Rule 2: the first token of a line closes blocks or begins an item.
-fn begin_line(
-    laid: &mut Vec<Token>,
-    stack: &mut Vec<Entry>,
-    form: Form,
-    place: Place,
-) -> Result<(), TooDeep>
-    ensures ok { OnOk result (Lays place laid.old.items laid.new.items stack.new.items
-        (indentation (sight_at form place) (stack_of stack.old.items) (stack_of stack.old.items))) }
+fn begin_line(laid: &mut Vec<Token>, stack: &mut Vec<Entry>, sight: Sight) -> Result<(), TooDeep>
+    ensures ok { OnOk result (Lays sight.place laid.old.items laid.new.items stack.new.items
+        (indentation (sight_at sight.form sight.place) (stack_of stack.old.items)
+        (stack_of stack.old.items))) }
     ensures err { IfErr result (λ fault. fault ≡ NoMemory) }
 {
-    let line = line_start(stack.as_slice(), form, place);
+    let place = sight.place;
+    let line = line_start(stack.as_slice(), sight.form, place);
     close(laid, stack, line.cut, place)?;
     if line.item {
         emit(laid, LayoutMark::Separator, place)?;
@@ -193,16 +197,13 @@ fn begin_line(
 
 /// Rule 3: a token ends what its partner opened. None but tokens that go on
 /// with an item have a partner.
-fn end(
-    laid: &mut Vec<Token>,
-    stack: &mut Vec<Entry>,
-    form: Form,
-    place: Place,
-) -> Result<(), TooDeep>
-    ensures ok { OnOk result (Lays place laid.old.items laid.new.items stack.new.items
-        (partner_end form (stack_of stack.old.items))) }
+fn end(laid: &mut Vec<Token>, stack: &mut Vec<Entry>, sight: Sight) -> Result<(), TooDeep>
+    ensures ok { OnOk result (Lays sight.place laid.old.items laid.new.items stack.new.items
+        (partner_end sight.form (stack_of stack.old.items))) }
     ensures err { IfErr result (λ fault. fault ≡ NoMemory) }
 {
+    let form = sight.form;
+    let place = sight.place;
     if !form.goes_on() {
         return Ok(());
     }
@@ -232,22 +233,17 @@ fn only_names(stack: &[Entry]) -> bool
 }
 
 /// Rule 4: a closing brace of the text closes the blocks in it.
-fn close_brace(
-    laid: &mut Vec<Token>,
-    stack: &mut Vec<Entry>,
-    form: Form,
-    place: Place,
-) -> Result<(), TooDeep>
-    ensures ok { OnOk result (Lays place laid.old.items laid.new.items stack.new.items
-        (brace_end form (stack_of stack.old.items))) }
+fn close_brace(laid: &mut Vec<Token>, stack: &mut Vec<Entry>, sight: Sight) -> Result<(), TooDeep>
+    ensures ok { OnOk result (Lays sight.place laid.old.items laid.new.items stack.new.items
+        (brace_end sight.form (stack_of stack.old.items))) }
     ensures err { IfErr result (λ fault. fault ≡ NoMemory) }
 {
-    if !form.is_close_brace() {
+    if !sight.form.is_close_brace() {
         return Ok(());
     }
     match below_brace(stack.as_slice()) {
         None => Ok(()),
-        Some(cut) => close(laid, stack, cut, place),
+        Some(cut) => close(laid, stack, cut, sight.place),
     }
 }
 
