@@ -18,6 +18,15 @@ use crate::{SharedType, TypeHead};
 use cu_kernel::{Lit, TypeId, TypeName};
 use std::alloc::{AllocError, Global};
 
+/// So many type variables, from a number on.
+#[derive(Clone, Copy)]
+pub(crate) struct VariableRange {
+    /// The number of the first variable.
+    pub(crate) first: u32,
+    /// How many variables there are.
+    pub(crate) count: u32,
+}
+
 /// Equations that are asked for, with the table of the types in them and the
 /// next type variable.
 #[derive(Drop)]
@@ -148,26 +157,26 @@ impl Asking {
         Ok(whole)
     }
 
-    /// Adds the type of functions of so many type variables, from a number on,
-    /// to the type at a place.
+    /// Adds the type of functions of these type variables to the type at a
+    /// place.
     pub(crate) fn arrows(
         &mut self,
         alloc: Global,
-        first: u32,
-        count: u32,
+        variables: VariableRange,
         place: usize,
     ) -> Result<usize, AllocError>
         requires reader { IsReader self.old.reader }
         requires within { place < length (shapes self.old.reader) }
-        requires fits { first + count < 2 ^ 32 }
-        ensures { IfOk result (Adds self.old self.new (arrows (variables_from first count)
+        requires fits { variables.first + variables.count < 2 ^ 32 }
+        ensures { IfOk result (Adds self.old self.new
+            (arrows (variables_from variables.first variables.count)
             (at (trees (shapes self.old.reader)) place))) }
     {
         let mut whole = place;
-        let mut left = count;
+        let mut left = variables.count;
         while left > 0 {
             left -= 1;
-            whole = self.taking_variable(alloc, first + left, whole)?;
+            whole = self.taking_variable(alloc, variables.first + left, whole)?;
         }
         Ok(whole)
     }
@@ -207,64 +216,64 @@ impl Asking {
         Ok(place)
     }
 
-    /// Adds the type of functions of so many type variables, from a number on,
-    /// to the type at a place, where the numbers don't run out.
+    /// Adds the type of functions of these type variables to the type at a
+    /// place, where the numbers don't run out.
     pub(crate) fn arrows_to(
         &mut self,
         alloc: Global,
-        first: u32,
-        count: u32,
+        variables: VariableRange,
         place: usize,
     ) -> Result<usize, AllocError>
         requires reader { IsReader self.old.reader }
         requires within { place < length (shapes self.old.reader) }
-        ensures { IfOk result (Adds self.old self.new (arrows (variables_from first count)
+        ensures { IfOk result (Adds self.old self.new
+            (arrows (variables_from variables.first variables.count)
             (at (trees (shapes self.old.reader)) place))) }
     {
-        match first.checked_add(count) {
+        match variables.first.checked_add(variables.count) {
             Some(_) => {
-                let whole = self.arrows(alloc, first, count, place)?;
+                let whole = self.arrows(alloc, variables, place)?;
                 Ok(whole)
             }
             None => Err(AllocError),
         }
     }
 
-    /// Asks that the type of functions of so many type variables, from a number
-    /// on, to the next one, is the type at a place.
+    /// Asks that the type of functions of these type variables to the next one
+    /// is the type at a place.
     fn fixed(
         &mut self,
         alloc: Global,
-        first: u32,
-        count: u32,
+        variables: VariableRange,
         whole: usize,
     ) -> Result<(), AllocError>
         requires { IsReader self.old.reader }
         ensures { OnOk result ((t : TypeExpr) → StandsAt self.old whole t → Asks self.old self.new
-            (asking (arrows (variables_from first count) (type.Variable (first + count))) t)) }
+            (asking (arrows (variables_from variables.first variables.count)
+            (type.Variable (variables.first + variables.count))) t)) }
     {
-        let Some(last) = first.checked_add(count) else {
+        let Some(last) = variables.first.checked_add(variables.count) else {
             return Err(AllocError);
         };
         let right = self.variable(last)?;
-        let left = self.arrows_to(alloc, first, count, right)?;
+        let left = self.arrows_to(alloc, variables, right)?;
         self.ask(left, whole)?;
         Ok(())
     }
 
-    /// Asks that an instance of a type, after so many type variables from a
-    /// number on, is the type at a place.
+    /// Asks that an instance of a type, after these type variables, is the type
+    /// at a place.
     fn general(
         &mut self,
         alloc: Global,
-        first: u32,
-        count: u32,
+        variables: VariableRange,
         shared: &SharedType,
         whole: usize,
     ) -> Result<(), AllocError>
         requires { IsReader self.old.reader }
         ensures { OnOk result ((t : TypeExpr) → StandsAt self.old whole t → Asks self.old self.new
-            (scheme_asks (asked.Polymorphic (variables_from first count) shared.now) t)) }
+            (scheme_asks (asked.Polymorphic
+            (variables_from variables.first variables.count) shared.now) t)) }
     {
         let found = shared.breadth(alloc)?;
         let Ok(taken) = u32::try_from(found) else {
@@ -272,7 +281,7 @@ impl Asking {
         };
         let next = self.take(taken)?;
         let right = self.instance(alloc, shared, next)?;
-        let left = self.arrows_to(alloc, first, count, right)?;
+        let left = self.arrows_to(alloc, variables, right)?;
         self.ask(left, whole)?;
         Ok(())
     }
@@ -302,9 +311,11 @@ impl Asking {
     {
         match scheme {
             Scheme::Unknown => self.unknown(whole),
-            Scheme::Monomorphic(first, count) => self.fixed(alloc, first, count, whole),
+            Scheme::Monomorphic(first, count) => {
+                self.fixed(alloc, VariableRange { first, count }, whole)
+            }
             Scheme::Polymorphic(first, count, shared) => {
-                self.general(alloc, first, count, shared, whole)
+                self.general(alloc, VariableRange { first, count }, shared, whole)
             }
         }
     }

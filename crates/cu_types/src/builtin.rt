@@ -290,15 +290,14 @@ fn push_constructors(
     found: &mut Vec<SharedType>,
     synonyms: &[SharedType],
     of_type: TypeId,
-    arity: u32,
-    constructors: &[Constructor],
+    data_type: &DataType,
 ) -> Result<(), AllocError>
     ensures { OnOk result (found.new.items ≡ found.old.items
-        ++ map (λ c. made_type (at synonyms.now) of_type.0 arity (constructor_meaning c))
-        constructors.now) }
+        ++ map (λ c. made_type (at synonyms.now) of_type.0 data_type.now.arity
+        (constructor_meaning c)) data_type.now.constructors.items) }
 {
-    for constructor in constructors {
-        let shared = constructor_type(alloc, synonyms, of_type, arity, constructor)?;
+    for constructor in &data_type.constructors {
+        let shared = constructor_type(alloc, synonyms, of_type, data_type.arity, constructor)?;
         found.push(shared)?;
     }
     Ok(())
@@ -315,14 +314,7 @@ fn made_types(
 {
     let mut found = Vec::new(alloc);
     for (place, data_type) in types.iter().enumerate() {
-        push_constructors(
-            alloc,
-            &mut found,
-            synonyms,
-            TypeId(place),
-            data_type.arity,
-            data_type.constructors.as_slice(),
-        )?;
+        push_constructors(alloc, &mut found, synonyms, TypeId(place), data_type)?;
     }
     Ok(found)
 }

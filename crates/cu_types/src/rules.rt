@@ -10,6 +10,7 @@ ghost use Rattle.cu_types.specs.Inside.Reading.{IsReader};
 ghost use Rattle.cu_types.specs.Inside.Walking.{Walks, heads, scope};
 
 use crate::SharedType;
+use crate::asking::VariableRange;
 use crate::builtin::external_type;
 use crate::known::{Known, Member, Scheme};
 use crate::walk::Walk;
@@ -62,7 +63,11 @@ impl Walk<'_> {
     {
         let right = m.right()?;
         let place = self.asking.variable(right)?;
-        let whole = self.asking.arrows_to(self.alloc, m.first, m.arity, place)?;
+        let parameters = VariableRange {
+            first: m.first,
+            count: m.arity,
+        };
+        let whole = self.asking.arrows_to(self.alloc, parameters, place)?;
         let shared = external_type(self.alloc, self.signing.program, operation)?;
         let scheme = Scheme::Polymorphic(0, 0, &shared);
         self.asking.scheme(self.alloc, scheme, whole)?;
@@ -103,9 +108,11 @@ impl Walk<'_> {
             return Err(AllocError);
         };
         let place = self.asking.variable(right)?;
-        let left = self
-            .asking
-            .arrows_to(self.alloc, first, m.arity - skipped, place)?;
+        let others = VariableRange {
+            first,
+            count: m.arity - skipped,
+        };
+        let left = self.asking.arrows_to(self.alloc, others, place)?;
         let made = self.asking.instance(self.alloc, declared, own)?;
         self.asking.ask(left, made)?;
         Ok(())

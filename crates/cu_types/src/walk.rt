@@ -8,7 +8,7 @@ ghost use Rattle.cu_types.specs.Inside.Asking.{StandsAt};
 ghost use Rattle.cu_types.specs.Inside.Reading.{IsReader};
 ghost use Rattle.cu_types.specs.Inside.Walking.{Walks, alternative_asks, application_asks, heads, scope};
 
-use crate::asking::Asking;
+use crate::asking::{Asking, VariableRange};
 use crate::known::Signing;
 use crate::variables::Variables;
 use cu_kernel::{FunId, Head, Pattern, Term, push_variables};
@@ -55,9 +55,13 @@ impl Walk<'_> {
         };
         let right = self.asking.variable(last)?;
         let given = self.asking.values(self.alloc, self.signing.values, right)?;
-        let left = self.asking.arrows_to(self.alloc, first, arity, given)?;
+        let parameters = VariableRange {
+            first,
+            count: arity,
+        };
+        let left = self.asking.arrows_to(self.alloc, parameters, given)?;
         self.asking.ask(left, whole)?;
-        let own = self.asking.arrows_to(self.alloc, first, arity, right)?;
+        let own = self.asking.arrows_to(self.alloc, parameters, right)?;
         let scheme = self.signing.function(f);
         self.asking.scheme(self.alloc, scheme, own)?;
         Ok(())
@@ -92,7 +96,8 @@ impl Walk<'_> {
             (call_asks (heads self.old) head first count t)) }
     {
         let right = self.asking.variable(t)?;
-        let whole = self.asking.arrows_to(self.alloc, first, count, right)?;
+        let arguments = VariableRange { first, count };
+        let whole = self.asking.arrows_to(self.alloc, arguments, right)?;
         self.head(head, whole)?;
         Ok(())
     }

@@ -7,4 +7,4 @@ use Rattle.cu_types.specs.Table.{at}
 abbrev pub invariant-loop-constructor : goal.invariant-loop-constructor
 invariant-loop-constructor l =
     l.found.items ≡ l.initial.found.items
-    ++ map (λ c. made_type (at l.synonyms) l.of_type.0 l.arity (constructor_meaning c)) (take l.constructor-index l.constructors)
+    ++ map (λ c. made_type (at l.synonyms) l.of_type.0 l.data_type.arity (constructor_meaning c)) (take l.constructor-index l.constructor-items)

@@ -10,7 +10,7 @@ decreases-loop-left l = l.left
 
 abbrev pub invariant-loop-left : goal.invariant-loop-left
 invariant-loop-left l = record {
-  few : l.left ≤ l.count;
-  adds : Adds l.initial.self l.self (arrows (variables_from (l.first + l.left) (l.count - l.left))
+  few : l.left ≤ l.fn.variables.count;
+  adds : Adds l.initial.self l.self (arrows (variables_from (l.fn.variables.first + l.left) (l.fn.variables.count - l.left))
       (at (trees (shapes l.initial.self.reader)) l.place)) l.whole;
 }
