@@ -14,20 +14,32 @@ use crate::table::{End, Table};
 use cu_lex::Token;
 use std::alloc::{AllocError, Global};
 
-/// The end of a row where some tokens are left. The table has the ends of the
-/// rows that it calls there, and all ends where fewer tokens are left.
-pub fn row_end(
-    row: &Row,
-    number: usize,
-    table: &Table,
-    tokens: &[Token],
-    left: usize,
-) -> Option<End>
-    requires { left ≤ length tokens.now }
+/// A place of a text: the last `left` of its tokens stand after it.
+#[derive(Clone, Copy)]
+pub struct TextPlace<'t> {
+    pub tokens: &'t [Token],
+    pub left: usize,
+}
+
+/// The rows of a grammar, of which some are marked. Each other row matches
+/// nothing.
+#[derive(Clone, Copy)]
+pub struct MarkedRows<'r> {
+    pub rows: &'r [Row],
+    pub marks: &'r [bool],
+}
+
+/// The end of a row at a place. The table has the ends of the rows that it calls
+/// there, and all ends where fewer tokens are left.
+pub fn row_end(row: &Row, number: usize, table: &Table, place: TextPlace<'_>) -> Option<End>
+    requires { place.left ≤ length place.tokens.now }
     ensures { (names : List (List ℕ)) → result
-        ≡ row_end (λ c. has_at (map (lexeme_of names) tokens.now) c (length tokens.now - left))
-        (end_at table.now.columns) row.now number left }
+        ≡ row_end (λ c. has_at (map (lexeme_of names) place.entry.tokens.now) c
+        (length place.entry.tokens.now - place.entry.left))
+        (end_at table.now.columns) row.now number place.entry.left }
 {
+    let tokens = place.tokens;
+    let left = place.left;
     match row {
         Row::Token(class) => {
             if left > 0 && class.has(&tokens[tokens.len() - left]) {
@@ -124,52 +136,54 @@ fn choice_end(parts: &[u32], table: &Table, left: usize) -> Option<End>
     None
 }
 
-/// The end of a row, and none where the row isn't among those that are asked
-/// for.
+/// The end of a row at a place, and none where the row isn't among those that
+/// are asked for.
 fn kept_end(
     row: &Row,
     number: usize,
     marks: &[bool],
     table: &Table,
-    tokens: &[Token],
-    left: usize,
+    place: TextPlace<'_>,
 ) -> Option<End>
-    requires { left ≤ length tokens.now }
+    requires { place.left ≤ length place.tokens.now }
     ensures { (names : List (List ℕ)) → result
-        ≡ row_end (λ c. has_at (map (lexeme_of names) tokens.now) c (length tokens.now - left))
-        (end_at table.now.columns) (kept_row (marked marks.now number) row.now) number left }
+        ≡ row_end (λ c. has_at (map (lexeme_of names) place.entry.tokens.now) c
+        (length place.entry.tokens.now - place.entry.left)) (end_at table.now.columns)
+        (kept_row (marked marks.now number) row.now) number place.entry.left }
 {
     if !is_marked(marks, number) {
         return None;
     }
-    row_end(row, number, table, tokens, left)
+    row_end(row, number, table, place)
 }
 
 /// Adds the ends of the rows that are marked where one token more is left.
 pub fn add_place(
     alloc: Global,
-    rows: &[Row],
-    marks: &[bool],
+    grammar: MarkedRows<'_>,
     order: &[usize],
     tokens: &[Token],
     table: &mut Table,
 ) -> Result<(), AllocError>
-    requires rows { IsGrammar rows.now order.now }
-    requires wide { table.old.width ≡ length rows.now }
+    requires rows { IsGrammar grammar.rows.now order.now }
+    requires wide { table.old.width ≡ length grammar.rows.now }
     requires place { length table.old.columns ≤ length tokens.now }
     requires right { (names : List (List ℕ))
-        → IsRight (kept marks.now rows.now) (has_at (map (lexeme_of names) tokens.now))
-        (length tokens.now) table.old.columns }
-    ensures wide { OnOk result (table.new.width ≡ length rows.now) }
+        → IsRight (kept grammar.marks.now grammar.rows.now)
+        (has_at (map (lexeme_of names) tokens.now)) (length tokens.now) table.old.columns }
+    ensures wide { OnOk result (table.new.width ≡ length grammar.entry.rows.now) }
     ensures long { OnOk result (length table.new.columns ≡ length table.old.columns + 1) }
     ensures right { (names : List (List ℕ))
-        → OnOk result (IsRight (kept marks.now rows.now) (has_at (map (lexeme_of names) tokens.now))
-        (length tokens.now) table.new.columns) }
+        → OnOk result (IsRight (kept grammar.entry.marks.now grammar.entry.rows.now)
+        (has_at (map (lexeme_of names) tokens.now)) (length tokens.now) table.new.columns) }
 {
+    let rows = grammar.rows;
+    let marks = grammar.marks;
     let left = table.len();
     table.add_column(alloc)?;
     for row in order {
-        let end = kept_end(&rows[*row], *row, marks, table, tokens, left);
+        let place = TextPlace { tokens, left };
+        let end = kept_end(&rows[*row], *row, marks, table, place);
         table.set(*row, end);
     }
     Ok(())

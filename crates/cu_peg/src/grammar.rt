@@ -12,7 +12,7 @@ ghost use Rattle.cu_peg.specs.Answer.{TellsEndless};
 use crate::Row;
 use crate::calls::{call_order, first_endless_row, nullable_rows};
 use crate::closure::is_marked;
-use crate::ends::add_place;
+use crate::ends::{MarkedRows, add_place};
 use crate::table::Table;
 use cu_lex::Token;
 use std::alloc::{AllocError, Global};
@@ -111,7 +111,7 @@ impl Grammar {
         let certain = certain_rows(alloc, rows, marks)?;
         let mut table = Table::new(alloc, certain);
         'places: while table.len() <= tokens.len() {
-            add_place(alloc, rows, marks, order, tokens, &mut table)?;
+            add_place(alloc, MarkedRows { rows, marks }, order, tokens, &mut table)?;
         }
         Ok(table)
     }

@@ -4,7 +4,7 @@ ghost use Rattle.cu_lex.specs.Reading.{lexeme_of};
 ghost use Rattle.cu_peg.specs.Result.{HasNoTree, IsTreeOf};
 
 use crate::reached::reached_rows;
-use crate::reading::read;
+use crate::reading::FilledTable;
 use crate::{Grammar, Tree};
 use cu_lex::Token;
 use std::alloc::{AllocError, Global};
@@ -45,6 +45,11 @@ pub fn matches(
     if end.nodes == usize::MAX {
         return Err(AllocError);
     }
-    let nodes = read(alloc, rows, &table, tokens, start, end)?;
+    let filled = FilledTable {
+        rows,
+        table: &table,
+        tokens,
+    };
+    let nodes = filled.read(alloc, start, end)?;
     Ok(Some(Tree::new(nodes)))
 }

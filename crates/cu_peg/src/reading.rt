@@ -166,83 +166,70 @@ fn next_part(rows: &[Row], table: &Table, parts: Cursor) -> Option<(usize, Optio
     Some((part, next_parts(row, parts, table, end.left)))
 }
 
-/// Adds the node of a row where some of the tokens are left, and puts its
-/// parts on top.
-fn visit(
-    rows: &[Row],
-    table: &Table,
-    tokens: usize,
-    nodes: &mut Vec<Node>,
-    pending: &mut Vec<Cursor>,
-    number: usize,
-    left: usize,
-) -> Result<(), AllocError>
-    requires row { number < length rows.now }
-    requires left { left ≤ tokens }
-    ensures nodes { (e : Row) → slice_get rows.now number ≡ Some e
-        → OnOk result (nodes.new.items ≡ nodes.old.items
-        ++ node_of (end_at table.now.columns) e number tokens left ∷ []) }
-    ensures parts { (e : Row) → slice_get rows.now number ≡ Some e
-        → OnOk result (pending.new.items
-        ≡ pending.old.items ++ option_to_list
-        (first_parts (end_at table.now.columns) e number left)) }
-{
-    let row = &rows[number];
-    let form = form_of(row, table, tokens, left);
-    let size = match table.end(number, left) {
-        Some(end) => end.nodes,
-        None => 0,
-    };
-    nodes.push(Node { form, size })?;
-    push_parts(pending, first_parts(row, number, table, left))
+/// A table of ends that is filled, with the rows and the tokens that it tells
+/// of.
+#[derive(Clone, Copy)]
+pub struct FilledTable<'a> {
+    pub rows: &'a [Row],
+    pub table: &'a Table,
+    pub tokens: &'a [Token],
 }
 
-/// The nodes of the tree of a row that matches all tokens.
-pub fn read(
-    alloc: Global,
-    rows: &[Row],
-    table: &Table,
-    tokens: &[Token],
-    start: usize,
-    end: End,
-) -> Result<Vec<Node>, AllocError>
-    requires right { IsTableOf rows.now start tokens.now table.now.columns }
-    requires long { length table.now.columns ≡ length tokens.now + 1 }
-    requires start { start < length rows.now }
-    requires end { end_at table.now.columns start (length tokens.now) ≡ Some end }
-    requires all { end.left ≡ 0 }
-    requires few { end.nodes < 2 ^ 64 - 1 }
-    ensures { (names : List (List ℕ)) (tree : ParseTree ℕ)
-        → HasTree rows.now (has_at (map (lexeme_of names) tokens.now)) start
-        (last (length tokens.now) (length tokens.now)) tree
-        → IfOk result (λ nodes. nodes.items ≡ spelled tree) }
-{
-    let mut nodes = Vec::new(alloc);
-    let mut pending = Vec::new(alloc);
-    visit(
-        rows,
-        table,
-        tokens.len(),
-        &mut nodes,
-        &mut pending,
-        start,
-        tokens.len(),
-    )?;
-    while let Some(parts) = pending.pop() {
-        let Some(found) = next_part(rows, table, parts) else {
-            unreachable!()
+impl FilledTable<'_> {
+    /// Adds the node of a row where some of the tokens are left, and puts its
+    /// parts on top.
+    fn visit(
+        self,
+        nodes: &mut Vec<Node>,
+        pending: &mut Vec<Cursor>,
+        number: usize,
+        left: usize,
+    ) -> Result<(), AllocError>
+        requires row { number < length self.rows.now }
+        requires left { left ≤ length self.tokens.now }
+        ensures nodes { (e : Row) → slice_get self.entry.rows.now number ≡ Some e
+            → OnOk result (nodes.new.items ≡ nodes.old.items
+            ++ node_of (end_at self.entry.table.now.columns) e number
+            (length self.entry.tokens.now) left ∷ []) }
+        ensures parts { (e : Row) → slice_get self.entry.rows.now number ≡ Some e
+            → OnOk result (pending.new.items
+            ≡ pending.old.items ++ option_to_list
+            (first_parts (end_at self.entry.table.now.columns) e number left)) }
+    {
+        let row = &self.rows[number];
+        let form = form_of(row, self.table, self.tokens.len(), left);
+        let size = match self.table.end(number, left) {
+            Some(end) => end.nodes,
+            None => 0,
         };
-        let (part, next) = found;
-        push_parts(&mut pending, next)?;
-        visit(
-            rows,
-            table,
-            tokens.len(),
-            &mut nodes,
-            &mut pending,
-            part,
-            parts.left,
-        )?;
+        nodes.push(Node { form, size })?;
+        push_parts(pending, first_parts(row, number, self.table, left))
     }
-    Ok(nodes)
+
+    /// The nodes of the tree of a row that matches all tokens.
+    pub fn read(self, alloc: Global, start: usize, end: End) -> Result<Vec<Node>, AllocError>
+        requires right { IsTableOf self.rows.now start self.tokens.now self.table.now.columns }
+        requires long { length self.table.now.columns ≡ length self.tokens.now + 1 }
+        requires start { start < length self.rows.now }
+        requires end { end_at self.table.now.columns start (length self.tokens.now) ≡ Some end }
+        requires all { end.left ≡ 0 }
+        requires few { end.nodes < 2 ^ 64 - 1 }
+        ensures { (names : List (List ℕ)) (tree : ParseTree ℕ)
+            → HasTree self.entry.rows.now (has_at (map (lexeme_of names) self.entry.tokens.now))
+            start (last (length self.entry.tokens.now) (length self.entry.tokens.now)) tree
+            → IfOk result (λ nodes. nodes.items ≡ spelled tree) }
+    {
+        let mut nodes = Vec::new(alloc);
+        let mut pending = Vec::new(alloc);
+        self.visit(&mut nodes, &mut pending, start, self.tokens.len())?;
+        while let Some(parts) = pending.pop() {
+            let Some(found) = next_part(self.rows, self.table, parts) else {
+                unreachable!()
+            };
+            let (part, next) = found;
+            push_parts(&mut pending, next)?;
+            self.visit(&mut nodes, &mut pending, part, parts.left)?;
+        }
+        Ok(nodes)
+    }
 }

@@ -7,9 +7,9 @@ use Rattle.cu_peg.proofs.ends.kept_end.Goals as goal
 
 pub returns-then-not-is_marked : goal.returns-then-not-is_marked
 returns-then-not-is_marked c = λ names.
-    ap (λ (b : Bool). row_end (λ k. has_at (map (lexeme_of names) c.args.tokens.now) k (length c.args.tokens.now - c.args.left)) (end_at c.args.table.now.columns) (kept_row b c.args.row.now) c.args.number c.args.left) c.if-not-is_marked.ensures
+    ap (λ (b : Bool). row_end (λ k. has_at (map (lexeme_of names) c.args.place.tokens.now) k (length c.args.place.tokens.now - c.args.place.left)) (end_at c.args.table.now.columns) (kept_row b c.args.row.now) c.args.number c.args.place.left) c.if-not-is_marked.ensures
 
 pub returns : goal.returns
 returns c = λ names.
     c.row_end.ensures names
-    ∙ ap (λ (b : Bool). row_end (λ k. has_at (map (lexeme_of names) c.args.tokens.now) k (length c.args.tokens.now - c.args.left)) (end_at c.args.table.now.columns) (kept_row b c.args.row.now) c.args.number c.args.left) c.if-not-is_marked.ensures
+    ∙ ap (λ (b : Bool). row_end (λ k. has_at (map (lexeme_of names) c.args.place.tokens.now) k (length c.args.place.tokens.now - c.args.place.left)) (end_at c.args.table.now.columns) (kept_row b c.args.row.now) c.args.number c.args.place.left) c.if-not-is_marked.ensures
