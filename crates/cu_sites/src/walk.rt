@@ -36,6 +36,31 @@ struct BlockSpot {
     block: usize,
 }
 
+/// What stands beside a declaration in its block: the function whose rules may
+/// go on with it, and the declarations after it.
+#[derive(Clone, Copy)]
+struct Neighbours<'d, 't> {
+    begun: Option<Begun>,
+    others: &'d [Declaration<'t>],
+}
+
+/// A lambda expression.
+#[derive(Drop)]
+struct Lambda<'t> {
+    /// The place of its first token.
+    place: Place,
+    parameters: Vec<Pattern<'t>>,
+    body: Expression<'t>,
+}
+
+/// A comprehension: the whole of it, its element and its qualifiers.
+#[derive(Clone, Copy)]
+struct Comprehension<'q, 't> {
+    whole: Expression<'t>,
+    element: Expression<'t>,
+    qualifiers: &'q [Qualifier<'t>],
+}
+
 /// Where a qualifier stands: the spots before and after it, the comprehension,
 /// and how many qualifiers of the comprehension there are up to this one.
 #[derive(Clone, Copy)]
@@ -94,7 +119,12 @@ impl<'t> Sites<'t> {
                 self.operands(alloc, at, items.rest.as_slice())
             }
             ExpressionNode::Lambda(place, parameters, body) => {
-                self.lambda(alloc, at, place, parameters, body)
+                let lambda = Lambda {
+                    place,
+                    parameters,
+                    body,
+                };
+                self.lambda(alloc, at, lambda)
             }
             ExpressionNode::Let(_, ds, body) => self.let_in(alloc, at, ds.as_slice(), body),
             ExpressionNode::If(_, condition, chosen, other) => {
@@ -120,7 +150,12 @@ impl<'t> Sites<'t> {
             ExpressionNode::List(_, elements) => self.expressions(alloc, at, elements.as_slice()),
             ExpressionNode::Enumeration(_, numbers) => self.enumeration(alloc, at, numbers),
             ExpressionNode::Comprehension(_, element, qualifiers) => {
-                self.comprehension(alloc, at, e, element, qualifiers.as_slice())
+                let comprehension = Comprehension {
+                    whole: e,
+                    element,
+                    qualifiers: qualifiers.as_slice(),
+                };
+                self.comprehension(alloc, at, comprehension)
             }
         }
     }
@@ -178,20 +213,19 @@ impl<'t> Sites<'t> {
 
     /// Notes a lambda expression, and what stands in it.
     #[cycle(walk)]
-    fn lambda(
-        &mut self,
-        alloc: Global,
-        at: Spot,
-        place: Place,
-        parameters: Vec<Pattern<'t>>,
-        body: Expression<'t>,
-    ) -> Result<(), AllocError>
-        ensures { (t : Text) (spot : sites.Spot) → IsAt t self.old at spot → PlaceIsOf t.owner place
-            → All (PatternIsOf t.owner t.names) parameters.entry.items
-            → ExpressionIsOf t.owner t.names body.entry
-            → OnOk result (Writes t self.old
-            (lambda_has t.names spot place parameters.entry.items body.entry) self.new) }
+    fn lambda(&mut self, alloc: Global, at: Spot, lambda: Lambda<'t>) -> Result<(), AllocError>
+        ensures { (t : Text) (spot : sites.Spot) → IsAt t self.old at spot
+            → PlaceIsOf t.owner lambda.entry.place
+            → All (PatternIsOf t.owner t.names) lambda.entry.parameters.items
+            → ExpressionIsOf t.owner t.names lambda.entry.body
+            → OnOk result (Writes t self.old (lambda_has t.names spot lambda.entry.place
+            lambda.entry.parameters.items lambda.entry.body) self.new) }
     {
+        let Lambda {
+            place,
+            parameters,
+            body,
+        } = lambda;
         let names = variables(alloc, parameters.as_slice())?;
         let inner = self.in_function(alloc, at, place, names.as_slice())?;
         let copy = Vec::from_slice(alloc, parameters.as_slice())?;
@@ -297,20 +331,18 @@ impl<'t> Sites<'t> {
         &mut self,
         alloc: Global,
         at: Spot,
-        whole: Expression<'t>,
-        element: Expression<'t>,
-        qualifiers: &[Qualifier<'t>],
+        found: Comprehension<'_, 't>,
     ) -> Result<(), AllocError>
         ensures { (t : Text) (spot : sites.Spot) → IsAt t self.old at spot
-            → ExpressionIsOf t.owner t.names element.entry
-            → IsComprehension t whole.entry (expression_meaning t.names element.entry)
-            qualifiers.now
-            → OnOk result (Writes t self.old
-            (comprehension_has t.names spot element.entry qualifiers.now) self.new) }
+            → ExpressionIsOf t.owner t.names found.entry.element
+            → IsComprehension t found.entry.whole
+            (expression_meaning t.names found.entry.element) found.entry.qualifiers.now
+            → OnOk result (Writes t self.old (comprehension_has t.names spot found.entry.element
+            found.entry.qualifiers.now) self.new) }
     {
-        let inner = self.past_all(alloc, at, qualifiers)?;
-        self.expression(alloc, inner, element)?;
-        self.qualifiers(alloc, at, whole, qualifiers)
+        let inner = self.past_all(alloc, at, found.qualifiers)?;
+        self.expression(alloc, inner, found.element)?;
+        self.qualifiers(alloc, at, found.whole, found.qualifiers)
     }
 
     /// Notes what stands in the qualifiers of a comprehension, each in the
@@ -444,29 +476,33 @@ impl<'t> Sites<'t> {
     {
         let mut begun = None;
         for (i, d) in ds.iter().enumerate() {
-            begun = self.declaration(alloc, inner, begun, &ds[i + 1..], *d)?;
+            let beside = Neighbours {
+                begun,
+                others: &ds[i + 1..],
+            };
+            begun = self.declaration(alloc, inner, beside, *d)?;
         }
         Ok(())
     }
 
-    /// Notes what stands in a declaration, which others follow. Gives the
-    /// function whose rules may go on.
+    /// Notes what stands in a declaration of a block. Gives the function whose
+    /// rules may go on.
     #[cycle(walk)]
     fn declaration(
         &mut self,
         alloc: Global,
         inner: BlockSpot,
-        begun: Option<Begun>,
-        others: &[Declaration<'t>],
+        beside: Neighbours<'_, 't>,
         d: Declaration<'t>,
     ) -> Result<Option<Begun>, AllocError>
         ensures { (t : Text) (spot : sites.Spot) (block : syntax.Declarations)
-            → IsInner t self.old inner spot block
-            → BegunIsKnown t begun → All (DeclarationIsOf t.owner t.names) others.now
+            → IsInner t self.old inner spot block → BegunIsKnown t beside.entry.begun
+            → All (DeclarationIsOf t.owner t.names) beside.entry.others.now
             → DeclarationIsOf t.owner t.names d.entry
             → IfOk result (λ next. Walks t self.old
-            (declaration_has t.names spot block (begun_meaning t begun) others.now d.entry)
-            (begun_in (begun_meaning t begun) (declaration_meaning t.names d.entry))
+            (declaration_has t.names spot block (begun_meaning t beside.entry.begun)
+            beside.entry.others.now d.entry)
+            (begun_in (begun_meaning t beside.entry.begun) (declaration_meaning t.names d.entry))
             next self.new) }
     {
         match d.node(alloc)? {
@@ -482,8 +518,8 @@ impl<'t> Sites<'t> {
                     parameters,
                     right,
                 };
-                self.rule(alloc, inner, begun, others, rule)?;
-                Ok(Some(begun_by(begun, name, place)))
+                self.rule(alloc, inner, beside, rule)?;
+                Ok(Some(begun_by(beside.begun, name, place)))
             }
             DeclarationNode::PatternBinding(_, p, right) => {
                 self.definition(alloc, inner.at, Site::Bound(p, right), right)?;
@@ -498,26 +534,26 @@ impl<'t> Sites<'t> {
         &mut self,
         alloc: Global,
         inner: BlockSpot,
-        begun: Option<Begun>,
-        others: &[Declaration<'t>],
+        beside: Neighbours<'_, 't>,
         rule: Rule<'t>,
     ) -> Result<(), AllocError>
         ensures { (t : Text) (spot : sites.Spot) (block : syntax.Declarations)
-            → IsInner t self.old inner spot block
-            → BegunIsKnown t begun → All (DeclarationIsOf t.owner t.names) others.now
+            → IsInner t self.old inner spot block → BegunIsKnown t beside.entry.begun
+            → All (DeclarationIsOf t.owner t.names) beside.entry.others.now
             → RuleIsOf t.owner t.names rule.entry
             → OnOk result (Writes t self.old
-            (rule_has t.names spot block (begun_meaning t begun) others.now rule.entry) self.new) }
+            (rule_has t.names spot block (begun_meaning t beside.entry.begun)
+            beside.entry.others.now rule.entry) self.new) }
     {
-        if goes_on(begun, rule.name) {
-            let function = begun_by(begun, rule.name, rule.place);
+        if goes_on(beside.begun, rule.name) {
+            let function = begun_by(beside.begun, rule.name, rule.place);
             return self.function_rule(alloc, inner.at, function.place, rule);
         }
         if rule.parameters.is_empty() {
             let site = Site::Defined(rule.name, rule.right);
             return self.definition(alloc, inner.at, site, rule.right);
         }
-        self.first_rule(alloc, inner, others, &rule)?;
+        self.first_rule(alloc, inner, beside.others, &rule)?;
         self.function_rule(alloc, inner.at, rule.place, rule)
     }
 

@@ -218,12 +218,12 @@ guards-returns t c w spot at all =
 
 pub lambda-returns : goal.lambda-returns
 lambda-returns t c w spot at placed all of =
-    lambda_written c.expression.result w c.args.self.now c.in_function.new.self c.push.new.self c.push-2.new.self c.expression.new.self c.args.at c.in_ok-inner.inner c.args.place c.args.parameters c.in_ok-copy.copy c.args.body spot at placed all of
+    lambda_written c.expression.result w c.args.self.now c.in_function.new.self c.push.new.self c.push-2.new.self c.expression.new.self c.args.at c.in_ok-inner.inner c.args.lambda.place c.args.lambda.parameters c.in_ok-copy.copy c.args.lambda.body spot at placed all of
     (c.in_ok-copy.ensures.items ∙ c.as_slice-3.ensures.value)
-    (enters_patterns w c.args.self.now c.in_function.new.self (λ xs. in_function (position_of c.args.place) xs spot) c.args.parameters.items c.as_slice.result.now c.in_ok-names.names.items c.as_slice-2.result.now c.in_ok-inner.inner c.as_slice.ensures.value all
+    (enters_patterns w c.args.self.now c.in_function.new.self (λ xs. in_function (position_of c.args.lambda.place) xs spot) c.args.lambda.parameters.items c.as_slice.result.now c.in_ok-names.names.items c.as_slice-2.result.now c.in_ok-inner.inner c.as_slice.ensures.value all
     (c.in_ok-names.ensures w) c.as_slice-2.ensures.value (c.in_ok-inner.ensures w spot at))
     c.in_ok-push.ensures c.in_ok-push-2.ensures
-    (λ there. c.expression.ensures w (in_function (position_of c.args.place) (patterns_bind w.names c.args.parameters.items) spot) there of)
+    (λ there. c.expression.ensures w (in_function (position_of c.args.lambda.place) (patterns_bind w.names c.args.lambda.parameters.items) spot) there of)
 
 pub let_in-returns : goal.let_in-returns
 let_in-returns t c w spot at all of =
@@ -258,9 +258,9 @@ maybe-returns-in-Some t c w spot at of =
 pub comprehension-returns : goal.comprehension-returns
 comprehension-returns t c w spot at of is =
     let entered = c.in_ok-inner.ensures w spot at is.qualifiers in
-    let first = c.in_ok-expression.ensures w (past_all (qualifiers_of w.names c.args.qualifiers.now) spot) entered.at of in
+    let first = c.in_ok-expression.ensures w (past_all (qualifiers_of w.names c.args.found.qualifiers.now) spot) entered.at of in
     on_ok c.qualifiers.result (λ last. writes_both entered.writes (writes_both first last))
-    (c.qualifiers.ensures w spot (expression_meaning w.names c.args.element) (at_after first (at_after entered.writes at)) is)
+    (c.qualifiers.ensures w spot (expression_meaning w.names c.args.found.element) (at_after first (at_after entered.writes at)) is)
 
 pub qualifiers-qualifier-requires : goal.qualifiers-qualifier-requires
 qualifiers-qualifier-requires t c =
@@ -353,12 +353,12 @@ declarations-returns t c w spot block is all =
 pub declaration-returns-in_ok-push-in-FreeVariables : goal.declaration-returns-in_ok-push-in-FreeVariables
 declaration-returns-in_ok-push-in-FreeVariables t c w spot block is known all of =
     let ok = subst (DeclarationNodeIsOf w.owner w.names) c.in-FreeVariables.is (c.in_ok-names.ensures.owned w.owner w.names of) in
-    declaration_walks w spot block c.args.begun None c.args.others.now c.args.d c.in_ok-names.field-0 (declaration.FreeVariables c.in-FreeVariables.field-0 c.in-FreeVariables.names) _ c.args.self.now c.push.new.self (c.in_ok-names.ensures.meaning w.names) c.in-FreeVariables.is refl
+    declaration_walks w spot block c.args.beside.begun None c.args.beside.others.now c.args.d c.in_ok-names.field-0 (declaration.FreeVariables c.in-FreeVariables.field-0 c.in-FreeVariables.names) _ c.args.self.now c.push.new.self (c.in_ok-names.ensures.meaning w.names) c.in-FreeVariables.is refl
     (free_written w c.args.self.now c.push.new.self c.args.inner.at c.in-FreeVariables.names spot c.in_ok-push-in-FreeVariables.ensures is.at ok.1) (begun_none w)
 
 pub declaration-returns-in-Signature : goal.declaration-returns-in-Signature
 declaration-returns-in-Signature t c w spot block is known all of =
-    declaration_walks w spot block c.args.begun None c.args.others.now c.args.d c.in_ok-names.field-0 (declaration.Signature c.in-Signature.field-0 c.in-Signature._functions c.in-Signature.field-2) [] c.args.self.now c.args.self.now (c.in_ok-names.ensures.meaning w.names) c.in-Signature.is refl
+    declaration_walks w spot block c.args.beside.begun None c.args.beside.others.now c.args.d c.in_ok-names.field-0 (declaration.Signature c.in-Signature.field-0 c.in-Signature._functions c.in-Signature.field-2) [] c.args.self.now c.args.self.now (c.in_ok-names.ensures.meaning w.names) c.in-Signature.is refl
     (writes_none w c.args.self.now) (begun_none w)
 
 pub declaration-returns-in_ok-rule-in-FunctionRule : goal.declaration-returns-in_ok-rule-in-FunctionRule
@@ -368,34 +368,34 @@ declaration-returns-in_ok-rule-in-FunctionRule t c w spot block is known all of 
     let name = c.in-FunctionRule.name in
     let parameters = c.in-FunctionRule.parameters in
     let right = c.in-FunctionRule.right in
-    declaration_walks w spot block c.args.begun (Some c.begun_by.result) c.args.others.now c.args.d c.in_ok-names.field-0 (declaration.FunctionRule place name parameters right) _ c.args.self.now c.rule.new.self (c.in_ok-names.ensures.meaning w.names) c.in-FunctionRule.is
-    (rule_node_has w.names spot block (begun_meaning w c.args.begun) c.args.others.now (record { place = place; name = name; parameters = parameters; right = right }) place name parameters right refl)
+    declaration_walks w spot block c.args.beside.begun (Some c.begun_by.result) c.args.beside.others.now c.args.d c.in_ok-names.field-0 (declaration.FunctionRule place name parameters right) _ c.args.self.now c.rule.new.self (c.in_ok-names.ensures.meaning w.names) c.in-FunctionRule.is
+    (rule_node_has w.names spot block (begun_meaning w c.args.beside.begun) c.args.beside.others.now (record { place = place; name = name; parameters = parameters; right = right }) place name parameters right refl)
     (c.in_ok-rule-in-FunctionRule.ensures w spot block is known all (record { place = ok.0; name = ok.1; parameters = ok.2; right = ok.3 }))
-    (begun_next w c.args.begun name place c.begun_by.result known ok.1 c.begun_by.ensures)
+    (begun_next w c.args.beside.begun name place c.begun_by.result known ok.1 c.begun_by.ensures)
 
 pub declaration-returns-in_ok-definition-in-PatternBinding : goal.declaration-returns-in_ok-definition-in-PatternBinding
 declaration-returns-in_ok-definition-in-PatternBinding t c w spot block is known all of =
     let ok = subst (DeclarationNodeIsOf w.owner w.names) c.in-PatternBinding.is (c.in_ok-names.ensures.owned w.owner w.names of) in
-    declaration_walks w spot block c.args.begun None c.args.others.now c.args.d c.in_ok-names.field-0 (declaration.PatternBinding c.in-PatternBinding.field-0 c.in-PatternBinding.p c.in-PatternBinding.right) _ c.args.self.now c.definition.new.self (c.in_ok-names.ensures.meaning w.names) c.in-PatternBinding.is
-    (bound_node_has w.names spot block (begun_meaning w c.args.begun) c.args.others.now c.in-PatternBinding.field-0 c.in-PatternBinding.p c.in-PatternBinding.right)
+    declaration_walks w spot block c.args.beside.begun None c.args.beside.others.now c.args.d c.in_ok-names.field-0 (declaration.PatternBinding c.in-PatternBinding.field-0 c.in-PatternBinding.p c.in-PatternBinding.right) _ c.args.self.now c.definition.new.self (c.in_ok-names.ensures.meaning w.names) c.in-PatternBinding.is
+    (bound_node_has w.names spot block (begun_meaning w c.args.beside.begun) c.args.beside.others.now c.in-PatternBinding.field-0 c.in-PatternBinding.p c.in-PatternBinding.right)
     (c.in_ok-definition-in-PatternBinding.ensures w spot (Bound (pattern_meaning w.names c.in-PatternBinding.p) (right_meaning w.names c.in-PatternBinding.right)) is.at (refl, ok.1, ok.2) ok.2
     (bound_inside w.names spot c.in-PatternBinding.p c.in-PatternBinding.right)) (begun_none w)
 
 pub rule-returns-then-goes_on : goal.rule-returns-then-goes_on
 rule-returns-then-goes_on t c w spot block is known all of =
-    rule_goes_on c.function_rule.result w c.args.self.now c.function_rule.new.self c.args.begun c.args.others.now c.args.rule c.begun_by-function.result spot block c.goes_on.result known of c.goes_on.ensures c.if-goes_on.true c.begun_by-function.ensures
+    rule_goes_on c.function_rule.result w c.args.self.now c.function_rule.new.self c.args.beside.begun c.args.beside.others.now c.args.rule c.begun_by-function.result spot block c.goes_on.result known of c.goes_on.ensures c.if-goes_on.true c.begun_by-function.ensures
     (c.function_rule.ensures w spot is.at of)
 
 pub rule-returns-then-is_empty : goal.rule-returns-then-is_empty
 rule-returns-then-is_empty t c w spot block is known all of =
-    rule_defines c.definition.result w c.args.self.now c.definition.new.self c.args.begun c.args.others.now c.args.rule spot block c.goes_on.result known of c.goes_on.ensures c.if-goes_on.false
+    rule_defines c.definition.result w c.args.self.now c.definition.new.self c.args.beside.begun c.args.beside.others.now c.args.rule spot block c.goes_on.result known of c.goes_on.ensures c.if-goes_on.false
     (no_elements c.args.rule.parameters (sym c.is_empty.ensures ∙ c.if-is_empty.true))
     (c.definition.ensures w spot (Defined (name_meaning w.names c.args.rule.name) (right_meaning w.names c.args.rule.right)) is.at (refl, of.name, of.right) of.right (defined_inside w.names spot c.args.rule.name c.args.rule.right))
 
 pub rule-returns : goal.rule-returns
 rule-returns t c w spot block is known all of =
     let first = c.in_ok-first_rule.ensures w spot block is all of in
-    rule_begins c.function_rule-2.result w c.args.self.now c.first_rule.new.self c.function_rule-2.new.self c.args.begun c.args.others.now c.args.rule spot block c.goes_on.result known of c.goes_on.ensures c.if-goes_on.false
+    rule_begins c.function_rule-2.result w c.args.self.now c.first_rule.new.self c.function_rule-2.new.self c.args.beside.begun c.args.beside.others.now c.args.rule spot block c.goes_on.result known of c.goes_on.ensures c.if-goes_on.false
     (some_elements c.args.rule.parameters (sym c.is_empty.ensures ∙ c.if-is_empty.false)) first (c.function_rule-2.ensures w spot (at_after first is.at) of)
 
 pub function_rule-returns : goal.function_rule-returns

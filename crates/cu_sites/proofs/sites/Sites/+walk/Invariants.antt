@@ -24,7 +24,7 @@ abbrev pub decreases-operands : goal.decreases-operands
 decreases-operands l = 4 * most operator_item_size l.items.now + 2
 
 abbrev pub decreases-lambda : goal.decreases-lambda
-decreases-lambda l = 4 * expression_size l.body + 2
+decreases-lambda l = 4 * expression_size l.lambda.body + 2
 
 abbrev pub decreases-let_in : goal.decreases-let_in
 decreases-let_in l = 4 * max (most declaration_size l.ds.now) (expression_size l.body) + 3
@@ -42,7 +42,7 @@ abbrev pub decreases-maybe : goal.decreases-maybe
 decreases-maybe l = 4 * size_if_there l.e + 2
 
 abbrev pub decreases-comprehension : goal.decreases-comprehension
-decreases-comprehension l = 4 * max (expression_size l.element) (most qualifier_size l.qualifiers.now) + 3
+decreases-comprehension l = 4 * max (expression_size l.found.element) (most qualifier_size l.found.qualifiers.now) + 3
 
 abbrev pub decreases-qualifiers : goal.decreases-qualifiers
 decreases-qualifiers l = 4 * most qualifier_size l.qualifiers.now + 2
