@@ -1,6 +1,8 @@
 -- What the functions of a layout, which displays a value, rest on and give.
-use Rattle.std.specs.Prelude.{◌≡◌, ℕ, List, [], ◌∷◌, ◌++◌}
+use Rattle.std.specs.Prelude.{◌≡◌, ℕ, [], ◌∷◌, ◌++◌}
+use Rattle.std.specs.String.{string_bytes}
 use Rattle.cu_values.specs.declared.layout.Layout.{Layout}
+use Rattle.cu_values.specs.declared.task.Pen.{Pen}
 use Rattle.cu_values.specs.declared.task.Task.{Task}
 use Rattle.cu_values.specs.LabelsOf.{labels_meaning}
 use Rattle.cu_values.specs.Shapes.{shapes_at}
@@ -11,13 +13,14 @@ abbrev pub IsShaped : Layout → Type 0
 IsShaped layout = layout.shapes.now ≡ shapes_at (labels_meaning layout.names.now) layout.cells.now
 
 -- The values that begin at a cell are exactly those that the tasks take: the task that was popped
--- takes the first of them, and the tasks on the stack take the others.
-abbrev pub Awaits : Layout → ℕ → List Task → Task → Type 0
-Awaits layout at tasks task =
-    Ready (labels_meaning layout.names.now) layout.cells.now at (tasks ++ task ∷ [])
+-- takes the first of them, and the tasks on the pen's stack take the others.
+abbrev pub Awaits : Layout → ℕ → Pen → Task → Type 0
+Awaits layout at pen task =
+    Ready (labels_meaning layout.names.now) layout.cells.now at (pen.tasks.items ++ task ∷ [])
 
--- A part of the popped task was written, and the stack of tasks has what is left of it.
-abbrev pub Begun : Layout → ℕ → ℕ → List Task → Task → List ℕ → ℕ → List Task → List ℕ → Type 0
-Begun layout weight at tasks task text next others longer =
+-- A part of the popped task was written, and the pen's stack of tasks has what is left of it.
+abbrev pub Begun : Layout → ℕ → ℕ → Task → Pen → ℕ → Pen → Type 0
+Begun layout weight at task before next after =
     Step (labels_meaning layout.names.now) layout.cells.now weight at
-    (tasks ++ task ∷ []) text next others longer
+    (before.tasks.items ++ task ∷ []) (string_bytes before.text)
+    next after.tasks.items (string_bytes after.text)

@@ -11,7 +11,7 @@ use crate::Value;
 use crate::labels::ProgramNames;
 use crate::layout::Layout;
 use crate::shape::{Shape, find_shapes};
-use crate::task::Task;
+use crate::task::{Pen, Task};
 use cu_kernel::Program;
 use cu_names::Names;
 use std::alloc::{AllocError, Global};
@@ -31,8 +31,7 @@ const TASKS: usize = 3 * CELLS + 1;
 /// The memory that displaying a value takes, kept from one value to the next.
 #[derive(Drop)]
 pub struct Workspace {
-    text: String,
-    tasks: Vec<Task>,
+    pen: Pen,
     shapes: Vec<Shape>,
     after: Vec<Shape>,
 }
@@ -56,18 +55,18 @@ pub fn show(
 }
 
 /// Displays the value of a layout.
-fn write(layout: &Layout, tasks: &mut Vec<Task>, text: &mut String) -> Result<(), AllocError>
+fn write(layout: &Layout, pen: &mut Pen) -> Result<(), AllocError>
     requires one { IsOneSpelled layout.now.cells.now }
     requires shapes { IsShaped layout.now }
-    ensures { OnOk result (string_bytes text.new
+    ensures { OnOk result (string_bytes pen.new.text
         ≡ display (labels_meaning layout.now.names.now) (read layout.now.cells.now)) }
 {
-    text.clear();
-    tasks.clear();
-    tasks.push(Task::Alone)?;
+    pen.text.clear();
+    pen.tasks.clear();
+    pen.tasks.push(Task::Alone)?;
     let mut at = 0;
-    while let Some(task) = tasks.pop() {
-        at = layout.step(at, task, tasks, text)?;
+    while let Some(task) = pen.tasks.pop() {
+        at = layout.step(at, task, pen)?;
     }
     Ok(())
 }
@@ -82,8 +81,10 @@ impl Workspace {
     /// A workspace that has taken no memory yet.
     pub fn new(alloc: Global) -> Workspace {
         Workspace {
-            text: String::new(alloc),
-            tasks: Vec::new(alloc),
+            pen: Pen {
+                tasks: Vec::new(alloc),
+                text: String::new(alloc),
+            },
             shapes: Vec::new(alloc),
             after: Vec::new(alloc),
         }
@@ -96,8 +97,8 @@ impl Workspace {
     /// failure.
     pub fn with_room(alloc: Global) -> Result<Workspace, AllocError> {
         let mut workspace = Workspace::new(alloc);
-        workspace.text.reserve(LINE)?;
-        workspace.tasks.reserve(TASKS)?;
+        workspace.pen.text.reserve(LINE)?;
+        workspace.pen.tasks.reserve(TASKS)?;
         workspace.shapes.reserve(CELLS)?;
         workspace.after.reserve(CELLS)?;
         Ok(workspace)
@@ -120,12 +121,12 @@ impl Workspace {
     {
         let names = ProgramNames { names, program };
         self.display(value, &names)?;
-        out.extend_from_slice(self.text.as_bytes())
+        out.extend_from_slice(self.pen.text.as_bytes())
     }
 
     /// Makes the text the display of a value.
     fn display(&mut self, value: &Value, names: &ProgramNames) -> Result<(), AllocError>
-        ensures { OnOk result (string_bytes self.new.text
+        ensures { OnOk result (string_bytes self.new.pen.text
             ≡ display (labels_meaning names.now) value.now) }
     {
         let cells = value.cells();
@@ -135,6 +136,6 @@ impl Workspace {
             cells,
             shapes: self.shapes.as_slice(),
         };
-        write(&layout, &mut self.tasks, &mut self.text)
+        write(&layout, &mut self.pen)
     }
 }

@@ -5,7 +5,7 @@ use crate::literals::{push_literal, push_variable};
 use crate::names::{push_constructor, push_partial};
 use crate::shape::Shape;
 use crate::string::push_string;
-use crate::task::Task;
+use crate::task::{Pen, Task};
 use crate::walk::end_of;
 use cu_kernel::ConId;
 use std::alloc::AllocError;
@@ -20,69 +20,54 @@ pub(crate) struct Layout<'a> {
 
 impl Layout<'_> {
     ghost use Rattle.std.specs.Prelude.{◌≡◌, true, IfOk, slice_index_or};
-    ghost use Rattle.std.specs.String.{string_bytes};
     ghost use Rattle.cu_values.specs.Layouts.{Awaits, Begun, IsShaped};
     ghost use Rattle.cu_values.specs.Shapes.{is_no_list};
 
     /// Writes a part of the display, whose values begin at the cell `at`, pushes
-    /// what it leaves to do onto the tasks, and answers the index of the cell
-    /// that was reached.
-    pub(crate) fn step(
-        &self,
-        at: usize,
-        task: Task,
-        tasks: &mut Vec<Task>,
-        text: &mut String,
-    ) -> Result<usize, AllocError>
+    /// what it leaves to do onto the pen's tasks, and answers the index of the
+    /// cell that was reached.
+    pub(crate) fn step(&self, at: usize, task: Task, pen: &mut Pen) -> Result<usize, AllocError>
         requires shapes { IsShaped self.now }
-        requires ready { Awaits self.now at tasks.old.items task }
-        ensures { IfOk result
-            (λ next. Begun self.now 1 at tasks.old.items task
-            (string_bytes text.old) next tasks.new.items (string_bytes text.new)) }
+        requires ready { Awaits self.now at pen.old task }
+        ensures { IfOk result (λ next. Begun self.now 1 at task pen.old next pen.new) }
     {
         match task {
-            Task::Alone => self.value(at, tasks, text),
-            Task::Argument => self.argument(at, tasks, text),
-            Task::Arguments(count) => self.arguments(at, count, tasks, text),
-            Task::Components(count) => self.components(at, count, tasks, text),
-            Task::Elements => self.elements(at, tasks, text),
-            Task::OpenRest => self.open_rest(at, tasks, text),
+            Task::Alone => self.value(at, pen),
+            Task::Argument => self.argument(at, pen),
+            Task::Arguments(count) => self.arguments(at, count, pen),
+            Task::Components(count) => self.components(at, count, pen),
+            Task::Elements => self.elements(at, pen),
+            Task::OpenRest => self.open_rest(at, pen),
             Task::ClosingParenthesis => {
-                text.push_str(")")?;
+                pen.text.push_str(")")?;
                 Ok(at)
             }
             Task::ClosingBracket => {
-                text.push_str("]")?;
+                pen.text.push_str("]")?;
                 Ok(at)
             }
         }
     }
 
     /// Begins the display of the value that begins at the cell `at`.
-    fn value(
-        &self,
-        at: usize,
-        tasks: &mut Vec<Task>,
-        text: &mut String,
-    ) -> Result<usize, AllocError>
+    fn value(&self, at: usize, pen: &mut Pen) -> Result<usize, AllocError>
         requires shapes { IsShaped self.now }
-        requires ready { Awaits self.now at tasks.old.items Task.Alone }
-        ensures { IfOk result (λ next. Begun self.now 6 at tasks.old.items Task.Alone
-            (string_bytes text.old) next tasks.new.items (string_bytes text.new)) }
+        requires ready { Awaits self.now at pen.old Task.Alone }
+        ensures { IfOk result (λ next. Begun self.now 6 at Task.Alone pen.old next pen.new) }
     {
         match self.cells[at] {
             Cell::Bottom => Ok(at + 1),
             Cell::LVar(number) => {
-                push_variable(text, number)?;
+                push_variable(&mut pen.text, number)?;
                 Ok(at + 1)
             }
             Cell::Lit(literal) => {
-                push_literal(text, literal)?;
+                push_literal(&mut pen.text, literal)?;
                 Ok(at + 1)
             }
-            Cell::Con(constructor, arity) => self.constructed(at, constructor, arity, tasks, text),
+            Cell::Con(constructor, arity) => self.constructed(at, constructor, arity, pen),
             Cell::Part(head, _) => {
-                push_partial(text, self.names, head)?;
+                push_partial(&mut pen.text, self.names, head)?;
                 Ok(end_of(self.cells, at))
             }
         }
@@ -94,55 +79,47 @@ impl Layout<'_> {
         at: usize,
         constructor: ConId,
         arity: u32,
-        tasks: &mut Vec<Task>,
-        text: &mut String,
+        pen: &mut Pen,
     ) -> Result<usize, AllocError>
         requires shapes { IsShaped self.now }
-        requires ready { Awaits self.now at tasks.old.items Task.Alone }
+        requires ready { Awaits self.now at pen.old Task.Alone }
         requires cell { slice_index_or self.now.cells.now at Cell.Bottom
             ≡ Cell.Con constructor arity }
-        ensures { IfOk result (λ next. Begun self.now 6 at tasks.old.items Task.Alone
-            (string_bytes text.old) next tasks.new.items (string_bytes text.new)) }
+        ensures { IfOk result (λ next. Begun self.now 6 at Task.Alone pen.old next pen.new) }
     {
         match self.shapes[at] {
-            Shape::Text => self.string(at, tasks, text),
+            Shape::Text => self.string(at, pen),
             Shape::Empty => {
-                text.push_str("[]")?;
+                pen.text.push_str("[]")?;
                 Ok(at + 1)
             }
             Shape::List => {
-                text.push_str("[")?;
-                tasks.push(Task::ClosingBracket)?;
-                tasks.push(Task::Elements)?;
-                tasks.push(Task::Alone)?;
+                pen.text.push_str("[")?;
+                pen.tasks.push(Task::ClosingBracket)?;
+                pen.tasks.push(Task::Elements)?;
+                pen.tasks.push(Task::Alone)?;
                 Ok(at + 1)
             }
             Shape::Open => {
-                tasks.push(Task::OpenRest)?;
-                tasks.push(Task::Argument)?;
+                pen.tasks.push(Task::OpenRest)?;
+                pen.tasks.push(Task::Argument)?;
                 Ok(at + 1)
             }
-            _ => self.other(at, constructor, arity, tasks, text),
+            _ => self.other(at, constructor, arity, pen),
         }
     }
 
     /// Writes the list of characters that begins at the cell `at` as a string in
     /// quotes.
-    fn string(
-        &self,
-        at: usize,
-        tasks: &mut Vec<Task>,
-        text: &mut String,
-    ) -> Result<usize, AllocError>
+    fn string(&self, at: usize, pen: &mut Pen) -> Result<usize, AllocError>
         requires shapes { IsShaped self.now }
-        requires ready { Awaits self.now at tasks.old.items Task.Alone }
+        requires ready { Awaits self.now at pen.old Task.Alone }
         requires shape { slice_index_or self.now.shapes.now at Shape.Character ≡ Shape.Text }
-        ensures { IfOk result (λ next. Begun self.now 6 at tasks.old.items Task.Alone
-            (string_bytes text.old) next tasks.new.items (string_bytes text.new)) }
+        ensures { IfOk result (λ next. Begun self.now 6 at Task.Alone pen.old next pen.new) }
     {
-        text.push_str("\"")?;
-        let next = push_string(text, self.cells, at)?;
-        text.push_str("\"")?;
+        pen.text.push_str("\"")?;
+        let next = push_string(&mut pen.text, self.cells, at)?;
+        pen.text.push_str("\"")?;
         Ok(next)
     }
 
@@ -152,137 +129,105 @@ impl Layout<'_> {
         at: usize,
         constructor: ConId,
         arity: u32,
-        tasks: &mut Vec<Task>,
-        text: &mut String,
+        pen: &mut Pen,
     ) -> Result<usize, AllocError>
         requires shapes { IsShaped self.now }
-        requires ready { Awaits self.now at tasks.old.items Task.Alone }
+        requires ready { Awaits self.now at pen.old Task.Alone }
         requires cell { slice_index_or self.now.cells.now at Cell.Bottom
             ≡ Cell.Con constructor arity }
         requires shape { is_no_list (slice_index_or self.now.shapes.now at Shape.Character) ≡ true }
-        ensures { IfOk result (λ next. Begun self.now 6 at tasks.old.items Task.Alone
-            (string_bytes text.old) next tasks.new.items (string_bytes text.new)) }
+        ensures { IfOk result (λ next. Begun self.now 6 at Task.Alone pen.old next pen.new) }
     {
         if self.names.is_tuple(constructor) {
-            text.push_str("(")?;
-            tasks.push(Task::ClosingParenthesis)?;
+            pen.text.push_str("(")?;
+            pen.tasks.push(Task::ClosingParenthesis)?;
             if arity == 0 {
                 return Ok(at + 1);
             }
-            tasks.push(Task::Components(arity - 1))?;
-            tasks.push(Task::Alone)?;
+            pen.tasks.push(Task::Components(arity - 1))?;
+            pen.tasks.push(Task::Alone)?;
             return Ok(at + 1);
         }
-        push_constructor(text, self.names.constructor(constructor))?;
-        tasks.push(Task::Arguments(arity))?;
+        push_constructor(&mut pen.text, self.names.constructor(constructor))?;
+        pen.tasks.push(Task::Arguments(arity))?;
         Ok(at + 1)
     }
 
     /// Begins the display of an argument, in parentheses where it takes them.
-    fn argument(
-        &self,
-        at: usize,
-        tasks: &mut Vec<Task>,
-        text: &mut String,
-    ) -> Result<usize, AllocError>
+    fn argument(&self, at: usize, pen: &mut Pen) -> Result<usize, AllocError>
         requires shapes { IsShaped self.now }
-        requires ready { Awaits self.now at tasks.old.items Task.Argument }
-        ensures { IfOk result (λ next. Begun self.now 5 at tasks.old.items Task.Argument
-            (string_bytes text.old) next tasks.new.items (string_bytes text.new)) }
+        requires ready { Awaits self.now at pen.old Task.Argument }
+        ensures { IfOk result (λ next. Begun self.now 5 at Task.Argument pen.old next pen.new) }
     {
         if !self.shapes[at].takes_parentheses() {
-            return self.value(at, tasks, text);
+            return self.value(at, pen);
         }
-        text.push_str("(")?;
-        tasks.push(Task::ClosingParenthesis)?;
-        self.value(at, tasks, text)
+        pen.text.push_str("(")?;
+        pen.tasks.push(Task::ClosingParenthesis)?;
+        self.value(at, pen)
     }
 
     /// Begins the first of the arguments that are left, after a space.
-    fn arguments(
-        &self,
-        at: usize,
-        count: u32,
-        tasks: &mut Vec<Task>,
-        text: &mut String,
-    ) -> Result<usize, AllocError>
+    fn arguments(&self, at: usize, count: u32, pen: &mut Pen) -> Result<usize, AllocError>
         requires shapes { IsShaped self.now }
-        requires ready { Awaits self.now at tasks.old.items (Task.Arguments count) }
-        ensures { IfOk result (λ next. Begun self.now 1 at tasks.old.items (Task.Arguments count)
-            (string_bytes text.old) next tasks.new.items (string_bytes text.new)) }
+        requires ready { Awaits self.now at pen.old (Task.Arguments count) }
+        ensures { IfOk result (λ next.
+            Begun self.now 1 at (Task.Arguments count) pen.old next pen.new) }
     {
         if count == 0 {
             return Ok(at);
         }
-        text.push_str(" ")?;
-        tasks.push(Task::Arguments(count - 1))?;
-        self.argument(at, tasks, text)
+        pen.text.push_str(" ")?;
+        pen.tasks.push(Task::Arguments(count - 1))?;
+        self.argument(at, pen)
     }
 
     /// Begins the first of the components of a tuple that are left, after a
     /// comma.
-    fn components(
-        &self,
-        at: usize,
-        count: u32,
-        tasks: &mut Vec<Task>,
-        text: &mut String,
-    ) -> Result<usize, AllocError>
+    fn components(&self, at: usize, count: u32, pen: &mut Pen) -> Result<usize, AllocError>
         requires shapes { IsShaped self.now }
-        requires ready { Awaits self.now at tasks.old.items (Task.Components count) }
-        ensures { IfOk result (λ next. Begun self.now 1 at tasks.old.items (Task.Components count)
-            (string_bytes text.old) next tasks.new.items (string_bytes text.new)) }
+        requires ready { Awaits self.now at pen.old (Task.Components count) }
+        ensures { IfOk result (λ next.
+            Begun self.now 1 at (Task.Components count) pen.old next pen.new) }
     {
         if count == 0 {
             return Ok(at);
         }
-        text.push_str(",")?;
-        tasks.push(Task::Components(count - 1))?;
-        self.value(at, tasks, text)
+        pen.text.push_str(",")?;
+        pen.tasks.push(Task::Components(count - 1))?;
+        self.value(at, pen)
     }
 
     /// Begins what follows an element of a list that has an end: a comma and
     /// the next element, or nothing.
-    fn elements(
-        &self,
-        at: usize,
-        tasks: &mut Vec<Task>,
-        text: &mut String,
-    ) -> Result<usize, AllocError>
+    fn elements(&self, at: usize, pen: &mut Pen) -> Result<usize, AllocError>
         requires shapes { IsShaped self.now }
-        requires ready { Awaits self.now at tasks.old.items Task.Elements }
-        ensures { IfOk result (λ next. Begun self.now 1 at tasks.old.items Task.Elements
-            (string_bytes text.old) next tasks.new.items (string_bytes text.new)) }
+        requires ready { Awaits self.now at pen.old Task.Elements }
+        ensures { IfOk result (λ next. Begun self.now 1 at Task.Elements pen.old next pen.new) }
     {
         if self.cells[at].arity() == 0 {
             return Ok(at + 1);
         }
-        text.push_str(",")?;
-        tasks.push(Task::Elements)?;
-        tasks.push(Task::Alone)?;
+        pen.text.push_str(",")?;
+        pen.tasks.push(Task::Elements)?;
+        pen.tasks.push(Task::Alone)?;
         Ok(at + 1)
     }
 
     /// Begins what follows an element of a list that ends in a variable: a
     /// colon, and the next element or the variable.
-    fn open_rest(
-        &self,
-        at: usize,
-        tasks: &mut Vec<Task>,
-        text: &mut String,
-    ) -> Result<usize, AllocError>
+    fn open_rest(&self, at: usize, pen: &mut Pen) -> Result<usize, AllocError>
         requires shapes { IsShaped self.now }
-        requires ready { Awaits self.now at tasks.old.items Task.OpenRest }
-        ensures { IfOk result (λ next. Begun self.now 1 at tasks.old.items Task.OpenRest
-            (string_bytes text.old) next tasks.new.items (string_bytes text.new)) }
+        requires ready { Awaits self.now at pen.old Task.OpenRest }
+        ensures { IfOk result (λ next. Begun self.now 1 at Task.OpenRest pen.old next pen.new) }
     {
-        text.push_str(":")?;
+        pen.text.push_str(":")?;
         if let Cell::LVar(number) = self.cells[at] {
-            push_variable(text, number)?;
+            push_variable(&mut pen.text, number)?;
             return Ok(at + 1);
         }
-        tasks.push(Task::OpenRest)?;
-        tasks.push(Task::Argument)?;
+        pen.tasks.push(Task::OpenRest)?;
+        pen.tasks.push(Task::Argument)?;
         Ok(at + 1)
     }
 }

@@ -20,3 +20,11 @@ pub(crate) enum Task {
     /// A closing square bracket.
     ClosingBracket,
 }
+
+/// What displays a value: the tasks that are left, as a stack, and the text that
+/// was written.
+#[derive(Drop)]
+pub(crate) struct Pen {
+    pub(crate) tasks: Vec<Task>,
+    pub(crate) text: String,
+}

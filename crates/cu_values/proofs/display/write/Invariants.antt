@@ -9,10 +9,10 @@ use Rattle.cu_values.proofs.display.write.Given as goal
 
 abbrev pub invariant-loop-task : goal.invariant-loop-task
 invariant-loop-task l = record {
-  ready : Ready (labels_meaning l.layout.names.now) l.layout.cells.now l.at l.tasks.items;
-  whole : string_bytes l.text ++ written (labels_meaning l.layout.names.now) (reverse l.tasks.items) (read_all (drop l.at l.layout.cells.now))
+  ready : Ready (labels_meaning l.layout.names.now) l.layout.cells.now l.at l.pen.tasks.items;
+  whole : string_bytes l.pen.text ++ written (labels_meaning l.layout.names.now) (reverse l.pen.tasks.items) (read_all (drop l.at l.layout.cells.now))
       ≡ display (labels_meaning l.layout.names.now) (read l.layout.cells.now);
 }
 
 abbrev pub decreases-loop-task : goal.decreases-loop-task
-decreases-loop-task l = 8 * (length l.layout.cells.now - l.at) + length l.tasks.items
+decreases-loop-task l = 8 * (length l.layout.cells.now - l.at) + length l.pen.tasks.items

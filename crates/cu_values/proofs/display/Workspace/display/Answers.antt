@@ -15,5 +15,5 @@ write-requires-clause-one c = spelled_by c.args.value.now c.cells-cells.result.n
 
 pub returns : goal.returns
 returns c =
-    subst (λ (v : Value). OnOk c.write.result (string_bytes c.write.new.text ≡ display (labels_meaning c.args.names.now) v))
+    subst (λ (v : Value). OnOk c.write.result (string_bytes c.write.new.pen.text ≡ display (labels_meaning c.args.names.now) v))
     (read_by c.args.value.now c.cells-cells.result.now c.cells-cells.ensures) c.write.ensures

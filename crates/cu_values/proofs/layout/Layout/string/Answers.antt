@@ -10,11 +10,11 @@ use Rattle.cu_values.proofs.layout.Layout.string.Goals as goal
 pub push_string-requires-clause-characters : goal.push_string-requires-clause-characters
 push_string-requires-clause-characters c =
     string_letters (labels_meaning c.args.self.now.names.now) c.args.self.now.cells.now c.args.self.now.shapes.now c.args.at Character c.requires.shapes
-    (place (labels_meaning c.args.self.now.names.now) c.args.self.now.cells.now c.args.at c.args.tasks.now.items Alone c.requires.ready refl) c.requires.shape
+    (place (labels_meaning c.args.self.now.names.now) c.args.self.now.cells.now c.args.at c.args.pen.now.tasks.items Alone c.requires.ready refl) c.requires.shape
 
 pub returns : goal.returns
 returns c =
-    string_step (labels_meaning c.args.self.now.names.now) c.args.self.now.cells.now c.args.self.now.shapes.now c.args.at c.args.tasks.now.items (string_bytes c.args.text.now)
+    string_step (labels_meaning c.args.self.now.names.now) c.args.self.now.cells.now c.args.self.now.shapes.now c.args.at c.args.pen.now.tasks.items (string_bytes c.args.pen.now.text)
     (string_bytes c.push_str.new.self) (string_bytes c.push_string.new.text) (string_bytes c.push_str-2.new.self) c.in_ok-next.next Character c.requires.ready
     c.requires.shapes c.requires.shape c.in_ok-next.ensures.after c.in_ok-next.ensures.within c.in_ok-next.ensures.spelled c.in_ok-next.ensures.others
     c.in_ok-push_str.ensures.bytes c.in_ok-next.ensures.text c.in_ok-push_str-2.ensures.bytes
