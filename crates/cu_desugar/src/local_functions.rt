@@ -22,7 +22,7 @@ ghost use Rattle.cu_translation.specs.TypeTable.{signature_type};
 use crate::around::Around;
 use crate::functions::{arity, rules};
 use crate::signatures::signature;
-use cu_forms::{Scope, generator_function, lambda_function, selectors};
+use cu_forms::{Lambda, ListQualifier, Scope, generator_function, lambda_function, selectors};
 use cu_kernel::{LocalFunction, TypeTerm};
 use cu_names::{NameId, Place};
 use cu_sites::{Group, Node, Site, Sites, Spot};
@@ -109,13 +109,24 @@ fn functions_of(
             let entries = sites.scope(alloc, node.spot)?;
             let scope = Scope::outermost(entries.as_slice());
             let parameters = parameters.as_slice();
-            let function = lambda_function(alloc, around, &scope, *place, parameters, *body)?;
+            let lambda = Lambda {
+                place: *place,
+                parameters,
+                body: *body,
+            };
+            let function = lambda_function(alloc, around, &scope, lambda)?;
             alone(alloc, function)
         }
         Site::Generated(place, p, whole, number) => {
             let entries = sites.scope(alloc, node.spot)?;
             let scope = Scope::outermost(entries.as_slice());
-            let function = generator_function(alloc, around, &scope, *place, *p, *whole, *number)?;
+            let qualifier = ListQualifier {
+                place: *place,
+                pattern: *p,
+                whole: *whole,
+                count: *number,
+            };
+            let function = generator_function(alloc, around, &scope, qualifier)?;
             alone(alloc, function)
         }
         Site::Function(block, group) => in_block(alloc, around, sites, node.spot, *block, group),

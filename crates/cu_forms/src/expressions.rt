@@ -449,6 +449,13 @@ fn guard<A: Surroundings>(
     Ok((condition, chosen))
 }
 
+/// A declaration of a block, with the function whose rules it may go on.
+#[derive(Clone, Copy)]
+struct Following<'t> {
+    begun: Option<Begun>,
+    d: Declaration<'t>,
+}
+
 /// The local variables that declarations define, in the order of the text.
 #[cycle(terms)]
 fn lets<A: Surroundings>(
@@ -464,7 +471,8 @@ fn lets<A: Surroundings>(
     let mut found = Vec::new(alloc);
     let mut begun = None;
     for d in ds {
-        begun = define(alloc, around, scope, *d, begun, &mut found)?;
+        let following = Following { begun, d: *d };
+        begun = define(alloc, around, scope, following, &mut found)?;
     }
     Ok(found)
 }
@@ -476,15 +484,17 @@ fn define<A: Surroundings>(
     alloc: Global,
     around: &A,
     scope: &Scope<'_>,
-    d: Declaration<'_>,
-    begun: Option<Begun>,
+    following: Following<'_>,
     found: &mut Vec<Bound>,
 ) -> Result<Option<Begun>, AllocError>
     ensures { (w : Setting) (local : definitions.Scope) → A.tells around.now w
-        → Sees w local scope.now → BegunIsKnown w begun → DeclarationIsOf w.owner w.names d.entry
-        → IfOk result (Defines w local begun d.entry found.old.items found.new.items) }
+        → Sees w local scope.now → BegunIsKnown w following.entry.begun
+        → DeclarationIsOf w.owner w.names following.entry.d
+        → IfOk result (Defines w local following.entry.begun following.entry.d
+        found.old.items found.new.items) }
 {
-    match d.node(alloc)? {
+    let begun = following.begun;
+    match following.d.node(alloc)? {
         DeclarationNode::FreeVariables(_, _names) => Ok(None),
         DeclarationNode::Signature(_, _names, _) => Ok(None),
         DeclarationNode::FunctionRule(place, name, parameters, right) => {

@@ -17,7 +17,9 @@ mod term_parts;
 mod tree_order;
 
 pub use expressions::{right_side, term};
-pub use local_functions::{generator_function, goal_rule, lambda_function, rule, selectors};
+pub use local_functions::{
+    Lambda, ListQualifier, generator_function, goal_rule, lambda_function, rule, selectors,
+};
 pub use names::{fixity_at, name_alone, referent};
 pub use operators::tree_of;
 pub use pattern_forms::{Binders, pattern, patterns};

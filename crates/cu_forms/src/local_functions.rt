@@ -29,6 +29,27 @@ use cu_syntax::{Expression, ExpressionNode, Name, Pattern, PatternNode, Qualifie
 use cu_translation::{Binder, Position, Surroundings};
 use std::alloc::{AllocError, Global};
 
+/// A lambda expression.
+#[derive(Clone, Copy)]
+pub struct Lambda<'p, 't> {
+    /// The place of its first token.
+    pub place: Place,
+    pub parameters: &'p [Pattern<'t>],
+    pub body: Expression<'t>,
+}
+
+/// A qualifier with a list, in a comprehension.
+#[derive(Clone, Copy)]
+pub struct ListQualifier<'t> {
+    /// The place of its first token.
+    pub place: Place,
+    pub pattern: Pattern<'t>,
+    /// The comprehension.
+    pub whole: Expression<'t>,
+    /// How many qualifiers of the comprehension there are up to this one.
+    pub count: usize,
+}
+
 /// The rule of a function: its patterns, and the term of the right-hand side in
 /// which their variables are in scope.
 ///
@@ -108,26 +129,23 @@ pub fn lambda_function<A: Surroundings>(
     alloc: Global,
     around: &A,
     scope: &Scope<'_>,
-    place: Place,
-    parameters: &[Pattern<'_>],
-    body: Expression<'_>,
+    lambda: Lambda<'_, '_>,
 ) -> Result<LocalFunction, AllocError>
     ensures { (w : Setting) (local : definitions.Scope) → A.tells around.now w
-        → Sees w local scope.now → All (PatternIsOf w.owner w.names) parameters.now
-        → ExpressionIsOf w.owner w.names body.entry
-        → IfOk result (λ f. local_function_meaning f
-        ≡ lambda_form w local (position_of place) parameters.now body.entry) }
+        → Sees w local scope.now → All (PatternIsOf w.owner w.names) lambda.entry.parameters.now
+        → ExpressionIsOf w.owner w.names lambda.entry.body
+        → IfOk result (λ f. local_function_meaning f ≡ lambda_form w local
+        (position_of lambda.entry.place) lambda.entry.parameters.now lambda.entry.body) }
 {
-    let params = patterns(alloc, around, Binders::Own, parameters)?;
-    let entries = parameter_entries(alloc, parameters)?;
+    let params = patterns(alloc, around, Binders::Own, lambda.parameters)?;
+    let entries = parameter_entries(alloc, lambda.parameters)?;
     let inner = Scope::inside(entries.as_slice(), &*scope);
-    let found = term(alloc, around, &inner, body)?;
-    new_function(alloc, around, place, params, found)
+    let found = term(alloc, around, &inner, lambda.body)?;
+    new_function(alloc, around, lambda.place, params, found)
 }
 
-/// The function of a qualifier with a list, by the place of the qualifier's
-/// first token and its pattern. Its result is the rest of the comprehension
-/// after the qualifier, which is the last of the first `count`.
+/// The function of a qualifier with a list. Its result is the rest of the
+/// comprehension after the qualifier.
 ///
 /// # Errors
 ///
@@ -136,21 +154,19 @@ pub fn generator_function<A: Surroundings>(
     alloc: Global,
     around: &A,
     scope: &Scope<'_>,
-    place: Place,
-    p: Pattern<'_>,
-    whole: Expression<'_>,
-    count: usize,
+    qualifier: ListQualifier<'_>,
 ) -> Result<LocalFunction, AllocError>
     ensures { (w : Setting) (local : definitions.Scope) → A.tells around.now w
-        → Sees w local scope.now → PatternIsOf w.owner w.names p.entry
-        → ExpressionIsOf w.owner w.names whole.entry
+        → Sees w local scope.now → PatternIsOf w.owner w.names qualifier.entry.pattern
+        → ExpressionIsOf w.owner w.names qualifier.entry.whole
         → IfOk result (λ f. local_function_meaning f
-        ≡ generator_form w local (position_of place) p.entry whole.entry count) }
+        ≡ generator_form w local (position_of qualifier.entry.place) qualifier.entry.pattern
+        qualifier.entry.whole qualifier.entry.count) }
 {
-    let entries = pattern_entries(alloc, p)?;
+    let entries = pattern_entries(alloc, qualifier.pattern)?;
     let inner = Scope::inside(entries.as_slice(), &*scope);
-    let rest = rest_of(alloc, around, &inner, whole, count)?;
-    generator(alloc, around, place, p, rest)
+    let rest = rest_of(alloc, around, &inner, qualifier.whole, qualifier.count)?;
+    generator(alloc, around, qualifier.place, qualifier.pattern, rest)
 }
 
 /// The term of the rest of a comprehension after so many of its qualifiers.

@@ -386,20 +386,20 @@ lets-returns g t c w local tells sees all =
 pub define-returns-in-FreeVariables : goal.define-returns-in-FreeVariables
 define-returns-in-FreeVariables g t c w local tells sees known is =
     let bounds = c.args.found.now.items in
-    defines w local c.args.begun None c.args.d c.in_ok-_names.field-0 (declaration.FreeVariables c.in-FreeVariables.field-0 c.in-FreeVariables._names) bounds bounds (c.in_ok-_names.ensures.meaning w.names) c.in-FreeVariables.is (defines_nothing bounds) refl tt
+    defines w local c.args.following.begun None c.args.following.d c.in_ok-_names.field-0 (declaration.FreeVariables c.in-FreeVariables.field-0 c.in-FreeVariables._names) bounds bounds (c.in_ok-_names.ensures.meaning w.names) c.in-FreeVariables.is (defines_nothing bounds) refl tt
 
 pub define-returns-in-Signature : goal.define-returns-in-Signature
 define-returns-in-Signature g t c w local tells sees known is =
     let bounds = c.args.found.now.items in
-    defines w local c.args.begun None c.args.d c.in_ok-_names.field-0 (declaration.Signature c.in-Signature.field-0 c.in-Signature._names c.in-Signature.field-2) bounds bounds (c.in_ok-_names.ensures.meaning w.names) c.in-Signature.is (defines_nothing bounds) refl tt
+    defines w local c.args.following.begun None c.args.following.d c.in_ok-_names.field-0 (declaration.Signature c.in-Signature.field-0 c.in-Signature._names c.in-Signature.field-2) bounds bounds (c.in_ok-_names.ensures.meaning w.names) c.in-Signature.is (defines_nothing bounds) refl tt
 
 pub define-returns-then-is_of_function : goal.define-returns-then-is_of_function
 define-returns-then-is_of_function g t c w local tells sees known is =
     let of = subst (DeclarationNodeIsOf w.owner w.names) c.in-FunctionRule.is (c.in_ok-_names.ensures.owned w.owner w.names is) in
     let bounds = c.args.found.now.items in
     let here = c.in-FunctionRule in
-    let which = sym (ap (is_function_rule c.args.begun here.name.text) c.as_slice.ensures.value) ∙ sym c.is_of_function.ensures ∙ c.if-is_of_function.true in
-    rule_defines w local sees.differ c.args.begun c.begun_by-next.result c.args.d c.in_ok-_names.field-0 here.place here.name here.parameters here.right true bounds bounds (c.in_ok-_names.ensures.meaning w.names) here.is
+    let which = sym (ap (is_function_rule c.args.following.begun here.name.text) c.as_slice.ensures.value) ∙ sym c.is_of_function.ensures ∙ c.if-is_of_function.true in
+    rule_defines w local sees.differ c.args.following.begun c.begun_by-next.result c.args.following.d c.in_ok-_names.field-0 here.place here.name here.parameters here.right true bounds bounds (c.in_ok-_names.ensures.meaning w.names) here.is
     known of.1 which c.begun_by-next.ensures (defines_nothing bounds)
 
 pub define-returns-in_ok-push-in-FunctionRule : goal.define-returns-in_ok-push-in-FunctionRule
@@ -407,10 +407,10 @@ define-returns-in_ok-push-in-FunctionRule g t c w local tells sees known is =
     let of = subst (DeclarationNodeIsOf w.owner w.names) c.in-FunctionRule.is (c.in_ok-_names.ensures.owned w.owner w.names is) in
     let before = c.args.found.now.items in
     let here = c.in-FunctionRule in
-    let which = sym (ap (is_function_rule c.args.begun here.name.text) c.as_slice.ensures.value) ∙ sym c.is_of_function.ensures ∙ c.if-is_of_function.false in
+    let which = sym (ap (is_function_rule c.args.following.begun here.name.text) c.as_slice.ensures.value) ∙ sym c.is_of_function.ensures ∙ c.if-is_of_function.false in
     let p = c.of.result in
     let u = c.in_ok-definition-in-FunctionRule.definition in
-    rule_defines w local sees.differ c.args.begun c.begun_by-next.result c.args.d c.in_ok-_names.field-0 here.place here.name here.parameters here.right false before c.push.new.self.items (c.in_ok-_names.ensures.meaning w.names) here.is
+    rule_defines w local sees.differ c.args.following.begun c.begun_by-next.result c.args.following.d c.in_ok-_names.field-0 here.place here.name here.parameters here.right false before c.push.new.self.items (c.in_ok-_names.ensures.meaning w.names) here.is
     known of.1 which c.begun_by-next.ensures
     (one_more before c.push.new.self.items (at_place p u) (bound (At (position_of here.name.place)) (right_form w local here.right)) c.in_ok-push-in-FunctionRule.ensures.items
     (bound_at w local here.name here.right p u c.of.ensures (c.in_ok-definition-in-FunctionRule.ensures w local tells sees of.3)))
@@ -420,7 +420,7 @@ define-returns-in_ok-add_selections-in-PatternBinding g t c w local tells sees k
     let of = subst (DeclarationNodeIsOf w.owner w.names) c.in-PatternBinding.is (c.in_ok-_names.ensures.owned w.owner w.names is) in
     let before = c.args.found.now.items in
     let here = c.in-PatternBinding in
-    binding_defines w local c.args.begun c.args.d c.in_ok-_names.field-0 here.field-0 here.p here.right c.of-in-PatternBinding.result c.in_ok-definition-in-PatternBinding.definition before c.push-in-PatternBinding.new.self.items
+    binding_defines w local c.args.following.begun c.args.following.d c.in_ok-_names.field-0 here.field-0 here.p here.right c.of-in-PatternBinding.result c.in_ok-definition-in-PatternBinding.definition before c.push-in-PatternBinding.new.self.items
     c.add_selections.new.found.items (c.in_ok-_names.ensures.meaning w.names) here.is c.in_ok-push-in-PatternBinding.ensures.items (c.of-in-PatternBinding.ensures ∙ c.place.ensures.position w.names)
     (c.in_ok-definition-in-PatternBinding.ensures w local tells sees of.2) (c.in_ok-add_selections-in-PatternBinding.ensures w tells sees.differ of.1)
 

@@ -70,7 +70,7 @@ abbrev pub decreases-lets : goal.decreases-lets
 decreases-lets g l = 4 * most declaration_size l.ds.now + 1
 
 abbrev pub decreases-define : goal.decreases-define
-decreases-define g l = 4 * declaration_size l.d
+decreases-define g l = 4 * declaration_size l.following.d
 
 abbrev pub decreases-comprehension : goal.decreases-comprehension
 decreases-comprehension g l = 4 * max (expression_size l.element) (most qualifier_size l.qualifiers.now) + 1
