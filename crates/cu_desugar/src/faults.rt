@@ -11,7 +11,7 @@ ghost use Rattle.cu_translation.specs.Faults.{group_clashes, group_faults};
 ghost use Rattle.cu_translation.specs.Rules.{Group};
 
 use crate::texts::FunctionText;
-use cu_faults::{First, tell_clashes, tell_function};
+use cu_faults::{First, TextSites, tell_clashes, tell_function};
 use cu_toplevel::TopNames;
 use cu_translation::Fault;
 use std::alloc::{AllocError, Global};
@@ -47,14 +47,11 @@ fn first_fault(
     let mut first = First::new();
     for text in texts {
         let around = text.around(top);
-        tell_function(
-            alloc,
-            &around,
-            &text.group,
-            &text.sites,
-            &text.dependencies,
-            &mut first,
-        )?;
+        let found = TextSites {
+            sites: &text.sites,
+            dependencies: &text.dependencies,
+        };
+        tell_function(alloc, &around, &text.group, found, &mut first)?;
     }
     Ok(first.fault())
 }

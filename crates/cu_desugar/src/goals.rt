@@ -21,7 +21,7 @@ ghost use Rattle.cu_uses.specs.Gathered.{names_meaning};
 use crate::around::Around;
 use crate::functions::arity;
 use crate::local_functions::local_functions;
-use cu_faults::{first_clash, first_goal_fault};
+use cu_faults::{TextSites, first_clash, first_goal_fault};
 use cu_forms::goal_rule;
 use cu_kernel::{LocalBody, TopFunction};
 use cu_sites::{Dependencies, Numbers, Sites};
@@ -100,7 +100,13 @@ impl<'t> GoalParts<'t> {
         let owner = top.owner();
         match clash {
             Some(clash) => Ok(Some(clash)),
-            None => first_goal_fault(alloc, &around, owner, &self.sites, &self.dependencies),
+            None => {
+                let found = TextSites {
+                    sites: &self.sites,
+                    dependencies: &self.dependencies,
+                };
+                first_goal_fault(alloc, &around, owner, found)
+            }
         }
     }
 

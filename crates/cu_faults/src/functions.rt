@@ -21,6 +21,13 @@ use cu_sites::{Dependencies, Group, Sites};
 use cu_translation::{Binder, Fault, Surroundings, Wrong};
 use std::alloc::{AllocError, Global};
 
+/// The sites of a text, and which of its definitions depend on which.
+#[derive(Clone, Copy)]
+pub struct TextSites<'s, 't> {
+    pub sites: &'s Sites<'t>,
+    pub dependencies: &'s Dependencies,
+}
+
 /// The first of the operators in a text that have no grouped tree.
 ///
 /// # Errors
@@ -49,17 +56,16 @@ pub fn first_goal_fault<A: Surroundings>(
     alloc: Global,
     around: &A,
     owner: NameId,
-    sites: &Sites<'_>,
-    dependencies: &Dependencies,
+    found: TextSites<'_, '_>,
 ) -> Result<Option<Fault>, AllocError>
     ensures { (t : Text) (names : Names) (goal : Goal) → t.owner ≡ owner
         → A.tells around.now (setting t (around_goal names goal))
-        → Stands t (goal_nodes goal) sites.now
-        → AreDependencies (goal_nodes goal) dependencies.now
+        → Stands t (goal_nodes goal) found.entry.sites.now
+        → AreDependencies (goal_nodes goal) found.entry.dependencies.now
         → IfOk result (IsFirst t.owner (goal_faults names goal)) }
 {
     let mut first = First::new();
-    tell_text(alloc, around, owner, sites, dependencies, &mut first)?;
+    tell_text(alloc, around, owner, found, &mut first)?;
     Ok(first.fault())
 }
 
@@ -72,22 +78,22 @@ pub fn tell_function<A: Surroundings>(
     alloc: Global,
     around: &A,
     group: &Group<'_>,
-    sites: &Sites<'_>,
-    dependencies: &Dependencies,
+    found: TextSites<'_, '_>,
     first: &mut First,
 ) -> Result<(), AllocError>
     ensures { (t : Text) (names : Names)
         → A.tells around.now (setting t (around_group names (group_meaning t.names group.now)))
         → GroupIsOf t.owner t.names group.now
-        → Stands t (group_nodes (group_meaning t.names group.now)) sites.now
-        → AreDependencies (group_nodes (group_meaning t.names group.now)) dependencies.now
+        → Stands t (group_nodes (group_meaning t.names group.now)) found.entry.sites.now
+        → AreDependencies (group_nodes (group_meaning t.names group.now))
+        found.entry.dependencies.now
         → OnOk result (Told t.owner first.old
         (group_faults names (group_meaning t.names group.now)) first.new) }
 {
     tell_rules(group, first);
     tell_length(group, first);
     let owner = group.first.place.module;
-    tell_text(alloc, around, owner, sites, dependencies, first)
+    tell_text(alloc, around, owner, found, first)
 }
 
 /// Tells the faults of what stands in a text of a module, clashes of operators
@@ -96,17 +102,16 @@ fn tell_text<A: Surroundings>(
     alloc: Global,
     around: &A,
     owner: NameId,
-    sites: &Sites<'_>,
-    dependencies: &Dependencies,
+    found: TextSites<'_, '_>,
     first: &mut First,
 ) -> Result<(), AllocError>
     ensures { (t : Text) (a : Around) (nodes : List text.Node) → t.owner ≡ owner
-        → A.tells around.now (setting t a) → Stands t nodes sites.now
-        → AreDependencies nodes dependencies.now
+        → A.tells around.now (setting t a) → Stands t nodes found.entry.sites.now
+        → AreDependencies nodes found.entry.dependencies.now
         → OnOk result (Told t.owner first.old (node_faults a nodes) first.new) }
 {
-    tell_nodes(alloc, around, sites, first)?;
-    tell_recursive(alloc, owner, dependencies, first)
+    tell_nodes(alloc, around, found.sites, first)?;
+    tell_recursive(alloc, owner, found.dependencies, first)
 }
 
 /// Tells the variables of a text that depend on themselves.

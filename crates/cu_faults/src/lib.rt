@@ -13,5 +13,5 @@ mod rules;
 mod uses;
 
 pub use first::First;
-pub use functions::{first_clash, first_goal_fault, tell_function};
+pub use functions::{TextSites, first_clash, first_goal_fault, tell_function};
 pub use nodes::tell_clashes;

@@ -18,10 +18,10 @@ use crate::operations::{clash, set_names};
 use crate::patterns::{Sought, pattern, patterns};
 use crate::repeated::tell_variables;
 use crate::rules::{tell_length, tell_rules};
-use crate::uses::use_at;
+use crate::uses::{Applied, use_at};
 use cu_forms::Scope;
 use cu_sites::{Node, Site, Sites, Spot};
-use cu_syntax::{Expression, Name, Pattern};
+use cu_syntax::Pattern;
 use cu_translation::{Referent, Surroundings};
 use std::alloc::{AllocError, Global};
 
@@ -108,15 +108,11 @@ fn faults_at<A: Surroundings>(
 {
     match &node.site {
         Site::Use(name, arguments) => {
-            use_in(
-                alloc,
-                around,
-                sites,
-                node.spot,
-                *name,
-                arguments.as_slice(),
-                first,
-            )
+            let applied = Applied {
+                name: *name,
+                arguments: arguments.as_slice(),
+            };
+            use_in(alloc, around, sites, node.spot, applied, first)
         }
         Site::Operation(e) => {
             let entries = sites.scope(alloc, node.spot)?;
@@ -145,22 +141,22 @@ fn use_in<A: Surroundings>(
     around: &A,
     sites: &Sites<'_>,
     spot: Spot,
-    name: Name,
-    arguments: &[Expression<'_>],
+    applied: Applied<'_, '_>,
     first: &mut First,
 ) -> Result<(), AllocError>
     ensures { (t : Text) (a : Around) (inner : text.Spot) → A.tells around.now (setting t a)
-        → IsSpotIn t sites.now spot inner → NameIsOf t.owner t.names name
-        → All (ExpressionIsOf t.owner t.names) arguments.now
+        → IsSpotIn t sites.now spot inner → NameIsOf t.owner t.names applied.entry.name
+        → All (ExpressionIsOf t.owner t.names) applied.entry.arguments.now
         → OnOk result (Told t.owner first.old
-        (use_told (setting t a) inner.scope name arguments.now) first.new) }
+        (use_told (setting t a) inner.scope applied.entry.name applied.entry.arguments.now)
+        first.new) }
 {
-    if !is_set_name(around.value(name)) {
+    if !is_set_name(around.value(applied.name)) {
         return Ok(());
     }
     let entries = sites.scope(alloc, spot)?;
     let scope = Scope::outermost(entries.as_slice());
-    use_at(alloc, around, &scope, name, arguments, first)
+    use_at(alloc, around, &scope, applied, first)
 }
 
 /// Whether a name refers to set functions.

@@ -10,12 +10,20 @@ ghost use Rattle.cu_faults.specs.Inside.Uses.{operand_in, operation_clash, opera
 ghost use Rattle.cu_faults.specs.Telling.{Told};
 
 use crate::first::First;
-use crate::uses::tell_use;
+use crate::uses::{NameUse, tell_use};
 use cu_fixity::Part;
 use cu_forms::{Scope, tree_of};
 use cu_syntax::{Expression, ExpressionNode, Name};
 use cu_translation::{Fault, Surroundings, Wrong};
 use std::alloc::{AllocError, Global};
+
+/// A part of an expression in the order of its tree, after the operator that
+/// stands before it, if one does.
+#[derive(Clone, Copy)]
+struct PartAfter<'t> {
+    before: Option<Name>,
+    part: Part<Expression<'t>>,
+}
 
 /// Tells the place of an expression with operators, unless these have a grouped
 /// tree.
@@ -80,7 +88,11 @@ fn operators<A: Surroundings>(
 {
     let mut before = None;
     for part in parts {
-        operator(alloc, around, scope, before, *part, first)?;
+        let placed = PartAfter {
+            before,
+            part: *part,
+        };
+        operator(alloc, around, scope, placed, first)?;
         before = operator_in(*part);
     }
     Ok(())
@@ -92,17 +104,27 @@ fn operator<A: Surroundings>(
     alloc: Global,
     around: &A,
     scope: &Scope<'_>,
-    before: Option<Name>,
-    part: Part<Expression<'_>>,
+    placed: PartAfter<'_>,
     first: &mut First,
 ) -> Result<(), AllocError>
     ensures { (w : Setting) (local : local_names.Scope) → A.tells around.now w
-        → Sees w local scope.now → IfSome before (NameIsOf w.owner w.names)
-        → PartIsOf ExpressionIsOf w.owner w.names part.entry
-        → OnOk result (Told w.owner first.old (part_faults w local before part.entry) first.new) }
+        → Sees w local scope.now → IfSome placed.entry.before (NameIsOf w.owner w.names)
+        → PartIsOf ExpressionIsOf w.owner w.names placed.entry.part
+        → OnOk result (Told w.owner first.old
+        (part_faults w local placed.entry.before placed.entry.part) first.new) }
 {
-    match before {
-        Some(name) => tell_use(alloc, around, scope, name, operand_in(part), 1, first),
+    match placed.before {
+        Some(name) => tell_use(
+            alloc,
+            around,
+            scope,
+            NameUse {
+                name,
+                argument: operand_in(placed.part),
+                others: 1,
+            },
+            first,
+        ),
         None => Ok(()),
     }
 }

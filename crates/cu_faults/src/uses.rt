@@ -21,33 +21,55 @@ use cu_syntax::{Expression, Name};
 use cu_translation::{Fault, Referent, Surroundings, Wrong};
 use std::alloc::{AllocError, Global};
 
+/// A name on arguments.
+#[derive(Clone, Copy)]
+pub(crate) struct Applied<'e, 't> {
+    pub(crate) name: Name,
+    pub(crate) arguments: &'e [Expression<'t>],
+}
+
+/// A name with what decides whether it may stand there, where it is one of set
+/// functions: its first argument, if it has one, and how many others follow.
+#[derive(Clone, Copy)]
+pub(crate) struct NameUse<'t> {
+    pub(crate) name: Name,
+    pub(crate) argument: Option<Expression<'t>>,
+    pub(crate) others: usize,
+}
+
 /// Tells a name on arguments that is a name of set functions, unless it may
 /// stand on them.
 pub(crate) fn use_at<A: Surroundings>(
     alloc: Global,
     around: &A,
     scope: &Scope<'_>,
-    name: Name,
-    arguments: &[Expression<'_>],
+    applied: Applied<'_, '_>,
     first: &mut First,
 ) -> Result<(), AllocError>
     ensures { (w : Setting) (local : local_names.Scope) → A.tells around.now w
-        → Sees w local scope.now → NameIsOf w.owner w.names name
-        → All (ExpressionIsOf w.owner w.names) arguments.now
-        → OnOk result (Told w.owner first.old (use_told w local name arguments.now) first.new) }
+        → Sees w local scope.now → NameIsOf w.owner w.names applied.entry.name
+        → All (ExpressionIsOf w.owner w.names) applied.entry.arguments.now
+        → OnOk result (Told w.owner first.old
+        (use_told w local applied.entry.name applied.entry.arguments.now) first.new) }
 {
+    let name = applied.name;
+    let arguments = applied.arguments;
     match arguments {
-        [] => tell_use(alloc, around, scope, name, None, 0, first),
-        [argument, others @ ..] => {
-            tell_use(
-                alloc,
-                around,
-                scope,
+        [] => {
+            let used = NameUse {
                 name,
-                Some(*argument),
-                others.len(),
-                first,
-            )
+                argument: None,
+                others: 0,
+            };
+            tell_use(alloc, around, scope, used, first)
+        }
+        [argument, others @ ..] => {
+            let used = NameUse {
+                name,
+                argument: Some(*argument),
+                others: others.len(),
+            };
+            tell_use(alloc, around, scope, used, first)
         }
     }
 }
@@ -58,26 +80,26 @@ pub(crate) fn tell_use<A: Surroundings>(
     alloc: Global,
     around: &A,
     scope: &Scope<'_>,
-    name: Name,
-    argument: Option<Expression<'_>>,
-    others: usize,
+    used: NameUse<'_>,
     first: &mut First,
 ) -> Result<(), AllocError>
     ensures { (w : Setting) (local : local_names.Scope) (rest : List (Option definitions.Referent))
-        → A.tells around.now w → Sees w local scope.now → NameIsOf w.owner w.names name
-        → IfSome argument.entry (ExpressionIsOf w.owner w.names) → length rest ≡ others
+        → A.tells around.now w → Sees w local scope.now → NameIsOf w.owner w.names used.entry.name
+        → IfSome used.entry.argument (ExpressionIsOf w.owner w.names)
+        → length rest ≡ used.entry.others
         → OnOk result (Told w.owner first.old
-        (use_faults (referent w.around local (name_meaning w.names name))
-        (name_meaning w.names name) (argument_name w local argument.entry ∷ rest)) first.new) }
+        (use_faults (referent w.around local (name_meaning w.names used.entry.name))
+        (name_meaning w.names used.entry.name)
+        (argument_name w local used.entry.argument ∷ rest)) first.new) }
 {
-    let Referent::SetFunction(count) = referent(around, scope, name) else {
+    let Referent::SetFunction(count) = referent(around, scope, used.name) else {
         return Ok(());
     };
-    let named = name_of(alloc, around, scope, argument)?;
-    if !is_set_call(count, named, others) {
+    let named = name_of(alloc, around, scope, used.argument)?;
+    if !is_set_call(count, named, used.others) {
         first.tell(Fault {
             wrong: Wrong::SetName,
-            place: name.place,
+            place: used.name.place,
         });
     }
     Ok(())

@@ -8,7 +8,7 @@ use Rattle.cu_faults.proofs.nodes.use_in.Goals as goal
 pub returns-then-not-is_set_name : goal.returns-then-not-is_set_name
 returns-then-not-is_set_name g c t a inner tells spot of all =
     told_as
-    (sym (no_set_name_used (setting t a) inner.scope c.args.name c.args.arguments.now c.value.result (c.value.ensures (setting t a) tells of)
+    (sym (no_set_name_used (setting t a) inner.scope c.args.applied.name c.args.applied.arguments.now c.value.result (c.value.ensures (setting t a) tells of)
     (sym c.is_set_name.ensures ∙ c.if-not-is_set_name.true)))
     (told_none t.owner c.args.first.now)
 

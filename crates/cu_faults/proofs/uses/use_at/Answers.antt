@@ -9,17 +9,17 @@ use Rattle.cu_faults.proofs.uses.use_at.Goals as goal
 
 pub returns-in-empty : goal.returns-in-empty
 returns-in-empty g c w local tells sees of all =
-    let arguments = c.args.arguments.now in
-    on_ok c.tell_use.result (told_as (used_alone w local c.args.name arguments (nothing_in arguments c.in-empty.len_below)))
+    let arguments = c.args.applied.arguments.now in
+    on_ok c.tell_use.result (told_as (used_alone w local c.args.applied.name arguments (nothing_in arguments c.in-empty.len_below)))
     (c.tell_use.ensures w local [] tells sees of tt refl)
 
 pub returns-in-len1-up : goal.returns-in-len1-up
 returns-in-len1-up g c w local tells sees of all =
-    let arguments = c.args.arguments.now in
+    let arguments = c.args.applied.arguments.now in
     let e = c.argument-item.result in
     let others = drop 1 arguments in
     let is = headed arguments e c.argument-item.is c.in-len1-up.len_at_least in
     let owned = All-head (ExpressionIsOf w.owner w.names) e others (subst (All (ExpressionIsOf w.owner w.names)) is all) in
     let size = names_counted w local arguments in
-    on_ok c.tell_use-in-len1-up.result (told_as (used_on w local c.args.name arguments others e is))
+    on_ok c.tell_use-in-len1-up.result (told_as (used_on w local c.args.applied.name arguments others e is))
     (c.tell_use-in-len1-up.ensures w local (names_alone w local others) tells sees of owned (omega (arith, size, c.in-len1-up.len_at_least)))
