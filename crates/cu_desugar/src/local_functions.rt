@@ -31,6 +31,14 @@ use cu_toplevel::{TopNames, signature_type};
 use cu_translation::Surroundings;
 use std::alloc::{AllocError, Global};
 
+/// The rules of a local function, and the number of the block in which they
+/// stand.
+#[derive(Clone, Copy)]
+struct BlockRules<'g, 't> {
+    block: usize,
+    group: &'g Group<'t>,
+}
+
 /// The type that a block's signature declares for a name, if it has one.
 fn declared_type(
     alloc: Global,
@@ -129,7 +137,13 @@ fn functions_of(
             let function = generator_function(alloc, around, &scope, qualifier)?;
             alone(alloc, function)
         }
-        Site::Function(block, group) => in_block(alloc, around, sites, node.spot, *block, group),
+        Site::Function(block, group) => {
+            let placed = BlockRules {
+                block: *block,
+                group,
+            };
+            in_block(alloc, around, sites, node.spot, placed)
+        }
         Site::Bound(p, _) => selectors(alloc, around, *p),
         Site::Use(_, _) => Ok(Vec::new(alloc)),
         Site::Operation(_) => Ok(Vec::new(alloc)),
@@ -139,26 +153,25 @@ fn functions_of(
     }
 }
 
-/// The function of these rules in the block of a number.
+/// The function of these rules in their block.
 fn in_block(
     alloc: Global,
     around: &Around<'_>,
     sites: &Sites<'_>,
     spot: Spot,
-    block: usize,
-    group: &Group<'_>,
+    placed: BlockRules<'_, '_>,
 ) -> Result<Vec<LocalFunction>, AllocError>
     ensures { (t : Text) (a : meant.Around) (n : text.Node)
         → Surrounds (setting t a) around.now → IsSpotIn t sites.now spot n.spot
-        → IsFunction t (blocks_in sites.now) block group.now n.site
+        → IsFunction t (blocks_in sites.now) placed.entry.block placed.entry.group.now n.site
         → IfOk result (λ found. map local_function_meaning found.items ≡ functions_of a n) }
 {
-    let Some(ds) = sites.blocks().get(block) else {
+    let Some(ds) = sites.blocks().get(placed.block) else {
         return Ok(Vec::new(alloc));
     };
     let entries = sites.scope(alloc, spot)?;
     let scope = Scope::outermost(entries.as_slice());
-    let function = block_function(alloc, around, &scope, ds.as_slice(), group)?;
+    let function = block_function(alloc, around, &scope, ds.as_slice(), placed.group)?;
     alone(alloc, function)
 }
 
