@@ -21,11 +21,11 @@ fn has_text(names: &[Name], text: NameId) -> bool
 }
 
 /// The type that a declaration declares for a name, if it is a signature of it.
-fn signature_in<'t>(
+fn signature_in(
     alloc: Global,
     name: NameId,
-    d: Declaration<'t>,
-) -> Result<Option<TypeTerm<'t>>, AllocError>
+    d: Declaration<'_>,
+) -> Result<Option<TypeTerm<'_>>, AllocError>
     ensures { (t : Text) → IsKnown t.names name → DeclarationIsOf t.owner t.names d.entry
         → IfOk result (IsSignature t
         (signature_in (text_of t.names name) (declaration_meaning t.names d.entry))) }

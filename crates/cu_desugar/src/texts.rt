@@ -58,10 +58,10 @@ impl<'t> FunctionText<'t> {
 }
 
 /// The functions of a module that have rules, in the order of the text.
-pub(crate) fn function_texts<'t>(
+pub(crate) fn function_texts(
     alloc: Global,
-    module: &'t Module,
-) -> Result<Vec<FunctionText<'t>>, AllocError>
+    module: &Module,
+) -> Result<Vec<FunctionText<'_>>, AllocError>
     ensures { (t : Text) → ModuleIsOf t.owner t.names «module».now.syntax
         → IfOk result (λ found.
         AreTexts t (groups_in (module_of t.names «module».now)) found.items) }

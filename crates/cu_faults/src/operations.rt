@@ -130,7 +130,7 @@ fn operator<A: Surroundings>(
 }
 
 /// The operand that a part is, if it is an operand.
-fn operand_in<'t>(part: Part<Expression<'t>>) -> Option<Expression<'t>>
+fn operand_in(part: Part<Expression<'_>>) -> Option<Expression<'_>>
     ensures { result ≡ operand_in part.entry }
 {
     match part {

@@ -143,7 +143,7 @@ fn depends_on_none<A: Surroundings>(around: &A, left: &[Bound], variable: Binder
     true
 }
 
-/// Those of the definitions that are of other variables than this one.
+/// The definitions of all variables but this one.
 fn others(alloc: Global, bounds: Vec<Bound>, variable: Binder) -> Result<Vec<Bound>, AllocError>
     ensures { IfOk result (λ found. bounds_meaning found.items
         ≡ filter (is_of_other (binder_meaning variable)) (bounds_meaning bounds.items)) }

@@ -87,7 +87,7 @@ impl<'t> Grouping<'t> {
 /// # Errors
 ///
 /// An allocation failure.
-pub fn groups<'t>(alloc: Global, items: &'t [Item]) -> Result<Vec<Group<'t>>, AllocError>
+pub fn groups(alloc: Global, items: &[Item]) -> Result<Vec<Group<'_>>, AllocError>
     ensures { (owner : NameId) (names : List (List ℕ)) → AllDiffer names
         → All (ItemIsOf owner names) items.now
         → IfOk result (λ found. AreGroups owner names

@@ -115,7 +115,8 @@ impl Walk {
         Ok(())
     }
 
-    /// Goes on from all that is reached.
+    /// Follows the relation from each number that was reached, until nothing is
+    /// new.
     fn run(&mut self, relation: &Relation) -> Result<(), AllocError>
         ensures { (seeds shut : List ℕ) → IsBegun seeds shut self.old
             → OnOk result (IsReached relation.now seeds shut self.new) }

@@ -29,7 +29,7 @@ pub struct Group<'t> {
 }
 
 /// The rule that a declaration is, if it is one.
-pub(crate) fn rule_in<'t>(alloc: Global, d: Declaration<'t>) -> Result<Option<Rule<'t>>, AllocError>
+pub(crate) fn rule_in(alloc: Global, d: Declaration<'_>) -> Result<Option<Rule<'_>>, AllocError>
     ensures { (t : Text) → DeclarationIsOf t.owner t.names d.entry
         → IfOk result (IsRuleIn t (rule_in (declaration_meaning t.names d.entry))) }
 {
@@ -47,10 +47,7 @@ pub(crate) fn rule_in<'t>(alloc: Global, d: Declaration<'t>) -> Result<Option<Ru
 }
 
 /// The rule that an item of a module is, if it is one.
-pub(crate) fn rule_in_item<'t>(
-    alloc: Global,
-    item: &'t Item,
-) -> Result<Option<Rule<'t>>, AllocError>
+pub(crate) fn rule_in_item(alloc: Global, item: &Item) -> Result<Option<Rule<'_>>, AllocError>
     ensures { (t : Text) → ItemIsOf t.owner t.names item.now
         → IfOk result (IsRuleIn t (rule_in_item (item_meaning t.names item.now))) }
 {

@@ -32,7 +32,7 @@ use std::alloc::{AllocError, Global};
 /// What stays the same while the types of a program are inferred.
 #[derive(Clone, Copy)]
 pub(crate) struct Inference<'p> {
-    /// Where memory comes from.
+    /// The allocator.
     pub(crate) alloc: Global,
     /// The program.
     pub(crate) program: &'p Program,

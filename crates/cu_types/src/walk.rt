@@ -18,7 +18,7 @@ use std::alloc::{AllocError, Global};
 /// stands.
 #[derive(Drop)]
 pub(crate) struct Walk<'p> {
-    /// Where memory comes from.
+    /// The allocator.
     pub(crate) alloc: Global,
     /// What is known of the heads of terms.
     pub(crate) signing: Signing<'p>,

@@ -62,7 +62,7 @@ fn trial_command<'a>(alloc: Global) -> Result<Command<'a>, AllocError>
 }
 
 // An option of this name that has a value.
-fn option<'a>(alloc: Global, name: &'a str) -> Arg<'a>
+fn option(alloc: Global, name: &str) -> Arg<'_>
     ensures rule { rule_of result ≡ option name.entry.now }
     ensures local { result.global ≡ false }
 {

@@ -24,7 +24,7 @@ use std::alloc::{AllocError, Global};
 
 /// What the words after the program's name ask for, or nothing where they
 /// aren't in the grammar. The one error is an allocation failure.
-pub fn read_words<'a>(alloc: Global, words: &'a [String]) -> Result<Option<Asked<'a>>, AllocError>
+pub fn read_words(alloc: Global, words: &[String]) -> Result<Option<Asked<'_>>, AllocError>
     ensures read { IfOk result (λ found. IfSome found (λ command.
         ReadsAs (map string_bytes words.now) (asked command))) }
     ensures refused { IfOk result (λ found. IfNone found

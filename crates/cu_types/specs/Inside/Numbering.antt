@@ -49,6 +49,7 @@ pub record IsMade (ts : List TypeExpr) (final ks : List ℕ) (made : List Shape)
   pub value : at (trees made) m ≡ apply (by_place final) (at ts p)
   pub numbers : AreNoted ks (variables_in (at ts p))
 
+-- P holds of each pair of elements of two lists, which have equally many
 abbrev pub AllMade : (ℕ → ℕ → Type 0) → List ℕ → List ℕ → Type 0
 AllMade P [] [] = Unit {0}
 AllMade P [] (m ∷ ms) = ⊥
@@ -67,6 +68,7 @@ pub record IsNumbering (ss : List Shape) (root : ℕ) (final : List ℕ) (find :
   pub are : AllMade (IsMade (trees ss) final ks made) stack places
   pub seen : (p m : ℕ) → known p ≡ Some m → IsMade (trees ss) final ks made p m
 
+-- a numbering has come so far that these tasks, once done, make the type at the root
 abbrev pub Goes : List Shape → ℕ → List ℕ → Numbering → List Task → Type 0
 Goes ss root final n tasks =
     IsNumbering ss root final (get nat_eq n.made.variables) (shapes n.made)

@@ -37,7 +37,7 @@ pub record Walks (before after : Walk) (change : Asked → Asked) : Type 0 where
   pub heads : after.signing ≡ before.signing
   pub scope : scope after ≡ scope before
 
--- Some equations were read off of those that `whole` asks for, and `rest` asks for the others.
+-- Of the equations that `whole` asks for some were read off, and `rest` asks for the others.
 pub record IsWalking (before now : Walk) (rest whole : Asked → Asked) : Type 0 where
   pub reader : IsReader now.asking.reader
   pub going : (asked : Asked) → IsAsking before.asking asked
