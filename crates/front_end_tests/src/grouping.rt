@@ -8,6 +8,7 @@ use cu_lex::lex;
 use cu_names::Names;
 use cu_syntax::{Expression, ExpressionNode, Items, PatItems, Pattern, PatternNode, parse_goal};
 use std::alloc::{AllocError, Global};
+use std::process::Abort;
 
 const LEFT_6: Piece = Piece::Operator(Fixity {
     side: Side::Left,
@@ -161,50 +162,26 @@ fn clash_column(alloc: Global, text: &str) -> Option<u32> {
     }
 }
 
-/// A goal, and the columns of its parts in Polish notation.
-struct Case {
-    text: &'static str,
-    columns: &'static [u32],
+/// Expects that a goal is grouped to parts of these columns, in Polish
+/// notation.
+fn grouped<R: Abort>(rt: &R, alloc: Global, text: &str, columns: &[u32]) {
+    assert!(rt; is_grouped(alloc, text, columns), "{text}");
 }
 
-const TREES: [Case; 9] = [
-    Case {
-        text: "1 - 2 - 3",
-        columns: &[7, 3, 1, 5, 9],
-    },
-    Case {
-        text: "1 A.- 2 A.- 3",
-        columns: &[3, 1, 9, 7, 13],
-    },
-    Case {
-        text: "a + b ! c",
-        columns: &[3, 1, 7, 5, 9],
-    },
-    Case {
-        text: "a * b + c",
-        columns: &[7, 3, 1, 5, 9],
-    },
-    Case {
-        text: "a + (b - c)",
-        columns: &[3, 1, 6],
-    },
-    Case {
-        text: "- 1 + 2",
-        columns: &[5, 1, 3, 7],
-    },
-    Case {
-        text: "- 1 * 2",
-        columns: &[1, 5, 3, 7],
-    },
-    Case {
-        text: "a == - b",
-        columns: &[3, 1, 6, 8],
-    },
-    Case {
-        text: "\\(x : y : zs) -> x",
-        columns: &[5, 3, 9, 7, 11],
-    },
-];
+fn operators<R: Abort>(rt: &R, alloc: Global) {
+    grouped(rt, alloc, "1 - 2 - 3", &[7, 3, 1, 5, 9]);
+    grouped(rt, alloc, "1 A.- 2 A.- 3", &[3, 1, 9, 7, 13]);
+    grouped(rt, alloc, "a + b ! c", &[3, 1, 7, 5, 9]);
+    grouped(rt, alloc, "a * b + c", &[7, 3, 1, 5, 9]);
+    grouped(rt, alloc, "a + (b - c)", &[3, 1, 6]);
+    grouped(rt, alloc, "\\(x : y : zs) -> x", &[5, 3, 9, 7, 11]);
+}
+
+fn prefix_minuses<R: Abort>(rt: &R, alloc: Global) {
+    grouped(rt, alloc, "- 1 + 2", &[5, 1, 3, 7]);
+    grouped(rt, alloc, "- 1 * 2", &[1, 5, 3, 7]);
+    grouped(rt, alloc, "a == - b", &[3, 1, 6, 8]);
+}
 
 /// Goals that have no tree, and the columns of their clashes.
 const GOALS_THAT_CLASH: [(&str, u32); 5] = [
@@ -218,9 +195,8 @@ const GOALS_THAT_CLASH: [(&str, u32); 5] = [
 #[test]
 fn goals(rt: HostRuntime) {
     let alloc = rt.alloc();
-    for case in &TREES {
-        assert!(rt; is_grouped(alloc, case.text, case.columns), "{}", case.text);
-    }
+    operators(&rt, alloc);
+    prefix_minuses(&rt, alloc);
     for (text, column) in &GOALS_THAT_CLASH {
         assert_eq!(rt; clash_column(alloc, text), Some(*column), "{text}");
     }

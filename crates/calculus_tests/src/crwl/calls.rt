@@ -20,18 +20,18 @@ fn zero(alloc: Global, value: Int) -> Draft {
 fn doubled(alloc: Global, given: Int, uses: (Int, Int), value: Int) -> Draft {
     let coin = Head::Fun(COIN);
     let mut draft = Draft::new(alloc);
-    draft.int(given);
-    draft.step(&[0], constant(alloc, coin), number(alloc, given));
-    draft.use_of_zero(uses.0);
-    draft.use_of_zero(uses.1);
-    draft.step_with(
+    let number_given = draft.int(given);
+    let coin_given = draft.step(&[number_given], constant(alloc, coin), number(alloc, given));
+    let first_use = draft.use_of_zero(uses.0);
+    let second_use = draft.use_of_zero(uses.1);
+    let body = draft.step_with(
         one_binding(alloc, 0, number(alloc, given)),
-        &[2, 3],
+        &[first_use, second_use],
         on_two(alloc, Head::Fun(PLUS), variable(0), variable(0)),
         number(alloc, value),
     );
     draft.step(
-        &[1, 4],
+        &[coin_given, body],
         on_one(alloc, Head::Fun(DOUBLE), constant(alloc, coin)),
         number(alloc, value),
     );
@@ -42,12 +42,12 @@ fn doubled(alloc: Global, given: Int, uses: (Int, Int), value: Int) -> Draft {
 fn added(alloc: Global, value: Int) -> Draft {
     let coin = Head::Fun(COIN);
     let mut draft = Draft::new(alloc);
-    draft.int(0);
-    draft.int(1);
-    draft.step(&[0], constant(alloc, coin), number(alloc, 0));
-    draft.step(&[1], constant(alloc, coin), number(alloc, 1));
+    let zero = draft.int(0);
+    let one = draft.int(1);
+    let coin_zero = draft.step(&[zero], constant(alloc, coin), number(alloc, 0));
+    let coin_one = draft.step(&[one], constant(alloc, coin), number(alloc, 1));
     draft.step(
-        &[2, 3],
+        &[coin_zero, coin_one],
         on_two(
             alloc,
             Head::Fun(PLUS),
@@ -87,16 +87,16 @@ fn joined(alloc: Global, left: bool, right: bool, by_first: bool, value: bool) -
         constant(alloc, Head::Con(FALSE))
     };
     let mut draft = Draft::new(alloc);
-    draft.step(&[], constant(alloc, first), truth(alloc, left));
-    draft.step(&[], constant(alloc, second), truth(alloc, right));
-    draft.step_with(
+    let left_side = draft.step(&[], constant(alloc, first), truth(alloc, left));
+    let right_side = draft.step(&[], constant(alloc, second), truth(alloc, right));
+    let right_side_of_rule = draft.step_with(
         one_binding(alloc, 0, truth(alloc, right)),
         &[],
         body,
         truth(alloc, value),
     );
     draft.step(
-        &[0, 1, 2],
+        &[left_side, right_side, right_side_of_rule],
         on_two(
             alloc,
             Head::Fun(BOTH),
@@ -114,16 +114,16 @@ fn joined_with_unknown(alloc: Global) -> Draft {
     let yes = Head::Con(TRUE);
     let no = Head::Con(FALSE);
     let mut draft = Draft::new(alloc);
-    draft.step(&[], constant(alloc, coin), unknown(alloc));
-    draft.step(&[], constant(alloc, yes), truth(alloc, true));
-    draft.step_with(
+    let left_side = draft.step(&[], constant(alloc, coin), unknown(alloc));
+    let right_side = draft.step(&[], constant(alloc, yes), truth(alloc, true));
+    let right_side_of_rule = draft.step_with(
         one_binding(alloc, 0, truth(alloc, true)),
         &[],
         constant(alloc, no),
         truth(alloc, false),
     );
     draft.step(
-        &[0, 1, 2],
+        &[left_side, right_side, right_side_of_rule],
         on_two(
             alloc,
             Head::Fun(BOTH),
@@ -140,24 +140,24 @@ fn joined_with_unknown(alloc: Global) -> Draft {
 fn kept(alloc: Global, coin_is_known: bool, bound_to: Option<Int>) -> Draft {
     let coin = Head::Fun(COIN);
     let mut draft = Draft::new(alloc);
-    draft.int(1);
-    if coin_is_known {
-        draft.step(&[0], constant(alloc, coin), number(alloc, 1));
+    let one = draft.int(1);
+    let coin_given = if coin_is_known {
+        draft.step(&[one], constant(alloc, coin), number(alloc, 1))
     } else {
-        draft.step(&[], constant(alloc, coin), unknown(alloc));
-    }
+        draft.step(&[], constant(alloc, coin), unknown(alloc))
+    };
     let second = match bound_to {
         Some(n) => number(alloc, n),
         None => unknown(alloc),
     };
-    draft.step_with(
+    let body = draft.step_with(
         two_bindings(alloc, 0, number(alloc, 1), 1, second),
         &[],
         variable(0),
         number(alloc, 1),
     );
     draft.step(
-        &[0, 1, 2],
+        &[one, coin_given, body],
         on_two(alloc, Head::Fun(KEEP), int(1), constant(alloc, coin)),
         number(alloc, 1),
     );

@@ -12,8 +12,8 @@ use std::alloc::{AllocError, Global};
 /// `1 ? 2` has a value, since a number has its own.
 fn either(alloc: Global, cited: Int, value: Int) -> Draft {
     let mut draft = Draft::new(alloc);
-    draft.int(cited);
-    draft.step(&[0], or(alloc, int(1), int(2)), number(alloc, value));
+    let side = draft.int(cited);
+    draft.step(&[side], or(alloc, int(1), int(2)), number(alloc, value));
     draft
 }
 
@@ -50,19 +50,19 @@ fn alias_rows(alloc: Global) -> Rows {
 fn of_number(alloc: Global, n: Int, by_first: bool) -> Draft {
     let value = if by_first { 1 } else { 2 };
     let mut draft = Draft::new(alloc);
-    draft.int(n);
-    if by_first {
-        draft.int(value);
+    let scrutinee = draft.int(n);
+    let body = if by_first {
+        draft.int(value)
     } else {
         draft.step_with(
             one_binding(alloc, 0, number(alloc, n)),
             &[],
             int(value),
             number(alloc, value),
-        );
-    }
+        )
+    };
     draft.step(
-        &[0, 1],
+        &[scrutinee, body],
         case(alloc, int(n), number_rows(alloc)),
         number(alloc, value),
     );
@@ -72,10 +72,10 @@ fn of_number(alloc: Global, n: Int, by_first: bool) -> Draft {
 /// `case 5 of { 0 -> 1; y@x -> y }` is 5 where the variables stand for these.
 fn by_alias(alloc: Global, env: Bindings) -> Draft {
     let mut draft = Draft::new(alloc);
-    draft.int(5);
-    draft.step_with(env, &[], variable(1), number(alloc, 5));
+    let scrutinee = draft.int(5);
+    let body = draft.step_with(env, &[], variable(1), number(alloc, 5));
     draft.step(
-        &[0, 1],
+        &[scrutinee, body],
         case(alloc, int(5), alias_rows(alloc)),
         number(alloc, 5),
     );
@@ -116,25 +116,25 @@ fn case_of(alloc: Global, scrutinee: Made) -> Made {
 /// second number as its value by the first alternative, or 7 by the second.
 fn of_pair(alloc: Global, first: Int, second: Int, by_first: bool) -> Draft {
     let mut draft = Draft::new(alloc);
-    draft.int(first);
-    draft.int(second);
-    draft.step(
-        &[0, 1],
+    let one = draft.int(first);
+    let other = draft.int(second);
+    let scrutinee = draft.step(
+        &[one, other],
         pair(alloc, first, second),
         pair_of(alloc, number(alloc, first), number(alloc, second)),
     );
-    if by_first {
-        draft.use_of_zero(second);
+    let body = if by_first {
+        draft.use_of_zero(second)
     } else {
         draft.step_with(
             one_binding(alloc, 1, number(alloc, first)),
             &[],
             int(7),
             number(alloc, 7),
-        );
-    }
+        )
+    };
     draft.step(
-        &[2, 3],
+        &[scrutinee, body],
         case_of(alloc, pair(alloc, first, second)),
         number(alloc, if by_first { second } else { 7 }),
     );
@@ -146,16 +146,16 @@ fn of_pair(alloc: Global, first: Int, second: Int, by_first: bool) -> Draft {
 fn of_unknown(alloc: Global) -> Draft {
     let coin = Head::Fun(COIN);
     let mut draft = Draft::new(alloc);
-    draft.step(&[], constant(alloc, coin), unknown(alloc));
-    draft.int(2);
-    draft.step(
-        &[0, 1],
+    let unknown_coin = draft.step(&[], constant(alloc, coin), unknown(alloc));
+    let two = draft.int(2);
+    let scrutinee = draft.step(
+        &[unknown_coin, two],
         on_two(alloc, Head::Con(PAIR), constant(alloc, coin), int(2)),
         pair_of(alloc, unknown(alloc), number(alloc, 2)),
     );
-    draft.int(7);
+    let body = draft.int(7);
     draft.step(
-        &[2, 3],
+        &[scrutinee, body],
         case_of(
             alloc,
             on_two(alloc, Head::Con(PAIR), constant(alloc, coin), int(2)),
@@ -202,13 +202,13 @@ fn only_row(alloc: Global) -> Rows {
 /// variable 0, where the variable 1 stands for something undecided.
 fn of_undecided(alloc: Global, given: Undecided, rows: Rows) -> Draft {
     let mut draft = Draft::new(alloc);
-    draft.step_with(
+    let scrutinee = draft.step_with(
         one_binding(alloc, 1, given.value(alloc)),
         &[],
         variable(1),
         given.value(alloc),
     );
-    draft.step_with(
+    let body = draft.step_with(
         two_bindings(alloc, 0, given.value(alloc), 1, given.value(alloc)),
         &[],
         int(2),
@@ -216,7 +216,7 @@ fn of_undecided(alloc: Global, given: Undecided, rows: Rows) -> Draft {
     );
     draft.step_with(
         one_binding(alloc, 1, given.value(alloc)),
-        &[0, 1],
+        &[scrutinee, body],
         case(alloc, variable(1), rows),
         number(alloc, 2),
     );
@@ -243,8 +243,8 @@ fn truth_rows(alloc: Global) -> Rows {
 fn of_constant(alloc: Global, constructor: ConId) -> Draft {
     let mut draft = Draft::new(alloc);
     let term = constant(alloc, Head::Con(constructor));
-    draft.step(&[], term, constructed(alloc, constructor));
-    draft.step_with(
+    let scrutinee = draft.step(&[], term, constructed(alloc, constructor));
+    let body = draft.step_with(
         one_binding(alloc, 0, constructed(alloc, constructor)),
         &[],
         int(2),
@@ -252,7 +252,7 @@ fn of_constant(alloc: Global, constructor: ConId) -> Draft {
     );
     let again = constant(alloc, Head::Con(constructor));
     draft.step(
-        &[0, 1],
+        &[scrutinee, body],
         case(alloc, again, truth_rows(alloc)),
         number(alloc, 2),
     );

@@ -19,14 +19,14 @@ fn of_pairs(
     verdict: bool,
 ) -> Draft {
     let mut draft = Draft::new(alloc);
-    draft.int(left.0);
-    draft.int(left.1);
-    draft.int(right.0);
-    draft.int(right.1);
-    draft.pair(&[0, 1], left);
-    draft.pair(&[2, 3], right);
+    let left_first = draft.int(left.0);
+    let left_second = draft.int(left.1);
+    let right_first = draft.int(right.0);
+    let right_second = draft.int(right.1);
+    let left_pair = draft.pair(&[left_first, left_second], left);
+    let right_pair = draft.pair(&[right_first, right_second], right);
     draft.step(
-        &[4, 5],
+        &[left_pair, right_pair],
         on_two(
             alloc,
             Head::Fun(operation),
@@ -62,17 +62,17 @@ fn pairs_that_differ(rt: HostRuntime) {
 /// An operation on two lists of one number each has a value.
 fn of_lists(alloc: Global, operation: FunId, left: Int, right: Int, verdict: bool) -> Draft {
     let mut draft = Draft::new(alloc);
-    draft.int(left);
-    draft.int(right);
-    draft.step(
+    let left_number = draft.int(left);
+    let right_number = draft.int(right);
+    let nil = draft.step(
         &[],
         constant(alloc, Head::Con(NIL)),
         constructed(alloc, NIL),
     );
-    draft.short_list(&[0, 2], left);
-    draft.short_list(&[1, 2], right);
+    let left_list = draft.short_list(&[left_number, nil], left);
+    let right_list = draft.short_list(&[right_number, nil], right);
     draft.step(
-        &[3, 4],
+        &[left_list, right_list],
         on_two(
             alloc,
             Head::Fun(operation),
@@ -98,11 +98,11 @@ fn of_lists(alloc: Global, operation: FunId, left: Int, right: Int, verdict: boo
 fn of_lengths(alloc: Global, verdict: bool) -> Draft {
     let nil = Head::Con(NIL);
     let mut draft = Draft::new(alloc);
-    draft.int(0);
-    draft.step(&[], constant(alloc, nil), constructed(alloc, NIL));
-    draft.short_list(&[0, 1], 0);
+    let zero = draft.int(0);
+    let empty = draft.step(&[], constant(alloc, nil), constructed(alloc, NIL));
+    let longer = draft.short_list(&[zero, empty], 0);
     draft.step(
-        &[1, 2],
+        &[empty, longer],
         on_two(
             alloc,
             Head::Fun(EQUAL),
@@ -129,21 +129,21 @@ fn lists_of_few_numbers(rt: HostRuntime) {
 fn unknown_first(alloc: Global) -> Draft {
     let coin = Head::Fun(COIN);
     let mut draft = Draft::new(alloc);
-    draft.step(&[], constant(alloc, coin), unknown(alloc));
-    draft.int(1);
-    draft.int(2);
-    draft.step(
-        &[0, 1],
+    let unknown_coin = draft.step(&[], constant(alloc, coin), unknown(alloc));
+    let one = draft.int(1);
+    let two = draft.int(2);
+    let left_pair = draft.step(
+        &[unknown_coin, one],
         on_two(alloc, Head::Con(PAIR), constant(alloc, coin), int(1)),
         pair_of(alloc, unknown(alloc), number(alloc, 1)),
     );
-    draft.step(
-        &[0, 2],
+    let right_pair = draft.step(
+        &[unknown_coin, two],
         on_two(alloc, Head::Con(PAIR), constant(alloc, coin), int(2)),
         pair_of(alloc, unknown(alloc), number(alloc, 2)),
     );
     draft.step(
-        &[3, 4],
+        &[left_pair, right_pair],
         on_two(
             alloc,
             Head::Fun(EQUAL),
@@ -159,21 +159,21 @@ fn unknown_first(alloc: Global) -> Draft {
 fn unknown_second(alloc: Global, left: Int, right: Int, verdict: bool) -> Draft {
     let coin = Head::Fun(COIN);
     let mut draft = Draft::new(alloc);
-    draft.step(&[], constant(alloc, coin), unknown(alloc));
-    draft.int(left);
-    draft.int(right);
-    draft.step(
-        &[1, 0],
+    let unknown_coin = draft.step(&[], constant(alloc, coin), unknown(alloc));
+    let left_number = draft.int(left);
+    let right_number = draft.int(right);
+    let left_pair = draft.step(
+        &[left_number, unknown_coin],
         on_two(alloc, Head::Con(PAIR), int(left), constant(alloc, coin)),
         pair_of(alloc, number(alloc, left), unknown(alloc)),
     );
-    draft.step(
-        &[2, 0],
+    let right_pair = draft.step(
+        &[right_number, unknown_coin],
         on_two(alloc, Head::Con(PAIR), int(right), constant(alloc, coin)),
         pair_of(alloc, number(alloc, right), unknown(alloc)),
     );
     draft.step(
-        &[3, 4],
+        &[left_pair, right_pair],
         on_two(
             alloc,
             Head::Fun(EQUAL),
@@ -204,10 +204,10 @@ fn with_itself(
     value: Worth,
 ) -> Draft {
     let mut draft = Draft::new(alloc);
-    draft.step_with(first, &[], variable(0), value);
+    let looked_up = draft.step_with(first, &[], variable(0), value);
     draft.step_with(
         second,
-        &[0, 0],
+        &[looked_up, looked_up],
         on_two(alloc, Head::Fun(operation), variable(0), variable(0)),
         truth(alloc, true),
     );
@@ -241,14 +241,14 @@ fn half_known(alloc: Global, operation: FunId) -> Draft {
 fn of_functions(alloc: Global, operation: FunId) -> Draft {
     let plus = Head::Fun(PLUS);
     let mut draft = Draft::new(alloc);
-    draft.int(1);
-    draft.step(
-        &[0],
+    let one = draft.int(1);
+    let function = draft.step(
+        &[one],
         part_on_one(alloc, plus, int(1)),
         partial_on_one(alloc, plus, number(alloc, 1)),
     );
     draft.step(
-        &[1, 1],
+        &[function, function],
         on_two(
             alloc,
             Head::Fun(operation),
@@ -276,10 +276,10 @@ fn conjoined(alloc: Global, left: bool, right: bool, value: bool) -> Draft {
     let first = Head::Con(if left { TRUE } else { FALSE });
     let second = Head::Con(if right { TRUE } else { FALSE });
     let mut draft = Draft::new(alloc);
-    draft.step(&[], constant(alloc, first), truth(alloc, left));
-    draft.step(&[], constant(alloc, second), truth(alloc, right));
+    let left_side = draft.step(&[], constant(alloc, first), truth(alloc, left));
+    let right_side = draft.step(&[], constant(alloc, second), truth(alloc, right));
     draft.step(
-        &[0, 1],
+        &[left_side, right_side],
         on_two(
             alloc,
             Head::Fun(AND),
@@ -330,10 +330,10 @@ impl Simple {
 /// `==` on two literals or empty lists has a value.
 fn of_simple(alloc: Global, left: Simple, right: Simple, verdict: bool) -> Draft {
     let mut draft = Draft::new(alloc);
-    draft.step(&[], left.term(alloc), left.value(alloc));
-    draft.step(&[], right.term(alloc), right.value(alloc));
+    let left_side = draft.step(&[], left.term(alloc), left.value(alloc));
+    let right_side = draft.step(&[], right.term(alloc), right.value(alloc));
     let both = on_two(alloc, Head::Fun(EQUAL), left.term(alloc), right.term(alloc));
-    draft.step(&[0, 1], both, truth(alloc, verdict));
+    draft.step(&[left_side, right_side], both, truth(alloc, verdict));
     draft
 }
 

@@ -248,49 +248,61 @@ impl Draft {
         }
     }
 
-    /// A step in which variables stand for something.
-    pub(crate) fn step_with(&mut self, env: Bindings, cites: &[usize], term: Made, value: Worth) {
+    /// Adds a step in which variables stand for something, and answers its
+    /// index, by which later steps cite it.
+    pub(crate) fn step_with(
+        &mut self,
+        env: Bindings,
+        cites: &[usize],
+        term: Made,
+        value: Worth,
+    ) -> usize {
         let alloc = self.alloc;
+        let index = self.steps.len();
         let written = push_step(alloc, &mut self.steps, cites, statement(env, term, value));
         self.keep(written);
+        index
     }
 
-    /// A step without variables.
-    pub(crate) fn step(&mut self, cites: &[usize], term: Made, value: Worth) {
+    /// Adds a step without variables, and answers its index.
+    pub(crate) fn step(&mut self, cites: &[usize], term: Made, value: Worth) -> usize {
         let alloc = self.alloc;
-        self.step_with(Ok(Vec::new(alloc)), cites, term, value);
+        self.step_with(Ok(Vec::new(alloc)), cites, term, value)
     }
 
-    /// The step that a number is worth itself.
-    pub(crate) fn int(&mut self, n: Int) {
+    /// Adds the step that a number is worth itself, and answers its index.
+    pub(crate) fn int(&mut self, n: Int) -> usize {
         let alloc = self.alloc;
-        self.step(&[], int(n), number(alloc, n));
+        self.step(&[], int(n), number(alloc, n))
     }
 
-    /// The step that the variable 0, which stands for a number, is worth it.
-    pub(crate) fn use_of_zero(&mut self, n: Int) {
+    /// Adds the step that the variable 0, which stands for a number, is worth
+    /// it, and answers its index.
+    pub(crate) fn use_of_zero(&mut self, n: Int) -> usize {
         let alloc = self.alloc;
         self.step_with(
             one_binding(alloc, 0, number(alloc, n)),
             &[],
             variable(0),
             number(alloc, n),
-        );
+        )
     }
 
-    /// The step that a pair of numbers is worth itself.
-    pub(crate) fn pair(&mut self, cites: &[usize], numbers: (Int, Int)) {
+    /// Adds the step that a pair of numbers is worth itself, and answers its
+    /// index.
+    pub(crate) fn pair(&mut self, cites: &[usize], numbers: (Int, Int)) -> usize {
         let alloc = self.alloc;
         let value = pair_of(alloc, number(alloc, numbers.0), number(alloc, numbers.1));
-        self.step(cites, pair(alloc, numbers.0, numbers.1), value);
+        self.step(cites, pair(alloc, numbers.0, numbers.1), value)
     }
 
-    /// The step that a list of one number is worth itself.
-    pub(crate) fn short_list(&mut self, cites: &[usize], n: Int) {
+    /// Adds the step that a list of one number is worth itself, and answers its
+    /// index.
+    pub(crate) fn short_list(&mut self, cites: &[usize], n: Int) -> usize {
         let alloc = self.alloc;
         let nil = constant(alloc, Head::Con(NIL));
         let term = on_two(alloc, Head::Con(CONS), int(n), nil);
-        self.step(cites, term, list(alloc, &[n]));
+        self.step(cites, term, list(alloc, &[n]))
     }
 
     /// The claim that a function on arguments has these values and no others.

@@ -50,10 +50,10 @@ fn failing(alloc: Global, value: Worth) -> Draft {
 /// `(1, 2)` is worth `(unknown, 2)`, where 1 is worth something.
 fn half_known(alloc: Global, first: Worth) -> Draft {
     let mut draft = Draft::new(alloc);
-    draft.step(&[], int(1), first);
-    draft.int(2);
+    let one = draft.step(&[], int(1), first);
+    let two = draft.int(2);
     draft.step(
-        &[0, 1],
+        &[one, two],
         pair(alloc, 1, 2),
         pair_of(alloc, unknown(alloc), number(alloc, 2)),
     );
@@ -75,17 +75,17 @@ fn locally(alloc: Global, given: Int, bound_to: Int, value: Int) -> Draft {
     let coin = Head::Fun(COIN);
     let plus = Head::Fun(PLUS);
     let mut draft = Draft::new(alloc);
-    draft.int(given);
-    draft.step(&[0], constant(alloc, coin), number(alloc, given));
-    draft.use_of_zero(bound_to);
-    draft.step_with(
+    let number_given = draft.int(given);
+    let coin_given = draft.step(&[number_given], constant(alloc, coin), number(alloc, given));
+    let use_of_x = draft.use_of_zero(bound_to);
+    let body = draft.step_with(
         one_binding(alloc, 0, number(alloc, bound_to)),
-        &[2, 2],
+        &[use_of_x, use_of_x],
         on_two(alloc, plus, variable(0), variable(0)),
         number(alloc, value),
     );
     draft.step(
-        &[1, 3],
+        &[coin_given, body],
         let_in(
             alloc,
             0,
@@ -109,16 +109,20 @@ fn a_local_definition_is_chosen_once(rt: HostRuntime) {
 /// `let x free in 7` is 7, where the variable stands for something.
 fn freely(alloc: Global, env: Bindings) -> Draft {
     let mut draft = Draft::new(alloc);
-    draft.step_with(env, &[], int(7), number(alloc, 7));
-    draft.step(&[0], free_in(alloc, 0, int(7)), number(alloc, 7));
+    let body = draft.step_with(env, &[], int(7), number(alloc, 7));
+    draft.step(&[body], free_in(alloc, 0, int(7)), number(alloc, 7));
     draft
 }
 
 /// `let x free in x` has a value, where x stands for 3.
 fn free_three(alloc: Global, value: Int) -> Draft {
     let mut draft = Draft::new(alloc);
-    draft.use_of_zero(3);
-    draft.step(&[0], free_in(alloc, 0, variable(0)), number(alloc, value));
+    let body = draft.use_of_zero(3);
+    draft.step(
+        &[body],
+        free_in(alloc, 0, variable(0)),
+        number(alloc, value),
+    );
     draft
 }
 
@@ -144,15 +148,15 @@ fn a_free_variable_stands_for_total_data(rt: HostRuntime) {
 /// A head on 1, applied to 2, has a value.
 fn completed(alloc: Global, head: Head, value: Worth) -> Draft {
     let mut draft = Draft::new(alloc);
-    draft.int(1);
-    draft.step(
-        &[0],
+    let one = draft.int(1);
+    let function = draft.step(
+        &[one],
         part_on_one(alloc, head, int(1)),
         partial_on_one(alloc, head, number(alloc, 1)),
     );
-    draft.int(2);
+    let two = draft.int(2);
     draft.step(
-        &[1, 2],
+        &[function, two],
         apply(alloc, part_on_one(alloc, head, int(1)), int(2)),
         value,
     );
@@ -163,10 +167,10 @@ fn completed(alloc: Global, head: Head, value: Worth) -> Draft {
 fn extended(alloc: Global, argument: Int) -> Draft {
     let plus = Head::Fun(PLUS);
     let mut draft = Draft::new(alloc);
-    draft.step(&[], part(alloc, plus), partial(alloc, plus));
-    draft.int(1);
+    let function = draft.step(&[], part(alloc, plus), partial(alloc, plus));
+    let one = draft.int(1);
     draft.step(
-        &[0, 1],
+        &[function, one],
         apply(alloc, part(alloc, plus), int(1)),
         partial_on_one(alloc, plus, number(alloc, argument)),
     );
@@ -178,17 +182,17 @@ fn extended(alloc: Global, argument: Int) -> Draft {
 fn doubled(alloc: Global, bound_to: Int, value: Int) -> Draft {
     let double = Head::Fun(DOUBLE);
     let mut draft = Draft::new(alloc);
-    draft.step(&[], part(alloc, double), partial(alloc, double));
-    draft.int(1);
-    draft.use_of_zero(bound_to);
-    draft.step_with(
+    let function = draft.step(&[], part(alloc, double), partial(alloc, double));
+    let one = draft.int(1);
+    let use_of_zero = draft.use_of_zero(bound_to);
+    let body = draft.step_with(
         one_binding(alloc, 0, number(alloc, bound_to)),
-        &[2, 2],
+        &[use_of_zero, use_of_zero],
         on_two(alloc, Head::Fun(PLUS), variable(0), variable(0)),
         number(alloc, value),
     );
     draft.step(
-        &[0, 1, 3],
+        &[function, one, body],
         apply(alloc, part(alloc, double), int(1)),
         number(alloc, value),
     );

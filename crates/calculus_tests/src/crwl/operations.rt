@@ -12,10 +12,10 @@ use std::alloc::Global;
 /// An operation on two numbers has a value.
 fn on_numbers(alloc: Global, operation: FunId, left: Int, right: Int, value: Worth) -> Draft {
     let mut draft = Draft::new(alloc);
-    draft.int(left);
-    draft.int(right);
+    let first = draft.int(left);
+    let second = draft.int(right);
     draft.step(
-        &[0, 1],
+        &[first, second],
         on_two(alloc, Head::Fun(operation), int(left), int(right)),
         value,
     );
@@ -75,9 +75,9 @@ fn numbers_are_ordered(rt: HostRuntime) {
 /// `chr n` is a character.
 fn of_number(alloc: Global, n: Int, c: char) -> Draft {
     let mut draft = Draft::new(alloc);
-    draft.int(n);
+    let argument = draft.int(n);
     draft.step(
-        &[0],
+        &[argument],
         on_one(alloc, Head::Fun(CHR), int(n)),
         character(alloc, c),
     );
@@ -87,9 +87,9 @@ fn of_number(alloc: Global, n: Int, c: char) -> Draft {
 /// `ord c` is a number.
 fn of_character(alloc: Global, c: char, n: Int) -> Draft {
     let mut draft = Draft::new(alloc);
-    draft.step(&[], letter(c), character(alloc, c));
+    let argument = draft.step(&[], letter(c), character(alloc, c));
     draft.step(
-        &[0],
+        &[argument],
         on_one(alloc, Head::Fun(ORD), letter(c)),
         number(alloc, n),
     );
@@ -100,10 +100,10 @@ fn of_character(alloc: Global, c: char, n: Int) -> Draft {
 fn on_unknown(alloc: Global) -> Draft {
     let coin = Head::Fun(COIN);
     let mut draft = Draft::new(alloc);
-    draft.step(&[], constant(alloc, coin), unknown(alloc));
-    draft.int(1);
+    let unknown_coin = draft.step(&[], constant(alloc, coin), unknown(alloc));
+    let one = draft.int(1);
     draft.step(
-        &[0, 1],
+        &[unknown_coin, one],
         on_two(alloc, Head::Fun(PLUS), constant(alloc, coin), int(1)),
         number(alloc, 1),
     );

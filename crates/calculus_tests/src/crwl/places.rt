@@ -31,8 +31,8 @@ fn from_later(alloc: Global) -> Draft {
 fn from_unknown(alloc: Global) -> Draft {
     let looping = Head::Fun(LOOP);
     let mut draft = Draft::new(alloc);
-    draft.step(&[], constant(alloc, looping), unknown(alloc));
-    draft.step(&[0], constant(alloc, looping), unknown(alloc));
+    let by_bottom = draft.step(&[], constant(alloc, looping), unknown(alloc));
+    draft.step(&[by_bottom], constant(alloc, looping), unknown(alloc));
     draft
 }
 

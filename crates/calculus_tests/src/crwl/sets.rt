@@ -82,9 +82,9 @@ fn a_set_call_is_worth_the_claimed_list_or_less(rt: HostRuntime) {
 fn doubles(alloc: Global, n: Int) -> Draft {
     let mut draft = Draft::new(alloc);
     draft.claim(DOUBLE, all_numbers(alloc, &[1]), all_numbers(alloc, &[2]));
-    draft.int(n);
+    let argument = draft.int(n);
     draft.step(
-        &[0],
+        &[argument],
         on_one(alloc, Head::Set(DOUBLE), int(n)),
         one_value(alloc, VALUES, list(alloc, &[2])),
     );
@@ -96,10 +96,10 @@ fn doubles(alloc: Global, n: Int) -> Draft {
 fn doubles_of(alloc: Global, claimed: Worth, bound_to: Worth, given: Worth, again: Worth) -> Draft {
     let mut draft = Draft::new(alloc);
     draft.claim(DOUBLE, one(alloc, claimed), all_numbers(alloc, &[2]));
-    draft.step_with(one_binding(alloc, 0, bound_to), &[], variable(0), given);
+    let argument = draft.step_with(one_binding(alloc, 0, bound_to), &[], variable(0), given);
     draft.step_with(
         one_binding(alloc, 0, again),
-        &[0],
+        &[argument],
         on_one(alloc, Head::Set(DOUBLE), variable(0)),
         one_value(alloc, VALUES, list(alloc, &[2])),
     );
@@ -141,10 +141,10 @@ fn applied(alloc: Global, value: Int) -> Draft {
     let doubles = Head::Set(DOUBLE);
     let mut draft = Draft::new(alloc);
     draft.claim(DOUBLE, all_numbers(alloc, &[1]), all_numbers(alloc, &[2]));
-    draft.step(&[], part(alloc, doubles), partial(alloc, doubles));
-    draft.int(1);
+    let function = draft.step(&[], part(alloc, doubles), partial(alloc, doubles));
+    let one = draft.int(1);
     draft.step(
-        &[0, 1],
+        &[function, one],
         apply(alloc, part(alloc, doubles), int(1)),
         one_value(alloc, VALUES, list(alloc, &[value])),
     );
