@@ -156,8 +156,8 @@ at_constructor program position c first false rows arguments values =
     specialized_look position (demands_constructor c) rows arguments values
 at_constructor program position c (AConstructor d) true rows arguments values =
     if same_type program c d
-    then specialized_look position (λ e. demands_nothing e || demands_constructor c e) rows arguments
-    values
+    then specialized_look position (λ e. demands_nothing e || demands_constructor c e) rows
+    arguments values
     else Nowhere
 at_constructor program position c (ALiteral m) true rows arguments values =
     Again (filter (λ row. not_literal m (demand_at position row)) rows)

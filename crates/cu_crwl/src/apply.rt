@@ -62,9 +62,9 @@ fn heads_are(left: Head, right: Head) -> bool
     ensures { result ≡ same_head left right }
 {
     match (left, right) {
-        (Head::Fun(f), Head::Fun(g)) => f.0 == g.0,
-        (Head::Con(c), Head::Con(d)) => c.0 == d.0,
-        (Head::Set(f), Head::Set(g)) => f.0 == g.0,
+        (Head::Fun(f), Head::Fun(g)) => f == g,
+        (Head::Con(c), Head::Con(d)) => c == d,
+        (Head::Set(f), Head::Set(g)) => f == g,
         _ => false,
     }
 }
@@ -162,9 +162,8 @@ fn rules_give(
         (option_map (λ s. statement_of s.now) statement.entry) value.now
         (map rule_meaning rules.now)) }
 {
-    let cited = match statement {
-        Some(cited) => cited,
-        None => return Ok(false),
+    let Some(cited) = statement else {
+        return Ok(false);
     };
     for rule in rules {
         if rule_gives(alloc, rule, values, cited, value)? {
@@ -285,9 +284,8 @@ impl Checker<'_> {
             (map claim_of self.entry.claims.now) call.entry.function
             (values_of call.entry.arguments.now) value.now) }
     {
-        let constructor = match self.heads.special.values {
-            Some(constructor) => constructor,
-            None => return Ok(false),
+        let Some(constructor) = self.heads.special.values else {
+            return Ok(false);
         };
         for claim in self.claims {
             if self.claim_gives(constructor, call, value, claim)? {

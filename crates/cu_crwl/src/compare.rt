@@ -31,7 +31,7 @@ fn heads_meet(left: Cell, right: Cell) -> Met
         (Cell::Lit(_), Cell::Con(_, _)) => Met::Different,
         (Cell::Con(_, _), Cell::Lit(_)) => Met::Different,
         (Cell::Con(constructor, _), Cell::Con(other, _)) => {
-            if constructor.0 == other.0 {
+            if constructor == other {
                 Met::Alike
             } else {
                 Met::Different

@@ -47,10 +47,10 @@ fn found(names: &Names, text: &str) -> NameId
     requires { Contains names.now text.now }
     ensures { slice_get names.now result.0 ≡ Some text.now }
 {
-    match names.find(text) {
-        Some(id) => id,
-        None => unreachable!(),
-    }
+    let Some(id) = names.find(text) else {
+        unreachable!()
+    };
+    id
 }
 
 /// How many parameters the types of modules have.

@@ -133,8 +133,8 @@ worked = record {
 abbrev pub worked_text : List ℕ
 worked_text =
     codes "Prog \"M\" [\"Prelude\"] [\nType (\"M\",\"T\") Public [0] "
-    ++ (codes
-    "[Cons (\"M\",\"C\") 2 Public [TVar 0,TCons (\"M\",\"T\") [TVar 0]],Cons (\"M\",\"N\") 0 Private []],"
+    ++ (codes "[Cons (\"M\",\"C\") 2 Public [TVar 0,TCons (\"M\",\"T\") [TVar 0]],"
+    ++ (codes "Cons (\"M\",\"N\") 0 Private []],"
     ++ (codes "\nTypeSyn (\"M\",\"L\") Private [0] (TCons (\"M\",\"T\") [TVar 0])] "
     ++ (codes "[\nFunc (\"M\",\"f\") 1 Public "
     ++ (codes "(FuncType (TCons (\"Prelude\",\"Int\") []) (TCons (\"Prelude\",\"Int\") [])) "
@@ -142,4 +142,4 @@ worked_text =
     ++ (codes "(Lit (Intc 2)))),\nFunc (\"M\",\"g\") 2 Private "
     ++ (codes "(FuncType (TCons (\"M\",\"T\") [TVar 0]) (FuncType (TVar 1) (TVar 0))) "
     ++ (codes "(Rule [1,2] (Case Flex (Var 1) [Branch (Pattern (\"M\",\"C\") [3,4]) (Var 3)]))] "
-    ++ codes "[\nOp (\"M\",\"f\") InfixrOp 5]\n"))))))))
+    ++ codes "[\nOp (\"M\",\"f\") InfixrOp 5]\n")))))))))

@@ -24,7 +24,7 @@ fn name_leads(name: TypeName, goal: SynonymId, known: &[bool]) -> bool
 {
     match name {
         TypeName::Data(_) => false,
-        TypeName::Synonym(s) => s.0 == goal.0 || is_known(known, s),
+        TypeName::Synonym(s) => s == goal || is_known(known, s),
     }
 }
 

@@ -170,7 +170,7 @@ fn place_of(modules: &[ModuleInfo], name: NameId) -> usize
     ensures { result ≡ place_of name (map module_meaning modules.now) }
 {
     for (place, module) in modules.iter().enumerate() {
-        if module.name.0 == name.0 {
+        if module.name == name {
             return place;
         }
     }

@@ -19,7 +19,7 @@ pub fn is_constant_pattern(constructor: ConId, pattern: &Pattern) -> bool
     match pattern {
         Pattern::Var(_) => false,
         Pattern::Lit(_) => false,
-        Pattern::Con(other, parts) => parts.is_empty() && constructor.0 == other.0,
+        Pattern::Con(other, parts) => parts.is_empty() && constructor == *other,
         Pattern::Alias(_, _) => false,
     }
 }
@@ -30,7 +30,7 @@ pub fn is_constant_head(constructor: ConId, head: Head) -> bool
 {
     match head {
         Head::Fun(_) => false,
-        Head::Con(other) => constructor.0 == other.0,
+        Head::Con(other) => constructor == other,
         Head::Set(_) => false,
     }
 }

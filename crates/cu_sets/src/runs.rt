@@ -42,10 +42,10 @@ fn only<S: Store>(branches: Vec<Branch<S>>) -> Onward<S>
         return Onward::Other(Outcome::Go(branches));
     }
     let mut branches = branches;
-    match branches.pop() {
-        Some(branch) => Onward::Only(branch),
-        None => unreachable!(),
-    }
+    let Some(branch) = branches.pop() else {
+        unreachable!()
+    };
+    Onward::Only(branch)
 }
 
 /// Takes a branch on for up to so many steps, one or more, while exactly one
