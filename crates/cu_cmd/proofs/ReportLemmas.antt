@@ -49,7 +49,7 @@ use Rattle.cu_cmd.specs.Report.{
   usage,
   usage_line,
 }
-use Rattle.cu_cmd.specs.Runs.{Ends, EndsWhole, Faults, HasRunCause, HasWriteCause, IsCompleted, status_after}
+use Rattle.cu_cmd.specs.Inside.Runs.{Ends, EndsWhole, Faults, HasRunCause, HasWriteCause, IsCompleted, status_after}
 use Rattle.cu_cmd.specs.Trials.{totals_pieces, totals_text, trial_goal, trial_held, trial_library, trial_limits}
 use Rattle.cu_cmd.specs.Written.{Writes, WritesReport, WritesResult, WritesWhole, WritesWholly, nothing, prefix}
 use Rattle.cu_cmd.specs.declared.fault.RunFault.{RunFault}

@@ -12,5 +12,5 @@ pub mod Depths
 pub mod Causes
 -- The numbers with which the process ends.
 pub mod Numbers
--- How the parts of a run end, and what they wrote.
-pub mod Runs
+-- What private contracts and invariants of loops say.
+pub mod Inside

@@ -1,7 +1,7 @@
 //! The commands of the line.
 ghost use Rattle.std.specs.Prelude.{◌≡◌, ◌≤◌, IfOk, IfSome};
 ghost use Rattle.cu_cmd.specs.Report.{AsksNothing, CommandReport};
-ghost use Rattle.cu_cmd.specs.Runs.{Ends, EndsWhole, HasRunCause, IsCompleted};
+ghost use Rattle.cu_cmd.specs.Inside.Runs.{Ends, EndsWhole, HasRunCause, IsCompleted};
 ghost use Rattle.cu_words.specs.Words.{HasItsRanges, asked};
 
 use crate::compiling::compile;

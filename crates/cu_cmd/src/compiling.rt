@@ -1,7 +1,7 @@
 //! The command `compile`.
 ghost use Rattle.std.specs.Prelude.{◌≡◌, IfOk, IfSome, OnErr, OnOk};
 ghost use Rattle.cu_cmd.specs.Report.{CompileReport};
-ghost use Rattle.cu_cmd.specs.Runs.{Ends, EndsWhole, HasRunCause, HasWriteCause, IsCompleted};
+ghost use Rattle.cu_cmd.specs.Inside.Runs.{Ends, EndsWhole, HasRunCause, HasWriteCause, IsCompleted};
 ghost use Rattle.cu_cmd.specs.declared.status.Status.TheVariants.{Done};
 ghost use Rattle.cu_flattext.specs.Text.{lowered, text_of_module};
 ghost use Rattle.cu_search.specs.Written.{Adds, AddsPrefix};

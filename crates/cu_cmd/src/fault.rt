@@ -1,6 +1,6 @@
 //! Why a run breaks off.
 ghost use Rattle.std.specs.Prelude.{◌≡◌};
-ghost use Rattle.cu_cmd.specs.Runs.{fault_of_print, fault_of_search, status_after};
+ghost use Rattle.cu_cmd.specs.Inside.Runs.{fault_of_print, fault_of_search, status_after};
 ghost use Rattle.cu_cmd.specs.declared.fault.RunFault.TheVariants.{NoMemory};
 
 use crate::status::Status;

@@ -1,6 +1,6 @@
 //! Writing a piece of the output.
 ghost use Rattle.std.specs.Prelude.{OnErr, OnOk};
-ghost use Rattle.cu_cmd.specs.Runs.{HasWriteCause};
+ghost use Rattle.cu_cmd.specs.Inside.Runs.{HasWriteCause};
 ghost use Rattle.cu_search.specs.Written.{Adds, AddsPrefix};
 
 use crate::fault::RunFault;

@@ -3,7 +3,7 @@ ghost use Rattle.std.specs.Prelude.{◌≡◌, IfOk, IfSome, List, OnErr, OnOk, 
 ghost use Rattle.cu_cmd.specs.Causes.{HasCause, IsNotUsage, IsUsage};
 ghost use Rattle.cu_cmd.specs.Depths.{ListsByDepth};
 ghost use Rattle.cu_cmd.specs.Report.{AsksNothing, Folders, Report, usage_line};
-ghost use Rattle.cu_cmd.specs.Runs.{HasWriteCause};
+ghost use Rattle.cu_cmd.specs.Inside.Runs.{HasWriteCause};
 ghost use Rattle.cu_cmd.specs.Written.{Writes, WritesWhole};
 ghost use Rattle.cu_cmd.specs.declared.status.Status.TheVariants.{Usage};
 ghost use Rattle.cu_search.specs.Written.{Adds, AddsPrefix};

@@ -1,7 +1,7 @@
 //! The command `solve`.
 ghost use Rattle.std.specs.Prelude.{◌≡◌, ◌≤◌, IfOk, IfSome, OnErr, OnOk};
 ghost use Rattle.cu_cmd.specs.Report.{SolveReport};
-ghost use Rattle.cu_cmd.specs.Runs.{Ends, EndsWhole, HasRunCause, HasWriteCause, IsCompleted};
+ghost use Rattle.cu_cmd.specs.Inside.Runs.{Ends, EndsWhole, HasRunCause, HasWriteCause, IsCompleted};
 ghost use Rattle.cu_cmd.specs.declared.status.Status.TheVariants.{Refused};
 ghost use Rattle.cu_front.specs.RefusalLine.{refusal_line};
 ghost use Rattle.cu_front.specs.RefusalMeaning.{RefusalIsKnown, refusal_meaning};

@@ -3,7 +3,7 @@ ghost use Rattle.std.specs.Prelude.{◌≡◌, ◌≤◌, IfOk, OnErr, OnOk, Som
 ghost use Rattle.std.specs.List.{concat};
 ghost use Rattle.cu_calculus.specs.FlatProgram as flats;
 ghost use Rattle.cu_cmd.specs.Report as report;
-ghost use Rattle.cu_cmd.specs.Runs.{HasWriteCause, IsCompleted};
+ghost use Rattle.cu_cmd.specs.Inside.Runs.{HasWriteCause, IsCompleted};
 ghost use Rattle.cu_cmd.specs.Trials as trials;
 ghost use Rattle.cu_cmd.specs.Trials.{totals_pieces, totals_text};
 ghost use Rattle.cu_flat.specs.Layout.{laid_out};

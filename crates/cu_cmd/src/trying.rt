@@ -1,7 +1,7 @@
 //! The command `trial`.
 ghost use Rattle.std.specs.Prelude.{◌≡◌, ◌≤◌, IfOk, string_bytes};
 ghost use Rattle.cu_cmd.specs.Report.{TrialReport};
-ghost use Rattle.cu_cmd.specs.Runs.{Ends, EndsWhole, HasWriteCause, IsCompleted};
+ghost use Rattle.cu_cmd.specs.Inside.Runs.{Ends, EndsWhole, HasWriteCause, IsCompleted};
 ghost use Rattle.cu_cmd.specs.Trials as trials;
 ghost use Rattle.cu_search.specs.Standing.{widest};
 ghost use Rattle.cu_words.specs.Words.{Trying, trial_of};

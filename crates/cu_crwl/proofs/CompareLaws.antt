@@ -12,7 +12,7 @@ use Rattle.cu_values.specs.declared.cell.Cell.{Cell}
 use Rattle.cu_values.specs.declared.cell.Cell.TheVariants as cell
 use Rattle.cu_values.proofs.CellLemmas.{after, count_read_all, read_all_one, some_cell, spelled_one, After}
 use Rattle.cu_values.proofs.OrderLemmas.{put_parts, whole_enough}
-use Rattle.cu_crwl.specs.Comparing.{heads_meet}
+use Rattle.cu_crwl.specs.Inside.Comparing.{heads_meet}
 use Rattle.cu_crwl.specs.declared.compare.Met.{Met}
 use Rattle.cu_crwl.specs.declared.compare.Met.TheVariants as met
 

@@ -13,7 +13,7 @@ use Rattle.cu_calculus.specs.Literal.{is_literal}
 use Rattle.cu_calculus.specs.Value as value
 use Rattle.cu_calculus.specs.Value.{Value, Values, count, values_of}
 use Rattle.cu_values.specs.Cells.{spell, spell_all}
-use Rattle.cu_crwl.specs.CellsOf.{cell_is_of}
+use Rattle.cu_crwl.specs.Inside.CellsOf.{cell_is_of}
 
 and_true : (b : Bool) → (b && true) ≡ b
 and_true true = refl

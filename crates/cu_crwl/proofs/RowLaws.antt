@@ -10,7 +10,7 @@ use Rattle.cu_calculus.specs.Program.{Program}
 use Rattle.cu_calculus.specs.Value.{Value}
 use Rattle.cu_calculus.proofs.Choosing.{chosen_looks}
 use Rattle.cu_matrix.specs.Meaning.{arguments_at, patterns_at}
-use Rattle.cu_crwl.specs.Rows.{look_meaning, row_meaning, rows_meaning}
+use Rattle.cu_crwl.specs.Inside.Rows.{look_meaning, row_meaning, rows_meaning}
 use Rattle.cu_crwl.specs.declared.choose.Look.{Look}
 use Rattle.cu_crwl.specs.declared.choose.Row.{Row}
 use Rattle.cu_calculus.specs.Term as clean

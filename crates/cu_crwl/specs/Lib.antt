@@ -10,13 +10,7 @@ pub mod Environments
 pub mod Table
 -- Whether a proof's steps follow, as a test.
 pub mod Steps
--- The clause matrix of a case distinction.
-pub mod Rows
--- What `==` finds out from the heads of two values.
-pub mod Comparing
--- Operations on one literal and on two.
-pub mod Numbers
--- Cells of a program's values.
-pub mod CellsOf
 -- How steps are told apart.
 pub mod StepStored
+-- What private contracts and invariants of loops say.
+pub mod Inside

@@ -8,7 +8,7 @@ ghost use Rattle.cu_calculus.specs.Shape.{is_total_data};
 ghost use Rattle.cu_calculus.specs.Value as value;
 ghost use Rattle.cu_calculus.specs.Value.{values_of};
 ghost use Rattle.cu_kernel.specs.Heads.{heads_program};
-ghost use Rattle.cu_crwl.specs.Numbers.{on_one, on_two, two_values};
+ghost use Rattle.cu_crwl.specs.Inside.Numbers.{on_one, on_two, two_values};
 ghost use Rattle.cu_crwl.specs.Table.{is_answer};
 
 use crate::compare::compare;

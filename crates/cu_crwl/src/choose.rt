@@ -6,7 +6,7 @@ ghost use Rattle.cu_calculus.specs.Chosen.{chosen};
 ghost use Rattle.cu_kernel.specs.Heads.{heads_program};
 ghost use Rattle.cu_kernel.specs.TermsOf.{alternatives_of};
 ghost use Rattle.cu_matrix.specs.Meaning.{demand_meaning};
-ghost use Rattle.cu_crwl.specs.Rows.{keeps, look_meaning, row_meaning, rows_meaning};
+ghost use Rattle.cu_crwl.specs.Inside.Rows.{keeps, look_meaning, row_meaning, rows_meaning};
 
 use cu_kernel::{ConId, Heads, Lit, Pattern, Term};
 use cu_matrix::{Demand, demanded, leftmost, of_one_type, opened_patterns};

@@ -1,7 +1,7 @@
 //! Values compared by `==`.
 ghost use Rattle.std.specs.Prelude.{◌≡◌};
 ghost use Rattle.cu_calculus.specs.Compared.{compared};
-ghost use Rattle.cu_crwl.specs.Comparing.{heads_meet};
+ghost use Rattle.cu_crwl.specs.Inside.Comparing.{heads_meet};
 
 use cu_values::{Cell, Value};
 

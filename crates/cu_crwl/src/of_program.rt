@@ -6,7 +6,7 @@ ghost use Rattle.cu_crwl.specs.Meaning.{claim_of, statement_of};
 ghost use Rattle.cu_calculus.specs.Literal.{is_literal};
 ghost use Rattle.cu_calculus.specs.Shape.{is_of};
 ghost use Rattle.cu_kernel.specs.Heads.{heads_program};
-ghost use Rattle.cu_crwl.specs.CellsOf.{cell_is_of};
+ghost use Rattle.cu_crwl.specs.Inside.CellsOf.{cell_is_of};
 
 use crate::apply::function;
 use crate::{Claim, Statement};

@@ -11,7 +11,7 @@ use Rattle.cu_translation.specs.declared.fault.Fault as code
 use Rattle.cu_translation.specs.Answer.{Tells, fault_meaning}
 use Rattle.cu_translation.specs.FaultOrder.{Fault, first_fault}
 use Rattle.cu_translation.specs.Translation.{Outcome, Refused, Translated, outcome}
-use Rattle.cu_desugar.specs.Refusals.{IsRefusal, or_other}
+use Rattle.cu_desugar.specs.Inside.Refusals.{IsRefusal, or_other}
 
 -- ---- refusals
 

@@ -19,7 +19,7 @@ use Rattle.cu_syntax.specs.Syntax.{Name, TypeTerm}
 use Rattle.cu_syntax.specs.Types.{type_meaning}
 use Rattle.cu_toplevel.proofs.NameLemmas.{same_name}
 use Rattle.cu_translation.specs.LocalFunctions.{or_else, signature_in, signature_of}
-use Rattle.cu_desugar.specs.Signatures.{IsSignature}
+use Rattle.cu_desugar.specs.Inside.Signatures.{IsSignature}
 
 -- whether names have a text
 abbrev pub has_text : NameId → List code_name.Name → Bool

@@ -9,7 +9,7 @@ use Rattle.cu_sites.specs.Meaning.{AreGroups, GroupIsOf, group_meaning}
 use Rattle.cu_sites.specs.declared.rules.Group.{Group}
 use Rattle.cu_translation.specs.Rules as meant
 use Rattle.cu_desugar.specs.declared.texts.FunctionText.{FunctionText}
-use Rattle.cu_desugar.specs.Texts.{AreTexts, IsText, function_in}
+use Rattle.cu_desugar.specs.Inside.Texts.{AreTexts, IsText, function_in}
 
 -- ---- what each of them gives
 

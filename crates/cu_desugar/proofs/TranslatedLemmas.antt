@@ -17,8 +17,8 @@ use Rattle.cu_translation.specs.Parts.{goal_names, goal_part, part_of, reading}
 use Rattle.cu_translation.specs.Rules.{Group}
 use Rattle.cu_translation.specs.Translation.{Outcome, Refused, Translated, goal_translation, translation}
 use Rattle.cu_desugar.specs.declared.outcomes.Outcome as parts
-use Rattle.cu_desugar.specs.Outcomes.{IsOutcome, reading_translated}
-use Rattle.cu_desugar.specs.Refusals.{IsRefusal}
+use Rattle.cu_desugar.specs.Inside.Outcomes.{IsOutcome, reading_translated}
+use Rattle.cu_desugar.specs.Inside.Refusals.{IsRefusal}
 use Rattle.cu_desugar.specs.Translated.{goal_translated, translated}
 use Rattle.cu_desugar.proofs.RefusalLemmas as outcomes
 

@@ -1,5 +1,5 @@
 //! What surrounds the text of a function.
-ghost use Rattle.cu_desugar.specs.Surrounding.{Surrounds};
+ghost use Rattle.cu_desugar.specs.Inside.Surrounding.{Surrounds};
 
 use cu_fixity::Fixity;
 use cu_names::NameId;

@@ -1,8 +1,8 @@
 //! The faults for which modules are refused.
 ghost use Rattle.std.specs.Prelude.{◌≡◌, IfOk, List};
 ghost use Rattle.std.specs.List.{flat_map};
-ghost use Rattle.cu_desugar.specs.Refusals.{IsRefusal};
-ghost use Rattle.cu_desugar.specs.Texts.{AreTexts};
+ghost use Rattle.cu_desugar.specs.Inside.Refusals.{IsRefusal};
+ghost use Rattle.cu_desugar.specs.Inside.Texts.{AreTexts};
 ghost use Rattle.cu_faults.specs.Telling.{IsFirst};
 ghost use Rattle.cu_locals.specs.Text.{Text};
 ghost use Rattle.cu_toplevel.specs.Surrounding.{TellsNames};

@@ -1,7 +1,7 @@
 //! Functions of top level by their rules.
 ghost use Rattle.std.specs.Prelude.{◌≡◌, IfOk, List, [], map};
-ghost use Rattle.cu_desugar.specs.Surrounding.{Surrounds};
-ghost use Rattle.cu_desugar.specs.Texts.{AreTexts, IsText, function_in};
+ghost use Rattle.cu_desugar.specs.Inside.Surrounding.{Surrounds};
+ghost use Rattle.cu_desugar.specs.Inside.Texts.{AreTexts, IsText, function_in};
 ghost use Rattle.cu_faults.specs.Telling.{setting};
 ghost use Rattle.cu_forms.specs.Scopes.{Sees};
 ghost use Rattle.cu_kernel.specs.LocalKernelOf.{local_rule_meaning, top_function_meaning};

@@ -1,8 +1,8 @@
 //! Goals with what is known of their texts, and the functions that they are.
 ghost use Rattle.std.specs.Prelude.{◌≡◌, IfOk, List, map, ℕ};
-ghost use Rattle.cu_desugar.specs.Goals.{IsGoal};
-ghost use Rattle.cu_desugar.specs.Refusals.{IsRefusal};
-ghost use Rattle.cu_desugar.specs.Surrounding.{Surrounds};
+ghost use Rattle.cu_desugar.specs.Inside.Goals.{IsGoal};
+ghost use Rattle.cu_desugar.specs.Inside.Refusals.{IsRefusal};
+ghost use Rattle.cu_desugar.specs.Inside.Surrounding.{Surrounds};
 ghost use Rattle.cu_faults.specs.Telling.{setting};
 ghost use Rattle.cu_kernel.specs.LocalKernelOf.{top_function_meaning};
 ghost use Rattle.cu_locals.specs.Text.{Text};

@@ -2,7 +2,7 @@
 ghost use Rattle.std.specs.Prelude.{◌≡◌, ◌∷◌, [], IfOk, List, map};
 ghost use Rattle.std.specs.List.{All};
 ghost use Rattle.std.specs.Option.{option_map};
-ghost use Rattle.cu_desugar.specs.Surrounding.{Surrounds};
+ghost use Rattle.cu_desugar.specs.Inside.Surrounding.{Surrounds};
 ghost use Rattle.cu_faults.specs.Telling.{setting};
 ghost use Rattle.cu_forms.specs.Scopes.{Sees};
 ghost use Rattle.cu_kernel.specs.LocalKernelOf.{local_function_meaning};

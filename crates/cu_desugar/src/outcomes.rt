@@ -1,6 +1,6 @@
 //! What texts are translated to, or why they are refused.
 ghost use Rattle.std.specs.Prelude.{◌≡◌, IfErr, IfOk};
-ghost use Rattle.cu_desugar.specs.Outcomes.{IsOutcome};
+ghost use Rattle.cu_desugar.specs.Inside.Outcomes.{IsOutcome};
 ghost use Rattle.cu_kernel.specs.LocalKernelOf.{local_kernel_of};
 ghost use Rattle.cu_names.specs.declared.names.NameId.{NameId};
 ghost use Rattle.cu_translation.specs.declared.fault.DesugarFault.TheVariants.{NoMemory};

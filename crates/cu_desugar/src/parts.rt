@@ -1,9 +1,9 @@
 //! The parts of programs that modules and goals are translated to.
 ghost use Rattle.std.specs.Prelude.{◌≡◌, ◌<◌, IfErr, IfOk, List, length};
-ghost use Rattle.cu_desugar.specs.Goals.{IsGoal};
+ghost use Rattle.cu_desugar.specs.Inside.Goals.{IsGoal};
 ghost use Rattle.cu_desugar.specs.Modules.{AreKnown, goal_owner, named, owner_of};
-ghost use Rattle.cu_desugar.specs.Outcomes.{IsOutcome, reading_translated};
-ghost use Rattle.cu_desugar.specs.Texts.{AreTexts};
+ghost use Rattle.cu_desugar.specs.Inside.Outcomes.{IsOutcome, reading_translated};
+ghost use Rattle.cu_desugar.specs.Inside.Texts.{AreTexts};
 ghost use Rattle.cu_desugar.specs.Translated.{goal_translated, translated};
 ghost use Rattle.cu_locals.specs.Text.{Text};
 ghost use Rattle.cu_modules.specs.BuiltInEntities.{HasBuiltIn};

@@ -1,7 +1,7 @@
 //! Signatures of blocks.
 ghost use Rattle.std.specs.Prelude.{◌≡◌, IfOk, nat_eq};
 ghost use Rattle.std.specs.List.{All, list_any};
-ghost use Rattle.cu_desugar.specs.Signatures.{IsSignature};
+ghost use Rattle.cu_desugar.specs.Inside.Signatures.{IsSignature};
 ghost use Rattle.cu_locals.specs.Text.{Text};
 ghost use Rattle.cu_names.specs.Texts.{IsKnown, text_of};
 ghost use Rattle.cu_syntax.specs.declared.name.Name.{Name};

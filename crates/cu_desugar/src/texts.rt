@@ -1,7 +1,7 @@
 //! Functions with what is known of their texts.
 ghost use Rattle.std.specs.Prelude.{◌≡◌, IfOk};
-ghost use Rattle.cu_desugar.specs.Surrounding.{Surrounds};
-ghost use Rattle.cu_desugar.specs.Texts.{AreTexts, IsText, function_in};
+ghost use Rattle.cu_desugar.specs.Inside.Surrounding.{Surrounds};
+ghost use Rattle.cu_desugar.specs.Inside.Texts.{AreTexts, IsText, function_in};
 ghost use Rattle.cu_faults.specs.Telling.{setting};
 ghost use Rattle.cu_locals.specs.Text.{Text};
 ghost use Rattle.cu_modules.specs.Ordering.{module_of};

@@ -43,7 +43,7 @@ use Rattle.cu_forms.specs.Inside.Blocks.{guards_term, row_meaning}
 use Rattle.cu_forms.specs.Inside.Calls.{built_in_term, referred_on}
 use Rattle.cu_forms.specs.Inside.Expressions.{alternatives_term, first_alone}
 use Rattle.cu_forms.specs.Inside.Lists.{distinction, list_term, literal_term, tuple_term}
-use Rattle.cu_forms.specs.Inside.Operands.{operand_meaning}
+use Rattle.cu_forms.specs.Operands.{operand_meaning}
 use Rattle.cu_forms.proofs.CallLemmas.{first_name, referred_by_terms}
 
 -- ---- lists of views

@@ -50,7 +50,7 @@ use Rattle.cu_translation.proofs.Trees.{grouped_exactly, none_exactly}
 use Rattle.cu_forms.specs.Forms.{expression_form, name_alone_form, number_alone_form, operand_form, operators_term}
 use Rattle.cu_forms.specs.Inside.Calls.{built_in_term, referred_on}
 use Rattle.cu_forms.specs.Inside.Lists.{number_term}
-use Rattle.cu_forms.specs.Inside.Operands.{first_term, number_of, operand_meaning, operated, operated_on, operated_term, operator_piece, part_item}
+use Rattle.cu_forms.specs.Operands.{first_term, number_of, operand_meaning, operated, operated_on, operated_term, operator_piece, part_item}
 use Rattle.cu_forms.specs.declared.operators.Operand as code
 use Rattle.cu_forms.proofs.CallLemmas.{referred_by_terms}
 use Rattle.cu_forms.proofs.OrderLemmas.{Shows, in_order, no_tree}

@@ -1,5 +1,5 @@
--- What private contracts say, and of public ones that of `tree_of`. In the order in which to read
--- them.
+-- What private contracts and invariants of loops say. No public contract speaks of it. In the order
+-- in which to read them.
 
 -- Calls by the terms of their arguments, and by what the first of these refers to.
 pub mod Calls
@@ -7,8 +7,6 @@ pub mod Calls
 pub mod Lists
 -- What patterns are made of.
 pub mod PatternParts
--- Operands and operators of expressions.
-pub mod Operands
 -- Definitions of a block, guards, and what stands around the rest of a comprehension.
 pub mod Blocks
 -- What the parts of expressions stand for.

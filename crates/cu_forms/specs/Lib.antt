@@ -6,5 +6,7 @@ pub mod Scopes
 pub mod Forms
 -- What rules and local functions stand for, under a table of names.
 pub mod Functions
+-- Operands and operators of expressions.
+pub mod Operands
 -- What private contracts and invariants of loops say.
 pub mod Inside

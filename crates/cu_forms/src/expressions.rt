@@ -11,7 +11,7 @@ ghost use Rattle.cu_translation.specs.Meaning.{Setting, referent_meaning};
 ghost use Rattle.cu_forms.specs.Scopes.{Sees};
 ghost use Rattle.cu_forms.specs.Forms.{alternative_form, application_form, block_term, body_form, comprehension_form, enumeration_form, expression_form, free_form, guard_form, let_form, lets_form, operand_form, operators_term, right_form};
 ghost use Rattle.cu_forms.specs.Inside.Blocks.{bounds_meaning, guard_meaning, row_meaning};
-ghost use Rattle.cu_forms.specs.Inside.Operands.{item_meaning, operand_meaning, part_item};
+ghost use Rattle.cu_forms.specs.Operands.{item_meaning, operand_meaning, part_item};
 ghost use Rattle.cu_forms.specs.Inside.Expressions.{BegunIsKnown, Defines, Opens, first_alone, generated_term, is_function_rule};
 
 use crate::blocks::{Bound, add_selections, block};

@@ -21,7 +21,7 @@ ghost use Rattle.cu_translation.specs.Terms as terms;
 ghost use Rattle.cu_forms.specs.Forms.{number_alone_form, operators_term};
 ghost use Rattle.cu_forms.specs.Scopes.{Sees};
 ghost use Rattle.cu_forms.specs.Inside.Lists.{number_term};
-ghost use Rattle.cu_forms.specs.Inside.Operands.{first_term, item_meaning, number_of, operand_meaning, operated, operated_term, operator_piece, part_item};
+ghost use Rattle.cu_forms.specs.Operands.{first_term, item_meaning, number_of, operand_meaning, operated, operated_term, operator_piece, part_item};
 
 use crate::calls::{built_in, no_term, referred};
 use crate::lists::number;

@@ -15,8 +15,8 @@ use Rattle.cu_front.specs.Inside.Stages.{AreTranslated, CompileAlone, RefusesMod
 use Rattle.cu_front.specs.Names.{IsTable}
 use Rattle.cu_front.specs.Programs.{CanRun, IsLifted}
 use Rattle.cu_front.specs.Refusal.{Walked}
-use Rattle.cu_front.specs.Runnable.{IsNotRunnable}
-use Rattle.cu_front.specs.StageFaults.{Tells}
+use Rattle.cu_front.specs.Inside.Runnable.{IsNotRunnable}
+use Rattle.cu_front.specs.Inside.StageFaults.{Tells}
 use Rattle.cu_front.specs.Translated.{modules_program, translation_refusal}
 use Rattle.cu_front.proofs.RunLemmas.{tells_weaker}
 use Rattle.cu_front.proofs.StageLemmas.{modules_refused}

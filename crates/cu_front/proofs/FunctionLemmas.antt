@@ -29,7 +29,7 @@ use Rattle.cu_toplevel.proofs.TopLemmas.{id_is}
 use Rattle.cu_front.specs.declared.fault.StageFault.{StageFault}
 use Rattle.cu_front.specs.Inside.Outcomes.{fault_of_functions, is_clash}
 use Rattle.cu_front.specs.Refusal.{InFunctions, Refusal, Walked, in_functions, in_functions_at}
-use Rattle.cu_front.specs.StageFaults.{Tells}
+use Rattle.cu_front.specs.Inside.StageFaults.{Tells}
 use Rattle.cu_front.proofs.ClashLemmas as clashes
 use Rattle.cu_front.proofs.TableLemmas.{module_at_is, module_has}
 

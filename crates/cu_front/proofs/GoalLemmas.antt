@@ -31,7 +31,7 @@ use Rattle.cu_modules.specs.Texts.{Syntax, TextFault, Tokens, TooDeep}
 use Rattle.cu_modules.specs.Walk.{InText}
 use Rattle.cu_front.specs.GoalTexts.{GoalIsRead, no_tokens, read, too_deep}
 use Rattle.cu_front.specs.Refusal.{Walked}
-use Rattle.cu_front.specs.StageFaults.{IsUnread, Tells, fault_of_layout, fault_of_syntax, fault_of_tokens}
+use Rattle.cu_front.specs.Inside.StageFaults.{IsUnread, Tells, fault_of_layout, fault_of_syntax, fault_of_tokens}
 use Rattle.cu_front.specs.declared.fault.StageFault.{StageFault}
 
 fault_in : (name text : List ℕ) (fault : TextFault) → GoalIsRead text (Err fault)

@@ -20,7 +20,7 @@ use Rattle.cu_front.specs.declared.refusal.Refusal as refused
 use Rattle.cu_front.specs.Inside.Outcomes.{Follow, HasNoClash, IsModuleOutcome, IsOutcome, IsOutcomeOf, followed_by, clash_told, clashes_told, kept, other_told, others_told, part_at, parts_of}
 use Rattle.cu_front.specs.Refusal.{Refusal}
 use Rattle.cu_front.specs.RefusalMeaning.{refusal_meaning}
-use Rattle.cu_front.specs.StageFaults.{Tells}
+use Rattle.cu_front.specs.Inside.StageFaults.{Tells}
 use Rattle.cu_front.specs.Translated.{clash_in, fault_in, first_from, modules_program, program_upto, refused_or, translation_refusal}
 use Rattle.cu_front.proofs.ClashLemmas.{Is, all_are_clashes, each, first_is, none_is_a_clash}
 use Rattle.cu_front.proofs.ClashLemmas as clashes

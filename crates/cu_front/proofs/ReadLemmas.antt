@@ -27,7 +27,7 @@ use Rattle.cu_front.specs.declared.programs.Programs.{Programs}
 use Rattle.cu_front.specs.declared.runnable.Compiled.{Compiled}
 use Rattle.cu_front.specs.Inside.Stages.{ArePrograms, CompileBoth, IsGoalRead, RefusesBoth, RefusesModules}
 use Rattle.cu_front.proofs.RunLemmas.{tells_weaker}
-use Rattle.cu_front.specs.StageFaults.{IsUnread, Tells}
+use Rattle.cu_front.specs.Inside.StageFaults.{IsUnread, Tells}
 use Rattle.cu_front.proofs.TableLemmas.{called, same_places}
 
 -- ---- tables that grow

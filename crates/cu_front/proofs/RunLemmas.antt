@@ -17,8 +17,8 @@ use Rattle.cu_types.specs.declared.unification.Clash.{Clash}
 use Rattle.cu_front.specs.Inside.Typings.{IsTyping}
 use Rattle.cu_front.specs.Programs.{CannotRun, HasLevels, IsLifted, IsTypable, clash, function_text, functional, sets, signature, size}
 use Rattle.cu_front.specs.Refusal.{GoalFunctional, Refusal, SetRecursion, Signature, TreeTooBig, TypeClash}
-use Rattle.cu_front.specs.Runnable.{IsNotRunnable}
-use Rattle.cu_front.specs.StageFaults.{Tells}
+use Rattle.cu_front.specs.Inside.Runnable.{IsNotRunnable}
+use Rattle.cu_front.specs.Inside.StageFaults.{Tells}
 use Rattle.cu_front.specs.declared.fault.StageFault.{StageFault}
 use Rattle.cu_front.specs.declared.fault.StageFault.TheVariants as stage
 use Rattle.cu_front.specs.declared.runnable.Typing.{Typing}

@@ -37,7 +37,7 @@ use Rattle.cu_front.specs.Inside.Stages.{IsInNames, IsInTypes, IsWhole, RefusesM
 use Rattle.cu_front.specs.Names.{IsGoalTable, IsTable}
 use Rattle.cu_front.specs.Refusal.{InNames, Refusal, in_functions, in_types}
 use Rattle.cu_front.specs.RefusalMeaning.{refusal_meaning}
-use Rattle.cu_front.specs.StageFaults.{IsUnread, Tells}
+use Rattle.cu_front.specs.Inside.StageFaults.{IsUnread, Tells}
 use Rattle.cu_front.specs.Translated.{modules_program, translation_refusal}
 use Rattle.cu_front.proofs.FunctionLemmas.{IsRefusedFor}
 use Rattle.cu_front.proofs.ModuleLemmas.{ModulesFollow, follow_by, is_after, upto_follows}

@@ -17,7 +17,7 @@ use Rattle.cu_front.specs.declared.refusal.Refusal as code
 use Rattle.cu_front.specs.Inside.Stages.{IsToldIf, IsWalkAnswer, answer_of}
 use Rattle.cu_front.specs.Refusal.{Refusal, Walked}
 use Rattle.cu_front.specs.RefusalMeaning.{RefusalIsKnown, refusal_meaning}
-use Rattle.cu_front.specs.StageFaults.{Tells}
+use Rattle.cu_front.specs.Inside.StageFaults.{Tells}
 use Rattle.cu_front.proofs.RunLemmas.{tells_weaker}
 
 -- ---- what is told

@@ -19,8 +19,8 @@ use Rattle.cu_front.specs.declared.refusal.Refusal as told
 use Rattle.cu_front.specs.Inside.Stages.{ArePrograms, CompileBoth, IsWhole, RefusesBoth}
 use Rattle.cu_front.specs.Programs.{CanRun, IsLifted}
 use Rattle.cu_front.specs.RefusalMeaning.{refusal_meaning}
-use Rattle.cu_front.specs.Runnable.{IsNotRunnable}
-use Rattle.cu_front.specs.StageFaults.{Tells}
+use Rattle.cu_front.specs.Inside.Runnable.{IsNotRunnable}
+use Rattle.cu_front.specs.Inside.StageFaults.{Tells}
 use Rattle.cu_front.proofs.GrowthLemmas.{stays}
 use Rattle.cu_front.proofs.RunLemmas.{tells_weaker}
 

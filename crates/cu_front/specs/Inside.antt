@@ -6,3 +6,7 @@ pub mod Outcomes
 pub mod Stages
 -- What the answer of inference says.
 pub mod Typings
+-- What the faults of stages tell.
+pub mod StageFaults
+-- Why the lifting of a program can't be run.
+pub mod Runnable

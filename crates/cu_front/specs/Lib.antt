@@ -8,8 +8,6 @@ pub mod RefusalLine
 pub mod RefusalMeaning
 -- What the text of a goal is read as.
 pub mod GoalTexts
--- What the faults of stages tell.
-pub mod StageFaults
 -- The names that a table has to have for modules and a goal.
 pub mod Names
 -- The program before lifting that modules are translated to.
@@ -18,8 +16,6 @@ pub mod Translated
 pub mod Programs
 -- What modules and a goal come to: a refusal or a program.
 pub mod Compiling
--- Why the lifting of a program can't be run.
-pub mod Runnable
 -- What the answers of `compile` tell.
 pub mod CompileAnswers
 -- What private contracts and invariants of loops say.

@@ -1,7 +1,7 @@
 //! The syntax of a goal's text.
 ghost use Rattle.std.specs.Prelude.{◌≡◌, IfErr, IfOk, Ok};
 ghost use Rattle.cu_front.specs.GoalTexts.{GoalIsRead};
-ghost use Rattle.cu_front.specs.StageFaults.{
+ghost use Rattle.cu_front.specs.Inside.StageFaults.{
   IsUnread,
   Tells,
   fault_of_layout,

@@ -6,7 +6,7 @@ ghost use Rattle.cu_flat.specs.Layout.{laid_out};
 ghost use Rattle.cu_front.specs.CompileAnswers.{AnswerIsKnown, FaultCount, TellsRefusal};
 ghost use Rattle.cu_front.specs.Compiling.{RootCompiles, ModulesRefused};
 ghost use Rattle.cu_front.specs.Inside.Stages.{AreTranslated, CompileAlone, RefusesModules};
-ghost use Rattle.cu_front.specs.StageFaults.{Tells};
+ghost use Rattle.cu_front.specs.Inside.StageFaults.{Tells};
 ghost use Rattle.cu_modules.specs.BuiltInEntities.{HasBuiltIn};
 ghost use Rattle.cu_modules.specs.Ordering.{AreOrdered, modules_of};
 ghost use Rattle.cu_modules.specs.Reading.{HasModule};

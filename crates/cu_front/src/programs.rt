@@ -20,7 +20,7 @@ ghost use Rattle.cu_front.specs.Inside.Stages.{
   goal_told,
   part_of_goal,
 };
-ghost use Rattle.cu_front.specs.StageFaults.{Tells};
+ghost use Rattle.cu_front.specs.Inside.StageFaults.{Tells};
 ghost use Rattle.cu_front.specs.Translated.{translation_refusal};
 ghost use Rattle.cu_front.specs.declared.fault.StageFault.TheVariants.{NoMemory};
 ghost use Rattle.cu_modules.specs.BuiltInEntities.{HasBuiltIn};

@@ -6,7 +6,7 @@ ghost use Rattle.cu_calculus.specs.FlatProgram as flats;
 ghost use Rattle.cu_front.specs.CompileAnswers.{HasGoal};
 ghost use Rattle.cu_front.specs.Compiling.{root_in};
 ghost use Rattle.cu_front.specs.Inside.Stages.{ArePrograms, CompileBoth, RefusesBoth};
-ghost use Rattle.cu_front.specs.StageFaults.{Tells};
+ghost use Rattle.cu_front.specs.Inside.StageFaults.{Tells};
 ghost use Rattle.cu_front.specs.declared.fault.StageFault.TheVariants.{NoMemory};
 ghost use Rattle.cu_flat.specs.Layout.{laid_out};
 ghost use Rattle.cu_flat.specs.Meaning.{body_meaning};

@@ -12,8 +12,8 @@ ghost use Rattle.cu_front.specs.Programs.{CanRun, CannotRun, HasLevels, IsLifted
 ghost use Rattle.cu_front.specs.Programs as programs;
 ghost use Rattle.cu_front.specs.Refusal as meant;
 ghost use Rattle.cu_front.specs.RefusalMeaning.{FunctionIsKnown, function_named};
-ghost use Rattle.cu_front.specs.Runnable.{IsNotRunnable};
-ghost use Rattle.cu_front.specs.StageFaults.{Tells};
+ghost use Rattle.cu_front.specs.Inside.Runnable.{IsNotRunnable};
+ghost use Rattle.cu_front.specs.Inside.StageFaults.{Tells};
 ghost use Rattle.cu_front.specs.declared.fault.StageFault.TheVariants.{NoMemory};
 ghost use Rattle.cu_kernel.specs.Kernel.{program_of};
 ghost use Rattle.cu_lift.specs.Lifting.{AreNamed};

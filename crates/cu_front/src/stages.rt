@@ -20,7 +20,7 @@ ghost use Rattle.cu_front.specs.Inside.Stages.{
 };
 ghost use Rattle.cu_front.specs.RefusalMeaning.{PlaceIsKnown};
 ghost use Rattle.cu_front.specs.declared.refusal.Refusal.TheVariants as told;
-ghost use Rattle.cu_front.specs.StageFaults.{Tells};
+ghost use Rattle.cu_front.specs.Inside.StageFaults.{Tells};
 ghost use Rattle.cu_modules.specs.BuiltInEntities.{HasBuiltIn};
 ghost use Rattle.cu_modules.specs.Ordering.{AreOrdered, modules_of};
 ghost use Rattle.cu_modules.specs.Reading.{HasModule};

@@ -3,7 +3,7 @@ ghost use Rattle.std.specs.Prelude.{◌≡◌, ◌<◌, IfErr, IfOk, None, Some,
 ghost use Rattle.cu_desugar.specs.Modules.{AreKnown, named};
 ghost use Rattle.cu_front.specs.Inside.Outcomes as meant;
 ghost use Rattle.cu_front.specs.Inside.Outcomes.{IsModuleOutcome, clash_told, fault_of_functions};
-ghost use Rattle.cu_front.specs.StageFaults.{Tells};
+ghost use Rattle.cu_front.specs.Inside.StageFaults.{Tells};
 ghost use Rattle.cu_front.specs.Translated.{modules_program, translation_refusal};
 
 use crate::fault::StageFault;

@@ -15,7 +15,7 @@ use Rattle.cu_peg.specs.Classes.{has_kind}
 use Rattle.cu_peg.specs.Parse.{Leaf, Parts, Chosen, NoTree, MoreTrees}
 use Rattle.cu_syntax.specs.declared.symbol.Symbol.{Symbol}
 use Rattle.cu_syntax.specs.declared.symbol.Symbol.TheVariants as symbol
-use Rattle.cu_syntax.specs.Fits.{fits, has_alternative}
+use Rattle.cu_syntax.specs.Inside.Fits.{fits, has_alternative}
 use Rattle.cu_syntax.specs.Parsing.{Fault, GoalRead, ItemRead, ModuleRead, Part, PartRead, PartsRead, header_and_block, imports_after, parts}
 use Rattle.cu_syntax.specs.Reading.{Tree, item_as, item_of, name_of, spelling}
 use Rattle.cu_syntax.specs.Syntax.{Goal, Item, Module}

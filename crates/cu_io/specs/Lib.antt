@@ -10,8 +10,6 @@ pub mod Fetches
 pub mod Puts
 -- What a source answers.
 pub mod Reads
--- What adapters to the outside answer.
-pub mod Outside
 -- Calls of an object in memory.
 pub mod Calls
 -- A source in memory.
@@ -20,3 +18,5 @@ pub mod Input
 pub mod Output
 -- A library in memory.
 pub mod Shelf
+-- What private contracts and invariants of loops say.
+pub mod Inside

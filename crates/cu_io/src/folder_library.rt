@@ -4,7 +4,7 @@ ghost use Rattle.std.specs.IoError.{error_kind};
 ghost use Rattle.std.specs.String.{string_bytes};
 ghost use Rattle.std.specs.Io.KnownBytes.{IsAtEnd};
 ghost use Rattle.cu_io.specs.Fetches.{FetchCount, max_fetched_bytes};
-ghost use Rattle.cu_io.specs.Outside.{IsTextWithin, Moves, module_path, path_char, slashed};
+ghost use Rattle.cu_io.specs.Inside.Outside.{IsTextWithin, Moves, module_path, path_char, slashed};
 
 use crate::library::{Fetched, Library, MAX_FETCHED_BYTES};
 use std::alloc::{AllocError, Global};

@@ -1,6 +1,6 @@
 //! The standard output as a sink.
 ghost use Rattle.std.specs.Prelude.{◌≡◌, None};
-ghost use Rattle.cu_io.specs.Outside.{gone, Writes};
+ghost use Rattle.cu_io.specs.Inside.Outside.{gone, Writes};
 
 use crate::sink::{Put, Sink};
 use std::io;

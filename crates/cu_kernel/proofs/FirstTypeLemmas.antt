@@ -3,7 +3,7 @@ use Rattle.std.proofs.Common.{◌≡◌, ◌<◌, false, ◌&&◌, List, [], ◌
 use Rattle.cu_kernel.proofs.MarkLemmas.{not_both}
 use Rattle.cu_kernel.specs.FirstTypes.{begin_with, is_like}
 use Rattle.cu_kernel.specs.KernelOf.{type_meaning}
-use Rattle.cu_kernel.specs.OutlineOf.{outline_meaning}
+use Rattle.cu_kernel.specs.Inside.OutlineOf.{outline_meaning}
 use Rattle.cu_kernel.specs.declared.declarations.DataType.{DataType}
 use Rattle.cu_kernel.specs.declared.first_types.Outline.{Outline}
 

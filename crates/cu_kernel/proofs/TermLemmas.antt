@@ -4,7 +4,7 @@ use denote.Ref.{Bor}
 use Rattle.cu_calculus.specs.Program.{Program}
 use Rattle.cu_calculus.specs.Valid.{also_all, fit_alternatives, fits_pattern, fits_term, is_linear, variables_of}
 use Rattle.cu_kernel.proofs.Loops.{left}
-use Rattle.cu_kernel.specs.Scope.{allowed, allowed-WithAll}
+use Rattle.cu_kernel.specs.Inside.Scope.{allowed, allowed-WithAll}
 use Rattle.cu_kernel.specs.TermsOf.{alternatives_of, pattern_of, term_of}
 use Rattle.cu_kernel.specs.declared.scope.Scope.TheVariants as scope
 use Rattle.cu_kernel.specs.declared.scope.Scope.{Scope}

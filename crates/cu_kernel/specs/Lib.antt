@@ -20,10 +20,6 @@ pub mod LocalValid
 pub mod Tests
 -- The functions and constructors that a table of heads has.
 pub mod Heads
--- The variables that a scope of the code allows.
-pub mod Scope
--- The outlines of types that the code's outlines stand for.
-pub mod OutlineOf
 -- The types that the code's boxed types stand for.
 pub mod TypesOf
 -- The patterns and terms that the code's boxed ones stand for.
@@ -42,3 +38,5 @@ pub mod TermStored
 pub mod KernelStored
 -- How programs before lifting are told apart.
 pub mod LocalStored
+-- What private contracts and invariants of loops say.
+pub mod Inside

@@ -2,7 +2,7 @@
 ghost use Rattle.std.specs.Prelude.{◌≡◌, map};
 ghost use Rattle.cu_kernel.specs.FirstTypes.{begin_with, first_outlines, has_first_types, has_list_constructors, have_fields, is_like};
 ghost use Rattle.cu_kernel.specs.KernelOf.{constructor_meaning, type_meaning};
-ghost use Rattle.cu_kernel.specs.OutlineOf.{outline_meaning};
+ghost use Rattle.cu_kernel.specs.Inside.OutlineOf.{outline_meaning};
 
 use crate::{Constructor, DataType, Special};
 

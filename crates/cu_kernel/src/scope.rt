@@ -1,6 +1,6 @@
 //! Which variables may stand in a term.
 ghost use Rattle.std.specs.Prelude.{◌≡◌};
-ghost use Rattle.cu_kernel.specs.Scope.{allowed};
+ghost use Rattle.cu_kernel.specs.Inside.Scope.{allowed};
 
 /// The variables that may stand at a point of a rule. A scope names the one
 /// around it, so nothing is copied where a binder is entered.
@@ -20,7 +20,7 @@ pub(crate) enum Scope<'a> {
 
 impl Scope<'_> {
     /// Whether a variable may stand in this scope.
-    #[tactic(auto, using(crate::specs::Scope::allowed_variants))]
+    #[tactic(auto, using(crate::specs::Inside::Scope::allowed_variants))]
     pub(crate) fn allows(&self, x: u32) -> bool
         ensures { result ≡ allowed self.now x }
     {

@@ -4,7 +4,7 @@ ghost use Rattle.std.specs.List.{list_all};
 ghost use Rattle.cu_calculus.specs.Valid.{also, also_all, but, fit_alternatives, fit_terms, fits_rule, fits_term};
 ghost use Rattle.cu_kernel.specs.Heads.{heads_program};
 ghost use Rattle.cu_kernel.specs.KernelOf.{rule_meaning};
-ghost use Rattle.cu_kernel.specs.Scope.{allowed};
+ghost use Rattle.cu_kernel.specs.Inside.Scope.{allowed};
 ghost use Rattle.cu_kernel.specs.TermsOf.{alternatives_of, term_of, terms_of};
 
 use crate::heads::Heads;
@@ -17,7 +17,7 @@ use std::alloc::{AllocError, Global};
 
 /// Whether a term fits the program and uses only variables of a scope.
 #[cycle(terms)]
-#[tactic(auto, using(crate::specs::TermsOf::terms_of_variants, crate::specs::Scope::allowed_variants, crate::proofs::ListCounts::counts))]
+#[tactic(auto, using(crate::specs::TermsOf::terms_of_variants, crate::specs::Inside::Scope::allowed_variants, crate::proofs::ListCounts::counts))]
 fn term_fits(alloc: Global, heads: &Heads, term: &Term, scope: &Scope) -> Result<bool, AllocError>
     ensures { IfOk result (λ fits. fits
         ≡ fits_term (heads_program heads.now) (allowed scope.now) (term_of term.now)) }
@@ -129,7 +129,7 @@ fn alternatives_fit(
 }
 
 /// Whether a rule has a pattern for each of so many parameters and is valid.
-#[tactic(auto, using(crate::specs::Scope::allowed_variants, crate::proofs::ListCounts::counts))]
+#[tactic(auto, using(crate::specs::Inside::Scope::allowed_variants, crate::proofs::ListCounts::counts))]
 fn rule_fits(alloc: Global, heads: &Heads, arity: u32, rule: &Rule) -> Result<bool, AllocError>
     ensures { IfOk result (λ fits. fits
         ≡ fits_rule (heads_program heads.now) arity (rule_meaning rule.now)) }
@@ -176,7 +176,7 @@ impl Heads<'_> {
     /// as they take, partial applications have fewer, the patterns of its
     /// alternatives are linear, and no `Let` binds its variable in its own
     /// definition. The one error is an allocation failure.
-    #[tactic(auto, using(crate::specs::Scope::allowed_variants))]
+    #[tactic(auto, using(crate::specs::Inside::Scope::allowed_variants))]
     pub fn fits(&self, term: &Term) -> Result<bool, AllocError>
         ensures { IfOk result (λ fits. fits
             ≡ fits_term (heads_program self.now) (λ x. true) (term_of term.now)) }

@@ -14,7 +14,7 @@ use Rattle.cu_layout.specs.declared.fault.TooDeep.TheVariants as fault_of
 use Rattle.cu_layout.specs.declared.form.Form.{Form}
 use Rattle.cu_layout.specs.declared.stack.Entry.{Entry as Standing}
 use Rattle.cu_layout.specs.Blocks.{Marks, begins_line, block, due_at_start, interleaving, last_of, marks_from, marks_through, marks_with, with_marks}
-use Rattle.cu_layout.specs.Entries.{IsBeyond, Lays, LaysOut, begins_line_at, block_from, laid_then, mark_at, plain, plain_stack, sight_at, stack_of, start_or, token_sights, with_marks_at}
+use Rattle.cu_layout.specs.Inside.Entries.{IsBeyond, Lays, LaysOut, begins_line_at, block_from, laid_then, mark_at, plain, plain_stack, sight_at, stack_of, start_or, token_sights, with_marks_at}
 use Rattle.cu_layout.specs.Forms.{is_block_keyword, token_form, token_sight}
 use Rattle.cu_layout.specs.Reading.{Tells, emitted_token, place_at, token_view}
 use Rattle.cu_layout.specs.Rules.{Step, Stack, brace_end, due_block, last_marks, layout_step, marks_then, most_entries, partner_end, stack_with, token_step, within_limit}

@@ -4,7 +4,7 @@ use Rattle.cu_lex.specs.declared.token.Mark.TheVariants as mark
 use Rattle.cu_layout.specs.declared.begun.Begun.TheVariants as begun
 use Rattle.cu_layout.specs.declared.form.Form.{Form}
 use Rattle.cu_layout.specs.declared.form.Form.TheVariants as form
-use Rattle.cu_layout.specs.Entries.{next_state, begun_of, is_names}
+use Rattle.cu_layout.specs.Inside.Entries.{next_state, begun_of, is_names}
 use Rattle.cu_layout.specs.Forms.{only_names}
 
 other : (tokens : List Form) → is_names (fold next_state begun.Other tokens) ≡ false

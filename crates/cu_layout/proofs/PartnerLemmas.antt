@@ -10,7 +10,7 @@ use Rattle.cu_layout.specs.declared.form.Form.{Form}
 use Rattle.cu_layout.specs.declared.form.Form.TheVariants as form
 use Rattle.cu_layout.specs.declared.form.Opening.{Opening}
 use Rattle.cu_layout.specs.declared.stack.Entry.{Entry as Standing}
-use Rattle.cu_layout.specs.Entries.{stack_of, Lays}
+use Rattle.cu_layout.specs.Inside.Entries.{stack_of, Lays}
 use Rattle.cu_layout.specs.Forms.{goes_on}
 use Rattle.cu_layout.specs.Rules.{Stack, is_partner, marks_then, no_marks, partner_end, step_at_partner, to_partner}
 use Rattle.cu_layout.specs.Rules.Entry.{Block, Brace, Open}

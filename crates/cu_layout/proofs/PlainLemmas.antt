@@ -9,7 +9,7 @@ use Rattle.cu_lex.specs.declared.token.LayoutMark.TheVariants as layout
 use Rattle.cu_layout.specs.declared.begun.Begun.TheVariants as begun
 use Rattle.cu_layout.specs.declared.form.Form.{Form}
 use Rattle.cu_layout.specs.Blocks.{Marks, begins_line, marks_from, marks_through, marks_with}
-use Rattle.cu_layout.specs.Entries.{begun_of, is_names, next_state, plain, plain_stack, sample, state_with}
+use Rattle.cu_layout.specs.Inside.Entries.{begun_of, is_names, next_state, plain, plain_stack, sample, state_with}
 use Rattle.cu_layout.specs.Forms.{Sight, goes_on, is_block_keyword, is_close_brace, is_comma, is_open_brace, is_semicolon, is_where, only_names}
 use Rattle.cu_layout.specs.Rules.{Entry, Stack, Step, below_brace, block_column, block_tokens, brace_end, closes_block, closing_marks, due_block, indentation, is_partner, layout_step, line_start, marks_then, most_entries, no_marks, opening_entry, partner_end, stack_noting, stack_with, step_at_partner, step_or_none, to_partner, token_step, tokens_with, with_entry, within_limit}
 use Rattle.cu_layout.specs.Rules.Entry.{Block, Brace, Open}

@@ -10,7 +10,7 @@ use Rattle.cu_layout.specs.declared.form.Form.{Form}
 use Rattle.cu_layout.specs.declared.form.Form.TheVariants as form
 use Rattle.cu_layout.specs.declared.stack.Entry.{Entry as Standing}
 use Rattle.cu_layout.specs.declared.stack.Entry.TheVariants as standing
-use Rattle.cu_layout.specs.Entries.{begun_of, entry_of, state_with, plain, plain_stack, sample, stack_of}
+use Rattle.cu_layout.specs.Inside.Entries.{begun_of, entry_of, state_with, plain, plain_stack, sample, stack_of}
 use Rattle.cu_layout.specs.Rules.{stack_noting, tokens_with}
 use Rattle.cu_layout.specs.Rules.Entry.{Block}
 

@@ -11,5 +11,5 @@ pub mod Blocks
 pub mod Reading
 -- Laws of the layout rules.
 pub mod Laws
--- What the entries of the code's stack stand for.
-pub mod Entries
+-- What private contracts and invariants of loops say.
+pub mod Inside

@@ -1,6 +1,6 @@
 //! How a block has begun, as far as a comma asks.
 ghost use Rattle.std.specs.Prelude.{◌≡◌};
-ghost use Rattle.cu_layout.specs.Entries.{is_names, state_with};
+ghost use Rattle.cu_layout.specs.Inside.Entries.{is_names, state_with};
 
 use crate::form::Form;
 use cu_lex::Mark;

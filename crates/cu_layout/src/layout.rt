@@ -3,7 +3,7 @@ ghost use Rattle.std.specs.Prelude.{◌≡◌, ◌∷◌, [], replicate, vec_len
 ghost use Rattle.cu_lex.specs.declared.token.LayoutMark.TheVariants as layout;
 ghost use Rattle.cu_layout.specs.declared.fault.TooDeep.TheVariants.{NoMemory};
 ghost use Rattle.cu_layout.specs.Blocks.{due_at_start};
-ghost use Rattle.cu_layout.specs.Entries.{begins_line_at, cut_to, plain_stack, sight_at, stack_of, start_or, token_sights, with_marks_at, Lays, LaysOut, IsBeyond, IsWithin};
+ghost use Rattle.cu_layout.specs.Inside.Entries.{begins_line_at, cut_to, plain_stack, sight_at, stack_of, start_or, token_sights, with_marks_at, Lays, LaysOut, IsBeyond, IsWithin};
 ghost use Rattle.cu_layout.specs.Forms.{only_names};
 ghost use Rattle.cu_layout.specs.Reading.{Gives, Tells};
 ghost use Rattle.cu_layout.specs.Rules.{block_column, block_tokens, brace_end, partner_end, stack_with, last_marks, indentation, due_block};

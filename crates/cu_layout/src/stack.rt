@@ -2,7 +2,7 @@
 ghost use Rattle.std.specs.Prelude.{◌≡◌, replicate};
 ghost use Rattle.std.specs.Option.{option_map};
 ghost use Rattle.cu_lex.specs.declared.token.LayoutMark.TheVariants as layout;
-ghost use Rattle.cu_layout.specs.Entries.{line_step, begun_of, column_of, cut_to, entry_of, plain_stack, sight_at, stack_of, state_of};
+ghost use Rattle.cu_layout.specs.Inside.Entries.{line_step, begun_of, column_of, cut_to, entry_of, plain_stack, sight_at, stack_of, state_of};
 ghost use Rattle.cu_layout.specs.Rules.{below_brace, block_column, block_tokens, closing_marks, indentation, stack_noting, opening_entry, to_partner};
 
 use crate::begun::Begun;

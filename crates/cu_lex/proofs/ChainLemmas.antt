@@ -9,10 +9,10 @@ use Rattle.std.specs.Str.{byte, bytes_eq}
 use Rattle.cu_lex.specs.declared.cursor.Cursor.{Cursor}
 use Rattle.cu_lex.specs.declared.word.WordKind.{WordKind}
 use Rattle.cu_lex.specs.declared.word.WordKind.TheVariants as kind
-use Rattle.cu_lex.specs.Chains.{Reaches, BeginsAt, IsAfter}
-use Rattle.cu_lex.specs.Chains.Reaches.{last, link}
+use Rattle.cu_lex.specs.Inside.Chains.{Reaches, BeginsAt, IsAfter}
+use Rattle.cu_lex.specs.Inside.Chains.Reaches.{last, link}
 use Rattle.cu_lex.specs.Located.{Located, characters}
-use Rattle.cu_lex.specs.Scanning.{skip, first_of, later, left, is_base, is_underscore, IsWord, IsOfKind, class_of, con_id_kind, HasNoWord, HasNoBase}
+use Rattle.cu_lex.specs.Inside.Scanning.{skip, first_of, later, left, is_base, is_underscore, IsWord, IsOfKind, class_of, con_id_kind, HasNoWord, HasNoBase}
 use Rattle.cu_lex.specs.Words.{begins_with, between_dots, with_first, entry, has_variable_form, is_con_id, is_dashes, is_module_name, is_name_character, is_operator, is_run, is_symbol, is_var_id, keyword_of, keywords, reserved_of, reserved_operators}
 use Rattle.cu_lex.proofs.AsciiLemmas.{and-left, and-right, and-both, apart, small-name, small-capital, small-symbol, small-name-character, underscore-name}
 use Rattle.cu_lex.proofs.ScanLemmas.{run-unique}

@@ -9,12 +9,12 @@ use Rattle.cu_lex.specs.declared.word.WordKind.{WordKind}
 use Rattle.cu_lex.specs.declared.word.WordKind.TheVariants as kind
 use Rattle.cu_lex.specs.Kind.{Kind}
 use Rattle.cu_lex.specs.Literals.{items_between}
-use Rattle.cu_lex.specs.Lexing.{named, IsPlain}
+use Rattle.cu_lex.specs.Inside.Lexing.{named, IsPlain}
 use Rattle.cu_lex.specs.Located.{Located, characters}
 use Rattle.cu_lex.specs.Munch.{cut_at, longest}
 use Rattle.cu_lex.specs.Pieces.{piece, blank, word, number, start, word_kind, one_character, stands_before}
 use Rattle.cu_lex.specs.Pieces.Piece.{Blank, Token}
-use Rattle.cu_lex.specs.Scanning.{class_of, IsWord, IsOfKind}
+use Rattle.cu_lex.specs.Inside.Scanning.{class_of, IsWord, IsOfKind}
 use Rattle.cu_lex.specs.Words.{begins_with, is_single, is_separator, is_name_character, is_symbol, is_dash, is_dashes, mark_of, marks, is_line_comment, is_nested_comment}
 use Rattle.cu_lex.proofs.AsciiLemmas.{and-left, and-right, and-both, apart, all_below, small-symbol, small-name}
 use Rattle.cu_lex.proofs.ChainLemmas.{entry-none, operator-dashes, first-prefix, same-end, word-first, name-symbol, class-cases, classes-differ}

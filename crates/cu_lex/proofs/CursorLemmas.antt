@@ -9,7 +9,7 @@ use Rattle.std.proofs.lemmas.Bool.{eqb-true}
 use Rattle.std.specs.Option.{option_eq}
 use lib.Utf8.{encode, encodes}
 use Rattle.cu_lex.specs.Located.{Position, Located, characters, located_from, position_after, without_mark}
-use Rattle.cu_lex.specs.Scanning.{first_of, later}
+use Rattle.cu_lex.specs.Inside.Scanning.{first_of, later}
 
 pub characters-located : (p : Position) (cs : List ℕ) → characters (located_from p cs) ≡ cs
 unfolding located_from

@@ -11,12 +11,12 @@ use Rattle.cu_lex.specs.declared.word.WordKind.{WordKind}
 use Rattle.cu_lex.specs.declared.word.WordKind.TheVariants as kind
 use Rattle.cu_lex.specs.Kind.{Kind}
 use Rattle.cu_lex.specs.Kind.Kind.{VarId, ConId, VarOp, ConOp}
-use Rattle.cu_lex.specs.Lexing.{named}
+use Rattle.cu_lex.specs.Inside.Lexing.{named}
 use Rattle.cu_lex.specs.Literals.{items_between}
 use Rattle.cu_lex.specs.Located.{Located, characters}
 use Rattle.cu_lex.specs.Pieces.{blank, word_kind, name_kind, spelled, stands_before}
 use Rattle.cu_lex.specs.Pieces.Piece.{Blank}
-use Rattle.cu_lex.specs.Scanning.{is_underscore, is_digit_of, is_base, class_of, IsOfKind}
+use Rattle.cu_lex.specs.Inside.Scanning.{is_underscore, is_digit_of, is_base, class_of, IsOfKind}
 use Rattle.cu_lex.specs.Words.{begins_with, is_separator, is_name_character, is_symbol, is_dash, keyword_of, keywords, reserved_of, mark_of, marks, is_var_id, is_con_id, is_operator, has_variable_form, is_module_name, is_line_comment, is_nested_comment, based_number, decimal_number, digits_value, goes_on_with_number, closes, is_colon}
 use Rattle.cu_lex.proofs.AsciiLemmas.{apart, small-capital, small-symbol, at_below, above_range, capital-name}
 use Rattle.cu_lex.proofs.ChainLemmas.{entry-none, keyword-small, reserved-symbol, var-form, var-keyword, con-capital, con-all, operator-first, operator-reserved, capital-var, symbol-var, symbol-capital, name-apart, capital-small}

@@ -3,11 +3,11 @@ use Rattle.std.proofs.Common.{◌≡◌, ℕ, ◌<◌, ◌≤◌, Bool, true, fa
 use Rattle.std.specs.Char.{is_ascii_control}
 use Rattle.std.specs.List.{list_all}
 use Rattle.std.specs.Option.{option_map, option_or}
-use Rattle.cu_lex.specs.Items.{numeric_scan, short_or_decimal, escape_scan, item_scan}
+use Rattle.cu_lex.specs.Inside.Items.{numeric_scan, short_or_decimal, escape_scan, item_scan}
 use Rattle.cu_lex.specs.Literals.{item, item_of, escape, short_escape, short_escapes, numeric_escape}
 use Rattle.cu_lex.specs.Located.{Located, characters}
 use Rattle.cu_lex.specs.Munch.{cut_at, longest}
-use Rattle.cu_lex.specs.Scanning.{digits, digits_from, is_digit_of, run, skip}
+use Rattle.cu_lex.specs.Inside.Scanning.{digits, digits_from, is_digit_of, run, skip}
 use Rattle.cu_lex.specs.Words.{begins_with, digits_value, is_run}
 use Rattle.cu_lex.proofs.AsciiLemmas.{and-left, and-right}
 use Rattle.cu_lex.proofs.ChainLemmas.{entry-none}

@@ -3,15 +3,15 @@ use Rattle.std.proofs.Common.{◌≡◌, ℕ, ℤ, pos, Bool, true, false, List,
 use Rattle.std.specs.Char.{is_ascii_digit}
 use Rattle.std.specs.Option.{option_map}
 use lib.Utf8.{scalar}
-use Rattle.cu_lex.specs.Items.{string_items, item_scan, IsQuoted}
+use Rattle.cu_lex.specs.Inside.Items.{string_items, item_scan, IsQuoted}
 use Rattle.cu_lex.specs.Kind.Kind.{Int, Char, String}
 use Rattle.cu_int.specs.Integers.{checked, is_integer}
-use Rattle.cu_lex.specs.Lexing.{IsPiece}
+use Rattle.cu_lex.specs.Inside.Lexing.{IsPiece}
 use Rattle.cu_lex.specs.Located.{Located, Position, characters}
 use Rattle.cu_lex.specs.Munch.{cut_at, longest}
 use Rattle.cu_lex.specs.Pieces.{piece, number_at, start, codes_of, string_of, character_at}
 use Rattle.cu_lex.specs.Pieces.Piece.{Token, OutOfRange}
-use Rattle.cu_lex.specs.Scanning.{held, later, number_scan, within}
+use Rattle.cu_lex.specs.Inside.Scanning.{held, later, number_scan, within}
 use Rattle.cu_lex.specs.Words.{begins_with}
 use Rattle.cu_lex.proofs.FirstLemmas.{is_char}
 use Rattle.cu_lex.proofs.NumberLemmas.{number-longest, number-never}

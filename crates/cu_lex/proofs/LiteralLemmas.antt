@@ -9,12 +9,12 @@ use Rattle.std.specs.Str.{bytes_eq, chars}
 use lib.Utf8.{scalar}
 use Rattle.std.proofs.Math.Utf8.{scalar_cases}
 use Rattle.cu_lex.specs.declared.cursor.Cursor.{Cursor}
-use Rattle.cu_lex.specs.Items.{Scan, capped, escape_scan, item_scan, joined, IsQuoted}
+use Rattle.cu_lex.specs.Inside.Items.{Scan, capped, escape_scan, item_scan, joined, IsQuoted}
 use Rattle.cu_lex.specs.Literals.{item, short_escape, short_escapes}
 use Rattle.cu_lex.specs.Located.{Located, Position}
 use Rattle.cu_lex.specs.Munch.{cut_all, no_pieces, cut_at}
 use Rattle.cu_lex.specs.Pieces.{codes_of, with_code}
-use Rattle.cu_lex.specs.Scanning.{cap, first_of, later, left, position}
+use Rattle.cu_lex.specs.Inside.Scanning.{cap, first_of, later, left, position}
 use Rattle.cu_lex.specs.Words.{entry}
 use Rattle.cu_lex.proofs.AsciiLemmas.{and-left, and-right}
 use Rattle.cu_lex.proofs.CursorLemmas.{first-at}

@@ -10,16 +10,16 @@ use Rattle.cu_lex.specs.declared.token.Mark as mark
 use Rattle.cu_lex.specs.declared.token.Mark.TheVariants as marks_are
 use Rattle.cu_lex.specs.declared.word.WordKind.{WordKind}
 use Rattle.cu_lex.specs.declared.word.WordKind.TheVariants as kind
-use Rattle.cu_lex.specs.Chains.{Reaches}
-use Rattle.cu_lex.specs.Chains.Reaches.{last}
+use Rattle.cu_lex.specs.Inside.Chains.{Reaches}
+use Rattle.cu_lex.specs.Inside.Chains.Reaches.{last}
 use Rattle.cu_lex.specs.Kind.{Kind}
 use Rattle.cu_lex.specs.Kind.Kind.{Mark}
-use Rattle.cu_lex.specs.Lexing.{IsPlain, OpensComment}
+use Rattle.cu_lex.specs.Inside.Lexing.{IsPlain, OpensComment}
 use Rattle.cu_lex.specs.Located.{Located, characters}
 use Rattle.cu_lex.specs.Munch.{cut_at, longest}
 use Rattle.cu_lex.specs.Pieces.{Piece, piece, blank, word_kind, stands_before}
 use Rattle.cu_lex.specs.Pieces.Piece.{Blank, Token}
-use Rattle.cu_lex.specs.Scanning.{is_underscore, first_of, later, run, skip, is_base, class_of, comment_end, IsWord, IsOfKind, HasNoWord}
+use Rattle.cu_lex.specs.Inside.Scanning.{is_underscore, first_of, later, run, skip, is_base, class_of, comment_end, IsWord, IsOfKind, HasNoWord}
 use Rattle.cu_lex.specs.Words.{entry, begins_with, is_single, is_separator, is_name_character, is_symbol, is_dash, keyword_of, mark_of, marks, is_line_comment, is_nested_comment, closes, has_variable_form}
 use Rattle.cu_lex.proofs.AsciiLemmas.{and-left, and-right, small-capital, small-separator}
 use Rattle.cu_lex.proofs.ChainLemmas.{var-form, form-first, keyword-small, reserved-symbol, con-capital, operator-first, first-prefix, word-first, symbol-capitals, capital-small, class-cases, none-is}

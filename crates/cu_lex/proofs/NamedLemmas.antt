@@ -7,14 +7,14 @@ use Rattle.cu_lex.specs.declared.token.Mark as mark
 use Rattle.cu_lex.specs.declared.word.Qualified.{Qualified}
 use Rattle.cu_lex.specs.declared.word.WordKind.{WordKind}
 use Rattle.cu_lex.specs.declared.word.WordKind.TheVariants as kind
-use Rattle.cu_lex.specs.Chains.{BeginsAt, IsQualified}
+use Rattle.cu_lex.specs.Inside.Chains.{BeginsAt, IsQualified}
 use Rattle.cu_lex.specs.Kind.Kind.{Mark}
-use Rattle.cu_lex.specs.Lexing.{first_mark, IsNamed, IsOuter, IsPiece, IsPlain, OpensComment, named, word_cut}
+use Rattle.cu_lex.specs.Inside.Lexing.{first_mark, IsNamed, IsOuter, IsPiece, IsPlain, OpensComment, named, word_cut}
 use Rattle.cu_lex.specs.Located.{Located, characters}
 use Rattle.cu_lex.specs.Munch.{cut_at, longest, longest_after}
 use Rattle.cu_lex.specs.Pieces.{piece, stands_before, word_kind}
 use Rattle.cu_lex.specs.Pieces.Piece.{Blank, Token}
-use Rattle.cu_lex.specs.Scanning.{comment_end, later, left, is_base, HasNoWord, IsWord}
+use Rattle.cu_lex.specs.Inside.Scanning.{comment_end, later, left, is_base, HasNoWord, IsWord}
 use Rattle.cu_lex.specs.Words.{begins_with, is_separator}
 use Rattle.cu_lex.proofs.ChainLemmas.{dotted}
 use Rattle.cu_lex.proofs.ClassLemmas.{word-longest, word-some}

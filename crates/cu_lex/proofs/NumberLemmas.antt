@@ -7,7 +7,7 @@ use Rattle.std.specs.Str.{byte}
 use Rattle.cu_lex.specs.Located.{Located, Position, characters}
 use Rattle.cu_lex.specs.Munch.{cut_at, longest}
 use Rattle.cu_lex.specs.Pieces.{piece, blank, word, number, number_at, start}
-use Rattle.cu_lex.specs.Scanning.{later, run, skip, is_underscore, is_digit_of, digits, digits_from, digits_scan, based_scan, decimal_scan, number_scan, prefix_base, HasNoWord}
+use Rattle.cu_lex.specs.Inside.Scanning.{later, run, skip, is_underscore, is_digit_of, digits, digits_from, digits_scan, based_scan, decimal_scan, number_scan, prefix_base, HasNoWord}
 use Rattle.cu_lex.specs.Words.{begins_with, is_symbol, is_run, entry, based_number, decimal_number, digits_value, goes_on_with_number, is_separator, mark_of}
 use Rattle.cu_lex.proofs.AsciiLemmas.{and-left, and-right, all_below, small-digit}
 use Rattle.cu_lex.proofs.ChainLemmas.{entry-none, first-prefix, none-is}

@@ -9,8 +9,8 @@ use Rattle.cu_lex.specs.declared.token.Mark as mark
 use Rattle.cu_lex.specs.declared.token.ReservedOperator.{ReservedOperator}
 use Rattle.cu_lex.specs.declared.word.WordKind.{WordKind}
 use Rattle.cu_lex.specs.declared.word.WordKind.TheVariants as kind
-use Rattle.cu_lex.specs.Chains.{Reaches}
-use Rattle.cu_lex.specs.Chains.Reaches.{last}
+use Rattle.cu_lex.specs.Inside.Chains.{Reaches}
+use Rattle.cu_lex.specs.Inside.Chains.Reaches.{last}
 use Rattle.cu_lex.specs.Kind.{Kind}
 use Rattle.cu_lex.specs.Kind.Kind.{Keyword, Reserved, Mark}
 use Rattle.cu_lex.specs.Literals.{items_between}
@@ -18,7 +18,7 @@ use Rattle.cu_lex.specs.Located.{Located, characters}
 use Rattle.cu_lex.specs.Munch.{cut_at, longest}
 use Rattle.cu_lex.specs.Pieces.{Piece, piece, blank, word, number, one_character, string, start, word_kind, word_before, name_kind, stands_before}
 use Rattle.cu_lex.specs.Pieces.Piece.{Token}
-use Rattle.cu_lex.specs.Scanning.{is_underscore, is_base, class_of, IsWord, IsOfKind}
+use Rattle.cu_lex.specs.Inside.Scanning.{is_underscore, is_base, class_of, IsWord, IsOfKind}
 use Rattle.cu_lex.specs.Words.{begins_with, is_name_character, is_symbol, is_dash, is_dashes, is_run, keyword_of, keywords, reserved_of, reserved_operators, mark_of, is_con_id, has_variable_form, is_module_name, qualified_parts, between_dots}
 use Rattle.cu_lex.proofs.AsciiLemmas.{and-left, and-right, and-both, capital-name, small-name-character, underscore-name}
 use Rattle.cu_lex.proofs.ChainLemmas.{entry-none, var-form, con-capital, con-all, operator-run, first-prefix}

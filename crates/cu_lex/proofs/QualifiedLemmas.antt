@@ -5,8 +5,8 @@ use Rattle.std.proofs.lemmas.List.Folds.{list_all-append}
 use Rattle.std.specs.Char.{is_ascii_uppercase}
 use Rattle.std.specs.List.{find, list_all}
 use Rattle.std.specs.Option.{option_map}
-use Rattle.cu_lex.specs.Chains.{Reaches}
-use Rattle.cu_lex.specs.Chains.Reaches.{link}
+use Rattle.cu_lex.specs.Inside.Chains.{Reaches}
+use Rattle.cu_lex.specs.Inside.Chains.Reaches.{link}
 use Rattle.cu_lex.specs.Located.{Located, characters}
 use Rattle.cu_lex.specs.Words.{around_dots, begins_with, between_dots, with_first, is_con_id, is_module_name, is_name_character, is_operator, is_var_id, qualified_parts}
 use Rattle.cu_lex.proofs.AsciiLemmas.{and-left, and-right, and-both, capital-name}

@@ -4,12 +4,12 @@ use Rattle.std.proofs.lemmas.Slice.Eq.{bytes_eq-Decides}
 use Rattle.std.specs.Char.{is_ascii_control, is_ascii_digit}
 use Rattle.std.specs.Option.{option_map, option_and_then}
 use Rattle.std.specs.Str.{byte, bytes_eq}
-use Rattle.cu_lex.specs.Items.{Scan, numeric_scan, short_or_decimal, escape_scan, item_scan, string_items, IsQuoted}
+use Rattle.cu_lex.specs.Inside.Items.{Scan, numeric_scan, short_or_decimal, escape_scan, item_scan, string_items, IsQuoted}
 use Rattle.cu_lex.specs.Literals.{item, items_between, short_escape}
 use Rattle.cu_lex.specs.Located.{Located, Position, characters}
 use Rattle.cu_lex.specs.Munch.{Placed, cut_at, cut_all, longest, with_piece, IsLongest}
 use Rattle.cu_lex.specs.Pieces.{Piece, piece, blank, word, number, one_character, character_at, string, start}
-use Rattle.cu_lex.specs.Scanning.{digits, digits_from, is_digit_of, later, run, skip}
+use Rattle.cu_lex.specs.Inside.Scanning.{digits, digits_from, is_digit_of, later, run, skip}
 use Rattle.cu_lex.specs.Words.{begins_with, is_symbol, is_separator}
 use Rattle.cu_lex.proofs.ClassLemmas.{begins-apart, no-number, no-literal, no-character}
 use Rattle.cu_lex.proofs.CutLemmas.{cut-step, rest-shorter}

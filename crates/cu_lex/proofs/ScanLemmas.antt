@@ -5,7 +5,7 @@ use Rattle.std.specs.List.{list_all}
 use Rattle.std.specs.Str.{byte, chars}
 use Rattle.cu_lex.specs.declared.cursor.Cursor.{Cursor}
 use Rattle.cu_lex.specs.Located.{Located, characters}
-use Rattle.cu_lex.specs.Scanning.{position, left, first_of, later, run, skip, comment_end, EndsIn, digits, digits_from, is_digit_of}
+use Rattle.cu_lex.specs.Inside.Scanning.{position, left, first_of, later, run, skip, comment_end, EndsIn, digits, digits_from, is_digit_of}
 use Rattle.std.specs.Char.{digit_value}
 use Rattle.cu_lex.specs.Words.{begins_with}
 use Rattle.std.proofs.lemmas.Str.{length-le-encodes, encodes-chars, IsUtf8-from_is_utf8}

@@ -11,12 +11,12 @@ use Rattle.cu_lex.specs.declared.cursor.Cursor.{Cursor}
 use Rattle.cu_lex.specs.declared.token.Special.{Special}
 use Rattle.cu_lex.specs.declared.word.Qualified.{Qualified}
 use Rattle.cu_lex.specs.declared.word.WordKind.{WordKind}
-use Rattle.cu_lex.specs.Chains.{BeginsAt}
-use Rattle.cu_lex.specs.Lexing.{IsNamed, IsOuter}
+use Rattle.cu_lex.specs.Inside.Chains.{BeginsAt}
+use Rattle.cu_lex.specs.Inside.Lexing.{IsNamed, IsOuter}
 use Rattle.cu_lex.specs.Located.{Located, characters}
 use Rattle.cu_lex.specs.Pieces.{special_of, spelled}
 use Rattle.cu_lex.specs.Reading.{spelling_of, HasName}
-use Rattle.cu_lex.specs.Scanning.{left, class_of, EndsIn, IsWord}
+use Rattle.cu_lex.specs.Inside.Scanning.{left, class_of, EndsIn, IsWord}
 use Rattle.cu_lex.specs.Words.{is_name_character, is_symbol, is_con_id, is_module_name, between_dots, with_first}
 use Rattle.cu_lex.proofs.AsciiLemmas.{and-left, and-right, encodes-class, small-name, small-symbol}
 use Rattle.cu_lex.proofs.ChainLemmas.{class-cases, dotted, con-all}

@@ -1,7 +1,7 @@
 -- The tokens of a text, one by one.
 use Rattle.std.proofs.Common.{◌≡◌, ◌<◌, ℕ, length, slice_index_or, arith, subst, List, [], ◌∷◌, ◌++◌, map, Option, Some, None, Result, Ok, Err, refl, sym, ap, ◌∙◌, append_assoc}
 use Rattle.std.specs.Result.{result_map_both, IfErr, IsErrAnd}
-use Rattle.cu_lex.specs.Lexing.{IsPiece}
+use Rattle.cu_lex.specs.Inside.Lexing.{IsPiece}
 use Rattle.cu_lex.specs.Located.{Located}
 use Rattle.cu_lex.specs.Munch.{cut_at, longest}
 use Rattle.cu_lex.specs.Pieces.{Piece, piece}
@@ -24,7 +24,7 @@ use Rattle.cu_lex.specs.declared.token.Token.{Token as LexerToken}
 use Rattle.cu_lex.specs.declared.token.TokenKind.{TokenKind}
 use Rattle.cu_lex.specs.declared.token.TokenKind.TheVariants as token
 use Rattle.cu_lex.specs.Kind.Kind.{VarId, ConId, VarOp, ConOp}
-use Rattle.cu_lex.specs.Lexing.{piece_of, with_token, HasNames}
+use Rattle.cu_lex.specs.Inside.Lexing.{piece_of, with_token, HasNames}
 use Rattle.cu_lex.specs.Pieces.Piece.{Blank, Token}
 use Rattle.cu_lex.specs.Reading.{kind_of, lexeme_of, HasKind, HasNatural, IsTokenOf}
 use Rattle.cu_names.specs.declared.names.NameId.{NameId}
@@ -33,12 +33,12 @@ use Rattle.cu_lex.specs.declared.fault.LexFault.{LexFault}
 use Rattle.cu_lex.specs.declared.fault.LexFault.TheVariants as answer
 use Rattle.cu_lex.specs.declared.token.Name.{Name}
 use Rattle.cu_lex.specs.Decoding.{fault_offset}
-use Rattle.cu_lex.specs.Lexing.{FailsAt}
+use Rattle.cu_lex.specs.Inside.Lexing.{FailsAt}
 use Rattle.cu_lex.specs.Located.{located}
 use Rattle.cu_lex.specs.Munch.{cut_within}
 use Rattle.cu_lex.specs.Pieces.Piece.{OutOfRange}
 use Rattle.cu_lex.specs.Reading.{position_of, spelling_of, HasName, Tells}
-use Rattle.cu_lex.specs.Scanning.{first_of}
+use Rattle.cu_lex.specs.Inside.Scanning.{first_of}
 use Rattle.cu_lex.specs.Tokens.{tokens}
 use Rattle.cu_lex.specs.Tokens.Fault.{SourceTooBig, NotUtf8}
 use Rattle.cu_lex.proofs.CutLemmas.{cut-step, cut-none, rest-shorter}

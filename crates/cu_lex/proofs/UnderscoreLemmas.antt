@@ -8,12 +8,12 @@ use Rattle.cu_lex.specs.declared.token.TokenKind.{TokenKind}
 use Rattle.cu_lex.specs.declared.token.TokenKind.TheVariants as token
 use Rattle.cu_lex.specs.declared.word.WordKind.TheVariants as kind
 use Rattle.cu_lex.specs.Kind.Kind.{Mark}
-use Rattle.cu_lex.specs.Lexing.{is_mark, piece_of, IsPiece, IsPlain, OpensComment}
+use Rattle.cu_lex.specs.Inside.Lexing.{is_mark, piece_of, IsPiece, IsPlain, OpensComment}
 use Rattle.cu_lex.specs.Located.{Located, characters}
 use Rattle.cu_lex.specs.Munch.{Cut, cut_at, longest}
 use Rattle.cu_lex.specs.Pieces.{Piece, piece}
 use Rattle.cu_lex.specs.Pieces.Piece.{Blank, Token}
-use Rattle.cu_lex.specs.Scanning.{first_of, is_underscore, run, skip, HasNoVariable, HasNoWord}
+use Rattle.cu_lex.specs.Inside.Scanning.{first_of, is_underscore, run, skip, HasNoVariable, HasNoWord}
 use Rattle.cu_lex.specs.Words.{begins_with, is_name_character, is_separator, is_symbol, keyword_of, mark_of}
 use Rattle.cu_lex.proofs.AsciiLemmas.{and-left, and-right}
 use Rattle.cu_lex.proofs.ClassLemmas.{word-longest}

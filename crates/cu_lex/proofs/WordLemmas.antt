@@ -5,7 +5,7 @@ use Rattle.std.specs.List.{list_all}
 use lib.Utf8.{encodes}
 use Rattle.cu_lex.specs.declared.word.WordKind.{WordKind}
 use Rattle.cu_lex.specs.Located.{Located, characters}
-use Rattle.cu_lex.specs.Scanning.{run, skip, is_underscore, IsWord, IsOfKind, class_of}
+use Rattle.cu_lex.specs.Inside.Scanning.{run, skip, is_underscore, IsWord, IsOfKind, class_of}
 use Rattle.cu_lex.specs.Words.{begins_with, has_variable_form, is_colon, is_con_id, is_dashes, is_name_character, is_operator, is_run, is_symbol, is_var_id, keyword_of, reserved_of}
 use Rattle.cu_lex.proofs.AsciiLemmas.{encodes-class, and-both, capital-name, small-name-character, underscore-name}
 use Rattle.cu_lex.proofs.ScanLemmas.{run-skip, all-run, skip-ended}

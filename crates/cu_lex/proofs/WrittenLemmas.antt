@@ -13,7 +13,7 @@ use Rattle.cu_lex.specs.declared.token.TokenKind.TheVariants as token
 use Rattle.cu_int.specs.Integers.{is_integer}
 use Rattle.cu_lex.specs.Kind.{Kind, Spelling}
 use Rattle.cu_lex.specs.Kind.Kind.{VarOp, ConOp, Keyword, Reserved, Mark, Int, Char, Layout}
-use Rattle.cu_lex.specs.Lexing.{IsPiece, piece_of, with_token}
+use Rattle.cu_lex.specs.Inside.Lexing.{IsPiece, piece_of, with_token}
 use Rattle.cu_lex.specs.Literals.{items_between}
 use Rattle.cu_lex.specs.Located.{Located, Position, characters}
 use Rattle.cu_lex.specs.Munch.{Placed, cut_at}

@@ -20,11 +20,5 @@ pub mod Tokens
 pub mod Laws
 -- What the lexer's answers stand for.
 pub mod Reading
--- What is left of a text, and how far its first characters go.
-pub mod Scanning
--- Words with qualifiers, at the start of a text.
-pub mod Chains
--- Items of literals, as they are read from the left.
-pub mod Items
--- One piece of a text, as the lexer finds it.
-pub mod Lexing
+-- What private contracts and invariants of loops say.
+pub mod Inside

@@ -27,7 +27,7 @@ pub enum Class {
 impl Class {
     ghost use Rattle.std.specs.Prelude.{MatchOption, false};
     ghost use Rattle.cu_lex.specs.Located.{characters};
-    ghost use Rattle.cu_lex.specs.Scanning.{has, left, skip};
+    ghost use Rattle.cu_lex.specs.Inside.Scanning.{has, left, skip};
     ghost use Rattle.cu_lex.specs.Words.{begins_with};
 
     /// Whether a character is of the class.

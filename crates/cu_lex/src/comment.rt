@@ -2,7 +2,7 @@
 ghost use Rattle.std.specs.Prelude.{◌≡◌, ◌<◌, ◌^◌, ◌==◌, ◌&&◌};
 ghost use Rattle.std.specs.Option.{option_map};
 ghost use Rattle.std.specs.Str.{byte};
-ghost use Rattle.cu_lex.specs.Scanning.{comment_end, left, StepsTo};
+ghost use Rattle.cu_lex.specs.Inside.Scanning.{comment_end, left, StepsTo};
 
 use crate::cursor::Cursor;
 

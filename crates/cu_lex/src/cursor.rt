@@ -25,7 +25,7 @@ impl<'a> Cursor<'a> {
     ghost use lib.Utf8.{encodes};
     ghost use Rattle.cu_lex.specs.Located.{Located, located, characters};
     ghost use Rattle.cu_lex.specs.Reading.{position_of};
-    ghost use Rattle.cu_lex.specs.Scanning.{left, position, first_of, later, EndsIn};
+    ghost use Rattle.cu_lex.specs.Inside.Scanning.{left, position, first_of, later, EndsIn};
 
     /// The cursor at the start of a text, after a byte order mark, if it has
     /// one.

@@ -3,9 +3,9 @@ ghost use Rattle.std.specs.Prelude.{◌≡◌, ◌↔◌, IsTrue, ◌==◌, ◌&
 ghost use Rattle.std.specs.Char.{is_ascii_digit};
 ghost use Rattle.cu_lex.specs.declared.fault.LexFault.TheVariants.{NoMemory};
 ghost use Rattle.cu_int.specs.Integers.{checked};
-ghost use Rattle.cu_lex.specs.Lexing.{first_mark, is_mark, FindsPiece, IsNamed, IsPlain, IsSpelled, Lexes, OpensComment, with_token};
+ghost use Rattle.cu_lex.specs.Inside.Lexing.{first_mark, is_mark, FindsPiece, IsNamed, IsPlain, IsSpelled, Lexes, OpensComment, with_token};
 ghost use Rattle.cu_lex.specs.Located.{characters};
-ghost use Rattle.cu_lex.specs.Scanning.{first_of, is_underscore, left, within, HasNoVariable, HasNoWord};
+ghost use Rattle.cu_lex.specs.Inside.Scanning.{first_of, is_underscore, left, within, HasNoVariable, HasNoWord};
 ghost use Rattle.cu_lex.specs.Words.{begins_with};
 ghost use Rattle.cu_names.specs.Texts.{AllDiffer, Extends};
 ghost use Rattle.cu_lex.specs.Reading.{Gives, IsTokenOf, Tells, is_written};

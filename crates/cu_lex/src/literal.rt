@@ -1,9 +1,9 @@
 //! Character and string literals.
 ghost use Rattle.std.specs.Prelude.{◌≡◌, ℕ, ◌<◌, [], ◌∷◌, Some, IfOk, unwrap_or};
 ghost use Rattle.std.specs.Option.{option_map};
-ghost use Rattle.cu_lex.specs.Items.{capped, so_far, Adds, escape_scan, item_scan, numeric_scan, read_item, IsCharLiteral, IsString};
+ghost use Rattle.cu_lex.specs.Inside.Items.{capped, so_far, Adds, escape_scan, item_scan, numeric_scan, read_item, IsCharLiteral, IsString};
 ghost use Rattle.cu_lex.specs.Literals.{short_escape as escape_of};
-ghost use Rattle.cu_lex.specs.Scanning.{left, position};
+ghost use Rattle.cu_lex.specs.Inside.Scanning.{left, position};
 
 use crate::Characters;
 use crate::class::Class;

@@ -4,7 +4,7 @@ ghost use Rattle.std.specs.Option.{option_map};
 ghost use Rattle.std.specs.Str.{byte};
 ghost use Rattle.cu_lex.specs.Located.{characters};
 ghost use Rattle.cu_lex.specs.Words.{entry, goes_on_with_number};
-ghost use Rattle.cu_lex.specs.Scanning.{based_scan, cap, decimal_scan, digits, digits_from, found_number, held, number_scan, prefix_base, is_digit_of, left, skip, within};
+ghost use Rattle.cu_lex.specs.Inside.Scanning.{based_scan, cap, decimal_scan, digits, digits_from, found_number, held, number_scan, prefix_base, is_digit_of, left, skip, within};
 
 use crate::class::{Class, digit_value};
 use crate::cursor::Cursor;

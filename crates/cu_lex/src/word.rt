@@ -3,9 +3,9 @@ ghost use Rattle.std.specs.Prelude.{◌≡◌, ◌↔◌, true, false, IfSome, I
 ghost use Rattle.std.specs.List.{list_all};
 ghost use Rattle.std.specs.Str.{byte};
 ghost use Rattle.std.specs.Char.{is_ascii_uppercase};
-ghost use Rattle.cu_lex.specs.Chains.{IsQualified};
+ghost use Rattle.cu_lex.specs.Inside.Chains.{IsQualified};
 ghost use Rattle.cu_lex.specs.Located.{characters};
-ghost use Rattle.cu_lex.specs.Scanning.{class_of, con_id_kind, first_of, is_base, later, left, FindsWord, HasNoBase, HasNoVariable, IsLink, IsOfKind, IsWord};
+ghost use Rattle.cu_lex.specs.Inside.Scanning.{class_of, con_id_kind, first_of, is_base, later, left, FindsWord, HasNoBase, HasNoVariable, IsLink, IsOfKind, IsWord};
 ghost use Rattle.cu_lex.specs.Words.{begins_with, has_variable_form, is_colon, is_dash, is_dashes as all_dashes, is_name_character, is_run, is_symbol};
 
 use crate::class::Class;

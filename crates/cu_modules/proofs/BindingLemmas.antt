@@ -23,7 +23,7 @@ use Rattle.cu_entities.specs.NameTables.{Tells, with_one}
 use Rattle.cu_modules.specs.declared.interfaces.Interfaces.{Interfaces}
 use Rattle.cu_modules.specs.declared.module_scope.ModuleScope.{ModuleScope}
 use Rattle.cu_modules.specs.Inside.Binding.{BoundIsKnown, IsScope, bound_meaning}
-use Rattle.cu_modules.specs.Inside.Exports.{AreInterfaces, found_items}
+use Rattle.cu_modules.specs.Exports.{AreInterfaces, found_items}
 use Rattle.cu_modules.specs.Known.{AreEntities}
 use Rattle.cu_modules.specs.Scopes.{Interface, binding, exports_of}
 use Rattle.cu_modules.proofs.NameLemmas.{same_name}

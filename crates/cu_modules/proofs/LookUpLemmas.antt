@@ -21,7 +21,7 @@ use Rattle.cu_syntax.specs.Syntax as syntax
 use Rattle.cu_modules.specs.declared.fault.OrderFault.{OrderFault}
 use Rattle.cu_modules.specs.declared.fault.OrderFault.TheVariants as answer
 use Rattle.cu_modules.specs.Ordering.{IsOwn, Tells}
-use Rattle.cu_modules.specs.Progress.{IsFound, IsFree, IsLacking, fetched_with, missing, too_many, unread}
+use Rattle.cu_modules.specs.Inside.Progress.{IsFound, IsFree, IsLacking, fetched_with, missing, too_many, unread}
 use Rattle.cu_modules.specs.Reading.{IsFaultOf}
 use Rattle.cu_modules.specs.Texts as texts
 use Rattle.cu_modules.specs.Texts.{HasLayout, IsRead, TextFault}

@@ -15,7 +15,7 @@ use Rattle.cu_modules.specs.Faults.{faults}
 use Rattle.cu_modules.specs.Means.{AreScoped, IsWrong, interfaces_before, no_module, one_more}
 use Rattle.cu_modules.specs.Ordering.{AllNew, AreOrdered, module_of, modules_of}
 use Rattle.cu_modules.specs.declared.interfaces.Interfaces.{Interfaces}
-use Rattle.cu_modules.specs.Inside.Exports.{AreInterfaces}
+use Rattle.cu_modules.specs.Exports.{AreInterfaces}
 use Rattle.cu_modules.specs.Inside.Outcome.{IsRight, IsWrongIn}
 use Rattle.cu_uses.specs.declared.fault.Fault as told
 use Rattle.cu_uses.specs.Faults.{Fault}

@@ -13,7 +13,7 @@ use Rattle.cu_names.specs.Texts.{AllDiffer, IsKnown, text_of}
 use Rattle.cu_modules.specs.declared.modules.Module.{Module}
 use Rattle.cu_uses.specs.Binders.{is_among}
 use Rattle.cu_modules.specs.Ordering.{modules_of, texts_of}
-use Rattle.cu_modules.specs.Progress.{IsCycle}
+use Rattle.cu_modules.specs.Inside.Progress.{IsCycle}
 use Rattle.cu_modules.specs.Reading.{HasModule}
 use Rattle.cu_modules.specs.Walk.{ImportCycle, from, is_there}
 use Rattle.cu_modules.proofs.NameLemmas.{same_name}

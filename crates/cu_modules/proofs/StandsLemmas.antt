@@ -21,7 +21,7 @@ use Rattle.cu_modules.specs.Imports.{AreImports}
 use Rattle.cu_uses.specs.Binders.{is_among}
 use Rattle.cu_modules.specs.Ordering.{AllAfter, AllNew, AreOrdered, IsOwn, module_of, modules_of, texts_of}
 use Rattle.cu_modules.specs.BuiltInEntities.{prelude_name, set_functions_name}
-use Rattle.cu_modules.specs.Progress.{Enters, Stands, StandsFor, built_in_met, fetched_with, is_met, one_if}
+use Rattle.cu_modules.specs.Inside.Progress.{Enters, Stands, StandsFor, built_in_met, fetched_with, is_met, one_if}
 use Rattle.cu_modules.specs.Reading.{HasModule, HasPrelude}
 use Rattle.cu_modules.specs.Scopes.{Named}
 use Rattle.cu_modules.specs.Walk.{IsNew, fetched, fetched_names, has_name, import_names, is_built_in, is_there, most_modules}

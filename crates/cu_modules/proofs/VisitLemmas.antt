@@ -13,8 +13,8 @@ use Rattle.cu_modules.specs.declared.visits.Progress.{Progress}
 use Rattle.cu_uses.specs.Binders.{is_among}
 use Rattle.cu_modules.specs.Ordering.{Tells, modules_of, texts_of}
 use Rattle.cu_modules.specs.BuiltInEntities.{prelude_name, set_functions_name}
-use Rattle.cu_modules.specs.Progress as found
-use Rattle.cu_modules.specs.Progress.{Enters, IsCycle, IsFree, IsLacking, Stands, built_in_met, is_met, one_if}
+use Rattle.cu_modules.specs.Inside.Progress as found
+use Rattle.cu_modules.specs.Inside.Progress.{Enters, IsCycle, IsFree, IsLacking, Stands, built_in_met, is_met, one_if}
 use Rattle.cu_modules.specs.Scopes.{Named}
 use Rattle.cu_modules.specs.Walk.{IsNew, IsOpen, Refusal, Visits, cyclic, done, fetched, is_there, missing, too_many, unread}
 use Rattle.cu_modules.proofs.LookUpLemmas.{in_some, some_map, tells_map}

@@ -18,7 +18,7 @@ use Rattle.cu_modules.specs.declared.visits.Frame.{Frame}
 use Rattle.cu_modules.specs.declared.visits.Progress.{Progress}
 use Rattle.cu_modules.specs.Inside.Frames.{ArePending, Finishes, IsPending, Open, Skipped, path_of}
 use Rattle.cu_modules.specs.Ordering.{Tells, module_of, modules_of, texts_of}
-use Rattle.cu_modules.specs.Progress.{Came, Enters, IsFound, Stands}
+use Rattle.cu_modules.specs.Inside.Progress.{Came, Enters, IsFound, Stands}
 use Rattle.cu_modules.specs.Reading.{HasModule}
 use Rattle.cu_modules.specs.Scopes.{Named}
 use Rattle.cu_modules.specs.Texts.{IsRead}

@@ -1,10 +1,8 @@
--- What private contracts and invariants of loops say. Of the public definitions `AreScopes` speaks
--- of `Exports`. In the order in which to read them.
+-- What private contracts and invariants of loops say. No public contract speaks of it. In the order
+-- in which to read them.
 
 -- What a scope of the code stands for, under a table of names.
 pub mod Binding
--- What the exports of modules stand for, under a table of names.
-pub mod Exports
 -- What modules on the path have still to do, the innermost first.
 pub mod Frames
 -- What imports of the code stand for, under a table of names.
@@ -21,3 +19,5 @@ pub mod Scoped
 pub mod Scoping
 -- What functions tell of what is wrong with names.
 pub mod Telling
+-- How far a walk has come, under a table of names.
+pub mod Progress

@@ -19,13 +19,13 @@ pub mod Means
 pub mod Known
 -- What the answers of `order` stand for, under a table of names.
 pub mod Ordering
+-- What the exports of modules stand for, under a table of names.
+pub mod Exports
 -- What the answers of `scope` and `scope_goal` stand for, under a table of names.
 pub mod ScopeAnswers
 -- What `read` tells of the text of a module.
 pub mod Reading
 -- What is found of the imports of modules.
 pub mod Imports
--- How far a walk has come, under a table of names.
-pub mod Progress
 -- What private contracts and invariants of loops say.
 pub mod Inside

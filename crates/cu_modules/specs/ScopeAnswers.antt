@@ -14,7 +14,7 @@ use Rattle.cu_uses.specs.Faults.{Fault}
 use Rattle.cu_modules.specs.declared.scope_fault.ScopeFault.{ScopeFault}
 use Rattle.cu_modules.specs.declared.scope_fault.ScopeFault.TheVariants as answer
 use Rattle.cu_modules.specs.declared.scopes.Scopes.{Scopes}
-use Rattle.cu_modules.specs.Inside.Exports.{AreInterfaces}
+use Rattle.cu_modules.specs.Exports.{AreInterfaces}
 use Rattle.cu_modules.specs.Means.{interfaces_before}
 use Rattle.cu_modules.specs.Ordering.{AllNew}
 use Rattle.cu_modules.specs.Scopes.{Named, interfaces, scope}

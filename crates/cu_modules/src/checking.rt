@@ -6,7 +6,7 @@ ghost use Rattle.cu_entities.specs.Entities as meant;
 ghost use Rattle.cu_entities.specs.Entities.{Values, same_space, space_of};
 ghost use Rattle.cu_modules.specs.BuiltInEntities.{HasBuiltIn};
 ghost use Rattle.cu_modules.specs.Faults.{export_list_faults, faults};
-ghost use Rattle.cu_modules.specs.Inside.Exports.{AreInterfaces};
+ghost use Rattle.cu_modules.specs.Exports.{AreInterfaces};
 ghost use Rattle.cu_modules.specs.Inside.Scoped.{IsScoped};
 ghost use Rattle.cu_modules.specs.Inside.Telling.{Told};
 ghost use Rattle.cu_modules.specs.Known.{AreEntities};

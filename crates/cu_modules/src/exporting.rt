@@ -1,7 +1,7 @@
 //! What modules export, by their names.
 ghost use Rattle.std.specs.Prelude.{◌≡◌, ◌++◌, ◌∷◌, [], List, ℕ, OnOk};
 ghost use Rattle.cu_entities.specs.Entities as meant;
-ghost use Rattle.cu_modules.specs.Inside.Exports.{AreInterfaces};
+ghost use Rattle.cu_modules.specs.Exports.{AreInterfaces};
 ghost use Rattle.cu_modules.specs.Known.{AreEntities};
 ghost use Rattle.cu_modules.specs.Scopes.{Interface, exports_of};
 ghost use Rattle.cu_names.specs.Texts.{AllDiffer, IsKnown, text_of};

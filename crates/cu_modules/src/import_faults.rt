@@ -5,7 +5,7 @@ ghost use Rattle.cu_entities.specs.Entities as meant;
 ghost use Rattle.cu_entities.specs.EntityMeaning.{is_type_sort};
 ghost use Rattle.cu_entities.specs.declared.entities.Entity.{Entity};
 ghost use Rattle.cu_modules.specs.Faults.{constructor_faults, import_entity_faults, import_faults, unless};
-ghost use Rattle.cu_modules.specs.Inside.Exports.{AreInterfaces};
+ghost use Rattle.cu_modules.specs.Exports.{AreInterfaces};
 ghost use Rattle.cu_modules.specs.Inside.Imported.{AreImportsOf};
 ghost use Rattle.cu_modules.specs.Inside.Lists.{called, lists_entity};
 ghost use Rattle.cu_modules.specs.Inside.Telling.{Told};

@@ -5,7 +5,7 @@ ghost use Rattle.cu_entities.specs.Bindings.{Binding};
 ghost use Rattle.cu_entities.specs.Entities as meant;
 ghost use Rattle.cu_modules.specs.BuiltInEntities.{HasBuiltIn, prelude_name};
 ghost use Rattle.cu_modules.specs.Inside.Binding.{IsScope};
-ghost use Rattle.cu_modules.specs.Inside.Exports.{AreInterfaces};
+ghost use Rattle.cu_modules.specs.Exports.{AreInterfaces};
 ghost use Rattle.cu_modules.specs.Inside.Imported.{AreImportsOf, option_imports};
 ghost use Rattle.cu_modules.specs.Ordering.{module_of};
 ghost use Rattle.cu_modules.specs.Reading.{HasModule};

@@ -8,7 +8,7 @@ ghost use Rattle.cu_entities.specs.EntityMeaning.{EntityIsKnown, entity_meaning,
 ghost use Rattle.cu_entities.specs.NameTables.{KeyIsKnown};
 ghost use Rattle.cu_modules.specs.Inside.Binding.{BoundIsKnown, IsScope, bound_meaning};
 ghost use Rattle.cu_modules.specs.Inside.Exporting.{brings, is_key};
-ghost use Rattle.cu_modules.specs.Inside.Exports.{AreInterfaces};
+ghost use Rattle.cu_modules.specs.Exports.{AreInterfaces};
 ghost use Rattle.cu_modules.specs.Inside.Imported.{AreImportsOf};
 ghost use Rattle.cu_modules.specs.Inside.Scoped.{IsScoped};
 ghost use Rattle.cu_modules.specs.Known.{AreEntities};

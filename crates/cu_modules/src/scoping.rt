@@ -6,7 +6,7 @@ ghost use Rattle.cu_entities.specs.Entities as meant;
 ghost use Rattle.cu_entities.specs.EntityMeaning.{EntityIsKnown, entity_meaning, space_meaning};
 ghost use Rattle.cu_entities.specs.NameTables.{KeyIsKnown};
 ghost use Rattle.cu_modules.specs.BuiltInEntities.{HasBuiltIn};
-ghost use Rattle.cu_modules.specs.Inside.Exports.{AreInterfaces};
+ghost use Rattle.cu_modules.specs.Exports.{AreInterfaces};
 ghost use Rattle.cu_modules.specs.Inside.Outcome.{IsRight, IsWrongIn};
 ghost use Rattle.cu_modules.specs.Inside.Scoping.{only_one, wrong_at};
 ghost use Rattle.cu_modules.specs.Known.{AreEntities};

@@ -4,7 +4,7 @@ ghost use Rattle.std.specs.List.{All};
 ghost use Rattle.std.specs.Vec.Iter.{into_iter_items};
 ghost use Rattle.cu_uses.specs.Binders.{is_among};
 ghost use Rattle.cu_modules.specs.Ordering.{FaultCount, IsOwn, Tells, modules_of, texts_of};
-ghost use Rattle.cu_modules.specs.Progress.{fetched_with, Came, Enters, IsCycle, IsFound, IsLacking, Stands};
+ghost use Rattle.cu_modules.specs.Inside.Progress.{fetched_with, Came, Enters, IsCycle, IsFound, IsLacking, Stands};
 ghost use Rattle.cu_modules.specs.Reading.{HasModule};
 ghost use Rattle.cu_modules.specs.Walk.{is_built_in, is_there, most_modules, IsNew, Visits};
 ghost use Rattle.cu_names.specs.Texts.{text_of, AllDiffer, Extends, IsKnown};

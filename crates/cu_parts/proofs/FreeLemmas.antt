@@ -7,7 +7,7 @@ use Rattle.cu_kernel.specs.LocalKernel.{LocalRule, TopFunction}
 use Rattle.cu_kernel.specs.LocalTerm as local
 use Rattle.cu_kernel.specs.LocalTerm.{LocalAlternatives, LocalTerm, LocalTerms}
 use Rattle.cu_kernel.specs.LocalValid.{rules_of}
-use Rattle.cu_kernel.specs.Scope.{held_by}
+use Rattle.cu_kernel.specs.Inside.Scope.{held_by}
 use Rattle.cu_parts.proofs.Tests.{and_first, and_second, held_at, held_first, held_second, of_not, or_cases, or_first, same_is, same_self}
 use Rattle.cu_parts.specs.Inside.FreeUses.{free_in_all, free_in_alternatives, free_in_function, free_in_local, free_in_rule, free_in_rules, free_uses, unless}
 

@@ -6,9 +6,9 @@ use Rattle.std.specs.Option.{option_map}
 use Rattle.std.proofs.lemmas.Option.{slice_get_within, slice_get-map, slice_get_cases}
 use Rattle.std.proofs.lemmas.List.{get_or_append_left, get_or_at, length-map, length-replicate, take-append-le, take_at}
 use Rattle.std.proofs.lemmas.List.Elements.{All-push, Contains-append_left, Contains-push}
-use Rattle.cu_peg.specs.CallTables.{TellsNullable, callees, called, calls_by, nullable_by, repeats}
-use Rattle.cu_peg.specs.Closure as closure
-use Rattle.cu_peg.specs.Closure.{Derived, IsSaturated, MayJoin, holds, marked}
+use Rattle.cu_peg.specs.Inside.CallTables.{TellsNullable, callees, called, calls_by, nullable_by, repeats}
+use Rattle.cu_peg.specs.Inside.Closure as closure
+use Rattle.cu_peg.specs.Inside.Closure.{Derived, IsSaturated, MayJoin, holds, marked}
 use Rattle.cu_peg.specs.declared.closure.Condition.{Condition}
 use Rattle.cu_peg.specs.declared.closure.Quantifier.TheVariants as quantifier
 use Rattle.cu_peg.specs.declared.row.Row.{Row}

@@ -3,8 +3,8 @@ use Rattle.std.proofs.Common.{◌≡◌, ◌≢◌, ℕ, zero, suc, ◌<◌, ◌
 use Rattle.std.specs.Prelude.{slice_get, ◌&&◌, ◌||◌}
 use Rattle.std.specs.List.{list_all, list_any}
 use Rattle.std.proofs.lemmas.Option.{slice_get_within}
-use Rattle.cu_peg.specs.Closure as closure
-use Rattle.cu_peg.specs.Closure.{Derived, IsSaturated, MayJoin, holds, marked, unmarked}
+use Rattle.cu_peg.specs.Inside.Closure as closure
+use Rattle.cu_peg.specs.Inside.Closure.{Derived, IsSaturated, MayJoin, holds, marked, unmarked}
 use Rattle.cu_peg.specs.declared.closure.Condition.{Condition}
 
 pub unmarked-set : (marks : List Bool) (n : ℕ) → n < length marks → marked marks n ≡ false → unmarked (set marks n true) < unmarked marks

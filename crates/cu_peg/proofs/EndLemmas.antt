@@ -6,7 +6,7 @@ use Rattle.cu_peg.specs.declared.class.Class.{Class}
 use Rattle.cu_peg.specs.declared.row.Row.{Row}
 use Rattle.cu_peg.specs.declared.row.Row.TheVariants as row
 use Rattle.cu_peg.specs.declared.table.End.{End}
-use Rattle.cu_peg.specs.Ends.{EndsAt, IsEnd, ahead_end, alone, capped, choice_end, chosen_end, joined, last, many_end, not_ahead_end, optional_end, row_end, sequence_end, with_nodes}
+use Rattle.cu_peg.specs.Inside.Ends.{EndsAt, IsEnd, ahead_end, alone, capped, choice_end, chosen_end, joined, last, many_end, not_ahead_end, optional_end, row_end, sequence_end, with_nodes}
 use Rattle.cu_peg.specs.Matches as m
 use Rattle.cu_peg.specs.Matches.{Fails, Matches, RowFails, RowMatches}
 use Rattle.cu_peg.specs.Parse.{ParseTree, ParseTrees, Leaf, Parts, Chosen, NoTree, MoreTrees, only, size, sizes}

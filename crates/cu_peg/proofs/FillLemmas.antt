@@ -10,7 +10,7 @@ use Rattle.cu_peg.specs.Classes.{has}
 use Rattle.cu_peg.specs.declared.class.Class.{Class}
 use Rattle.cu_peg.specs.declared.row.Row.{Row}
 use Rattle.cu_peg.specs.declared.table.End.{End}
-use Rattle.cu_peg.specs.Ends.{IsEnd, end_at, row_end}
+use Rattle.cu_peg.specs.Inside.Ends.{IsEnd, end_at, row_end}
 use Rattle.cu_peg.specs.Order.{IsGrammar}
 use Rattle.cu_peg.specs.Result.{has_at}
 use Rattle.cu_peg.specs.WellFormed.{Calls}

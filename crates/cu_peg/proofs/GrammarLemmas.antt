@@ -2,8 +2,8 @@
 use Rattle.std.proofs.Common.{◌≡◌, ◌∙◌, ◌<◌, length, subst, ℕ, Bool, true, false, List, [], ◌∷◌, refl, Option, Some, ap, sym}
 use Rattle.std.specs.Prelude.{slice_get}
 use Rattle.cu_lex.specs.Tokens.{Lexeme}
-use Rattle.cu_peg.specs.Closure.{marked}
-use Rattle.cu_peg.specs.Cursors.{next_part}
+use Rattle.cu_peg.specs.Inside.Closure.{marked}
+use Rattle.cu_peg.specs.Inside.Cursors.{next_part}
 use Rattle.cu_peg.specs.declared.class.Class.{Class}
 use Rattle.cu_peg.specs.declared.reading.Cursor.{Cursor}
 use Rattle.cu_peg.specs.declared.row.Row.{Row}
@@ -11,7 +11,7 @@ use Rattle.cu_peg.specs.declared.row.Row.TheVariants as row
 use Rattle.cu_peg.specs.declared.table.End.{End}
 use Rattle.cu_peg.specs.Matches.{Matches}
 use Rattle.cu_peg.specs.Parse.{ParseTree}
-use Rattle.cu_peg.specs.Reached.{IsReached, kept, kept_row}
+use Rattle.cu_peg.specs.Inside.Reached.{IsReached, kept, kept_row}
 use Rattle.cu_peg.specs.Result.{HasNoTree, IsTreeOf}
 use Rattle.cu_peg.proofs.KeptLemmas.{is_nothing, kept-get, kept-marked, kept-real, length-kept}
 use Rattle.cu_peg.proofs.TransferLemmas.{matches-over}

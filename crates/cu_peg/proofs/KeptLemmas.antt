@@ -2,11 +2,11 @@
 use Rattle.std.proofs.Common.{◌≡◌, ◌∙◌, ℕ, zero, suc, ◌<◌, inl, inr, Bool, true, false, ◌&&◌, List, [], ◌∷◌, Option, None, Some, length, nat_lt, refl, ap, sym, subst, true≢false}
 use Rattle.std.specs.Prelude.{All, slice_get, slice_index}
 use Rattle.std.specs.List.{list_all}
-use Rattle.cu_peg.specs.Closure.{marked}
+use Rattle.cu_peg.specs.Inside.Closure.{marked}
 use Rattle.cu_peg.specs.declared.row.Row.{Row}
 use Rattle.cu_peg.specs.declared.row.Row.TheVariants as row
 use Rattle.cu_peg.specs.Order.{IsGrammar}
-use Rattle.cu_peg.specs.Reached.{kept, kept_row}
+use Rattle.cu_peg.specs.Inside.Reached.{kept, kept_row}
 use Rattle.cu_peg.specs.WellFormed as w
 use Rattle.cu_peg.specs.WellFormed.{Calls, IsClosed, IsEndless, IsNullable, IsWellFormed, Reaches, RepeatsNullable, RowCalls, RowIsNullable, RowRepeatsNullable, named}
 

@@ -7,7 +7,7 @@ use Rattle.cu_peg.specs.Classes.{has}
 use Rattle.cu_peg.specs.declared.class.Class.{Class}
 use Rattle.cu_peg.specs.declared.row.Row.{Row}
 use Rattle.cu_peg.specs.declared.row.Row.TheVariants as row
-use Rattle.cu_peg.specs.Ends.{last}
+use Rattle.cu_peg.specs.Inside.Ends.{last}
 use Rattle.cu_peg.specs.Matches as m
 use Rattle.cu_peg.specs.Matches.{Fails, Matches, RowFails, RowMatches}
 use Rattle.cu_peg.specs.Parse.{ParseTree, ParseTrees, Leaf, Parts, Chosen, NoTree, MoreTrees, only, tree_over, trees_over}

@@ -7,7 +7,7 @@ use Rattle.std.proofs.lemmas.List.Elements.{All-append}
 use Rattle.std.proofs.lemmas.List.FromFn.{get_or-map-range_with_len, length-map-range_with_len}
 use Rattle.cu_peg.specs.declared.places.Entry.{Entry}
 use Rattle.cu_peg.specs.declared.table.End.{End}
-use Rattle.cu_peg.specs.Places.{KeepsOne, Packs, Rising, cell, column, columns, span, span_at, unpacked, usual}
+use Rattle.cu_peg.specs.Inside.Places.{KeepsOne, Packs, Rising, cell, column, columns, span, span_at, unpacked, usual}
 use Rattle.cu_peg.proofs.FillLemmas.{below_or_at}
 use Rattle.cu_peg.proofs.FoundedRows.{All-tail}
 

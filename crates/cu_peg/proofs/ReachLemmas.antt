@@ -3,9 +3,9 @@ use Rattle.std.proofs.Common.{◌≡◌, ◌∙◌, ℕ, zero, suc, ◌+◌, ◌
 use Rattle.std.specs.Prelude.{All, Contains, slice_get}
 use Rattle.std.proofs.lemmas.List.{get_or-set_same, take_more}
 use Rattle.std.proofs.lemmas.List.Elements.{All-append, Contains-append_left, Contains-push, Contains-push_cases}
-use Rattle.cu_peg.specs.Closure.{marked}
+use Rattle.cu_peg.specs.Inside.Closure.{marked}
 use Rattle.cu_peg.specs.declared.row.Row.{Row}
-use Rattle.cu_peg.specs.Reached.{IsReached, Spreads}
+use Rattle.cu_peg.specs.Inside.Reached.{IsReached, Spreads}
 use Rattle.cu_peg.specs.WellFormed.{named}
 use Rattle.cu_peg.proofs.ClosureLemmas.{marked-set, none_marked, set-marked, unmarked-set}
 

@@ -5,7 +5,7 @@ use Rattle.std.specs.Option.{option_and_then, option_map, option_to_list}
 use Rattle.std.proofs.lemmas.List.{same_from_push}
 use Rattle.std.proofs.lemmas.Option.{slice_get_cases, slice_get_within}
 use borrow.Author.Tests.{lt-ltb, le-ltb}
-use Rattle.cu_peg.specs.Cursors.{cursor, first_alternative, first_parts, form_of, next_part, next_parts, node_of, nodes_at, part_at}
+use Rattle.cu_peg.specs.Inside.Cursors.{cursor, first_alternative, first_parts, form_of, next_part, next_parts, node_of, nodes_at, part_at}
 use Rattle.cu_peg.specs.declared.class.Class.{Class}
 use Rattle.cu_peg.specs.declared.node.Form.TheVariants as form
 use Rattle.cu_peg.specs.declared.node.Node.{Node}
@@ -13,7 +13,7 @@ use Rattle.cu_peg.specs.declared.reading.Cursor.{Cursor}
 use Rattle.cu_peg.specs.declared.row.Row.{Row}
 use Rattle.cu_peg.specs.declared.row.Row.TheVariants as row
 use Rattle.cu_peg.specs.declared.table.End.{End}
-use Rattle.cu_peg.specs.Ends.{IsEnd, IsRight, capped, end_at, last}
+use Rattle.cu_peg.specs.Inside.Ends.{IsEnd, IsRight, capped, end_at, last}
 use Rattle.cu_peg.specs.Matches as m
 use Rattle.cu_peg.specs.Matches.{Fails, Matches, RowFails, RowMatches}
 use Rattle.cu_peg.specs.Parse.{ParseTree, ParseTrees, Leaf, Parts, Chosen, NoTree, MoreTrees, only, size, sizes, spelled, spelled_all}

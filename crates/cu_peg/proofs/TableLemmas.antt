@@ -5,8 +5,8 @@ use Rattle.std.proofs.Math.Seq.{get_or-append_seam, set-append_seam}
 use Rattle.std.proofs.lemmas.List.{get_or_append_left, get_or_past}
 use Rattle.cu_peg.specs.declared.places.Entry.{Entry}
 use Rattle.cu_peg.specs.declared.table.End.{End}
-use Rattle.cu_peg.specs.Ends.{end_at}
-use Rattle.cu_peg.specs.Places.{IsTable, TableView, cell, column, columns, span_at}
+use Rattle.cu_peg.specs.Inside.Ends.{end_at}
+use Rattle.cu_peg.specs.Inside.Places.{IsTable, TableView, cell, column, columns, span_at}
 use Rattle.cu_peg.proofs.PlaceLemmas.{cell-at, cell-past, column-at, length-columns}
 
 module _ (certain : List Bool) (es : List Entry) (begins : List ℕ) where

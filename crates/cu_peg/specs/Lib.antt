@@ -18,21 +18,8 @@ pub mod Answer
 pub mod Law
 -- Trees of texts, read off their nodes from the right end.
 pub mod Spelling
--- The least set of numbers that is closed under conditions: each number has one, and joins the set
--- where it holds.
-pub mod Closure
--- What is read off the rows about the tokens that they take, as tests and lists.
-pub mod CallTables
 -- In which order the rows of a grammar are matched at one place: each after those that it calls
 -- there.
 pub mod Order
--- The table of ends: for each row, and each number of tokens that are left of a text, how many are
--- left where the row has matched.
-pub mod Ends
--- How the table of ends keeps the places that are finished: of each place those rows alone whose
--- end isn't the usual one.
-pub mod Places
--- The rows that a row reaches, and a grammar of these alone.
-pub mod Reached
--- Reading a tree off the table of ends.
-pub mod Cursors
+-- What private contracts and invariants of loops say.
+pub mod Inside

@@ -2,7 +2,7 @@
 //! it has taken one.
 ghost use Rattle.std.specs.Prelude.{◌≡◌, map, IfOk, length, MatchOption, IsTrue, ◌↔◌, ◌<◌, ℕ, List, Bool};
 ghost use Rattle.cu_peg.specs.declared.row.Row.{Row};
-ghost use Rattle.cu_peg.specs.CallTables.{callees, called, calls_by, nullable_by, repeats, TellsNullable};
+ghost use Rattle.cu_peg.specs.Inside.CallTables.{callees, called, calls_by, nullable_by, repeats, TellsNullable};
 ghost use Rattle.cu_peg.specs.Order.{IsOrder};
 ghost use Rattle.cu_peg.specs.WellFormed.{IsClosed, IsEndless, IsFirstEndless, IsLeftRecursive, IsWellFormed};
 

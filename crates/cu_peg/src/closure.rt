@@ -1,6 +1,6 @@
 //! The least set of numbers that is closed under conditions.
 ghost use Rattle.std.specs.Prelude.{◌≡◌, ◌<◌, Bool, length, IfNone, IfOk, IfSome, slice_index_or, false, vec_len};
-ghost use Rattle.cu_peg.specs.Closure.{holds, Derived, IsSaturated, MayJoin};
+ghost use Rattle.cu_peg.specs.Inside.Closure.{holds, Derived, IsSaturated, MayJoin};
 
 use crate::RowNumbers;
 use std::alloc::{AllocError, Global};

@@ -2,10 +2,10 @@
 ghost use Rattle.std.specs.Prelude.{◌≡◌, ◌≤◌, ◌-◌, ◌+◌, ℕ, List, length, map, OnOk, Some};
 ghost use Rattle.std.specs.Option.{option_and_then};
 ghost use Rattle.cu_lex.specs.Reading.{lexeme_of};
-ghost use Rattle.cu_peg.specs.Ends.{alone, choice_end, end_at, IsRight, joined, row_end, sequence_end, with_nodes};
-ghost use Rattle.cu_peg.specs.Closure.{marked};
+ghost use Rattle.cu_peg.specs.Inside.Ends.{alone, choice_end, end_at, IsRight, joined, row_end, sequence_end, with_nodes};
+ghost use Rattle.cu_peg.specs.Inside.Closure.{marked};
 ghost use Rattle.cu_peg.specs.Order.{IsGrammar};
-ghost use Rattle.cu_peg.specs.Reached.{kept, kept_row};
+ghost use Rattle.cu_peg.specs.Inside.Reached.{kept, kept_row};
 ghost use Rattle.cu_peg.specs.Result.{has_at};
 
 use crate::closure::is_marked;

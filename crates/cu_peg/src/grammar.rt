@@ -2,8 +2,8 @@
 ghost use Rattle.std.specs.Prelude.{◌≡◌, ◌+◌, ℕ, IfErr, IfOk, List, OnOk, length, map, nat_lt};
 ghost use Rattle.std.specs.List.{list_all};
 ghost use Rattle.cu_lex.specs.Reading.{lexeme_of};
-ghost use Rattle.cu_peg.specs.Ends.{IsRight};
-ghost use Rattle.cu_peg.specs.Reached.{kept};
+ghost use Rattle.cu_peg.specs.Inside.Ends.{IsRight};
+ghost use Rattle.cu_peg.specs.Inside.Reached.{kept};
 ghost use Rattle.cu_peg.specs.Result.{has_at};
 ghost use Rattle.cu_peg.specs.WellFormed.{IsClosed, IsWellFormed, is_closed, named};
 ghost use Rattle.cu_peg.specs.declared.grammar.BadGrammar.TheVariants.{NoMemory};

@@ -1,6 +1,6 @@
 //! The places that are finished, of which few ends are kept.
 ghost use Rattle.std.specs.Prelude.{◌≡◌, ◌<◌, ◌≤◌, suc, length, true, slice_index_or, IfOk, OnOk};
-ghost use Rattle.cu_peg.specs.Places.{cell, span_at, unpacked, usual, KeepsOne, Packs, Rising};
+ghost use Rattle.cu_peg.specs.Inside.Places.{cell, span_at, unpacked, usual, KeepsOne, Packs, Rising};
 
 use crate::closure::is_marked;
 use crate::table::End;

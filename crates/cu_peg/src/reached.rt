@@ -1,8 +1,8 @@
 //! Which rows a row reaches.
 ghost use Rattle.std.specs.Prelude.{◌≡◌, ◌<◌, true, All, Some, length, slice_get, IfOk, OnOk};
 ghost use Rattle.cu_peg.specs.declared.row.Row.{Row};
-ghost use Rattle.cu_peg.specs.Closure.{marked};
-ghost use Rattle.cu_peg.specs.Reached.{IsReached, Spreads};
+ghost use Rattle.cu_peg.specs.Inside.Closure.{marked};
+ghost use Rattle.cu_peg.specs.Inside.Reached.{IsReached, Spreads};
 ghost use Rattle.cu_peg.specs.WellFormed.{named, IsClosed};
 
 use crate::closure::is_marked;

@@ -3,11 +3,11 @@ ghost use Rattle.std.specs.Prelude.{◌≡◌, ◌<◌, ◌≤◌, ◌+◌, ◌-
 ghost use Rattle.std.specs.Option.{option_to_list};
 ghost use Rattle.cu_lex.specs.Reading.{lexeme_of};
 ghost use Rattle.cu_peg.specs.declared.row.Row.{Row};
-ghost use Rattle.cu_peg.specs.Cursors.{cursor, first_alternative, first_parts, form_of, next_part, next_parts, node_of, part_at};
-ghost use Rattle.cu_peg.specs.Ends.{end_at, last};
+ghost use Rattle.cu_peg.specs.Inside.Cursors.{cursor, first_alternative, first_parts, form_of, next_part, next_parts, node_of, part_at};
+ghost use Rattle.cu_peg.specs.Inside.Ends.{end_at, last};
 ghost use Rattle.cu_peg.specs.Matches.{HasTree};
 ghost use Rattle.cu_peg.specs.Parse.{ParseTree, spelled};
-ghost use Rattle.cu_peg.specs.Reached.{IsTableOf};
+ghost use Rattle.cu_peg.specs.Inside.Reached.{IsTableOf};
 ghost use Rattle.cu_peg.specs.Result.{has_at};
 
 use crate::node::{Form, Node};

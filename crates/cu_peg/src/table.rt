@@ -1,8 +1,8 @@
 //! The table of ends: where each row matches at each place of a text.
 ghost use Rattle.std.specs.Prelude.{◌≡◌, ◌<◌, ◌+◌, ◌++◌, ◌∷◌, [], ℕ, length, None, IfSome, OnOk, replicate, slice_index_or, slice_set};
 ghost use Rattle.std.specs.Option.{option_map};
-ghost use Rattle.cu_peg.specs.Ends.{end_at};
-ghost use Rattle.cu_peg.specs.Places.{columns, Rising};
+ghost use Rattle.cu_peg.specs.Inside.Ends.{end_at};
+ghost use Rattle.cu_peg.specs.Inside.Places.{columns, Rising};
 
 use crate::places::{Entry, end_in, entries_at, keep};
 use std::alloc::{AllocError, Global};
@@ -62,7 +62,7 @@ pub struct Table {
 impl Model for Table {
     ghost use Rattle.std.specs.Prelude.{◌++◌, length};
     ghost use Rattle.std.specs.Option.{option_to_list};
-    ghost use Rattle.cu_peg.specs.Places.{columns, IsTable, TableView};
+    ghost use Rattle.cu_peg.specs.Inside.Places.{columns, IsTable, TableView};
 
     ghost Value = { TableView };
 

@@ -13,8 +13,8 @@ use Rattle.cu_machine.specs.State.{Branch, Idle, NoState, Running, State, States
 use Rattle.cu_machine.specs.Validity.{AllValid, IsValid}
 use Rattle.cu_sets.specs.declared.level.Ending.{Ending}
 use Rattle.cu_sets.specs.declared.level.Ending.TheVariants as ending
-use Rattle.cu_sets.specs.Levels.{Level, before, ended}
-use Rattle.cu_sets.specs.Nesting.{deepest, nesting}
+use Rattle.cu_sets.specs.Inside.Levels.{Level, before, ended}
+use Rattle.cu_sets.specs.Inside.Nesting.{deepest, nesting}
 
 -- ---- what becomes of one branch
 

@@ -1,10 +1,4 @@
 -- In the order in which to read them.
 
--- The end of a search for all values.
-pub mod Delivered
--- What became of the branches of a level.
-pub mod Levels
--- Whether exactly one branch follows a step.
-pub mod Onward
--- How deep searches run within each other.
-pub mod Nesting
+-- What private contracts and invariants of loops say.
+pub mod Inside

@@ -4,8 +4,8 @@ ghost use Rattle.cu_machine.specs.declared.Limits.{Limits};
 ghost use Rattle.cu_machine.specs.Next.{Go, On, Stops, after_level, is_above, too_large, unless_one_is_large};
 ghost use Rattle.cu_machine.specs.State as state;
 ghost use Rattle.cu_machine.specs.State.{Idle};
-ghost use Rattle.cu_sets.specs.Delivered.{delivered_by};
-ghost use Rattle.cu_sets.specs.Levels.{ended, event_of};
+ghost use Rattle.cu_sets.specs.Inside.Delivered.{delivered_by};
+ghost use Rattle.cu_sets.specs.Inside.Levels.{ended, event_of};
 ghost use Rattle.cu_step.specs.Outcome.{is_inner, next_of, state_of};
 
 use crate::found::deliver;

@@ -1,7 +1,7 @@
 //! What becomes of the level of a search.
 ghost use Rattle.std.specs.Prelude.{◌≡◌, [], IfNone, IfOk, IfSome, IsFalse};
 ghost use Rattle.cu_machine.specs.Next.{Answer, LevelEvent, with_outcome};
-ghost use Rattle.cu_sets.specs.Levels.{before, ended, level_of};
+ghost use Rattle.cu_sets.specs.Inside.Levels.{before, ended, level_of};
 ghost use Rattle.cu_step.specs.Outcome.{is_inner, next_of, reading_of};
 
 use cu_graph::Store;

@@ -3,7 +3,7 @@ ghost use Rattle.std.specs.Prelude.{◌≡◌, IfOk, IsFalse};
 ghost use Rattle.std.specs.List.{All};
 ghost use Rattle.cu_machine.specs.Run.{run};
 ghost use Rattle.cu_machine.specs.Validity.{IsValid};
-ghost use Rattle.cu_sets.specs.Onward.{GoesOnward};
+ghost use Rattle.cu_sets.specs.Inside.Onward.{GoesOnward};
 ghost use Rattle.cu_step.specs.Outcome.{branches_of, is_inner, next_of, state_of};
 ghost use Rattle.cu_step.specs.declared.Outcome.TheVariants.{Go};
 

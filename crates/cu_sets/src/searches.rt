@@ -5,7 +5,7 @@ ghost use Rattle.cu_calculus.specs.WellFormed.{is_well_formed};
 ghost use Rattle.cu_machine.specs.Next.{next, stepped};
 ghost use Rattle.cu_machine.specs.State.{states_of};
 ghost use Rattle.cu_machine.specs.Validity.{IsValid};
-ghost use Rattle.cu_sets.specs.Levels.{event_of};
+ghost use Rattle.cu_sets.specs.Inside.Levels.{event_of};
 ghost use Rattle.cu_step.specs.Outcome.{branches_of, is_inner, next_of, running_state, state_of};
 
 use crate::ending::{after_level, delivered, is_too_large, too_large};

@@ -5,11 +5,12 @@ use Rattle.std.proofs.lemmas.List.Folds.{list_any-append}
 use Rattle.std.proofs.lemmas.Option.{slice_get_past}
 use Rattle.std.specs.Prelude.{nat_eq}
 use Rattle.std.specs.List.{list_any}
+use Rattle.cu_sites.specs.Depending.{is_in, keys_in, relates, row}
 use Rattle.cu_sites.specs.declared.captures.Graph.{Graph}
 use Rattle.cu_sites.specs.declared.relations.Relation.{Relation}
 use Rattle.cu_sites.specs.Inside.Capturing.{IsCaptured}
 use Rattle.cu_sites.specs.Inside.Relating as relating
-use Rattle.cu_sites.specs.Inside.Relating.{Gains, Holds, Pair, Reaches, is_in, is_pair, keys_in, pair, pair_to, relates, row}
+use Rattle.cu_sites.specs.Inside.Relating.{Gains, Holds, Pair, Reaches, is_pair, pair, pair_to}
 use Rattle.cu_sites.proofs.RelationLemmas.{Row, before_or_not}
 
 abbrev pub Captured : Graph → ℕ → ℕ → Type 0

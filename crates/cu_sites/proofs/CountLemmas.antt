@@ -27,10 +27,11 @@ use Rattle.cu_uses.specs.Gathered.{Adds, names_meaning, pattern_binds}
 use Rattle.cu_uses.proofs.FoundLemmas.{prefix, nothing_left}
 use Rattle.cu_locals.specs.Places.{pattern_places, patterns_place, positions_meaning}
 use Rattle.cu_locals.specs.Text.{Text}
+use Rattle.cu_sites.specs.Numbered.{binders_meaning}
 use Rattle.cu_sites.specs.declared.sites.Node as nodes
 use Rattle.cu_sites.specs.declared.sites.ScopeEntry.{ScopeEntry}
 use Rattle.cu_sites.specs.Meaning.{AreNodes, IsNode}
-use Rattle.cu_sites.specs.Inside.Counting.{Counts, Lists, binders_meaning, bound_binders, name_places}
+use Rattle.cu_sites.specs.Inside.Counting.{Counts, Lists, bound_binders, name_places}
 
 -- ---- lists that grow
 

@@ -10,11 +10,12 @@ use Rattle.cu_translation.specs.declared.position.Position as places_found
 use Rattle.cu_translation.specs.LocalNames.{Binder}
 use Rattle.cu_translation.specs.Meaning.{binder_meaning, local_meaning, position_meaning}
 use Rattle.cu_translation.specs.Numbering.{binder_number, function_number}
+use Rattle.cu_sites.specs.Depending.{row}
 use Rattle.cu_sites.specs.declared.definitions.Definition as definitions_found
 use Rattle.cu_sites.specs.declared.relations.Relation.{Relation}
 use Rattle.cu_sites.specs.Inside.Defining.{definition_meaning, definitions_meaning}
 use Rattle.cu_sites.specs.Inside.Needing.{IsNeeded, definition_pairs, need_pairs}
-use Rattle.cu_sites.specs.Inside.Relating.{Gains, Holds, Pair, pair, row}
+use Rattle.cu_sites.specs.Inside.Relating.{Gains, Holds, Pair, pair}
 use Rattle.cu_sites.specs.Inside.Using.{locals_meaning}
 use Rattle.cu_sites.proofs.MemberLemmas.{one_more}
 use Rattle.cu_sites.proofs.RelationLemmas.{gains_both, gains_none}

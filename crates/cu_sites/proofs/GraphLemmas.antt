@@ -11,12 +11,13 @@ use Rattle.cu_translation.specs.LocalNames.{At, Binder, Local, LocalFunction, Lo
 use Rattle.cu_translation.specs.Numbering.{all_binders, binder_number, binders_of, function_number}
 use Rattle.cu_translation.specs.Sites.{Node}
 use Rattle.cu_sites.proofs.MemberLemmas.{Among, among_cons, any_from, any_to, from_among, from_filter, from_flat_map, from_map, here, in_flat_map, in_map, none_among, there, to_among}
+use Rattle.cu_sites.specs.Depending.{is_in, keys_in, relates, row}
 use Rattle.cu_sites.specs.declared.captures.Graph.{Graph}
 use Rattle.cu_sites.specs.declared.relations.Relation.{Relation}
 use Rattle.cu_sites.specs.Meaning.{innermost}
 use Rattle.cu_sites.specs.Inside.Capturing.{IsCaptured, IsGraph, bound_pair, bound_pairs, call_pairs, calls_in, binds_in, in_one, use_pairs, uses_in}
 use Rattle.cu_sites.specs.Inside.Relating as relating
-use Rattle.cu_sites.specs.Inside.Relating.{Holds, Pair, Reaches, is_in, is_pair, keys_in, pair, relates, row}
+use Rattle.cu_sites.specs.Inside.Relating.{Holds, Pair, Reaches, is_pair, pair}
 use Rattle.cu_sites.specs.Inside.Using.{Usage, usage_of}
 use Rattle.cu_sites.proofs.RelationLemmas.{Row}
 

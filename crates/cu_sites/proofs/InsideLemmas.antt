@@ -32,6 +32,7 @@ use Rattle.cu_translation.specs.Numbering.{all_binders, binders_of}
 use Rattle.cu_translation.specs.Sites.{Bound, Defined, Node, Site, Spot, right_nodes}
 use Rattle.cu_translation.specs.declared.local_names.Binder.TheVariants as binder
 use Rattle.cu_translation.specs.Meaning.{binder_meaning, local_meaning, position_meaning}
+use Rattle.cu_sites.specs.Numbered.{IsBinderTable, binders_meaning}
 use Rattle.cu_sites.specs.declared.definitions.Definition as found
 use Rattle.cu_sites.specs.declared.uses.Usage as usages_found
 use Rattle.cu_sites.specs.declared.sites.Node as nodes_found
@@ -39,8 +40,7 @@ use Rattle.cu_sites.specs.declared.sites.ScopeEntry.{ScopeEntry}
 use Rattle.cu_sites.specs.declared.sites.Site as sites_found
 use Rattle.cu_sites.specs.declared.sites.Site.TheVariants as site_found
 use Rattle.cu_sites.specs.Meaning.{AreNodes, IsNode, IsSite, inside, inside_at}
-use Rattle.cu_sites.specs.Inside.Counting as counting
-use Rattle.cu_sites.specs.Inside.Counting.{IsBinderTable, binders_meaning}
+use Rattle.cu_sites.specs.Numbered as numbered
 use Rattle.cu_sites.specs.Inside.Defining.{Defines, declared_in, definition_meaning, definitions_meaning, has_depth, selections, used_among, used_in_one}
 use Rattle.cu_sites.specs.Inside.Using.{Finds, Usage, locals_meaning, usage_meaning, usage_of, usages_meaning}
 use Rattle.cu_sites.proofs.GraphLemmas.{first_within}
@@ -80,12 +80,12 @@ some_found p xs o found e f = copied_some o ∙ ap is_some e ∙ f ∙ has_posit
 
 -- ---- what is bound inside a definition
 
-any_meant : (b : code.Binder) (keys : List code.Binder) → list_any (counting.same_binder b) keys ≡ list_any (same_binder (binder_meaning b)) (binders_meaning keys)
+any_meant : (b : code.Binder) (keys : List code.Binder) → list_any (numbered.same_binder b) keys ≡ list_any (same_binder (binder_meaning b)) (binders_meaning keys)
 any_meant b [] = refl
 any_meant b (k ∷ keys) = ap₂ (λ x y. x || y) (same_binders b k) (any_meant b keys)
 
 pub inner_variable : (keys : List code.Binder) (l : locals_found.Local) (b : code.Binder) (found : Bool) → l ≡ local.Variable b
-    → found ≡ list_any (counting.same_binder b) keys → not found ≡ is_bound_outside (binders_meaning keys) (local_meaning l)
+    → found ≡ list_any (numbered.same_binder b) keys → not found ≡ is_bound_outside (binders_meaning keys) (local_meaning l)
 inner_variable keys l b found is e =
     ap not (e ∙ any_meant b keys) ∙ sym (ap (λ (k : locals_found.Local). is_bound_outside (binders_meaning keys) (local_meaning k)) is)
 

@@ -8,10 +8,11 @@ use Rattle.cu_translation.specs.LocalNames.{Binder, Local, LocalFunction, LocalV
 use Rattle.cu_translation.specs.Numbering.{binder_number, function_number}
 use Rattle.cu_translation.specs.Sites.{Node}
 use Rattle.cu_sites.proofs.MemberLemmas.{Among, any_from, any_to, from_among, from_filter, from_flat_map, from_map, here, in_flat_map, in_map, to_among}
+use Rattle.cu_sites.specs.Depending.{is_in, relates, row}
 use Rattle.cu_sites.specs.declared.relations.Relation.{Relation}
 use Rattle.cu_sites.specs.Inside.Needing.{IsNeeded, definition_pairs, need_pairs}
 use Rattle.cu_sites.specs.Inside.Relating as relating
-use Rattle.cu_sites.specs.Inside.Relating.{Holds, Pair, Reaches, is_in, pair, relates, row}
+use Rattle.cu_sites.specs.Inside.Relating.{Holds, Pair, Reaches, pair}
 use Rattle.cu_sites.proofs.RelationLemmas.{same_truth}
 use Rattle.cu_sites.proofs.GraphLemmas.{among_in, binder_is, binder_itself, call_is, filtered, from_is, in_among, in_filter, number_fits, one_binder, only_one, related_from, related_to, to_is, variable_is}
 

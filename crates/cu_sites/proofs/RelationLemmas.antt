@@ -9,9 +9,10 @@ use Rattle.std.specs.Prelude.{nat_eq}
 use Rattle.std.specs.List.{list_any}
 use Rattle.indexmap.specs.IndexSet.{IndexSet, insert_key}
 use Rattle.std.proofs.Common.{BuildHasherDefault, FoldHasher}
+use Rattle.cu_sites.specs.Depending.{is_in, keys_in, relates, row}
 use Rattle.cu_sites.specs.declared.relations.Relation.{Relation}
 use Rattle.cu_sites.specs.declared.relations.Walk.{Walk}
-use Rattle.cu_sites.specs.Inside.Relating.{Gains, Holds, IsBegun, IsReached, Meets, Pair, Reaches, begin, further, is_in, is_pair, keys_in, pair, relates, row}
+use Rattle.cu_sites.specs.Inside.Relating.{Gains, Holds, IsBegun, IsReached, Meets, Pair, Reaches, begin, further, is_pair, pair}
 
 -- ---- Booleans
 

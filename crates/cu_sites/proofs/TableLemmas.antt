@@ -16,9 +16,9 @@ use Rattle.cu_translation.specs.LocalNames.{same_place}
 use Rattle.cu_translation.specs.Meaning.{binder_meaning, position_meaning}
 use Rattle.cu_translation.specs.contracts.local_names.BinderPartialEq.TheImpl as binders
 use Rattle.cu_translation.specs.contracts.position.PositionPartialEq.TheImpl as positions
+use Rattle.cu_sites.specs.Numbered.{IsBinderTable, IsPlaceTable, same_binder, same_position}
 use Rattle.cu_sites.specs.declared.numbers.BinderTable.{BinderTable}
 use Rattle.cu_sites.specs.declared.numbers.PlaceTable.{PlaceTable}
-use Rattle.cu_sites.specs.Inside.Counting.{IsBinderTable, IsPlaceTable, same_binder, same_position}
 
 -- what is there, or else the other
 abbrev or_else : {X : Type 0} → Option X → Option X → Option X

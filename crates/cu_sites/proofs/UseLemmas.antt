@@ -28,6 +28,7 @@ use Rattle.cu_translation.specs.declared.local_names.Local.TheVariants as local_
 use Rattle.cu_translation.specs.declared.position.Position as places_found
 use Rattle.cu_translation.specs.Rules.{pattern_count}
 use Rattle.cu_translation.specs.Sites.{Node, Site}
+use Rattle.cu_sites.specs.Numbered.{binders_meaning}
 use Rattle.cu_sites.specs.declared.sites.Site as sites_found
 use Rattle.cu_sites.specs.declared.sites.Site.TheVariants as site_found
 use Rattle.cu_translation.specs.Dependencies.{operators_in, operators_of, use_of, used_at, used_by}
@@ -37,7 +38,7 @@ use Rattle.cu_locals.specs.Text.{Text}
 use Rattle.cu_sites.specs.declared.sites.ScopeEntry.{ScopeEntry}
 use Rattle.cu_sites.specs.Meaning.{AreNodes, IsNode, IsScope, IsSite, innermost}
 use Rattle.cu_sites.specs.Inside.Using.{Finds, locals_meaning, operators_mean, usage_from, usage_meaning, usage_of, usages_meaning}
-use Rattle.cu_sites.specs.Inside.Counting.{Counts, binders_meaning}
+use Rattle.cu_sites.specs.Inside.Counting.{Counts}
 use Rattle.cu_sites.specs.declared.sites.Node as nodes_found
 use Rattle.cu_sites.specs.declared.uses.Usage as usages_found
 use Rattle.cu_sites.proofs.CountLemmas.{node_at}

@@ -10,13 +10,12 @@ use Rattle.cu_sites.proofs.MemberLemmas.{Among, here, in_flat_map, in_left, in_m
 use Rattle.cu_sites.specs.declared.captures.Graph.{Graph}
 use Rattle.cu_sites.specs.declared.dependencies.Dependencies.{Dependencies}
 use Rattle.cu_sites.specs.declared.relations.Relation.{Relation}
-use Rattle.cu_sites.specs.Depending.{AreDependencies}
+use Rattle.cu_sites.specs.Depending.{AreDependencies, is_defined, is_in, row}
 use Rattle.cu_sites.specs.Meaning.{innermost}
-use Rattle.cu_sites.specs.Numbered.{HasNumbers}
+use Rattle.cu_sites.specs.Numbered.{HasNumbers, binders_meaning}
 use Rattle.cu_sites.specs.Inside.Capturing.{IsCaptured, IsGraph}
-use Rattle.cu_sites.specs.Inside.Counting.{binders_meaning}
-use Rattle.cu_sites.specs.Inside.Needing.{IsNeeded, defined_variables, function_around, functions_around, is_defined, used_variables, variable_in, variables_in, variables_of, variables_used}
-use Rattle.cu_sites.specs.Inside.Relating.{Reaches, is_in, row}
+use Rattle.cu_sites.specs.Inside.Needing.{IsNeeded, defined_variables, function_around, functions_around, used_variables, variable_in, variables_in, variables_of, variables_used}
+use Rattle.cu_sites.specs.Inside.Relating.{Reaches}
 use Rattle.cu_sites.specs.Inside.Using.{usage_of}
 use Rattle.cu_sites.proofs.GraphLemmas.{IsCounted, captures_related, related_captures, related_variable}
 use Rattle.cu_sites.proofs.NeedLemmas.{IsDefined, TellsCaptured, needed_exactly, needed_variable, recursive_walked}

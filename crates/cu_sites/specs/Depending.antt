@@ -1,15 +1,41 @@
 -- What the dependencies of a text are.
-use Rattle.std.specs.Prelude.{◌≡◌, ℕ, true, Contains, List, map}
+use Rattle.indexmap.specs.IndexSet.{IndexSet}
+use Rattle.std.specs.Prelude.{◌≡◌, ℕ, Bool, true, Contains, List, [], Option, None, Some, map, nat_eq}
+use Rattle.std.specs.Prelude.{slice_get}
+use Rattle.std.specs.List.{list_any}
 use Rattle.cu_lex.specs.Located.{Position}
-use Rattle.cu_translation.specs.Dependencies.{definitions, depends}
+use Rattle.cu_translation.specs.Dependencies.{Definition, definitions, depends}
 use Rattle.cu_translation.specs.LocalNames.{Binder}
 use Rattle.cu_translation.specs.Numbering.{binder_number}
 use Rattle.cu_translation.specs.Sites.{Node}
 use Rattle.cu_sites.specs.declared.dependencies.Dependencies.{Dependencies}
-use Rattle.cu_sites.specs.Inside.Counting.{binders_meaning}
-use Rattle.cu_sites.specs.Inside.Needing.{is_defined}
-use Rattle.cu_sites.specs.Inside.Relating.{relates}
-use Rattle.cu_sites.specs.Numbered.{HasNumbers}
+use Rattle.cu_sites.specs.declared.relations.Relation.{Relation}
+use Rattle.cu_sites.specs.Numbered.{HasNumbers, binders_meaning}
+
+-- ---- relations between numbers
+
+-- whether a number is in a list
+abbrev pub is_in : List ℕ → ℕ → Bool
+is_in xs k = list_any (nat_eq k) xs
+
+-- the elements of a set, and none where there is no set
+abbrev pub keys_in : {S : Type 0} → Option (IndexSet ℕ S) → List ℕ
+keys_in None = []
+keys_in (Some set) = set.keys
+
+-- the numbers to which a number is related, one after another
+abbrev pub row : Relation → ℕ → List ℕ
+row r i = keys_in (slice_get r.rows.items i)
+
+-- whether a number is related to another
+abbrev pub relates : Relation → ℕ → ℕ → Bool
+relates r i k = is_in (row r i) k
+
+-- ---- dependencies
+
+-- the variable that is defined
+abbrev pub is_defined : Definition → Binder
+is_defined d = d.variable
 
 -- The dependencies that the code has are those of the variables of a text: between their numbers,
 -- and between no others.

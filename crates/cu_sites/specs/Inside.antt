@@ -1,6 +1,5 @@
--- What private contracts and invariants of loops say. Of the public definitions `HasNumbers` speaks
--- of `Counting`, and `AreDependencies` of `Counting`, `Needing` and `Relating`. In the order in
--- which to read them.
+-- What private contracts and invariants of loops say. No public contract speaks of it. In the order
+-- in which to read them.
 
 -- Rules that were found, and the functions to which they belong.
 pub mod RulesFound

@@ -11,9 +11,10 @@ ghost use Rattle.cu_translation.specs.Numbering.{all_binders, all_functions, at_
 ghost use Rattle.cu_translation.specs.Sites as text;
 ghost use Rattle.cu_translation.specs.Sites.{Node};
 ghost use Rattle.cu_uses.specs.Gathered.{names_meaning};
+ghost use Rattle.cu_sites.specs.Numbered.{binders_meaning};
 ghost use Rattle.cu_sites.specs.Meaning.{IsSite, Stands};
 ghost use Rattle.cu_locals.specs.Text.{Text};
-ghost use Rattle.cu_sites.specs.Inside.Counting.{Counts, Lists, binders_meaning, bound_binders, name_places};
+ghost use Rattle.cu_sites.specs.Inside.Counting.{Counts, Lists, bound_binders, name_places};
 ghost use Rattle.cu_locals.specs.Places.{positions_meaning};
 
 use crate::sites::{Site, Sites};

@@ -10,9 +10,9 @@ ghost use Rattle.cu_translation.specs.Dependencies.{definitions, definitions_of,
 ghost use Rattle.cu_translation.specs.Meaning.{local_meaning};
 ghost use Rattle.cu_translation.specs.Sites as text;
 ghost use Rattle.cu_locals.specs.Text.{Text};
+ghost use Rattle.cu_sites.specs.Numbered.{IsBinderTable, binders_meaning};
 ghost use Rattle.cu_sites.specs.declared.sites.ScopeEntry.{ScopeEntry};
 ghost use Rattle.cu_sites.specs.Meaning.{IsNode, Stands, inside};
-ghost use Rattle.cu_sites.specs.Inside.Counting.{IsBinderTable, binders_meaning};
 ghost use Rattle.cu_sites.specs.Inside.Defining.{DeclaresAll, Defines, definitions_meaning, selections, used_among};
 ghost use Rattle.cu_sites.specs.Inside.Using.{Finds, locals_meaning, usage_of, usages_meaning};
 

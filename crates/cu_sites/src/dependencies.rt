@@ -7,12 +7,12 @@ ghost use Rattle.cu_translation.specs.Meaning.{binder_meaning, local_meaning};
 ghost use Rattle.cu_translation.specs.Sites as text;
 ghost use Rattle.cu_locals.specs.Places.{positions_meaning};
 ghost use Rattle.cu_locals.specs.Text.{Text};
-ghost use Rattle.cu_sites.specs.Depending.{AreDependencies};
+ghost use Rattle.cu_sites.specs.Depending.{AreDependencies, is_defined};
 ghost use Rattle.cu_sites.specs.Meaning.{Stands};
-ghost use Rattle.cu_sites.specs.Numbered.{HasNumbers};
-ghost use Rattle.cu_sites.specs.Inside.Counting.{Counts, binders_meaning};
+ghost use Rattle.cu_sites.specs.Numbered.{HasNumbers, binders_meaning};
+ghost use Rattle.cu_sites.specs.Inside.Counting.{Counts};
 ghost use Rattle.cu_sites.specs.Inside.Defining.{definition_meaning, definitions_meaning};
-ghost use Rattle.cu_sites.specs.Inside.Needing.{IsNeeded, definition_pairs, defined_variables, functions_around, is_defined, need_pairs, used_variables, variables_in};
+ghost use Rattle.cu_sites.specs.Inside.Needing.{IsNeeded, definition_pairs, defined_variables, functions_around, need_pairs, used_variables, variables_in};
 ghost use Rattle.cu_sites.specs.Inside.Relating.{Gains};
 ghost use Rattle.cu_sites.specs.Inside.Using.{locals_meaning, usages_meaning};
 

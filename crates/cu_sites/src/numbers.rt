@@ -10,9 +10,9 @@ ghost use Rattle.cu_translation.specs.declared.local_names.Binder as code;
 ghost use Rattle.cu_translation.specs.declared.position.Position as positions;
 ghost use Rattle.cu_sites.specs.Meaning.{Stands};
 ghost use Rattle.cu_locals.specs.Text.{Text};
-ghost use Rattle.cu_sites.specs.Inside.Counting.{IsBinderTable, IsPlaceTable, binder_at, binders_meaning, place_at, same_binder};
+ghost use Rattle.cu_sites.specs.Inside.Counting.{binder_at, place_at};
 ghost use Rattle.cu_locals.specs.Places.{positions_meaning};
-ghost use Rattle.cu_sites.specs.Numbered.{HasNumbers};
+ghost use Rattle.cu_sites.specs.Numbered.{HasNumbers, IsBinderTable, IsPlaceTable, binders_meaning, same_binder};
 
 use crate::binders::{binders, local_functions};
 use crate::sites::Sites;

@@ -1,6 +1,7 @@
 //! Relations between numbers, and what is reached along them.
 ghost use Rattle.std.specs.Prelude.{◌≡◌, ◌↔◌, [], ◌∷◌, IfOk, List, OnOk, length, map, true, ℕ};
-ghost use Rattle.cu_sites.specs.Inside.Relating.{Gains, Holds, IsBegun, IsReached, Meets, Reaches, is_in, pair, pair_to, relates, row};
+ghost use Rattle.cu_sites.specs.Depending.{is_in, relates, row};
+ghost use Rattle.cu_sites.specs.Inside.Relating.{Gains, Holds, IsBegun, IsReached, Meets, Reaches, pair, pair_to};
 
 use indexmap::IndexSet;
 use std::alloc::{AllocError, Global};

@@ -9,8 +9,8 @@ use Rattle.cu_machine.specs.Validity.{ArgumentsThere, IsAcyclic}
 use Rattle.cu_step.specs.declared.need.Frame.{Frame}
 use Rattle.cu_step.specs.declared.need.Look.{Look}
 use Rattle.cu_step.specs.declared.need.Needed.{Needed}
-use Rattle.cu_step.specs.Needed.{need_of}
-use Rattle.cu_step.specs.Walk.{Fits, Found, Goes, LookFits, asked, asked_of, at_once, height, left, left_answer, look_need, looked, looked_at, met, outcome, so_far, with_frame}
+use Rattle.cu_step.specs.Inside.Needed.{need_of}
+use Rattle.cu_step.specs.Inside.Walk.{Fits, Found, Goes, LookFits, asked, asked_of, at_once, height, left, left_answer, look_need, looked, looked_at, met, outcome, so_far, with_frame}
 use Rattle.cu_step.proofs.Frames.{fit_last}
 use Rattle.cu_step.proofs.Heights.{argument_lower, argument_there}
 use Rattle.cu_step.proofs.Leaves.{left_answers, left_goes}

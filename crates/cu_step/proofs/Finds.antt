@@ -10,7 +10,7 @@ use Rattle.cu_step.specs.declared.need.Frame.{Frame}
 use Rattle.cu_step.specs.declared.need.Look.{Look}
 use Rattle.cu_step.specs.declared.need.Mark.{Mark}
 use Rattle.cu_step.specs.declared.need.Mark.TheVariants as mark
-use Rattle.cu_step.specs.Walk.{AllFit, Fits, Found, IsBelow, IsPath, MarkFits, Marked, asked, at_once, height, inside_need, is_open, look_need, looked, mark_at, met, needed_outside, outcome, so_far, unseen_all, whole_need}
+use Rattle.cu_step.specs.Inside.Walk.{AllFit, Fits, Found, IsBelow, IsPath, MarkFits, Marked, asked, at_once, height, inside_need, is_open, look_need, looked, mark_at, met, needed_outside, outcome, so_far, unseen_all, whole_need}
 use Rattle.cu_step.proofs.Looks.{shown_fits, shown_need}
 use Rattle.cu_step.proofs.Needs.{before_done}
 use Rattle.cu_step.proofs.Steps.{look_answers, look_met}

@@ -5,7 +5,7 @@ use Rattle.cu_machine.specs.Graph.{Graph, node_at}
 use Rattle.cu_machine.specs.Need.{Need, At, Dead, Done, Wait, before, first, unless_done}
 use Rattle.cu_machine.proofs.FirstLaws.{before_assoc, before_itself}
 use Rattle.cu_step.specs.declared.need.Frame.{Frame}
-use Rattle.cu_step.specs.Walk.{AllFit, Found, asked, looked_at, then_needed, FrameFits, also, flagged, frame_cost, frames_cost, is_inside, is_open, marked_need, need_in, needed_by, needed_outside, outcome, regards, so_far, told}
+use Rattle.cu_step.specs.Inside.Walk.{AllFit, Found, asked, looked_at, then_needed, FrameFits, also, flagged, frame_cost, frames_cost, is_inside, is_open, marked_need, need_in, needed_by, needed_outside, outcome, regards, so_far, told}
 use Rattle.cu_step.proofs.Needs.{also_waits, begins_also, begins_before, begins_unless, none_joined, same_also, same_before, same_told, same_unless, Same, seen_later, seen_wait, told_again}
 
 abbrev flag : Frame → Frame

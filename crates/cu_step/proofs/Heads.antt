@@ -3,7 +3,7 @@ use Rattle.std.proofs.Common.{◌≡◌, ℕ, zero, suc, List, [], ◌∷◌, No
 use Rattle.cu_machine.specs.declared.Kind.{Kind}
 use Rattle.cu_machine.specs.declared.Kind.TheVariants as kind
 use Rattle.cu_machine.specs.Graph.{Graph, followed, head_within, node_at}
-use Rattle.cu_step.specs.Head.{target_of}
+use Rattle.cu_step.specs.Inside.Head.{target_of}
 
 follows : (follow : ℕ → ℕ) (id target : ℕ) (k : Kind) (args : List ℕ) → Some target ≡ target_of k args → followed follow id k args ≡ follow target
 follows follow id target kind.Ind (x ∷ args) found = let same : target ≡ x = cc in rw same refl

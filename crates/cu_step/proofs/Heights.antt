@@ -7,7 +7,7 @@ use Rattle.cu_machine.specs.Graph.{Graph, followed, head_within, node_at}
 use Rattle.cu_machine.specs.Validity.{ArgumentsThere, IsAcyclic, are_places}
 use Rattle.cu_machine.proofs.Fuel.{is_low, left_true, low_enough, right_true}
 use Rattle.cu_machine.proofs.Visits.{never_low}
-use Rattle.cu_step.specs.Walk.{height, height_within, highest}
+use Rattle.cu_step.specs.Inside.Walk.{height, height_within, highest}
 
 highest_agrees : (p : ℕ → Bool) (f g : ℕ → ℕ) (xs : List ℕ) → ((x : ℕ) → p x ≡ true → f x ≡ g x) → list_all p xs ≡ true → highest f xs ≡ highest g xs
 unfolding highest

@@ -4,7 +4,7 @@ use Rattle.cu_machine.specs.declared.Kind.{Kind}
 use Rattle.cu_machine.specs.Build.{Built, place_of, pushed}
 use Rattle.cu_machine.specs.Graph.{Graph, Node, put}
 use Rattle.cu_machine.specs.Rewrite.{joined_from_right, pair_nodes}
-use Rattle.cu_step.specs.Pairs.{over_pairs}
+use Rattle.cu_step.specs.Inside.Pairs.{over_pairs}
 
 pub length_pairs : (each : Kind) (pairs : List (ℕ × ℕ)) → length (pair_nodes each pairs) ≡ length pairs
 length_pairs each [] = refl

@@ -11,7 +11,7 @@ use Rattle.cu_step.specs.declared.need.Ask.TheVariants as ask
 use Rattle.cu_step.specs.declared.need.Frame.{Frame}
 use Rattle.cu_step.specs.declared.need.Mark.{Mark}
 use Rattle.cu_step.specs.declared.need.Mark.TheVariants as mark
-use Rattle.cu_step.specs.Walk.{AllFit, Fits, Found, FrameFits, Goes, Marked, MarkFits, Seen, Waited, again_cost, also, asked, cost, entered, entered_as, frame_cost, fresh, inside_need, is_inside, is_open, left, left_answer, left_need, left_there, looked_at, mark_at, marked_need, needed_by, needed_outside, outcome, regards, so_far, then_needed, waited, whole_need, with_frame, with_mark}
+use Rattle.cu_step.specs.Inside.Walk.{AllFit, Fits, Found, FrameFits, Goes, Marked, MarkFits, Seen, Waited, again_cost, also, asked, cost, entered, entered_as, frame_cost, fresh, inside_need, is_inside, is_open, left, left_answer, left_need, left_there, looked_at, mark_at, marked_need, needed_by, needed_outside, outcome, regards, so_far, then_needed, waited, whole_need, with_frame, with_mark}
 use Rattle.cu_step.proofs.Frames.{cost_append, cost_flagged, fit_prefix, fit_last, fit_push, open_append, outcome_at, outside_append}
 use Rattle.cu_step.proofs.Needs.{before_done}
 use Rattle.cu_step.proofs.Marks.{mark_shut, path_prefix, path_push, set_cases, stuck_told}

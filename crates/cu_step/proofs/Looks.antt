@@ -14,7 +14,7 @@ use Rattle.cu_step.specs.declared.need.Ask.{Ask}
 use Rattle.cu_step.specs.declared.need.Ask.TheVariants as ask
 use Rattle.cu_step.specs.declared.need.Look.{Look}
 use Rattle.cu_step.specs.declared.need.Look.TheVariants as look
-use Rattle.cu_step.specs.Walk.{LookFits, asked, entered, entered_as, height, inside_need, inside_of, is_inside, look_all, look_bound, look_head, look_inside, look_need, look_true, looked, marked_need, whole_as, whole_need}
+use Rattle.cu_step.specs.Inside.Walk.{LookFits, asked, entered, entered_as, height, inside_need, inside_of, is_inside, look_all, look_bound, look_head, look_inside, look_need, look_true, looked, marked_need, whole_as, whole_need}
 use Rattle.cu_step.proofs.Heights.{head_lower}
 use Rattle.cu_step.proofs.Needs.{before_done, ends_at, unless_assoc, unless_nothing, unless_there, waiting_all}
 

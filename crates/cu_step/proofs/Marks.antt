@@ -8,7 +8,7 @@ use Rattle.cu_machine.specs.Places.{joined}
 use Rattle.cu_step.specs.declared.need.Frame.{Frame}
 use Rattle.cu_step.specs.declared.need.Mark.{Mark}
 use Rattle.cu_step.specs.declared.need.Mark.TheVariants as mark
-use Rattle.cu_step.specs.Walk.{IsAbove, IsBelow, IsPath, MarkFits, Waited, flagged, height, is_open, mark_at, regards, told}
+use Rattle.cu_step.specs.Inside.Walk.{IsAbove, IsBelow, IsPath, MarkFits, Waited, flagged, height, is_open, mark_at, regards, told}
 use Rattle.cu_step.proofs.Needs.{none_joined, waited_later}
 
 -- ---- marks

@@ -3,7 +3,7 @@ use Rattle.std.proofs.Common.{◌≡◌, ℕ, Bool, true, false, List, [], ◌�
 use Rattle.cu_machine.specs.Need.{Need, At, Dead, Done, Wait, all_free, before, first, unless_done, waiting}
 use Rattle.cu_machine.specs.Places.{joined}
 use Rattle.cu_machine.proofs.FirstLaws.{before_again, before_assoc, before_itself}
-use Rattle.cu_step.specs.Walk.{Seen, Waited, also}
+use Rattle.cu_step.specs.Inside.Walk.{Seen, Waited, also}
 
 -- ---- first
 

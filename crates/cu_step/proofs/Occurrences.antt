@@ -19,8 +19,8 @@ use Rattle.cu_machine.proofs.Fuel.{both_true, left_true, right_true}
 use Rattle.cu_machine.proofs.Tables.{occurs_table, spelled_table}
 use Rattle.cu_step.specs.declared.occurs.Sought.{Sought}
 use Rattle.cu_step.specs.declared.occurs.Sought.TheVariants as sought
-use Rattle.cu_step.specs.Occurring.{Looks, are_reached, head_reaches, is_sought, left_after, marks_after, leads_on, lower_reaches, part_at, reaches, seen_at, sought_at, unseen_arguments}
-use Rattle.cu_step.specs.Walk.{height, highest}
+use Rattle.cu_step.specs.Inside.Occurring.{Looks, are_reached, head_reaches, is_sought, left_after, marks_after, leads_on, lower_reaches, part_at, reaches, seen_at, sought_at, unseen_arguments}
+use Rattle.cu_step.specs.Inside.Walk.{height, highest}
 use Rattle.cu_step.proofs.Heights.{head_lower, height_table}
 
 -- ---- tests

@@ -16,8 +16,8 @@ use Rattle.cu_machine.specs.Validity.{ArgumentsThere, IsAcyclic, are_places}
 use Rattle.cu_machine.proofs.FirstLaws.{at_prefix, holds_before, holds_joined, joined_assoc, or_true}
 use Rattle.cu_machine.proofs.Fuel.{left_true, right_true}
 use Rattle.cu_machine.proofs.Tables.{spelled_table}
-use Rattle.cu_step.specs.Reading.{cell_at, parts_at, with_head}
-use Rattle.cu_step.specs.Written.{AllRead, Written, met_in, text}
+use Rattle.cu_step.specs.Inside.Reading.{cell_at, parts_at, with_head}
+use Rattle.cu_step.specs.Inside.Written.{AllRead, Written, met_in, text}
 use Rattle.cu_step.proofs.Heights.{head_lower}
 use Rattle.cu_step.proofs.Needs.{all_pass, none_joined}
 use Rattle.cu_step.proofs.Occurrences.{all_both}

@@ -20,7 +20,7 @@ use Rattle.cu_machine.specs.Rewrite.{Collect, Move, move, rewrite_step, set_call
 use Rattle.cu_machine.specs.Spell.{all_cells, all_renumbered, cells, cells_of_all, ordinal, push_value, push_values, renumbered, spelled, variables_of_all}
 use Rattle.cu_machine.specs.State.{Branch, Idle, MoreStates, NoState, Running, State, call_on, graph_of, states_of}
 use Rattle.cu_step.specs.declared.occurs.Sought.TheVariants as sought
-use Rattle.cu_step.specs.Occurring.{are_reached}
+use Rattle.cu_step.specs.Inside.Occurring.{are_reached}
 use Rattle.cu_step.proofs.Occurrences.{any_part}
 
 -- ---- reading the arguments

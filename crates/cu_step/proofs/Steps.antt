@@ -11,7 +11,7 @@ use Rattle.cu_step.specs.declared.need.Look.{Look}
 use Rattle.cu_step.specs.declared.need.Look.TheVariants as look
 use Rattle.cu_step.specs.declared.need.Mark.{Mark}
 use Rattle.cu_step.specs.declared.need.Mark.TheVariants as mark
-use Rattle.cu_step.specs.Walk.{Fits, Found, FrameFits, IsBelow, IsPath, LookFits, MarkFits, also, asked, at_once, cost, entered, entered_at, frame_cost, height, inside_need, is_inside, is_open, look_need, looked_at, mark_at, mark_of, marked_need, met, needed_by, needed_outside, outcome, so_far, then_needed, waited, whole_need, with_frame}
+use Rattle.cu_step.specs.Inside.Walk.{Fits, Found, FrameFits, IsBelow, IsPath, LookFits, MarkFits, also, asked, at_once, cost, entered, entered_at, frame_cost, height, inside_need, is_inside, is_open, look_need, looked_at, mark_at, mark_of, marked_need, met, needed_by, needed_outside, outcome, so_far, then_needed, waited, whole_need, with_frame}
 use Rattle.cu_step.proofs.Frames.{cost_append, fit_prefix, fit_last, fit_push, open_append, outcome_at, outcome_dead, outside_append}
 use Rattle.cu_step.proofs.Needs.{before_done, first_append}
 use Rattle.cu_step.proofs.Marks.{below_lower, below_push, below_shut, mark_shut, path_prefix, path_push}

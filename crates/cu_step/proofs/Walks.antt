@@ -12,7 +12,7 @@ use Rattle.cu_step.specs.declared.need.Ask.TheVariants as ask
 use Rattle.cu_step.specs.declared.need.Frame.{Frame}
 use Rattle.cu_step.specs.declared.need.Mark.{Mark}
 use Rattle.cu_step.specs.declared.need.Mark.TheVariants as mark
-use Rattle.cu_step.specs.Walk.{AllFit, Fits, Found, FrameFits, Marked, IsBelow, MarkFits, Waited, again_cost, asked_of, cost, entered, flagged, frame_cost, fresh, inside_need, is_inside, is_open, looked_at, mark_at, mark_of, marked_need, needed_by, needed_outside, outcome, regards, so_far, unseen_cost, waited, waited_for, whole_need, with_frame, with_mark}
+use Rattle.cu_step.specs.Inside.Walk.{AllFit, Fits, Found, FrameFits, Marked, IsBelow, MarkFits, Waited, again_cost, asked_of, cost, entered, flagged, frame_cost, fresh, inside_need, is_inside, is_open, looked_at, mark_at, mark_of, marked_need, needed_by, needed_outside, outcome, regards, so_far, unseen_cost, waited, waited_for, whole_need, with_frame, with_mark}
 use Rattle.cu_step.proofs.Frames.{cost_append, cost_flagged, fit_push, fit_waits, flagged_out, open_append, open_flagged, outside_append, wait_out}
 use Rattle.cu_step.proofs.Marks.{known_told, mark_later, mark_shut, free_told, or_left, path_flagged, path_push, set_cases, stuck_told}
 

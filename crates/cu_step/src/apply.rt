@@ -4,7 +4,7 @@ ghost use Rattle.cu_calculus.specs.Code.{arity_of};
 ghost use Rattle.cu_machine.specs.declared.Kind.TheVariants as kind;
 ghost use Rattle.cu_machine.specs.Graph.{node_at};
 ghost use Rattle.cu_machine.specs.Rewrite.{extended, replacement_step, rewrite_step};
-ghost use Rattle.cu_step.specs.Moved.{move_of};
+ghost use Rattle.cu_step.specs.Inside.Moved.{move_of};
 
 use crate::moved::{self, Moved};
 use crate::operand::{self, Operand};

@@ -6,7 +6,7 @@ ghost use Rattle.cu_machine.specs.Build.{kind_of_call, kind_of_whole, place_in, 
 ghost use Rattle.cu_machine.specs.Graph.{Graph};
 ghost use Rattle.cu_machine.specs.Rewrite.{alone_follows};
 ghost use Rattle.cu_step.specs.Inside.Building.{argument, begun, bound_last, finished, left_by, nests, node_tasks, performed, state_of, tasks_of, with_free, with_node, with_value};
-ghost use Rattle.cu_step.specs.Moved.{move_of};
+ghost use Rattle.cu_step.specs.Inside.Moved.{move_of};
 
 use crate::moved::{self, Moved};
 use crate::node;

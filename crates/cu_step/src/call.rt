@@ -4,7 +4,7 @@ ghost use Rattle.cu_calculus.specs.Code.{body_of};
 ghost use Rattle.cu_calculus.specs.WellFormed.{is_well_formed};
 ghost use Rattle.cu_machine.specs.Graph.{node_at};
 ghost use Rattle.cu_machine.specs.Rewrite.{call_step, choice_step};
-ghost use Rattle.cu_step.specs.Moved.{move_of};
+ghost use Rattle.cu_step.specs.Inside.Moved.{move_of};
 
 use crate::moved::Moved;
 use crate::redex::Redex;

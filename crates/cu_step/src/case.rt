@@ -7,8 +7,8 @@ ghost use Rattle.cu_machine.specs.declared.Kind.TheVariants as kind;
 ghost use Rattle.cu_machine.specs.Graph.{node_at};
 ghost use Rattle.cu_machine.specs.Rewrite.{bound_to, branch_for, branch_step, narrowing_step, rewrite_step, scrutinee_step};
 ghost use Rattle.cu_step.specs.Inside.Building.{branch_nests, branches_nest};
-ghost use Rattle.cu_step.specs.Matching.{takes_pattern};
-ghost use Rattle.cu_step.specs.Moved.{move_of};
+ghost use Rattle.cu_step.specs.Inside.Matching.{takes_pattern};
+ghost use Rattle.cu_step.specs.Inside.Moved.{move_of};
 
 use crate::moved::Moved;
 use crate::operand::{self, Operand};

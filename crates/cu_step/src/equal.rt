@@ -1,7 +1,7 @@
 //! Equality and conjunction.
 ghost use Rattle.std.specs.Prelude.{◌≡◌, ◌<◌, IfOk, length};
 ghost use Rattle.cu_machine.specs.Rewrite.{comparison_step, conjunction_step, is_true};
-ghost use Rattle.cu_step.specs.Moved.{move_of};
+ghost use Rattle.cu_step.specs.Inside.Moved.{move_of};
 
 use crate::build;
 use crate::case::is_same_literal;

@@ -1,7 +1,7 @@
 //! The heads of nodes.
 ghost use Rattle.std.specs.Prelude.{◌≡◌};
 ghost use Rattle.cu_machine.specs.Graph.{head_of, node_at};
-ghost use Rattle.cu_step.specs.Head.{target_of};
+ghost use Rattle.cu_step.specs.Inside.Head.{target_of};
 
 use crate::node;
 use cu_graph::{Kind, Store};

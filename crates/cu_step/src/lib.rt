@@ -38,7 +38,7 @@ ghost use Rattle.cu_machine.specs.Sets.{IsWithoutSets};
 ghost use Rattle.cu_machine.specs.State as state;
 ghost use Rattle.cu_machine.specs.State.{Idle, start_of};
 ghost use Rattle.cu_machine.specs.Validity.{ArgumentsThere, IsAcyclic, IsValid, are_places};
-ghost use Rattle.cu_step.specs.Moved.{move_of};
+ghost use Rattle.cu_step.specs.Inside.Moved.{move_of};
 ghost use Rattle.cu_step.specs.Outcome.{branches_of, is_inner, is_running, next_of, state_of};
 ghost use Rattle.cu_step.specs.declared.Outcome.TheVariants.{Inner};
 

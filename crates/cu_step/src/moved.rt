@@ -2,7 +2,7 @@
 ghost use Rattle.std.specs.Prelude.{◌≡◌, ◌<◌, IfOk, length};
 ghost use Rattle.cu_machine.specs.Graph.{alone};
 ghost use Rattle.cu_machine.specs.Rewrite.{alone_follows, failing_step, replacement_step, stuck_step, truth_step};
-ghost use Rattle.cu_step.specs.Moved.{move_of};
+ghost use Rattle.cu_step.specs.Inside.Moved.{move_of};
 
 use crate::redex::Redex;
 use cu_flat::{Int, Prim, Special};

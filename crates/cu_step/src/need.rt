@@ -4,8 +4,8 @@ ghost use Rattle.cu_machine.specs.Graph.{head_at, head_of, node_at};
 ghost use Rattle.cu_machine.specs.Need as need;
 ghost use Rattle.cu_machine.specs.Need.{need_all};
 ghost use Rattle.cu_machine.specs.Validity.{ArgumentsThere, IsAcyclic};
-ghost use Rattle.cu_step.specs.Needed.{need_of};
-ghost use Rattle.cu_step.specs.Walk.{Fits, Goes, Marked, at_once, entered_at, found, is_inside, left, left_answer, look_all, look_bound, look_first, look_head, look_inside, look_true, looked, looked_at, mark_at, mark_of, met, outcome, so_far, unseen_all, waited, waited_for, with_frame, with_mark};
+ghost use Rattle.cu_step.specs.Inside.Needed.{need_of};
+ghost use Rattle.cu_step.specs.Inside.Walk.{Fits, Goes, Marked, at_once, entered_at, found, is_inside, left, left_answer, look_all, look_bound, look_first, look_head, look_inside, look_true, looked, looked_at, mark_at, mark_of, met, outcome, so_far, unseen_all, waited, waited_for, with_frame, with_mark};
 
 use crate::{head, node};
 use cu_flat::{ConId, Mode, Prim};

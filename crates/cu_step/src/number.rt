@@ -2,8 +2,8 @@
 ghost use Rattle.std.specs.Prelude.{◌≡◌, ◌<◌, IfOk, length, map};
 ghost use Rattle.cu_machine.specs.Graph.{head_at};
 ghost use Rattle.cu_machine.specs.Rewrite.{arithmetic_step, literal_step};
-ghost use Rattle.cu_step.specs.Moved.{move_of};
-ghost use Rattle.cu_step.specs.Numbers.{character_in, character_of, integer_in, on_character, on_integer, on_integers, on_one, result_step};
+ghost use Rattle.cu_step.specs.Inside.Moved.{move_of};
+ghost use Rattle.cu_step.specs.Inside.Numbers.{character_in, character_of, integer_in, on_character, on_integer, on_integers, on_one, result_step};
 
 use crate::moved::Moved;
 use crate::operand;

@@ -3,7 +3,7 @@
 ghost use Rattle.std.specs.Prelude.{◌≡◌, ◌<◌, IfOk, OnOk, false, length, replicate, slice_set, true};
 ghost use Rattle.cu_machine.specs.Graph.{head_of, node_at};
 ghost use Rattle.cu_machine.specs.Validity.{ArgumentsThere, IsAcyclic, are_places};
-ghost use Rattle.cu_step.specs.Occurring.{Looks, are_reached, is_sought, leads_on, left_after, marks_after, seen_at};
+ghost use Rattle.cu_step.specs.Inside.Occurring.{Looks, are_reached, is_sought, leads_on, left_after, marks_after, seen_at};
 
 use crate::{head, node, pending};
 use cu_graph::{Kind, Store};

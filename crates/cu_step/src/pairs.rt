@@ -2,8 +2,8 @@
 ghost use Rattle.std.specs.Prelude.{◌≡◌, ◌<◌, ◌≤◌, ◌-◌, ◌++◌, IfOk, OnOk, length};
 ghost use Rattle.cu_machine.specs.Build.{place_of, pushed};
 ghost use Rattle.cu_machine.specs.Rewrite.{joined_from_right, pair_nodes, pairwise_step};
-ghost use Rattle.cu_step.specs.Moved.{move_of};
-ghost use Rattle.cu_step.specs.Pairs.{over_pairs};
+ghost use Rattle.cu_step.specs.Inside.Moved.{move_of};
+ghost use Rattle.cu_step.specs.Inside.Pairs.{over_pairs};
 
 use crate::moved::{self, Moved};
 use crate::node;

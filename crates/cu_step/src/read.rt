@@ -6,7 +6,7 @@ ghost use Rattle.cu_machine.specs.Places.{joined};
 ghost use Rattle.cu_machine.specs.Spell.{cells, cells_of_all, ordinal, renumbered, spelled, variables_in};
 ghost use Rattle.cu_machine.specs.Validity.{ArgumentsThere, IsAcyclic, are_places};
 ghost use Rattle.cu_step.specs.Outcome.{reading_of};
-ghost use Rattle.cu_step.specs.Reading.{cell_at, parts_at, with_head};
+ghost use Rattle.cu_step.specs.Inside.Reading.{cell_at, parts_at, with_head};
 
 use crate::numbering::Numbering;
 use crate::{head, node, pending};

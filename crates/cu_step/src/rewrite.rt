@@ -5,7 +5,7 @@ ghost use Rattle.cu_calculus.specs.WellFormed.{is_well_formed};
 ghost use Rattle.cu_machine.specs.Graph.{node_at};
 ghost use Rattle.cu_machine.specs.Rewrite.{move, operation_step, rewrite_step};
 ghost use Rattle.cu_machine.specs.Validity.{ArgumentsThere, IsAcyclic, is_set_call};
-ghost use Rattle.cu_step.specs.Moved.{move_of};
+ghost use Rattle.cu_step.specs.Inside.Moved.{move_of};
 
 use crate::moved::Moved;
 use crate::redex::Redex;

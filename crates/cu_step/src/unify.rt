@@ -4,7 +4,7 @@ ghost use Rattle.cu_machine.specs.declared.Kind.TheVariants as kind;
 ghost use Rattle.cu_machine.specs.Rewrite.{binding_step, decomposition_step, imitation_step, unification_step};
 ghost use Rattle.cu_machine.specs.Validity.{ArgumentsThere, IsAcyclic, are_places};
 ghost use Rattle.std.specs.Prelude.{zip};
-ghost use Rattle.cu_step.specs.Moved.{move_of};
+ghost use Rattle.cu_step.specs.Inside.Moved.{move_of};
 
 use crate::case::is_same_literal;
 use crate::moved::Moved;

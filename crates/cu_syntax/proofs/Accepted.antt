@@ -9,8 +9,8 @@ use Rattle.cu_peg.specs.declared.grammar.BadGrammar.TheVariants as answer
 use Rattle.cu_peg.specs.declared.row.Row.{Row}
 use Rattle.cu_peg.specs.declared.row.Row.TheVariants as row
 use Rattle.cu_peg.specs.Answer.{TellsEndless}
-use Rattle.cu_peg.specs.CallTables.{callees, called, nullable_by, repeats}
-use Rattle.cu_peg.specs.Closure.{holds, marked}
+use Rattle.cu_peg.specs.Inside.CallTables.{callees, called, nullable_by, repeats}
+use Rattle.cu_peg.specs.Inside.Closure.{holds, marked}
 use Rattle.cu_peg.specs.WellFormed.{Calls, IsEndless, IsFirstEndless, IsNullable, IsWellFormed, Reaches, RowCalls, RowIsNullable, RowRepeatsNullable}
 use Rattle.cu_syntax.specs.declared.symbol.Symbol.{Symbol}
 use Rattle.cu_syntax.specs.declared.symbol.Symbol.TheVariants as symbol

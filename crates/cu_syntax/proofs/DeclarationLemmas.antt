@@ -23,7 +23,7 @@ use Rattle.cu_syntax.specs.declared.symbol.Symbol.TheVariants as symbol
 use Rattle.cu_syntax.specs.declared.types.TypeTerm.{TypeTerm}
 use Rattle.cu_syntax.specs.Declarations.{Guards, One, declaration_meaning, declarations_meaning, guards_in, guards_meaning, left_meaning, right_meaning, right_of, with_guard}
 use Rattle.cu_syntax.specs.ExpressionMeaning.{expression_meaning}
-use Rattle.cu_syntax.specs.Fits.{fits}
+use Rattle.cu_syntax.specs.Inside.Fits.{fits}
 use Rattle.cu_syntax.specs.Forms.{is_among, is_body, is_declaration, is_guard, is_left_node, is_left_side, is_right_node, is_rule, left_of}
 use Rattle.cu_syntax.specs.Names.{name_meaning}
 use Rattle.cu_syntax.specs.Patterns.{pattern_meaning, pattern_node, pattern_tree, patterns_meaning}

@@ -15,7 +15,7 @@ use Rattle.cu_syntax.specs.declared.symbol.Symbol.{Symbol}
 use Rattle.cu_syntax.specs.declared.symbol.Symbol.TheVariants as symbol
 use Rattle.cu_syntax.specs.ExpressionMeaning.{expression_at, expression_meaning, expression_tree, expressions_meaning}
 use Rattle.cu_syntax.specs.Expressions.{is_bare_expression, rest_meaning, rest_of, with_item}
-use Rattle.cu_syntax.specs.Fits.{fits, have_parts}
+use Rattle.cu_syntax.specs.Inside.Fits.{fits, have_parts}
 use Rattle.cu_syntax.specs.Forms.{is_expression, is_expression_node}
 use Rattle.cu_syntax.specs.Reading.{Tree, Trees, atoms_of, expression_as, expression_choice, expression_of, expressions_of, first_token, minus_of, name_of, operator_rest, operators, or_else, place, tuple}
 use Rattle.cu_syntax.specs.SubtreeMeaning.{tree_of}

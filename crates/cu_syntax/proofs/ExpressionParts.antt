@@ -19,7 +19,7 @@ use Rattle.cu_syntax.specs.declared.symbol.Symbol.TheVariants as symbol
 use Rattle.cu_syntax.specs.Declarations.{right_meaning}
 use Rattle.cu_syntax.specs.ExpressionMeaning.{expression_at, expression_meaning, expression_tree, expressions_meaning}
 use Rattle.cu_syntax.specs.Expressions.{alternatives_in, alternatives_meaning, is_bare_expression, qualifier_meaning, qualifiers_in, qualifiers_meaning, with_alternative}
-use Rattle.cu_syntax.specs.Fits.{fits}
+use Rattle.cu_syntax.specs.Inside.Fits.{fits}
 use Rattle.cu_syntax.specs.Forms.{is_qualifier}
 use Rattle.cu_syntax.specs.Patterns.{pattern_meaning, pattern_tree, patterns_meaning}
 use Rattle.cu_syntax.specs.Reading.{Tree, Trees, alternatives_of, applied, arguments_in, block_of, case_word, count_in, expression_as, expression_choice, maybe_expression, name_of, place, qualifier_as, qualifiers_of, right_side, where_block}

@@ -11,8 +11,8 @@ use Rattle.cu_peg.specs.Spelling.{first_of, read, read_all}
 use Rattle.cu_syntax.specs.declared.rule.Rule as declared
 use Rattle.cu_syntax.specs.declared.rule.Rule.TheVariants as declared_rule
 use Rattle.cu_syntax.specs.declared.symbol.Symbol.{Symbol}
-use Rattle.cu_syntax.specs.Fits.{fits, has_alternative, have_parts, is_token}
-use Rattle.cu_syntax.specs.Meaning.{rule_meaning}
+use Rattle.cu_syntax.specs.Inside.Fits.{fits, has_alternative, have_parts, is_token}
+use Rattle.cu_syntax.specs.Inside.Meaning.{rule_meaning}
 use Rattle.cu_syntax.specs.Reading.{Tree, Trees}
 use Rattle.cu_syntax.specs.Subtrees.{Takes, all_over, inner_of, is_choice, is_leaf, leaf_of, nth_tree, optional_part, others_of, over, part_of, parts_in, sequence}
 use Rattle.cu_syntax.specs.Table.{Ahead, AtLeastOne, Choice, Many, NotAhead, Optional, Rule, SeparatedBy, Sequence, Token as TokenOf, alternative, rule_of}

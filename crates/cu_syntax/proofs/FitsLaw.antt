@@ -10,7 +10,7 @@ use Rattle.cu_peg.specs.Classes.{has}
 use Rattle.cu_peg.specs.Matches.{Matches, RowMatches}
 use Rattle.cu_peg.specs.Parse.{ParseTree, ParseTrees, Leaf, Parts, Chosen, NoTree, MoreTrees, tree_over, trees_over}
 use Rattle.cu_syntax.specs.declared.symbol.Symbol.{Symbol}
-use Rattle.cu_syntax.specs.Fits.{fits, has_alternative, have_parts, is_token}
+use Rattle.cu_syntax.specs.Inside.Fits.{fits, has_alternative, have_parts, is_token}
 use Rattle.cu_syntax.specs.Reading.{Tree, Trees}
 use Rattle.cu_syntax.specs.Subtrees.{all_over, leaf_of, over}
 use Rattle.cu_syntax.specs.Table.{Ahead, AtLeastOne, Choice, Many, NotAhead, Optional, Rule, SeparatedBy, Sequence, Token, alternative, number, row_of, rule_of, rows}

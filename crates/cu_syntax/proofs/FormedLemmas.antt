@@ -22,7 +22,7 @@ use Rattle.cu_syntax.specs.declared.types.TypeNode.TheVariants as type_term
 use Rattle.cu_syntax.specs.declared.types.TypeTerm.{TypeTerm}
 use Rattle.cu_syntax.specs.ExpressionMeaning.{expression_at, expression_meaning, expressions_meaning}
 use Rattle.cu_syntax.specs.Expressions.{expression_node, is_bare_expression, maybe_position, rest_meaning}
-use Rattle.cu_syntax.specs.Fits.{fits}
+use Rattle.cu_syntax.specs.Inside.Fits.{fits}
 use Rattle.cu_syntax.specs.Formed.{AreComponents, AreSome, ExpressionNodeIsFormed, HasOperator, PatternNodeIsFormed, TypeNodeIsFormed}
 use Rattle.cu_syntax.specs.Forms.{is_expression_node, is_pattern_node, is_type_node}
 use Rattle.cu_syntax.specs.Patterns as patterns

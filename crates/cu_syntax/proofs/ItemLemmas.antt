@@ -15,7 +15,7 @@ use Rattle.cu_syntax.specs.declared.symbol.Symbol.{Symbol}
 use Rattle.cu_syntax.specs.declared.symbol.Symbol.TheVariants as symbol
 use Rattle.cu_syntax.specs.declared.types.TypeTerm.{TypeTerm}
 use Rattle.cu_syntax.specs.Declarations.{declaration_meaning}
-use Rattle.cu_syntax.specs.Fits.{fits}
+use Rattle.cu_syntax.specs.Inside.Fits.{fits}
 use Rattle.cu_syntax.specs.Forms.{is_constructor_node, is_item_node}
 use Rattle.cu_syntax.specs.ItemSymbols.{is_import, is_item}
 use Rattle.cu_syntax.specs.Names.{name_meaning}

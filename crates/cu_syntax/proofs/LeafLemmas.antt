@@ -11,7 +11,7 @@ use Rattle.cu_peg.specs.declared.node.Node.{Node}
 use Rattle.cu_peg.specs.Parse.{ParseTree, ParseTrees, Leaf, Parts, Chosen, NoTree, MoreTrees, spelled, spelled_all}
 use Rattle.cu_peg.specs.Spelling.{read}
 use Rattle.cu_syntax.specs.declared.symbol.Symbol.{Symbol}
-use Rattle.cu_syntax.specs.Fits.{fits}
+use Rattle.cu_syntax.specs.Inside.Fits.{fits}
 use Rattle.cu_syntax.specs.Reading.{first_of as first_in, first_token, or_else}
 use Rattle.cu_syntax.specs.Subtrees.{all_over, is_leaf, leaf_of, over, token_at}
 use Rattle.cu_syntax.specs.Table.{rule_of}

@@ -9,7 +9,7 @@ use Rattle.cu_syntax.specs.declared.symbol.Symbol.TheVariants as symbol
 use Rattle.cu_syntax.specs.declared.text.Header as text
 use Rattle.cu_syntax.specs.Answer.{FoundHeader, NoHeader, Tells, header_meaning}
 use Rattle.cu_syntax.specs.Parsing.{Fault, HeaderAndBlock, HasNone, HeaderRead, ModuleRead, PartsRead, Syntax, header_and_block, parts}
-use Rattle.cu_syntax.specs.Scanning.{first_open}
+use Rattle.cu_syntax.specs.Inside.Scanning.{first_open}
 use Rattle.cu_syntax.specs.Syntax.{Header, Item}
 use Rattle.cu_syntax.proofs.PartLemmas.{tells_more}
 use Rattle.cu_syntax.proofs.SplitLemmas.{after_part, header_and_block_open, header_and_block_with, lexemes, without_block}

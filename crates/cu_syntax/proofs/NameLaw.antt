@@ -25,9 +25,9 @@ use Rattle.cu_syntax.specs.declared.rule.Rule as declared
 use Rattle.cu_syntax.specs.declared.rule.Rule.TheVariants as declared_rule
 use Rattle.cu_syntax.specs.declared.symbol.Symbol.{Symbol}
 use Rattle.cu_syntax.specs.declared.symbol.Symbol.TheVariants as symbol
-use Rattle.cu_syntax.specs.Fits.{fits, has_alternative, have_parts, is_token}
-use Rattle.cu_syntax.specs.Meaning.{rule_meaning}
-use Rattle.cu_syntax.specs.NameTokens.{has_name, is_spelled}
+use Rattle.cu_syntax.specs.Inside.Fits.{fits, has_alternative, have_parts, is_token}
+use Rattle.cu_syntax.specs.Inside.Meaning.{rule_meaning}
+use Rattle.cu_syntax.specs.Inside.NameTokens.{has_name, is_spelled}
 use Rattle.cu_syntax.specs.Reading.{Tree, Trees, first_token, name_token}
 use Rattle.cu_syntax.specs.Subtrees.{is_leaf, part_of, sequence}
 use Rattle.cu_syntax.specs.Table.{Choice, Rule, Sequence, Token as TokenOf, alternative, number, rule_of, symbols}

@@ -20,11 +20,11 @@ use Rattle.cu_syntax.specs.declared.symbol.Symbol.TheVariants as symbol
 use Rattle.cu_syntax.specs.declared.text.Item as text
 use Rattle.cu_syntax.specs.declared.text.Parsed.{Parsed}
 use Rattle.cu_syntax.specs.Answer.{Adds, FoundPart, IsNoItem, Tells, item_meaning, item_read, items_meaning, part_with, tree_of}
-use Rattle.cu_syntax.specs.Fits.{fits}
+use Rattle.cu_syntax.specs.Inside.Fits.{fits}
 use Rattle.cu_syntax.specs.ItemSymbols.{is_import, is_item}
 use Rattle.cu_syntax.specs.Parsing.{Fault, GoalRead, Has, HasNone, HeaderRead, ItemRead, Part, PartRead, PartsRead, Syntax, TooLong, part_after_block, first_line, imports_after, is_long, parts}
 use Rattle.cu_syntax.specs.Reading.{Tree, header_of, item_as, item_of}
-use Rattle.cu_syntax.specs.Scanning.{part_end}
+use Rattle.cu_syntax.specs.Inside.Scanning.{part_end}
 use Rattle.cu_syntax.specs.Subtrees.{over}
 use Rattle.cu_syntax.specs.Syntax.{Item}
 use Rattle.cu_syntax.specs.Table.{alternative, number, rows}

@@ -12,7 +12,7 @@ use Rattle.cu_syntax.specs.declared.patterns.Pattern.{Pattern}
 use Rattle.cu_syntax.specs.declared.subtree.Subtree.{Subtree}
 use Rattle.cu_syntax.specs.declared.symbol.Symbol.{Symbol}
 use Rattle.cu_syntax.specs.declared.symbol.Symbol.TheVariants as symbol
-use Rattle.cu_syntax.specs.Fits.{fits, have_parts}
+use Rattle.cu_syntax.specs.Inside.Fits.{fits, have_parts}
 use Rattle.cu_syntax.specs.Forms.{is_pattern, is_pattern_node}
 use Rattle.cu_syntax.specs.Patterns.{is_bare_pattern, pattern_at, pattern_meaning, pattern_tree, patterns_meaning, rest_meaning, rest_of, with_item}
 use Rattle.cu_syntax.specs.Reading.{Tree, Trees, argument_patterns, literal_of, name_of, negated, optional_patterns, pattern_as, pattern_choice, pattern_of, pattern_rest, pattern_tuple, patterns_of, place, with_operators}

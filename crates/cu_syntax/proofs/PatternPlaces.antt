@@ -6,7 +6,7 @@ use Rattle.cu_lex.specs.Located.{Position}
 use Rattle.cu_peg.specs.Parse.{Leaf, Parts, Chosen, NoTree, MoreTrees}
 use Rattle.cu_syntax.specs.declared.symbol.Symbol.{Symbol}
 use Rattle.cu_syntax.specs.declared.symbol.Symbol.TheVariants as symbol
-use Rattle.cu_syntax.specs.Fits.{fits, have_parts}
+use Rattle.cu_syntax.specs.Inside.Fits.{fits, have_parts}
 use Rattle.cu_syntax.specs.Forms.{is_pattern_node, is_type_node}
 use Rattle.cu_syntax.specs.Patterns.{is_bare_pattern, pattern_at}
 use Rattle.cu_syntax.specs.Reading.{Tree, Trees, name_of, pattern_choice, pattern_rest, pattern_tuple, patterns_of, place, type_tuple, types_of}

@@ -9,7 +9,7 @@ use Rattle.cu_syntax.specs.declared.symbol.Symbol.{Symbol}
 use Rattle.cu_syntax.specs.declared.symbol.Symbol.TheVariants as symbol
 use Rattle.cu_syntax.specs.ExpressionMeaning.{expression_at}
 use Rattle.cu_syntax.specs.Expressions.{is_bare_expression}
-use Rattle.cu_syntax.specs.Fits.{fits, have_parts}
+use Rattle.cu_syntax.specs.Inside.Fits.{fits, have_parts}
 use Rattle.cu_syntax.specs.Forms.{is_declaration, is_expression_node}
 use Rattle.cu_syntax.specs.Reading.{LeftSide, OfFunction, OfPattern, Tree, Trees, declaration_as, expression_choice, expressions_of, minus_of, operator_rest, place, rule_of, tuple}
 use Rattle.cu_syntax.specs.Subtrees.{has_token, is_single, part_of}

@@ -10,7 +10,7 @@ use Rattle.cu_peg.specs.declared.node.Node.{Node}
 use Rattle.cu_peg.specs.Parse.{ParseTree, ParseTrees, Leaf, Parts, Chosen, NoTree, MoreTrees, sizes, spelled, spelled_all}
 use Rattle.cu_peg.specs.Spelling.{first_of, read, read_all, size-positive}
 use Rattle.cu_syntax.specs.declared.symbol.Symbol.{Symbol}
-use Rattle.cu_syntax.specs.Fits.{fits, have_parts}
+use Rattle.cu_syntax.specs.Inside.Fits.{fits, have_parts}
 use Rattle.cu_syntax.specs.Reading.{Tree, Trees, count, count_in}
 use Rattle.cu_syntax.specs.Subtrees.{all_over, is_choice, is_empty, is_leaf, is_repeated, is_single, others_of, over, parts_in, repeated_part, trees_from}
 use Rattle.cu_syntax.specs.Table.{Ahead, AtLeastOne, Choice, Many, NotAhead, Optional, Rule, SeparatedBy, Sequence, Token as TokenOf, rule_of}

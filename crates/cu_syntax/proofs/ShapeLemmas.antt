@@ -10,7 +10,7 @@ use Rattle.cu_lex.specs.Tokens.{Lexeme}
 use Rattle.cu_peg.specs.Parse.{Leaf, Parts, Chosen, NoTree, MoreTrees}
 use Rattle.cu_syntax.specs.contracts.symbol.Symbol as symbols
 use Rattle.cu_syntax.specs.declared.symbol.Symbol.{Symbol}
-use Rattle.cu_syntax.specs.Fits.{fits, has_alternative, have_parts, is_token}
+use Rattle.cu_syntax.specs.Inside.Fits.{fits, has_alternative, have_parts, is_token}
 use Rattle.cu_syntax.specs.Forms.{is_among}
 use Rattle.cu_syntax.specs.Reading.{Tree, Trees, first_of, first_token, or_else, place}
 use Rattle.cu_syntax.specs.Subtrees.{Takes, has_token, is_empty, nth_tree, part_of}

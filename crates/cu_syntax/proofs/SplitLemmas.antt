@@ -11,7 +11,7 @@ use Rattle.cu_syntax.specs.declared.scanning.PartEnd.{PartEnd}
 use Rattle.cu_syntax.specs.declared.scanning.PartEnd.TheVariants as end
 use Rattle.cu_syntax.specs.Answer.{part_with}
 use Rattle.cu_syntax.specs.Parsing.{HeaderAndBlock, Split, after, part_after_block, closes, depth_after, header_and_block, opens, part_of, parts, separates, split, with_header, with_token}
-use Rattle.cu_syntax.specs.Scanning.{first_open, header_and_block_to, last_line, later, part_end, split_to}
+use Rattle.cu_syntax.specs.Inside.Scanning.{first_open, header_and_block_to, last_line, later, part_end, split_to}
 
 later_split : (last : ℕ) (token : Lexeme) (tokens : List Lexeme) (e : PartEnd)
     → with_token token (split_to (after last token) tokens e) ≡ split_to last (token ∷ tokens) (later 1 e)

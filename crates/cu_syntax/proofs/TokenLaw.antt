@@ -6,7 +6,7 @@ use Rattle.std.proofs.lemmas.Bool.{and_parts}
 use Rattle.cu_lex.specs.Tokens.{Lexeme}
 use Rattle.cu_peg.specs.Parse.{Leaf, Parts, Chosen, NoTree, MoreTrees}
 use Rattle.cu_syntax.specs.declared.symbol.Symbol.{Symbol}
-use Rattle.cu_syntax.specs.Fits.{fits, has_alternative, have_parts}
+use Rattle.cu_syntax.specs.Inside.Fits.{fits, has_alternative, have_parts}
 use Rattle.cu_syntax.specs.Reading.{Tree, Trees, first_of, first_token, or_else}
 use Rattle.cu_syntax.specs.Subtrees.{has_token, is_required, rule_has_token}
 use Rattle.cu_syntax.specs.Table.{Ahead, AtLeastOne, Choice, Many, NotAhead, Optional, Rule, SeparatedBy, Sequence, Token, alternative, number, rule_of, symbols}

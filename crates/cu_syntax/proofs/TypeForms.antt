@@ -9,7 +9,7 @@ use Rattle.cu_peg.specs.Parse.{Leaf, Parts, Chosen, NoTree, MoreTrees, only}
 use Rattle.cu_syntax.specs.declared.symbol.Symbol.{Symbol}
 use Rattle.cu_syntax.specs.declared.symbol.Symbol.TheVariants as symbol
 use Rattle.cu_syntax.specs.declared.types.TypeTerm.{TypeTerm}
-use Rattle.cu_syntax.specs.Fits.{fits}
+use Rattle.cu_syntax.specs.Inside.Fits.{fits}
 use Rattle.cu_syntax.specs.Forms.{is_type, is_type_node}
 use Rattle.cu_syntax.specs.Reading.{Tree, Trees, argument_types, arrows, name_of, place, type_as, type_of, type_tuple, types_of}
 use Rattle.cu_syntax.specs.declared.subtree.Subtree.{Subtree}

@@ -18,8 +18,6 @@ pub mod Owners
 pub mod Subtrees
 -- What a part of a tree stands for, under a table of names.
 pub mod SubtreeMeaning
--- Where the parts of a module end, by numbers of tokens.
-pub mod Scanning
 -- What the parsers' answers stand for, under a table of names.
 pub mod Answer
 -- What types of the trees stand for, under a table of names.
@@ -41,13 +39,9 @@ pub mod Formed
 pub mod Sizes
 -- How large views are, and that what a view tells is smaller than the view.
 pub mod Smaller
--- Which trees the grammar gives: a tree's parts are those that the rule of its symbol says.
-pub mod Fits
 -- Which symbols of the grammar stand for what kind of syntax.
 pub mod Forms
--- The tokens of names and literals.
-pub mod NameTokens
 -- The symbols of a module's items.
 pub mod ItemSymbols
--- What the rules of the program's table stand for.
-pub mod Meaning
+-- What private contracts and invariants of loops say.
+pub mod Inside

@@ -4,7 +4,7 @@ ghost use Rattle.std.specs.Prelude.{◌≡◌, ◌<◌, ℕ, List, false, length
 ghost use Rattle.cu_lex.specs.Reading.{HasKind, HasName, IsTokenOf, kind_of, lexeme_of, position_of, spelling_of};
 ghost use Rattle.cu_names.specs.declared.names.NameId.{NameId};
 ghost use Rattle.cu_syntax.specs.Forms.{is_name};
-ghost use Rattle.cu_syntax.specs.NameTokens.{has_name, is_spelled};
+ghost use Rattle.cu_syntax.specs.Inside.NameTokens.{has_name, is_spelled};
 ghost use Rattle.cu_syntax.specs.Names.{literal_meaning, module_name_meaning, name_meaning};
 ghost use Rattle.cu_syntax.specs.Owners.{IsOf, LiteralIsNatural, ModuleNameIsOf, NameIsOf, PlaceIsOf};
 ghost use Rattle.cu_syntax.specs.Reading.{digit_of, literal_of, module_name, name_of, name_token, place, spelling};

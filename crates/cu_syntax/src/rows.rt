@@ -1,6 +1,6 @@
 //! The grammar of Curry, made of its rules.
 ghost use Rattle.std.specs.Prelude.{◌≡◌, IfOk, map};
-ghost use Rattle.cu_syntax.specs.Meaning.{rule_meaning};
+ghost use Rattle.cu_syntax.specs.Inside.Meaning.{rule_meaning};
 ghost use Rattle.cu_syntax.specs.Table.{number, row_of, rows, rule_of, symbols};
 
 use crate::rule::Rule;

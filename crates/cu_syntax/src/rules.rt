@@ -1,6 +1,6 @@
 //! The rules of the grammar.
 ghost use Rattle.std.specs.Prelude.{◌≡◌};
-ghost use Rattle.cu_syntax.specs.Meaning.{rule_meaning};
+ghost use Rattle.cu_syntax.specs.Inside.Meaning.{rule_meaning};
 ghost use Rattle.cu_syntax.specs.Table.{rule_of};
 
 use crate::rule::Rule;

@@ -2,7 +2,7 @@
 ghost use Rattle.std.specs.Prelude.{◌≡◌, ◌<◌, ◌≤◌, ◌+◌, ◌-◌, ◌^◌, ◌&&◌, ℕ, IfSome, List, drop, length, map, nat_eq, nat_lt, take};
 ghost use Rattle.cu_lex.specs.Reading.{kind_of, lexeme_of};
 ghost use Rattle.cu_syntax.specs.Parsing.{after, closes, depth_after, first_line, is_long, is_written, item_length, opens, separates, token_length};
-ghost use Rattle.cu_syntax.specs.Scanning.{first_open, is_within, last_line, part_end, room_after};
+ghost use Rattle.cu_syntax.specs.Inside.Scanning.{first_open, is_within, last_line, part_end, room_after};
 
 use cu_lex::{LayoutMark, Mark, Token, TokenKind};
 

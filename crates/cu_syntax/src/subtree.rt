@@ -4,7 +4,7 @@ ghost use Rattle.std.specs.Option.{option_copied};
 ghost use Rattle.cu_lex.specs.Reading.{lexeme_of};
 ghost use Rattle.cu_peg.specs.Parse.{spelled, spelled_all};
 ghost use Rattle.cu_peg.specs.Spelling.{first_of, read, read_all};
-ghost use Rattle.cu_syntax.specs.Fits.{fits};
+ghost use Rattle.cu_syntax.specs.Inside.Fits.{fits};
 ghost use Rattle.cu_syntax.specs.Subtrees.{is_choice, others_of, over, token_at};
 ghost use Rattle.cu_syntax.specs.Table.{Choice, rule_of};
 

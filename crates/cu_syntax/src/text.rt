@@ -1,7 +1,7 @@
 //! Modules and goals with the trees of their tokens.
 ghost use Rattle.std.specs.Prelude.{◌≡◌, ℕ, List, map, true};
 ghost use Rattle.cu_lex.specs.Reading.{lexeme_of};
-ghost use Rattle.cu_syntax.specs.Fits.{fits};
+ghost use Rattle.cu_syntax.specs.Inside.Fits.{fits};
 ghost use Rattle.cu_syntax.specs.ItemSymbols.{is_item};
 ghost use Rattle.cu_syntax.specs.Subtrees.{over};
 ghost use Rattle.cu_syntax.specs.declared.symbol.Symbol.TheVariants as symbol;

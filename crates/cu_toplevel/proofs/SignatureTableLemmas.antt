@@ -27,7 +27,7 @@ use Rattle.cu_syntax.specs.Owners.{TypeIsOf}
 use Rattle.cu_syntax.specs.Syntax.{Declaration, Item, Name, TypeTerm}
 use Rattle.cu_syntax.specs.Types.{type_meaning}
 use Rattle.cu_toplevel.specs.declared.signature_table.Signatures.{Signatures}
-use Rattle.cu_toplevel.specs.SignatureTables.{AreSignatures, GivesSignatures, and_one, and_several}
+use Rattle.cu_toplevel.specs.Inside.SignatureTables.{AreSignatures, GivesSignatures, and_one, and_several}
 use Rattle.cu_translation.specs.LocalFunctions.{or_else, signature_in}
 use Rattle.cu_translation.specs.Parts.{signature_by, signature_of}
 use Rattle.cu_toplevel.proofs.NameLemmas.{same_id, same_name}

@@ -21,3 +21,7 @@ pub mod Heads
 pub mod Marks
 -- Names that are gathered, each text once.
 pub mod Variables
+-- What signatures declare of functions, under a table of names.
+pub mod SignatureTables
+-- What a program has of a goal beside its function.
+pub mod Goals

@@ -16,9 +16,5 @@ pub mod EntityTables
 pub mod Surrounding
 -- Modules as they are translated, under a table of names.
 pub mod Readings
--- What signatures declare of functions, under a table of names.
-pub mod SignatureTables
--- What a program has of a goal beside its function.
-pub mod Goals
 -- What private contracts and invariants of loops say.
 pub mod Inside

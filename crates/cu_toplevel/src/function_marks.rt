@@ -10,7 +10,7 @@ ghost use Rattle.cu_syntax.specs.Types.{type_meaning};
 ghost use Rattle.cu_toplevel.specs.Heads.{HeadIsOf, head_meaning};
 ghost use Rattle.cu_toplevel.specs.Inside.Marks.{head_mark};
 ghost use Rattle.cu_toplevel.specs.Readings.{IsReading};
-ghost use Rattle.cu_toplevel.specs.SignatureTables.{AreSignatures};
+ghost use Rattle.cu_toplevel.specs.Inside.SignatureTables.{AreSignatures};
 ghost use Rattle.cu_toplevel.specs.Surrounding.{TellsNames};
 ghost use Rattle.cu_translation.specs.Around as around;
 ghost use Rattle.cu_translation.specs.Externals.{externals};

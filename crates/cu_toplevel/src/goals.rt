@@ -7,7 +7,7 @@ ghost use Rattle.cu_names.specs.declared.names.NameId.{NameId};
 ghost use Rattle.cu_syntax.specs.Answer.{goal_meaning};
 ghost use Rattle.cu_syntax.specs.Owners.{GoalIsOf};
 ghost use Rattle.cu_toplevel.specs.EntityTables.{AreEntities};
-ghost use Rattle.cu_toplevel.specs.Goals.{goal_in};
+ghost use Rattle.cu_toplevel.specs.Inside.Goals.{goal_in};
 ghost use Rattle.cu_toplevel.specs.Surrounding.{TellsNames};
 ghost use Rattle.cu_translation.specs.Around as meant;
 ghost use Rattle.cu_translation.specs.Parts.{goal_mark};

@@ -12,7 +12,7 @@ ghost use Rattle.cu_syntax.specs.Names.{name_meaning};
 ghost use Rattle.cu_syntax.specs.Owners.{DeclarationIsOf, ItemIsOf, NameIsOf, TypeIsOf};
 ghost use Rattle.cu_syntax.specs.Syntax as meant;
 ghost use Rattle.cu_syntax.specs.Types.{type_meaning};
-ghost use Rattle.cu_toplevel.specs.SignatureTables.{AreSignatures, and_one, and_several};
+ghost use Rattle.cu_toplevel.specs.Inside.SignatureTables.{AreSignatures, and_one, and_several};
 ghost use Rattle.cu_translation.specs.LocalFunctions.{or_else, signature_in};
 ghost use Rattle.cu_translation.specs.Parts.{signature_by, signature_of};
 

@@ -5,7 +5,7 @@ use Rattle.std.proofs.lemmas.List.Folds.{list_all-append}
 use Rattle.cu_calculus.specs.Shape.{are_data, are_ground, are_total, is_data, is_ground, is_total}
 use Rattle.cu_calculus.specs.Value as value
 use Rattle.cu_calculus.specs.Value.{Value, Values}
-use Rattle.cu_values.specs.CellKinds.{is_data_cell, is_ground_cell, is_known_cell}
+use Rattle.cu_values.specs.Inside.CellKinds.{is_data_cell, is_ground_cell, is_known_cell}
 use Rattle.cu_values.specs.Cells.{spell, spell_all}
 
 mutual

@@ -11,7 +11,7 @@ use Rattle.cu_calculus.specs.Value.{Value, Values, count}
 use Rattle.cu_values.specs.declared.cell.Cell.{Cell}
 use Rattle.cu_values.specs.declared.cell.Cell.TheVariants as cell
 use Rattle.cu_values.specs.Cells.{arity_of, suffix, first, prefix, put, read_all, spell, IsSpelled}
-use Rattle.cu_values.specs.HeadsOrder.{cell_order}
+use Rattle.cu_values.specs.Inside.HeadsOrder.{cell_order}
 use Rattle.cu_values.proofs.CellLemmas.{after, count-put-some, count_read_all, read_all_one, some_cell, spelled_one, After}
 
 pub then_equal : (o : Ordering) → ordering_then o Equal ≡ o

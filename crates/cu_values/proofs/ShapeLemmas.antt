@@ -11,8 +11,8 @@ use Rattle.cu_values.specs.declared.shape.Shape.{Shape}
 use Rattle.cu_values.specs.declared.shape.Shape.TheVariants as shape
 use Rattle.cu_values.specs.Display as d
 use Rattle.cu_values.specs.Display.{Labels}
-use Rattle.cu_values.specs.Shapes.{is_enclosed, is_no_list, list_shape, shape_of}
-use Rattle.cu_values.specs.Tasks.{are_characters}
+use Rattle.cu_values.specs.Inside.Shapes.{is_enclosed, is_no_list, list_shape, shape_of}
+use Rattle.cu_values.specs.Inside.Tasks.{are_characters}
 
 abbrev pub lists : Shape → Bool
 lists shape.Empty = true

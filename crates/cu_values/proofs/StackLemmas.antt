@@ -12,7 +12,7 @@ use Rattle.cu_values.specs.declared.cell.Cell.TheVariants as cell
 use Rattle.cu_values.specs.declared.shape.Shape.{Shape}
 use Rattle.cu_values.specs.Cells.{arity_of, suffix, first, prefix, put, read_all, IsSpelled}
 use Rattle.cu_values.specs.Display.{Labels}
-use Rattle.cu_values.specs.Shapes.{other_shape, shape_of, shapes_at, stacked}
+use Rattle.cu_values.specs.Inside.Shapes.{other_shape, shape_of, shapes_at, stacked}
 use Rattle.cu_values.specs.Spelling.{join}
 use Rattle.cu_values.proofs.CellLemmas.{count-prefix-suffix, join-prefix-suffix}
 use Rattle.cu_values.proofs.OrderLemmas.{put_parts, whole_enough}

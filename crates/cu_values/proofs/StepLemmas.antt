@@ -15,8 +15,8 @@ use Rattle.cu_values.specs.declared.task.Task.TheVariants as task
 use Rattle.cu_values.specs.Cells.{arity_of, suffix, first, prefix, put, read_all, spell, IsSpelled}
 use Rattle.cu_values.specs.Display as d
 use Rattle.cu_values.specs.Display.{display, Labels}
-use Rattle.cu_values.specs.Shapes.{is_enclosed, is_no_list, shape_of, shapes_at}
-use Rattle.cu_values.specs.Tasks.{all_fit, are_characters, due, fit, takes, written, Ready, Step}
+use Rattle.cu_values.specs.Inside.Shapes.{is_enclosed, is_no_list, shape_of, shapes_at}
+use Rattle.cu_values.specs.Inside.Tasks.{all_fit, are_characters, due, fit, takes, written, Ready, Step}
 use Rattle.cu_values.proofs.CellLemmas.{read_all_one, spelled_one}
 use Rattle.cu_values.proofs.PlaceLemmas.{here, taken, Here}
 use Rattle.cu_values.proofs.ShapeLemmas as s

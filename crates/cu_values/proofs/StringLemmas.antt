@@ -9,7 +9,7 @@ use Rattle.cu_values.specs.declared.cell.Cell.{Cell}
 use Rattle.cu_values.specs.declared.cell.Cell.TheVariants as cell
 use Rattle.cu_values.specs.Cells.{arity_of, suffix, first, prefix, put, read_all, IsSpelled}
 use Rattle.cu_values.specs.Display.{characters, escaped, gap, is_digit, is_numeric, string_text}
-use Rattle.cu_values.specs.Tasks.{are_characters, character_of}
+use Rattle.cu_values.specs.Inside.Tasks.{are_characters, character_of}
 use Rattle.cu_values.proofs.CellLemmas.{some_cell}
 use Rattle.cu_values.proofs.PlaceLemmas.{here, literal_cell, taken, Here}
 

@@ -12,7 +12,7 @@ use Rattle.cu_values.specs.declared.task.Task.TheVariants as task
 use Rattle.cu_values.specs.Cells.{suffix, first, prefix, put, read_all, IsSpelled}
 use Rattle.cu_values.specs.Display as d
 use Rattle.cu_values.specs.Display.{display, Labels}
-use Rattle.cu_values.specs.Tasks.{all_fit, due, takes, written, Ready, Step}
+use Rattle.cu_values.specs.Inside.Tasks.{all_fit, due, takes, written, Ready, Step}
 use Rattle.cu_values.proofs.CellLemmas.{count-prefix-suffix, some_cell}
 use Rattle.cu_values.proofs.PlaceLemmas.{here, Here}
 use Rattle.cu_values.proofs.ShapeLemmas.{right_true}

@@ -1,7 +1,7 @@
 //! The cells that values are made of.
 ghost use Rattle.std.specs.Prelude.{◌≡◌};
 ghost use Rattle.cu_calculus.specs.Order.{head_order, literal_order};
-ghost use Rattle.cu_values.specs.HeadsOrder.{cell_order, kind_of_cell};
+ghost use Rattle.cu_values.specs.Inside.HeadsOrder.{cell_order, kind_of_cell};
 
 use cu_calculus::{ConId, Head, Lit};
 use std::cmp::Ordering;
@@ -23,7 +23,7 @@ pub enum Cell {
 
 impl Cell {
     ghost use Rattle.std.specs.Prelude.{◌≡◌};
-    ghost use Rattle.cu_values.specs.CellKinds.{is_data_cell, is_ground_cell, is_known_cell};
+    ghost use Rattle.cu_values.specs.Inside.CellKinds.{is_data_cell, is_ground_cell, is_known_cell};
     ghost use Rattle.cu_values.specs.Cells.{arity_of};
 
     /// How many arguments follow the cell.

@@ -3,8 +3,8 @@ ghost use Rattle.std.specs.Prelude.{◌≡◌, ◌++◌, OnErr, OnOk};
 ghost use Rattle.std.specs.String.{string_bytes};
 ghost use Rattle.cu_values.specs.Cells.{read, IsOneSpelled};
 ghost use Rattle.cu_values.specs.Display.{display};
-ghost use Rattle.cu_values.specs.LabelsOf.{labels_meaning};
-ghost use Rattle.cu_values.specs.Layouts.{IsShaped};
+ghost use Rattle.cu_values.specs.Inside.LabelsOf.{labels_meaning};
+ghost use Rattle.cu_values.specs.Inside.Layouts.{IsShaped};
 ghost use Rattle.cu_values.specs.ProgramLabels.{labels_of};
 
 use crate::Value;
@@ -75,7 +75,7 @@ impl Workspace {
     ghost use Rattle.std.specs.Prelude.{◌≡◌, ◌++◌, OnErr, OnOk};
     ghost use Rattle.std.specs.String.{string_bytes};
     ghost use Rattle.cu_values.specs.Display.{display};
-    ghost use Rattle.cu_values.specs.LabelsOf.{labels_meaning};
+    ghost use Rattle.cu_values.specs.Inside.LabelsOf.{labels_meaning};
     ghost use Rattle.cu_values.specs.ProgramLabels.{labels_of};
 
     /// A workspace that has taken no memory yet.

@@ -41,7 +41,7 @@ fn is_tuple_type(id: TypeId) -> bool
 
 impl ProgramNames<'_> {
     ghost use Rattle.std.specs.Prelude.{◌≡◌};
-    ghost use Rattle.cu_values.specs.LabelsOf.{labels_meaning};
+    ghost use Rattle.cu_values.specs.Inside.LabelsOf.{labels_meaning};
 
     /// The empty list.
     pub(crate) fn nil(&self) -> ConId

@@ -20,8 +20,8 @@ pub(crate) struct Layout<'a> {
 
 impl Layout<'_> {
     ghost use Rattle.std.specs.Prelude.{◌≡◌, true, IfOk, slice_index_or};
-    ghost use Rattle.cu_values.specs.Layouts.{Awaits, Begun, IsShaped};
-    ghost use Rattle.cu_values.specs.Shapes.{is_no_list};
+    ghost use Rattle.cu_values.specs.Inside.Layouts.{Awaits, Begun, IsShaped};
+    ghost use Rattle.cu_values.specs.Inside.Shapes.{is_no_list};
 
     /// Writes a part of the display, whose values begin at the cell `at`, pushes
     /// what it leaves to do onto the pen's tasks, and answers the index of the

@@ -2,7 +2,7 @@
 ghost use Rattle.std.specs.Prelude.{◌≡◌, ◌++◌, OnOk, codes};
 ghost use Rattle.std.specs.String.{string_bytes};
 ghost use Rattle.cu_values.specs.Display.{head_text, in_parentheses, is_operator};
-ghost use Rattle.cu_values.specs.LabelsOf.{labels_meaning};
+ghost use Rattle.cu_values.specs.Inside.LabelsOf.{labels_meaning};
 
 use crate::labels::ProgramNames;
 use cu_kernel::Head;

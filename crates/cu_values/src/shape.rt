@@ -4,8 +4,8 @@ ghost use Rattle.std.specs.Prelude.{◌≡◌, ◌≤◌, OnOk, length};
 ghost use Rattle.cu_calculus.specs.Value as value;
 ghost use Rattle.cu_calculus.specs.Value.{Values};
 ghost use Rattle.cu_values.specs.Cells.{arity_of, first, prefix, put, IsSpelled};
-ghost use Rattle.cu_values.specs.Shapes.{list_shape, other_shape, shape_of, shapes_at, stacked};
-ghost use Rattle.cu_values.specs.LabelsOf.{labels_meaning};
+ghost use Rattle.cu_values.specs.Inside.Shapes.{list_shape, other_shape, shape_of, shapes_at, stacked};
+ghost use Rattle.cu_values.specs.Inside.LabelsOf.{labels_meaning};
 
 use crate::Cell;
 use crate::labels::ProgramNames;
@@ -48,7 +48,7 @@ fn list_shape(element: Shape, rest: Shape, other: Shape) -> Shape
 
 impl Shape {
     ghost use Rattle.std.specs.Prelude.{◌≡◌};
-    ghost use Rattle.cu_values.specs.Shapes.{is_enclosed};
+    ghost use Rattle.cu_values.specs.Inside.Shapes.{is_enclosed};
 
     /// Whether a value of this shape stands in parentheses as an argument.
     pub(crate) fn takes_parentheses(self) -> bool

@@ -3,7 +3,7 @@ ghost use Rattle.std.specs.Prelude.{◌≡◌, ◌<◌, ◌≤◌, ◌&&◌, [],
 ghost use Rattle.std.specs.String.{string_bytes};
 ghost use Rattle.cu_values.specs.Cells.{suffix, first, read_all, IsSpelled};
 ghost use Rattle.cu_values.specs.Display.{characters, is_digit, string_text};
-ghost use Rattle.cu_values.specs.Tasks.{are_characters, character_of};
+ghost use Rattle.cu_values.specs.Inside.Tasks.{are_characters, character_of};
 
 use crate::Cell;
 use crate::literals::{is_numeric, push_escaped};

@@ -42,7 +42,7 @@ use Rattle.cu_front.specs.GoalTexts.{GoalIsRead}
 use Rattle.cu_front.specs.Names.{IsGoalTable, IsTable}
 use Rattle.cu_front.specs.Refusal.{InNames, Refusal, in_functions, in_types}
 use Rattle.cu_front.specs.RefusalMeaning.{PlaceIsKnown, RefusalIsKnown, refusal_meaning}
-use Rattle.cu_front.specs.StageFaults.{IsUnread, Tells}
+use Rattle.cu_front.specs.Inside.StageFaults.{IsUnread, Tells}
 use Rattle.cu_front.specs.Translated.{modules_program, translation_refusal}
 
 -- ---- answers for faults

@@ -5,7 +5,7 @@ use Rattle.cu_entities.specs.NameTables.{Tells}
 use Rattle.cu_uses.specs.Faults.{Fault, IsFirst}
 use Rattle.cu_modules.specs.declared.interfaces.Interfaces.{Interfaces}
 use Rattle.cu_modules.specs.Faults.{faults}
-use Rattle.cu_modules.specs.Inside.Exports.{AreInterfaces}
+use Rattle.cu_modules.specs.Exports.{AreInterfaces}
 use Rattle.cu_modules.specs.Scopes.{Interface, Named, interfaces, scope}
 
 -- A module has no fault, a table tells its scope, and its exports were added to the interfaces.

@@ -5,7 +5,7 @@ use Rattle.cu_kernel.specs.LocalKernel.{LocalFunction, LocalRule, TopFunction}
 use Rattle.cu_kernel.specs.LocalTerm as local
 use Rattle.cu_kernel.specs.LocalTerm.{LocalAlternatives, LocalTerm, LocalTerms}
 use Rattle.cu_kernel.specs.LocalValid.{rules_of}
-use Rattle.cu_kernel.specs.Scope.{held_by}
+use Rattle.cu_kernel.specs.Inside.Scope.{held_by}
 
 -- the list of a variable, or the empty list where it is bound
 abbrev pub unless : Bool → ℕ → List ℕ

@@ -3,7 +3,7 @@ use Rattle.std.specs.Prelude.{◌≡◌, ℕ, Bool, List}
 use Rattle.std.proofs.Common.{sym, ap, ◌∙◌}
 use denote.Ref.{Bor}
 use Rattle.cu_calculus.specs.Valid.{also, also_all}
-use Rattle.cu_kernel.specs.Scope.{held_by}
+use Rattle.cu_kernel.specs.Inside.Scope.{held_by}
 use Rattle.cu_parts.specs.declared.scope.Scope.TheFolds.{fold-Scope, fold-roll-Scope}
 use Rattle.cu_parts.specs.declared.scope.Scope.TheOpen as layer
 use Rattle.cu_parts.specs.declared.scope.Scope.TheOpen.{Scope-F}

@@ -4,9 +4,10 @@ use Rattle.std.specs.List.{flat_map}
 use Rattle.cu_lex.specs.Located.{Position}
 use Rattle.cu_translation.specs.LocalNames.{Binder, Local, LocalFunction, LocalVariable}
 use Rattle.cu_translation.specs.Numbering.{binder_number, function_number}
+use Rattle.cu_sites.specs.Depending.{relates, row}
 use Rattle.cu_sites.specs.declared.captures.Graph.{Graph}
 use Rattle.cu_sites.specs.declared.relations.Relation.{Relation}
-use Rattle.cu_sites.specs.Inside.Relating.{Gains, Holds, Pair, Reaches, pair, relates, row}
+use Rattle.cu_sites.specs.Inside.Relating.{Gains, Holds, Pair, Reaches, pair}
 use Rattle.cu_sites.specs.Inside.Using.{Usage}
 
 -- ---- what a function uses and binds

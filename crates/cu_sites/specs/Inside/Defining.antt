@@ -7,9 +7,9 @@ use Rattle.cu_translation.specs.declared.local_names.Binder as code
 use Rattle.cu_translation.specs.Dependencies.{Definition, is_bound_outside, selected}
 use Rattle.cu_translation.specs.LocalNames.{Binder, Local, Whole}
 use Rattle.cu_translation.specs.Meaning.{binder_meaning}
+use Rattle.cu_sites.specs.Numbered.{IsBinderTable, binders_meaning}
 use Rattle.cu_sites.specs.declared.definitions.Definition as found
 use Rattle.cu_sites.specs.declared.numbers.BinderTable.{BinderTable}
-use Rattle.cu_sites.specs.Inside.Counting.{IsBinderTable, binders_meaning}
 use Rattle.cu_sites.specs.Inside.Using.{Usage, locals_meaning}
 
 abbrev pub definition_meaning : found.Definition → Definition

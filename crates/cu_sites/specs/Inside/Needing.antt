@@ -6,8 +6,9 @@ use Rattle.cu_lex.specs.Located.{Position}
 use Rattle.cu_translation.specs.Dependencies.{Definition}
 use Rattle.cu_translation.specs.LocalNames.{Binder, Local, LocalFunction, LocalVariable}
 use Rattle.cu_translation.specs.Numbering.{binder_number, function_number}
+use Rattle.cu_sites.specs.Depending.{row}
 use Rattle.cu_sites.specs.declared.relations.Relation.{Relation}
-use Rattle.cu_sites.specs.Inside.Relating.{Holds, Pair, pair, row}
+use Rattle.cu_sites.specs.Inside.Relating.{Holds, Pair, pair}
 use Rattle.cu_sites.specs.Inside.Using.{Usage}
 
 -- ---- what is counted
@@ -36,9 +37,6 @@ function_around u = option_to_list u.function
 
 abbrev pub functions_around : List Usage → List Position
 functions_around us = flat_map function_around us
-
-abbrev pub is_defined : Definition → Binder
-is_defined d = d.variable
 
 -- ---- what is needed
 

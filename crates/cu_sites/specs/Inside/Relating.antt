@@ -1,9 +1,9 @@
 -- Relations between numbers, and what is reached along them.
-use Rattle.std.specs.Prelude.{◌≡◌, ◌↔◌, ◌<◌, ℕ, Bool, not, ◌&&◌, ◌||◌, false, true, List, [], ◌++◌, Option, None, Some, length, nat_eq, slice_get}
+use Rattle.std.specs.Prelude.{◌≡◌, ◌↔◌, ◌<◌, ℕ, Bool, not, ◌&&◌, ◌||◌, false, true, List, ◌++◌, length, nat_eq}
 use Rattle.std.specs.List.{list_any}
-use Rattle.indexmap.specs.IndexSet.{IndexSet}
 use Rattle.cu_sites.specs.declared.relations.Relation.{Relation}
 use Rattle.cu_sites.specs.declared.relations.Walk.{Walk}
+use Rattle.cu_sites.specs.Depending.{is_in, relates}
 
 -- a number that is related to another
 pub record Pair : Type 0 where
@@ -16,22 +16,8 @@ pair i k = record { from = i; to = k }
 abbrev pub pair_to : ℕ → ℕ → Pair
 pair_to k i = pair i k
 
-abbrev pub is_in : List ℕ → ℕ → Bool
-is_in xs k = list_any (nat_eq k) xs
-
 abbrev pub is_pair : ℕ → ℕ → Pair → Bool
 is_pair i k p = nat_eq i p.from && nat_eq k p.to
-
-abbrev pub keys_in : {S : Type 0} → Option (IndexSet ℕ S) → List ℕ
-keys_in None = []
-keys_in (Some set) = set.keys
-
--- the numbers to which a number is related, one after another
-abbrev pub row : Relation → ℕ → List ℕ
-row r i = keys_in (slice_get r.rows.items i)
-
-abbrev pub relates : Relation → ℕ → ℕ → Bool
-relates r i k = is_in (row r i) k
 
 -- The first n numbers are related as these pairs say.
 pub record Holds (n : ℕ) (pairs : List Pair) (r : Relation) : Type 0 where

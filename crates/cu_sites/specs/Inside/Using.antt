@@ -10,8 +10,8 @@ use Rattle.cu_translation.specs.LocalNames.{Binder, Local, Scope}
 use Rattle.cu_translation.specs.Meaning.{local_meaning, position_meaning}
 use Rattle.cu_translation.specs.Numbering.{binders_of}
 use Rattle.cu_translation.specs.Sites.{Node}
+use Rattle.cu_sites.specs.Numbered.{binders_meaning}
 use Rattle.cu_sites.specs.declared.uses.Usage as usages
-use Rattle.cu_sites.specs.Inside.Counting.{binders_meaning}
 use Rattle.cu_sites.specs.Meaning.{innermost}
 
 abbrev pub locals_meaning : List code.Local → List Local

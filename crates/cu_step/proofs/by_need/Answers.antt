@@ -1,6 +1,6 @@
 -- What is needed is a node of the graph.
 use Rattle.std.proofs.Common.{ap, sym, ◌∙◌}
-use Rattle.cu_step.specs.Needed.{need_of}
+use Rattle.cu_step.specs.Inside.Needed.{need_of}
 use Rattle.cu_step.proofs.StepLemmas.{need_place}
 use Rattle.cu_step.proofs.by_need.Goals as goal
 

@@ -3,7 +3,7 @@ use Rattle.std.proofs.Common.{ap, length, map, sym, ◌∙◌}
 use Rattle.std.specs.List.{list_any}
 use Rattle.cu_machine.specs.Next.{is_above, moved}
 use Rattle.cu_machine.specs.Rewrite.{Move}
-use Rattle.cu_step.specs.Moved.{move_of}
+use Rattle.cu_step.specs.Inside.Moved.{move_of}
 use Rattle.cu_step.specs.Outcome.{state_of}
 use Rattle.cu_step.proofs.StepLemmas.{none_is_large, one_is_large}
 use Rattle.cu_step.proofs.following.Goals as goal

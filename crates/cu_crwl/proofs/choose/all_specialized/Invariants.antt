@@ -1,6 +1,6 @@
 use Rattle.std.proofs.Common.{◌≡◌, ◌++◌, drop, map}
 use Rattle.cu_calculus.specs.Choose.{specialized_row}
-use Rattle.cu_crwl.specs.Rows.{rows_meaning}
+use Rattle.cu_crwl.specs.Inside.Rows.{rows_meaning}
 use Rattle.cu_crwl.proofs.choose.all_specialized.Given as goal
 
 abbrev pub invariant-loop-row : goal.invariant-loop-row

@@ -1,6 +1,6 @@
 use Rattle.cu_calculus.proofs.Choosing.{again_takes_fewer, specialize_takes_fewer}
 use Rattle.cu_kernel.specs.Heads.{heads_program}
-use Rattle.cu_crwl.specs.Rows.{rows_meaning}
+use Rattle.cu_crwl.specs.Inside.Rows.{rows_meaning}
 use Rattle.cu_crwl.specs.declared.choose.Look.TheVariants as look
 use Rattle.cu_crwl.proofs.RowLaws.{again_chosen, look_is, specialize_chosen}
 use Rattle.cu_crwl.proofs.choose.chosen.Goals as goal

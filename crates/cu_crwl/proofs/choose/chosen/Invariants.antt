@@ -3,7 +3,7 @@ use Rattle.cu_calculus.specs.Choose.{rows_from}
 use Rattle.cu_calculus.specs.Chosen.{chosen, looks}
 use Rattle.cu_kernel.specs.Heads.{heads_program}
 use Rattle.cu_kernel.specs.TermsOf.{alternatives_of}
-use Rattle.cu_crwl.specs.Rows.{rows_meaning}
+use Rattle.cu_crwl.specs.Inside.Rows.{rows_meaning}
 use Rattle.cu_crwl.proofs.choose.chosen.Given as goal
 
 abbrev pub invariant-loop-values : goal.invariant-loop-values

@@ -1,7 +1,7 @@
 use Rattle.std.proofs.Common.{◌≡◌, ◌++◌, drop}
 use Rattle.std.specs.Prelude.{filter}
 use Rattle.cu_calculus.specs.Choose.{demand_at}
-use Rattle.cu_crwl.specs.Rows.{keeps, rows_meaning}
+use Rattle.cu_crwl.specs.Inside.Rows.{keeps, rows_meaning}
 use Rattle.cu_crwl.proofs.choose.kept.Given as goal
 
 abbrev pub invariant-loop-row : goal.invariant-loop-row

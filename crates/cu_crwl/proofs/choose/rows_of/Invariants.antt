@@ -1,7 +1,7 @@
 use Rattle.std.proofs.Common.{◌≡◌, ◌++◌, drop}
 use Rattle.cu_calculus.specs.Choose.{rows_from}
 use Rattle.cu_kernel.specs.TermsOf.{alternatives_of}
-use Rattle.cu_crwl.specs.Rows.{rows_meaning}
+use Rattle.cu_crwl.specs.Inside.Rows.{rows_meaning}
 use Rattle.cu_crwl.proofs.choose.rows_of.Given as goal
 
 abbrev pub invariant-loop-choice : goal.invariant-loop-choice

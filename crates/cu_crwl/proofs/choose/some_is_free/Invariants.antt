@@ -1,6 +1,6 @@
 use Rattle.std.proofs.Common.{◌≡◌, drop}
 use Rattle.cu_calculus.specs.Choose.{has_variable}
-use Rattle.cu_crwl.specs.Rows.{rows_meaning}
+use Rattle.cu_crwl.specs.Inside.Rows.{rows_meaning}
 use Rattle.cu_crwl.proofs.choose.some_is_free.Given as goal
 
 abbrev pub invariant-loop-row : goal.invariant-loop-row

@@ -1,7 +1,7 @@
 use Rattle.std.proofs.Common.{ap, ◌∙◌}
 use Rattle.std.specs.List.{list_all}
 use Rattle.cu_kernel.specs.Heads.{heads_program}
-use Rattle.cu_crwl.specs.CellsOf.{cell_is_of}
+use Rattle.cu_crwl.specs.Inside.CellsOf.{cell_is_of}
 use Rattle.cu_crwl.proofs.OfValues.{cells_of}
 use Rattle.cu_crwl.proofs.of_program.is_of.Goals as goal
 

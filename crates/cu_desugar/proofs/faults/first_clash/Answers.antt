@@ -4,7 +4,7 @@ use Rattle.std.specs.List.{flat_map}
 use Rattle.cu_faults.specs.Telling.{AreTold}
 use Rattle.cu_translation.specs.Faults.{group_clashes}
 use Rattle.cu_translation.specs.Functions.{around_group}
-use Rattle.cu_desugar.specs.Texts.{IsText, function_in, nodes_in}
+use Rattle.cu_desugar.specs.Inside.Texts.{IsText, function_in, nodes_in}
 use Rattle.cu_desugar.proofs.TextLemmas.{all_of, one_more}
 use Rattle.cu_desugar.proofs.faults.first_clash.Goals as goal
 

@@ -6,7 +6,7 @@ use Rattle.cu_toplevel.specs.Surrounding.{TellsNames}
 use Rattle.cu_translation.specs.Around.{Names}
 use Rattle.cu_translation.specs.Faults.{group_clashes}
 use Rattle.cu_translation.specs.Rules.{Group}
-use Rattle.cu_desugar.specs.Texts.{AreTexts, function_in}
+use Rattle.cu_desugar.specs.Inside.Texts.{AreTexts, function_in}
 use Rattle.cu_desugar.proofs.faults.first_clash.Given as goal
 
 abbrev pub invariant-loop-text : goal.invariant-loop-text

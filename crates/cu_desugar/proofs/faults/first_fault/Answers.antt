@@ -3,7 +3,7 @@ use Rattle.std.proofs.lemmas.List.Elements.{All-get_or}
 use Rattle.std.specs.List.{flat_map}
 use Rattle.cu_faults.specs.Telling.{AreTold}
 use Rattle.cu_translation.specs.Faults.{group_faults}
-use Rattle.cu_desugar.specs.Texts.{IsText, function_in}
+use Rattle.cu_desugar.specs.Inside.Texts.{IsText, function_in}
 use Rattle.cu_desugar.proofs.TextLemmas.{all_of, one_more}
 use Rattle.cu_desugar.proofs.faults.first_fault.Goals as goal
 

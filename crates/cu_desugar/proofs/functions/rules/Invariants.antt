@@ -6,7 +6,7 @@ use Rattle.cu_locals.specs.Text.{Text}
 use Rattle.cu_sites.specs.Meaning.{GroupIsOf}
 use Rattle.cu_translation.specs.Around.{Around}
 use Rattle.cu_translation.specs.LocalNames.{Scope}
-use Rattle.cu_desugar.specs.Surrounding.{Surrounds}
+use Rattle.cu_desugar.specs.Inside.Surrounding.{Surrounds}
 use Rattle.cu_desugar.proofs.FunctionLemmas.{rule_in}
 use Rattle.cu_desugar.proofs.functions.rules.Given as goal
 

@@ -4,7 +4,7 @@ use Rattle.cu_kernel.specs.LocalKernel.{Rules}
 use Rattle.cu_locals.specs.Entries.{AreEntries, EntryIsKnown}
 use Rattle.cu_toplevel.proofs.ReadingLemmas.{number_known}
 use Rattle.cu_translation.specs.Functions.{around_group}
-use Rattle.cu_desugar.specs.Texts.{function_in, nodes_in}
+use Rattle.cu_desugar.specs.Inside.Texts.{function_in, nodes_in}
 use Rattle.cu_desugar.proofs.FunctionLemmas.{counted, scope_seen}
 use Rattle.cu_desugar.proofs.functions.top_function.Goals as goal
 

@@ -6,7 +6,7 @@ use Rattle.cu_kernel.specs.LocalKernelOf.{top_function_meaning}
 use Rattle.cu_toplevel.proofs.NameLemmas.{map_twice}
 use Rattle.cu_translation.specs.Functions.{top_function}
 use Rattle.cu_desugar.specs.declared.texts.FunctionText.{FunctionText}
-use Rattle.cu_desugar.specs.Texts.{IsText, function_in}
+use Rattle.cu_desugar.specs.Inside.Texts.{IsText, function_in}
 use Rattle.cu_desugar.proofs.functions.top_functions.Goals as goal
 
 pub loop-text-init : goal.loop-text-init

@@ -7,7 +7,7 @@ use Rattle.cu_sites.specs.Meaning.{Stands}
 use Rattle.cu_translation.specs.Around.{Around}
 use Rattle.cu_translation.specs.LocalFunctions.{functions_of, local_functions}
 use Rattle.cu_translation.specs.Sites.{Node}
-use Rattle.cu_desugar.specs.Surrounding.{Surrounds}
+use Rattle.cu_desugar.specs.Inside.Surrounding.{Surrounds}
 use Rattle.cu_desugar.proofs.local_functions.local_functions.Given as goal
 
 abbrev pub invariant-loop-node : goal.invariant-loop-node

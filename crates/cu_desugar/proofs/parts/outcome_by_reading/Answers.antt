@@ -3,7 +3,7 @@ use Rattle.cu_modules.specs.Ordering.{module_of}
 use Rattle.cu_modules.specs.Scopes.{Named}
 use Rattle.cu_translation.specs.Numbered.{groups_in}
 use Rattle.cu_desugar.specs.declared.texts.FunctionText.{FunctionText}
-use Rattle.cu_desugar.specs.Texts.{AreTexts}
+use Rattle.cu_desugar.specs.Inside.Texts.{AreTexts}
 use Rattle.cu_desugar.proofs.parts.outcome_by_reading.Goals as goal
 
 pub returns : goal.returns

@@ -5,7 +5,7 @@ use Rattle.cu_syntax.specs.Declarations.{declaration_meaning, declarations_meani
 use Rattle.cu_syntax.specs.Owners.{DeclarationIsOf}
 use Rattle.cu_syntax.specs.declared.declarations.Declaration.{Declaration}
 use Rattle.cu_translation.specs.LocalFunctions.{signature_in, signature_of}
-use Rattle.cu_desugar.specs.Signatures.{IsSignature}
+use Rattle.cu_desugar.specs.Inside.Signatures.{IsSignature}
 use Rattle.cu_desugar.proofs.SignatureLemmas.{found_in, not_in, not_in_block}
 use Rattle.cu_desugar.proofs.signatures.signature.Goals as goal
 

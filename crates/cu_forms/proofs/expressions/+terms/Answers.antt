@@ -35,7 +35,7 @@ use Rattle.cu_forms.specs.Inside.Blocks.{guard_meaning, guards_term, row_meaning
 use Rattle.cu_forms.specs.Inside.Calls.{built_in_term, referred_on}
 use Rattle.cu_forms.specs.Inside.Expressions.{Opens, alternatives_term, generated_term, is_function_rule}
 use Rattle.cu_forms.specs.Inside.Lists.{distinction, list_term, tuple_term}
-use Rattle.cu_forms.specs.Inside.Operands.{item_meaning, operated_term, part_item}
+use Rattle.cu_forms.specs.Operands.{item_meaning, operated_term, part_item}
 use Rattle.cu_forms.proofs.CallLemmas.{if_ok, pushed_all, pushed_one}
 use Rattle.cu_forms.proofs.DefinitionLemmas.{binding_defines, defined_all, defined_none, defined_one, defines, defines_nothing, one_more, bound_at, at_place, rule_defines}
 use Rattle.cu_forms.proofs.ExpressionLemmas.{called_by_name, called_by_term, formed, guards_are, operand_is, right_formed, section_is}

@@ -10,7 +10,7 @@ use Rattle.cu_translation.specs.Meaning.{Setting}
 use Rattle.cu_forms.specs.Forms.{alternative_form, expression_form, guard_form}
 use Rattle.cu_forms.specs.Scopes.{Sees}
 use Rattle.cu_forms.specs.Inside.Blocks.{guard_meaning, row_meaning}
-use Rattle.cu_forms.specs.Inside.Operands.{item_meaning, part_item}
+use Rattle.cu_forms.specs.Operands.{item_meaning, part_item}
 use Rattle.cu_forms.proofs.DefinitionLemmas.{Defined}
 use Rattle.cu_forms.proofs.QualifierLemmas.{Wraps}
 use Rattle.cu_forms.proofs.expressions.+terms.Given as goal

@@ -1,6 +1,6 @@
 use Rattle.std.proofs.Common.{◌≡◌, ◌∙◌, ◌∷◌, [], ap, arith, length, map, reverse, sym}
 use Rattle.std.proofs.lemmas.List.{map-append}
-use Rattle.cu_forms.specs.Inside.Operands.{first_term, item_meaning, operand_meaning, operated_on}
+use Rattle.cu_forms.specs.Operands.{first_term, item_meaning, operand_meaning, operated_on}
 use Rattle.cu_forms.proofs.CallLemmas.{if_ok}
 use Rattle.cu_forms.proofs.OperatorLemmas.{operated_append}
 use Rattle.cu_forms.proofs.PatternLemmas.{no_items}

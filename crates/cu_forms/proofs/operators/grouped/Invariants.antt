@@ -1,6 +1,6 @@
 use Rattle.std.proofs.Common.{◌≡◌, [], map, reverse, vec_len}
 use Rattle.cu_translation.specs.Meaning.{Setting}
-use Rattle.cu_forms.specs.Inside.Operands.{item_meaning, operand_meaning, operated_on}
+use Rattle.cu_forms.specs.Operands.{item_meaning, operand_meaning, operated_on}
 use Rattle.cu_forms.proofs.operators.grouped.Given as goal
 
 abbrev pub invariant-loop-item : goal.invariant-loop-item

@@ -2,7 +2,7 @@ use Rattle.std.proofs.Common.{◌∙◌, ap, arith, map, subst, sym}
 use Rattle.std.proofs.lemmas.List.Elements.{All-get_or}
 use Rattle.cu_fixity.specs.Owners.{PartIsOf}
 use Rattle.cu_syntax.specs.Owners.{ExpressionIsOf}
-use Rattle.cu_forms.specs.Inside.Operands.{operator_piece}
+use Rattle.cu_forms.specs.Operands.{operator_piece}
 use Rattle.cu_forms.proofs.CallLemmas.{pushed_plain, pushed_plain_all}
 use Rattle.cu_forms.proofs.operators.pieces.Goals as goal
 

@@ -4,7 +4,7 @@ use Rattle.cu_fixity.specs.Owners.{PartIsOf}
 use Rattle.cu_syntax.specs.Owners.{ExpressionIsOf}
 use Rattle.cu_translation.specs.LocalNames.{Scope}
 use Rattle.cu_translation.specs.Meaning.{Setting}
-use Rattle.cu_forms.specs.Inside.Operands.{operator_piece}
+use Rattle.cu_forms.specs.Operands.{operator_piece}
 use Rattle.cu_forms.specs.Scopes.{Sees}
 use Rattle.cu_forms.proofs.operators.pieces.Given as goal
 

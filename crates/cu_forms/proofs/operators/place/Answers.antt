@@ -1,6 +1,6 @@
 use Rattle.std.proofs.Common.{◌≡◌, map, reverse, subst, sym}
 use Rattle.std.specs.Prelude.{OnOk}
-use Rattle.cu_forms.specs.Inside.Operands.{item_meaning, operand_meaning, operated}
+use Rattle.cu_forms.specs.Operands.{item_meaning, operand_meaning, operated}
 use Rattle.cu_forms.specs.declared.operators.OperandItem.{OperandItem}
 use Rattle.cu_forms.proofs.operators.place.Goals as goal
 

@@ -1,5 +1,5 @@
 use Rattle.std.proofs.Common.{◌≡◌, ◌∙◌, ap, arith, length, sym}
-use Rattle.cu_forms.specs.Inside.Operands.{first_term, operand_meaning}
+use Rattle.cu_forms.specs.Operands.{first_term, operand_meaning}
 use Rattle.cu_forms.proofs.CallLemmas.{if_ok}
 use Rattle.cu_forms.proofs.OperatorLemmas.{nothing_on_stack}
 use Rattle.cu_forms.proofs.PatternLemmas.{top_of}

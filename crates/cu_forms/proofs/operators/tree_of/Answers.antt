@@ -3,7 +3,7 @@ use Rattle.cu_fixity.specs.Parts.{written_parts}
 use Rattle.cu_syntax.specs.Owners.{ItemsAreOf}
 use Rattle.cu_translation.specs.LocalNames.{Scope}
 use Rattle.cu_translation.specs.Meaning.{Setting}
-use Rattle.cu_forms.specs.Inside.Operands.{operator_piece}
+use Rattle.cu_forms.specs.Operands.{operator_piece}
 use Rattle.cu_forms.specs.Scopes.{Sees}
 use Rattle.cu_forms.proofs.CallLemmas.{if_ok}
 use Rattle.cu_forms.proofs.OperatorLemmas.{none_term, none_tree, some_owned, some_smaller, some_term, some_tree, written_owned}

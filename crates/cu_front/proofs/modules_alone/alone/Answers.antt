@@ -1,6 +1,6 @@
 use Rattle.cu_modules.specs.Ordering.{modules_of}
 use Rattle.cu_front.specs.Inside.Stages.{RefusesModules}
-use Rattle.cu_front.specs.StageFaults.{Tells}
+use Rattle.cu_front.specs.Inside.StageFaults.{Tells}
 use Rattle.cu_front.proofs.AloneLemmas.{alone_compiles, alone_not_run}
 use Rattle.cu_front.proofs.RunLemmas.{err_same}
 use Rattle.cu_front.proofs.modules_alone.alone.Goals as goal

@@ -7,7 +7,7 @@ use Rattle.cu_modules.specs.Ordering.{AreOrdered, modules_of}
 use Rattle.cu_modules.specs.Reading.{HasModule}
 use Rattle.cu_front.specs.Compiling.{Folder, RootCompiles, ModulesRefused}
 use Rattle.cu_front.specs.Inside.Stages.{CompileAlone, RefusesModules}
-use Rattle.cu_front.specs.StageFaults.{Tells}
+use Rattle.cu_front.specs.Inside.StageFaults.{Tells}
 use Rattle.cu_front.proofs.WalkLemmas.{stage_comes, stage_counts, stage_known, stage_told, walk_counts, walk_known, walk_told}
 use Rattle.cu_front.proofs.AloneLemmas.{alone_comes, walk_refuses_modules}
 use Rattle.cu_front.proofs.modules_alone.compile_module.Goals as goal

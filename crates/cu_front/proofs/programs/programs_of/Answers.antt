@@ -1,6 +1,6 @@
 use Rattle.cu_modules.specs.Ordering.{modules_of}
 use Rattle.cu_front.specs.Inside.Stages.{RefusesModules}
-use Rattle.cu_front.specs.StageFaults.{Tells}
+use Rattle.cu_front.specs.Inside.StageFaults.{Tells}
 use Rattle.cu_front.proofs.RunLemmas.{err_same}
 use Rattle.cu_front.proofs.StageLemmas.{modules_refused}
 use Rattle.cu_front.proofs.TableLemmas.{table_of}

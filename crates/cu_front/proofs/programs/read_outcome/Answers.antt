@@ -4,7 +4,7 @@ use Rattle.cu_front.specs.declared.fault.StageFault.{StageFault}
 use Rattle.cu_front.specs.declared.outcome.Outcome.{Outcome}
 use Rattle.cu_front.specs.Inside.Stages.{IsGoalRead, IsWhole}
 use Rattle.cu_front.specs.Refusal.{Refusal}
-use Rattle.cu_front.specs.StageFaults.{Tells}
+use Rattle.cu_front.specs.Inside.StageFaults.{Tells}
 use Rattle.cu_front.specs.Translated.{translation_refusal}
 use Rattle.cu_front.proofs.ModuleLemmas.{kept_tells}
 use Rattle.cu_front.proofs.StageLemmas.{goal_unread}

@@ -8,7 +8,7 @@ use Rattle.cu_front.specs.declared.outcome.Outcome.TheVariants.{Program}
 use Rattle.cu_front.specs.Inside.Outcomes.{IsOutcome, followed_by}
 use Rattle.cu_front.specs.Inside.Stages.{goal_told}
 use Rattle.cu_front.specs.Refusal.{Refusal}
-use Rattle.cu_front.specs.StageFaults.{Tells}
+use Rattle.cu_front.specs.Inside.StageFaults.{Tells}
 use Rattle.cu_front.specs.Translated.{translation_refusal}
 use Rattle.cu_front.proofs.RunLemmas.{err_same, memory_told, ok_same}
 use Rattle.cu_front.proofs.StageLemmas.{goal_after, goal_follows}

@@ -2,7 +2,7 @@ use Rattle.std.proofs.Common.{refl}
 use Rattle.cu_calculus.specs.FlatProgram.{program_of}
 use Rattle.cu_front.specs.declared.runnable.Compiled.{Compiled}
 use Rattle.cu_front.specs.Inside.Stages.{CompileBoth, RefusesBoth}
-use Rattle.cu_front.specs.StageFaults.{Tells}
+use Rattle.cu_front.specs.Inside.StageFaults.{Tells}
 use Rattle.cu_front.proofs.RunLemmas.{err_same, memory_told, ok_same}
 use Rattle.cu_front.proofs.WholeLemmas.{CanRunAlone, compiles, goal_not_run, goal_not_translated, modules_not_run}
 use Rattle.cu_front.proofs.run.run.Goals as goal

@@ -6,7 +6,7 @@ use Rattle.cu_modules.proofs.MeaningLemmas.{all_have}
 use Rattle.cu_modules.specs.Ordering.{modules_of}
 use Rattle.cu_translation.specs.Functions.{goal_name}
 use Rattle.cu_front.specs.Inside.Stages.{RefusesBoth}
-use Rattle.cu_front.specs.StageFaults.{Tells}
+use Rattle.cu_front.specs.Inside.StageFaults.{Tells}
 use Rattle.cu_front.proofs.ReadLemmas.{both_refused, goal_is_read, goal_owned, grows, programs_at, same_compiled, same_refused, stays_at, still_ordered}
 use Rattle.cu_front.proofs.RunLemmas.{err_same}
 use Rattle.cu_front.proofs.TableLemmas.{named_at}

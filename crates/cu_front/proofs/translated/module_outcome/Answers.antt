@@ -7,7 +7,7 @@ use Rattle.cu_front.specs.declared.fault.StageFault.{StageFault}
 use Rattle.cu_front.specs.declared.outcome.Outcome.{Outcome}
 use Rattle.cu_front.specs.Inside.Outcomes.{IsModuleOutcome, clash_told, is_clash}
 use Rattle.cu_front.specs.Refusal.{Refusal}
-use Rattle.cu_front.specs.StageFaults.{Tells}
+use Rattle.cu_front.specs.Inside.StageFaults.{Tells}
 use Rattle.cu_front.proofs.translated.module_outcome.Goals as goal
 
 pub returns-in-Ok-clause-outcome : goal.returns-in-Ok-clause-outcome

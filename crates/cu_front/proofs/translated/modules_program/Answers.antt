@@ -6,7 +6,7 @@ use Rattle.cu_desugar.specs.Modules.{named}
 use Rattle.cu_front.specs.Inside.Outcomes.{IsOutcomeOf}
 use Rattle.cu_front.proofs.ModuleLemmas.{all_refused, all_right, first_clash, next_follows, none_before, of_first, of_next}
 use Rattle.cu_front.specs.Refusal.{Refusal}
-use Rattle.cu_front.specs.StageFaults.{Tells}
+use Rattle.cu_front.specs.Inside.StageFaults.{Tells}
 use Rattle.cu_front.specs.Translated.{translation_refusal}
 use Rattle.cu_front.proofs.RunLemmas.{err_same}
 use Rattle.cu_front.proofs.translated.modules_program.Goals as goal

@@ -5,7 +5,7 @@ use Rattle.std.proofs.lemmas.List.{take_rest}
 use Rattle.std.proofs.KnownBytes.{Appends-trans}
 use Rattle.std.specs.Io.KnownBytes.{Appends, WriteAppends}
 use Rattle.std.specs.Prelude.{IfOk}
-use Rattle.cu_io.specs.Outside.{gone}
+use Rattle.cu_io.specs.Inside.Outside.{gone}
 use Rattle.cu_io.proofs.output_sink.write_whole.Goals as goal
 
 gone-known : {E : Type 0} (P : ℕ → Type 0) (said : Result ℕ E) (count : ℕ) → gone said ≡ Some count → IfOk said P → P count

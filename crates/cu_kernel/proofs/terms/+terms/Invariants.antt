@@ -1,7 +1,7 @@
 use Rattle.std.proofs.Common.{◌≡◌, ◌+◌, ◌*◌, drop, max}
 use Rattle.cu_calculus.specs.Valid.{fit_alternatives, fit_terms}
 use Rattle.cu_kernel.specs.Heads.{heads_program}
-use Rattle.cu_kernel.specs.Scope.{allowed}
+use Rattle.cu_kernel.specs.Inside.Scope.{allowed}
 use Rattle.cu_kernel.specs.TermsOf.{alternatives_of, terms_of}
 use denote.Param.Weighed.{most}
 use Rattle.cu_kernel.specs.declared.term.Term.{size-Term}

@@ -1,6 +1,6 @@
 use Rattle.std.proofs.Common.{◌≡◌, ◌∙◌, ap, arith, length, reverse}
 use Rattle.cu_layout.specs.Blocks.{due_at_start}
-use Rattle.cu_layout.specs.Entries.{token_sights}
+use Rattle.cu_layout.specs.Inside.Entries.{token_sights}
 use Rattle.cu_layout.specs.Reading.{Tells}
 use Rattle.cu_layout.proofs.BlockLemmas.{all-laid, at-last, err-from-same, too-deep, up-to-first, up-to-next}
 use Rattle.cu_layout.proofs.layout.block.Goals as goal

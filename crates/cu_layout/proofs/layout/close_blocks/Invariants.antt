@@ -1,6 +1,6 @@
 use Rattle.std.proofs.Common.{◌≡◌, replicate}
 use Rattle.cu_lex.specs.declared.token.LayoutMark.TheVariants as layout
-use Rattle.cu_layout.specs.Entries.{with_marks_at}
+use Rattle.cu_layout.specs.Inside.Entries.{with_marks_at}
 use Rattle.cu_layout.proofs.layout.close_blocks.Given as goal
 
 abbrev pub invariant-loop : goal.invariant-loop

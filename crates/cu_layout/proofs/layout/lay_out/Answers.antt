@@ -1,5 +1,5 @@
 use Rattle.std.proofs.Common.{◌∙◌, sym, ap, length, nat_le}
-use Rattle.cu_layout.specs.Entries.{stack_of}
+use Rattle.cu_layout.specs.Inside.Entries.{stack_of}
 use Rattle.cu_layout.specs.Rules.{most_entries}
 use Rattle.cu_layout.proofs.BlockLemmas.{lays-out}
 use Rattle.cu_layout.proofs.layout.lay_out.Goals as goal

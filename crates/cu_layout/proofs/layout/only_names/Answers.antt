@@ -1,5 +1,5 @@
 use Rattle.std.proofs.Common.{◌∙◌, sym, ap}
-use Rattle.cu_layout.specs.Entries.{is_names, stack_of}
+use Rattle.cu_layout.specs.Inside.Entries.{is_names, stack_of}
 use Rattle.cu_layout.specs.Rules.{block_tokens}
 use Rattle.cu_layout.proofs.NamesLemmas.{only_names-begun_of}
 use Rattle.cu_layout.proofs.layout.only_names.Goals as goal

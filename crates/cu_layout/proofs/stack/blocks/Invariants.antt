@@ -1,6 +1,6 @@
 use Rattle.std.proofs.Common.{◌≡◌, ◌+◌, ◌++◌, ◌≤◌, length, replicate, take}
 use Rattle.cu_lex.specs.declared.token.LayoutMark.TheVariants as layout
-use Rattle.cu_layout.specs.Entries.{stack_of}
+use Rattle.cu_layout.specs.Inside.Entries.{stack_of}
 use Rattle.cu_layout.specs.Rules.{closing_marks}
 use Rattle.cu_layout.proofs.stack.blocks.Given as goal
 

@@ -1,5 +1,5 @@
 use Rattle.std.proofs.Common.{◌≡◌, take}
-use Rattle.cu_layout.specs.Entries.{stack_of}
+use Rattle.cu_layout.specs.Inside.Entries.{stack_of}
 use Rattle.cu_layout.specs.Rules.{block_column, block_tokens}
 use Rattle.cu_layout.proofs.stack.innermost.Given as goal
 

@@ -1,6 +1,6 @@
 use Rattle.std.proofs.Common.{◌≡◌, ◌+◌, ◌≤◌, length, replicate, take}
 use Rattle.cu_lex.specs.declared.token.LayoutMark.TheVariants as layout
-use Rattle.cu_layout.specs.Entries.{sight_at, stack_of}
+use Rattle.cu_layout.specs.Inside.Entries.{sight_at, stack_of}
 use Rattle.cu_layout.specs.Rules.{indentation, marks_then}
 use Rattle.cu_layout.proofs.stack.line_start.Given as goal
 

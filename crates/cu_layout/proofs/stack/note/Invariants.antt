@@ -1,5 +1,5 @@
 use Rattle.std.proofs.Common.{◌≡◌, ◌++◌, drop, take}
-use Rattle.cu_layout.specs.Entries.{stack_of}
+use Rattle.cu_layout.specs.Inside.Entries.{stack_of}
 use Rattle.cu_layout.specs.Rules.{stack_noting}
 use Rattle.cu_layout.proofs.stack.note.Given as goal
 

@@ -1,5 +1,5 @@
 use Rattle.std.proofs.Common.{◌≡◌, ◌+◌, ◌≤◌, length, take}
-use Rattle.cu_layout.specs.Entries.{after_closes, stack_of}
+use Rattle.cu_layout.specs.Inside.Entries.{after_closes, stack_of}
 use Rattle.cu_layout.specs.Rules.{to_partner}
 use Rattle.cu_layout.proofs.stack.to_partner.Given as goal
 

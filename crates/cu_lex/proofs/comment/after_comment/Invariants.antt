@@ -1,5 +1,5 @@
 use Rattle.std.proofs.Common.{◌≡◌, ◌+◌, ◌<◌, length}
-use Rattle.cu_lex.specs.Scanning.{comment_end, left}
+use Rattle.cu_lex.specs.Inside.Scanning.{comment_end, left}
 use Rattle.cu_lex.proofs.comment.after_comment.Given as goal
 
 abbrev pub invariant-loop-depth : goal.invariant-loop-depth

@@ -1,5 +1,5 @@
 use Rattle.std.proofs.Common.{◌∙◌, sym, ap}
-use Rattle.cu_lex.specs.Scanning.{left, first_of}
+use Rattle.cu_lex.specs.Inside.Scanning.{left, first_of}
 use Rattle.cu_lex.proofs.ScanLemmas.{Two, step-opens, step-closes, step-goes}
 use Rattle.cu_lex.proofs.comment.step.Goals as goal
 

@@ -1,6 +1,6 @@
 use Rattle.std.proofs.Common.{◌∙◌}
 use Rattle.cu_lex.specs.Reading.{position_of}
-use Rattle.cu_lex.specs.Scanning.{left}
+use Rattle.cu_lex.specs.Inside.Scanning.{left}
 use Rattle.cu_lex.proofs.LexLemmas.{character-piece-is, character-fault, character-bad}
 use Rattle.cu_lex.proofs.lexer.character.Goals as goal
 

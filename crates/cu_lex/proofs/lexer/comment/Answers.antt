@@ -1,5 +1,5 @@
 use Rattle.std.proofs.Common.{◌∙◌, ap}
-use Rattle.cu_lex.specs.Scanning.{comment_end, later, left}
+use Rattle.cu_lex.specs.Inside.Scanning.{comment_end, later, left}
 use Rattle.cu_lex.proofs.NamedLemmas.{comment-piece, no-comment}
 use Rattle.cu_lex.proofs.lexer.comment.Goals as goal
 

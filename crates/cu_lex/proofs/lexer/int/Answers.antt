@@ -3,9 +3,9 @@ use Rattle.std.proofs.lemmas.Int.{to_z-of_z}
 use mir.Syntax.{w128}
 use mir.Val.{SFits}
 use Rattle.cu_lex.specs.Kind.Kind.{Int}
-use Rattle.cu_lex.specs.Lexing.{IsPiece}
+use Rattle.cu_lex.specs.Inside.Lexing.{IsPiece}
 use Rattle.cu_lex.specs.Pieces.Piece.{Token}
-use Rattle.cu_lex.specs.Scanning.{left}
+use Rattle.cu_lex.specs.Inside.Scanning.{left}
 use Rattle.cu_lex.proofs.LexLemmas.{no-number-piece, number-scan, int-piece, int-fault}
 use Rattle.cu_lex.proofs.lexer.int.Goals as goal
 

@@ -2,7 +2,7 @@ use Rattle.std.proofs.Common.{◌≡◌, ◌∙◌, sym, ap, subst, map, true}
 use Rattle.std.specs.Prelude.{All}
 use Rattle.cu_names.proofs.Growth.{extends-trans}
 use Rattle.cu_lex.specs.Reading.{is_written, lexeme_of, IsTokenOf, Tells}
-use Rattle.cu_lex.specs.Scanning.{left}
+use Rattle.cu_lex.specs.Inside.Scanning.{left}
 use Rattle.cu_lex.specs.Tokens.{lexemes, tokens}
 use Rattle.cu_lex.proofs.TokenLemmas.{err-from, all-found, before, ended-lexemes, next-lexemes, next-shorter, not-text, owned-more, of-text, tells, too-big}
 use Rattle.cu_lex.proofs.UnderscoreLemmas.{underscore-kept}

@@ -4,7 +4,7 @@ use Rattle.std.specs.Str.{chars}
 use Rattle.cu_names.specs.Texts.{AllDiffer, Extends}
 use Rattle.cu_lex.specs.Located.{located}
 use Rattle.cu_lex.specs.Reading.{is_written, lexeme_of, IsTokenOf}
-use Rattle.cu_lex.specs.Scanning.{left, HasNoVariable}
+use Rattle.cu_lex.specs.Inside.Scanning.{left, HasNoVariable}
 use Rattle.cu_lex.specs.Tokens.{lexemes}
 use Rattle.cu_lex.proofs.TokenLemmas.{before}
 use Rattle.cu_lex.proofs.lexer.lex.Given as goal

@@ -1,4 +1,4 @@
-use Rattle.cu_lex.specs.Scanning.{left}
+use Rattle.cu_lex.specs.Inside.Scanning.{left}
 use Rattle.cu_lex.proofs.NamedLemmas.{mark-piece, no-mark}
 use Rattle.cu_lex.proofs.lexer.mark_at.Goals as goal
 

@@ -1,5 +1,5 @@
 use Rattle.std.proofs.Common.{◌≡◌, ◌∙◌, Some, sym, refl, rules}
-use Rattle.cu_lex.specs.Scanning.{first_of, left}
+use Rattle.cu_lex.specs.Inside.Scanning.{first_of, left}
 use Rattle.cu_lex.proofs.NamedLemmas.{plain-named, qualified-named, separator-piece}
 use Rattle.cu_lex.proofs.UnderscoreLemmas.{mark-at-underscore}
 use Rattle.cu_lex.proofs.lexer.piece.Goals as goal

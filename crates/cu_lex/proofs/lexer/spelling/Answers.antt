@@ -2,7 +2,7 @@ use Rattle.std.proofs.Common.{◌∙◌, ◌++◌, ◌∷◌, ap}
 use Rattle.std.specs.Option.{option_map}
 use Rattle.cu_names.proofs.Growth.{extends-trans}
 use Rattle.cu_lex.specs.Located.{characters}
-use Rattle.cu_lex.specs.Scanning.{left}
+use Rattle.cu_lex.specs.Inside.Scanning.{left}
 use Rattle.cu_lex.proofs.SpellingLemmas.{after-parts, ends, grown, kept, plain-parts, plain-spelled, qualified-spelled, word-bytes}
 use Rattle.cu_lex.proofs.lexer.spelling.Goals as goal
 

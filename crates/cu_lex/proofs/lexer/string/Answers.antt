@@ -1,7 +1,7 @@
 use Rattle.std.proofs.Common.{subst}
-use Rattle.cu_lex.specs.Items.{IsString}
+use Rattle.cu_lex.specs.Inside.Items.{IsString}
 use Rattle.cu_lex.specs.Reading.{position_of}
-use Rattle.cu_lex.specs.Scanning.{left, position}
+use Rattle.cu_lex.specs.Inside.Scanning.{left, position}
 use Rattle.cu_lex.proofs.LexLemmas.{string-piece-is, string-fault}
 use Rattle.cu_lex.proofs.QuoteLemmas.{string-never}
 use Rattle.cu_lex.proofs.lexer.string.Goals as goal

@@ -1,7 +1,7 @@
 use Rattle.std.proofs.Common.{◌≡◌, ◌∙◌, sym, ap, Some}
 use Rattle.std.specs.Option.{option_map}
-use Rattle.cu_lex.specs.Items.{capped, item_scan}
-use Rattle.cu_lex.specs.Scanning.{later, left}
+use Rattle.cu_lex.specs.Inside.Items.{capped, item_scan}
+use Rattle.cu_lex.specs.Inside.Scanning.{later, left}
 use Rattle.cu_lex.proofs.LiteralLemmas.{char-value, char-fault, same-char}
 use Rattle.cu_lex.proofs.literal.char_literal.Goals as goal
 

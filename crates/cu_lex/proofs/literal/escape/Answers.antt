@@ -1,5 +1,5 @@
 use Rattle.std.proofs.Common.{◌∙◌, sym}
-use Rattle.cu_lex.specs.Scanning.{left}
+use Rattle.cu_lex.specs.Inside.Scanning.{left}
 use Rattle.cu_lex.proofs.LiteralLemmas.{escape-short}
 use Rattle.cu_lex.proofs.literal.escape.Goals as goal
 

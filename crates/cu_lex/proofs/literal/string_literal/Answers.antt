@@ -1,9 +1,9 @@
 use Rattle.std.proofs.Common.{◌≡◌, ◌∙◌, sym, ap, subst, Some, Ok, refl}
-use Rattle.cu_lex.specs.Items.{item_scan, joined, so_far, string_items, IsQuoted}
+use Rattle.cu_lex.specs.Inside.Items.{item_scan, joined, so_far, string_items, IsQuoted}
 use Rattle.cu_lex.specs.Literals.{item}
 use Rattle.cu_lex.specs.Munch.{cut_all}
 use Rattle.cu_lex.specs.Pieces.{codes_of, with_code}
-use Rattle.cu_lex.specs.Scanning.{first_of, later, left, position}
+use Rattle.cu_lex.specs.Inside.Scanning.{first_of, later, left, position}
 use Rattle.cu_lex.proofs.LiteralLemmas.{found-item, cut-code, left-at, no-item, step-item, quote-ends, ended, quoted, quoted-first, same-char, other-char, all-read}
 use Rattle.cu_lex.proofs.literal.string_literal.Goals as goal
 

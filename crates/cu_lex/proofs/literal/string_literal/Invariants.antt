@@ -1,9 +1,9 @@
 use Rattle.std.proofs.Common.{◌≡◌, length}
-use Rattle.cu_lex.specs.Items.{joined, so_far, string_items}
+use Rattle.cu_lex.specs.Inside.Items.{joined, so_far, string_items}
 use Rattle.cu_lex.specs.Literals.{item}
 use Rattle.cu_lex.specs.Munch.{cut_all}
 use Rattle.cu_lex.specs.Pieces.{codes_of}
-use Rattle.cu_lex.specs.Scanning.{left}
+use Rattle.cu_lex.specs.Inside.Scanning.{left}
 use Rattle.cu_lex.proofs.literal.string_literal.Given as goal
 
 abbrev pub invariant-loop-rest : goal.invariant-loop-rest

@@ -1,6 +1,6 @@
 use Rattle.std.proofs.Common.{◌≡◌, ◌<◌, ◌+◌, ◌*◌, ◌∙◌, Some, sym, ap, subst}
 use Rattle.std.specs.Char.{digit_value}
-use Rattle.cu_lex.specs.Scanning.{left, first_of, digits, digits_from, is_digit_of, skip, within}
+use Rattle.cu_lex.specs.Inside.Scanning.{left, first_of, digits, digits_from, is_digit_of, skip, within}
 use Rattle.cu_lex.proofs.ScanLemmas.{digits-step, digits-skip}
 use Rattle.cu_lex.proofs.number.digits_at.Goals as goal
 

@@ -1,5 +1,5 @@
 use Rattle.std.proofs.Common.{◌≡◌, ℕ, length}
-use Rattle.cu_lex.specs.Scanning.{digits, digits_from, is_digit_of, left, skip, within}
+use Rattle.cu_lex.specs.Inside.Scanning.{digits, digits_from, is_digit_of, left, skip, within}
 use Rattle.cu_lex.proofs.number.digits_at.Given as goal
 
 abbrev pub invariant-loop-c : goal.invariant-loop-c

@@ -1,5 +1,5 @@
 use Rattle.std.proofs.Common.{refl}
-use Rattle.cu_lex.specs.Scanning.{left, con_id_kind}
+use Rattle.cu_lex.specs.Inside.Scanning.{left, con_id_kind}
 use Rattle.cu_lex.specs.Words.{is_name_character}
 use Rattle.cu_lex.proofs.WordLemmas.{word-at, is-con-id, capital-first}
 use Rattle.cu_lex.proofs.word.constructor.Goals as goal

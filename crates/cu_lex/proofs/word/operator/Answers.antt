@@ -1,5 +1,5 @@
 use Rattle.std.proofs.Common.{◌∙◌, sym, ap, subst}
-use Rattle.cu_lex.specs.Scanning.{left, IsOfKind}
+use Rattle.cu_lex.specs.Inside.Scanning.{left, IsOfKind}
 use Rattle.cu_lex.specs.Words.{is_run, is_symbol}
 use Rattle.cu_lex.proofs.AsciiLemmas.{small-symbol}
 use Rattle.cu_lex.proofs.ScanLemmas.{ends-skip}

@@ -1,5 +1,5 @@
 use Rattle.std.proofs.Common.{refl, sym, subst}
-use Rattle.cu_lex.specs.Scanning.{left, IsWord, con_id_kind}
+use Rattle.cu_lex.specs.Inside.Scanning.{left, IsWord, con_id_kind}
 use Rattle.cu_lex.proofs.ChainLemmas.{advance, after_dot, reach-further, reach-ends}
 use Rattle.cu_lex.proofs.word.qualified_at.Goals as goal
 

@@ -1,7 +1,7 @@
 use Rattle.std.proofs.Common.{◌≡◌, ◌⊎◌, ◌≤◌, List, None, true, length}
-use Rattle.cu_lex.specs.Chains.{BeginsAt, Reaches}
+use Rattle.cu_lex.specs.Inside.Chains.{BeginsAt, Reaches}
 use Rattle.cu_lex.specs.Located.{Located}
-use Rattle.cu_lex.specs.Scanning.{left, con_id_kind, is_base, IsWord}
+use Rattle.cu_lex.specs.Inside.Scanning.{left, con_id_kind, is_base, IsWord}
 use Rattle.cu_lex.proofs.ChainLemmas.{IsBeyond}
 use Rattle.cu_lex.proofs.word.qualified_at.Given as goal
 

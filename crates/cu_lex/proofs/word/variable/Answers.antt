@@ -1,7 +1,7 @@
 use Rattle.std.proofs.Common.{◌∙◌, sym, ap, subst}
 use Rattle.std.specs.Char.{is_ascii_lowercase}
 use Rattle.cu_lex.specs.Located.{characters}
-use Rattle.cu_lex.specs.Scanning.{left, IsOfKind}
+use Rattle.cu_lex.specs.Inside.Scanning.{left, IsOfKind}
 use Rattle.cu_lex.specs.Words.{begins_with, has_variable_form, is_name_character}
 use Rattle.cu_lex.proofs.AsciiLemmas.{small-name}
 use Rattle.cu_lex.proofs.ScanLemmas.{ends-skip}

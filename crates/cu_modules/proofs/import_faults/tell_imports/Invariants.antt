@@ -5,7 +5,7 @@ use Rattle.cu_names.specs.Texts.{AllDiffer}
 use Rattle.cu_syntax.specs.Items.{import_meaning}
 use Rattle.cu_syntax.specs.Owners.{ImportIsOf}
 use Rattle.cu_modules.specs.Faults.{import_faults}
-use Rattle.cu_modules.specs.Inside.Exports.{AreInterfaces}
+use Rattle.cu_modules.specs.Exports.{AreInterfaces}
 use Rattle.cu_modules.specs.Inside.Telling.{Told}
 use Rattle.cu_modules.specs.Scopes.{Interface}
 use Rattle.cu_modules.proofs.import_faults.tell_imports.Given as goal

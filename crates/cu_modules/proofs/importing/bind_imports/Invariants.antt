@@ -7,7 +7,7 @@ use Rattle.cu_names.specs.Texts.{AllDiffer}
 use Rattle.cu_syntax.specs.Items.{import_meaning}
 use Rattle.cu_syntax.specs.Owners.{ImportIsOf}
 use Rattle.cu_modules.specs.Inside.Binding.{IsScope}
-use Rattle.cu_modules.specs.Inside.Exports.{AreInterfaces}
+use Rattle.cu_modules.specs.Exports.{AreInterfaces}
 use Rattle.cu_modules.specs.Scopes.{Interface, binding, import_bindings}
 use Rattle.cu_modules.proofs.importing.bind_imports.Given as goal
 

@@ -3,7 +3,7 @@ use Rattle.std.specs.List.{All, flat_map}
 use Rattle.cu_names.specs.Texts.{AllDiffer}
 use Rattle.cu_syntax.specs.Items.{export_meaning}
 use Rattle.cu_syntax.specs.Owners.{ExportIsOf}
-use Rattle.cu_modules.specs.Inside.Exports.{AreInterfaces}
+use Rattle.cu_modules.specs.Exports.{AreInterfaces}
 use Rattle.cu_modules.specs.Inside.Scoped.{IsScoped}
 use Rattle.cu_modules.specs.Known.{AreEntities}
 use Rattle.cu_modules.specs.Ordering.{module_of}

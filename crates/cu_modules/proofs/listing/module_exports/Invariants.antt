@@ -6,7 +6,7 @@ use Rattle.cu_names.specs.Texts.{AllDiffer, IsKnown, text_of}
 use Rattle.cu_syntax.specs.Items.{import_meaning}
 use Rattle.cu_syntax.specs.Owners.{ImportIsOf}
 use Rattle.cu_modules.specs.Inside.Binding.{IsScope}
-use Rattle.cu_modules.specs.Inside.Exports.{AreInterfaces}
+use Rattle.cu_modules.specs.Exports.{AreInterfaces}
 use Rattle.cu_modules.specs.Known.{AreEntities}
 use Rattle.cu_modules.specs.Scopes.{Interface, binding, names_module, unqualified}
 use Rattle.cu_modules.proofs.listing.module_exports.Given as goal

@@ -8,7 +8,7 @@ use Rattle.cu_modules.specs.declared.fault.OrderFault.{OrderFault}
 use Rattle.cu_modules.specs.declared.visits.Frame.{Frame}
 use Rattle.cu_modules.specs.declared.visits.Progress.{Progress}
 use Rattle.cu_modules.specs.Ordering.{Tells, modules_of, texts_of}
-use Rattle.cu_modules.specs.Progress.{IsFound}
+use Rattle.cu_modules.specs.Inside.Progress.{IsFound}
 use Rattle.cu_modules.specs.Walk.{Visits}
 use Rattle.cu_names.specs.Texts.{text_of}
 use Rattle.cu_syntax.specs.Answer.{module_meaning}

@@ -1,5 +1,5 @@
 use Rattle.std.proofs.Common.{◌≡◌, map, take}
-use Rattle.cu_peg.specs.CallTables.{calls_by}
+use Rattle.cu_peg.specs.Inside.CallTables.{calls_by}
 use Rattle.cu_peg.proofs.calls.call_conditions.Given as goal
 
 abbrev pub invariant-loop-row : goal.invariant-loop-row

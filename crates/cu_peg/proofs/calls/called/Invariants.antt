@@ -1,5 +1,5 @@
 use Rattle.std.proofs.Common.{◌≡◌, ◌++◌, drop}
-use Rattle.cu_peg.specs.CallTables.{called}
+use Rattle.cu_peg.specs.Inside.CallTables.{called}
 use Rattle.cu_peg.proofs.calls.called.Given as goal
 
 abbrev pub invariant-loop-part : goal.invariant-loop-part

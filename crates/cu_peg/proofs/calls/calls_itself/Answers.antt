@@ -1,6 +1,6 @@
 use Rattle.std.proofs.Common.{◌∙◌, sym, ap, refl, set, true, List, Bool}
 use Rattle.std.proofs.lemmas.Option.{slice_get_read}
-use Rattle.cu_peg.specs.Closure.{holds}
+use Rattle.cu_peg.specs.Inside.Closure.{holds}
 use Rattle.cu_peg.proofs.CallLemmas.{held_by_itself}
 use Rattle.cu_peg.proofs.calls.calls_itself.Goals as goal
 

@@ -1,6 +1,6 @@
 use Rattle.std.proofs.Common.{◌≡◌, ◌∙◌, ap, map}
 use Rattle.std.proofs.lemmas.List.{take_all}
-use Rattle.cu_peg.specs.CallTables.{nullable_by}
+use Rattle.cu_peg.specs.Inside.CallTables.{nullable_by}
 use Rattle.cu_peg.proofs.CallLemmas.{tells_nullable}
 use Rattle.cu_peg.proofs.calls.nullable_rows.Goals as goal
 

@@ -1,6 +1,6 @@
 use Rattle.std.proofs.Common.{◌≡◌, ℕ, ◌<◌, true, Some}
 use Rattle.std.specs.Prelude.{slice_get}
-use Rattle.cu_peg.specs.Closure.{holds, marked}
+use Rattle.cu_peg.specs.Inside.Closure.{holds, marked}
 use Rattle.cu_peg.specs.declared.closure.Condition.{Condition}
 use Rattle.cu_peg.proofs.closure.next.Given as goal
 

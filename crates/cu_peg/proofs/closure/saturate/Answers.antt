@@ -1,6 +1,6 @@
 use Rattle.std.proofs.Common.{◌<◌, ◌∙◌, sym, ap, subst, length, arith, refl, set, true, Bool, ℕ, List, length-set}
 use Rattle.std.proofs.lemmas.Option.{slice_get_within}
-use Rattle.cu_peg.specs.Closure.{begun, joined, marked, Derived, MayJoin}
+use Rattle.cu_peg.specs.Inside.Closure.{begun, joined, marked, Derived, MayJoin}
 use Rattle.cu_peg.proofs.ClosureLemmas.{unmarked-set}
 use Rattle.cu_peg.proofs.closure.saturate.Goals as goal
 

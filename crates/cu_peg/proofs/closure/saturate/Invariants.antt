@@ -1,5 +1,5 @@
 use Rattle.std.proofs.Common.{◌≡◌, length}
-use Rattle.cu_peg.specs.Closure.{Derived, unmarked}
+use Rattle.cu_peg.specs.Inside.Closure.{Derived, unmarked}
 use Rattle.cu_peg.proofs.closure.saturate.Given as goal
 
 abbrev pub invariant-loop-number : goal.invariant-loop-number

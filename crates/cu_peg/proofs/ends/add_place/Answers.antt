@@ -4,10 +4,10 @@ use Rattle.std.proofs.lemmas.List.{length-map, length-replicate, length_push, ta
 use Rattle.std.proofs.lemmas.Option.{slice_get_read}
 use Rattle.cu_lex.specs.Reading.{lexeme_of}
 use Rattle.cu_peg.specs.declared.table.End.{End}
-use Rattle.cu_peg.specs.Ends.{IsEnd, end_at}
-use Rattle.cu_peg.specs.Places.{TableView}
-use Rattle.cu_peg.specs.Closure.{marked}
-use Rattle.cu_peg.specs.Reached.{kept, kept_row}
+use Rattle.cu_peg.specs.Inside.Ends.{IsEnd, end_at}
+use Rattle.cu_peg.specs.Inside.Places.{TableView}
+use Rattle.cu_peg.specs.Inside.Closure.{marked}
+use Rattle.cu_peg.specs.Inside.Reached.{kept, kept_row}
 use Rattle.cu_peg.specs.Result.{has_at}
 use Rattle.cu_peg.proofs.KeptLemmas.{grammar-kept, kept-get, length-kept}
 use Rattle.cu_peg.proofs.FillLemmas.{below_or_at, column-append, column-set, end_at-append, end_at-set_place, placed}

@@ -1,8 +1,8 @@
 use Rattle.std.proofs.Common.{◌≡◌, ℕ, ◌+◌, ◌<◌, List, [], length, map, get_or, take}
 use Rattle.std.specs.Prelude.{Contains}
 use Rattle.cu_lex.specs.Reading.{lexeme_of}
-use Rattle.cu_peg.specs.Ends.{IsEnd, end_at}
-use Rattle.cu_peg.specs.Reached.{kept}
+use Rattle.cu_peg.specs.Inside.Ends.{IsEnd, end_at}
+use Rattle.cu_peg.specs.Inside.Reached.{kept}
 use Rattle.cu_peg.specs.Result.{has_at}
 use Rattle.cu_peg.proofs.ends.add_place.Given as goal
 

@@ -1,5 +1,5 @@
 use Rattle.std.proofs.Common.{◌≡◌, drop}
-use Rattle.cu_peg.specs.Ends.{choice_end, end_at}
+use Rattle.cu_peg.specs.Inside.Ends.{choice_end, end_at}
 use Rattle.cu_peg.proofs.ends.choice_end.Given as goal
 
 abbrev pub invariant-loop-part : goal.invariant-loop-part

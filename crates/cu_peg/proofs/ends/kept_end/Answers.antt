@@ -1,7 +1,7 @@
 use Rattle.std.proofs.Common.{◌∙◌, ◌-◌, Bool, ap, length, map}
 use Rattle.cu_lex.specs.Reading.{lexeme_of}
-use Rattle.cu_peg.specs.Ends.{end_at, row_end}
-use Rattle.cu_peg.specs.Reached.{kept_row}
+use Rattle.cu_peg.specs.Inside.Ends.{end_at, row_end}
+use Rattle.cu_peg.specs.Inside.Reached.{kept_row}
 use Rattle.cu_peg.specs.Result.{has_at}
 use Rattle.cu_peg.proofs.ends.kept_end.Goals as goal
 

@@ -1,5 +1,5 @@
 use Rattle.std.proofs.Common.{◌≡◌, drop}
-use Rattle.cu_peg.specs.Ends.{alone, end_at, sequence_end}
+use Rattle.cu_peg.specs.Inside.Ends.{alone, end_at, sequence_end}
 use Rattle.cu_peg.proofs.ends.sequence_end.Given as goal
 
 abbrev pub invariant-loop-part : goal.invariant-loop-part

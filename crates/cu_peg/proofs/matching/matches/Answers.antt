@@ -5,10 +5,10 @@ use Rattle.cu_lex.specs.Tokens.{Lexeme}
 use Rattle.cu_peg.specs.declared.node.Node.{Node}
 use Rattle.cu_peg.specs.declared.row.Row.{Row}
 use Rattle.cu_peg.specs.declared.table.End.{End}
-use Rattle.cu_peg.specs.Ends.{IsEnd, IsRight, end_at, last}
+use Rattle.cu_peg.specs.Inside.Ends.{IsEnd, IsRight, end_at, last}
 use Rattle.cu_peg.specs.Matches.{Matches}
 use Rattle.cu_peg.specs.Parse.{ParseTree, spelled}
-use Rattle.cu_peg.specs.Reached.{IsReached, kept}
+use Rattle.cu_peg.specs.Inside.Reached.{IsReached, kept}
 use Rattle.cu_peg.specs.Result.{HasNoTree, IsTreeOf, has_at}
 use Rattle.cu_peg.specs.Spelling.{read, read-spelled}
 use Rattle.cu_peg.proofs.EndLemmas.{length-last}

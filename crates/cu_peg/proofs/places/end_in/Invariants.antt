@@ -1,5 +1,5 @@
 use Rattle.std.proofs.Common.{◌≡◌, drop}
-use Rattle.cu_peg.specs.Places.{cell}
+use Rattle.cu_peg.specs.Inside.Places.{cell}
 use Rattle.cu_peg.proofs.places.end_in.Given as goal
 
 abbrev pub invariant-loop-entry : goal.invariant-loop-entry

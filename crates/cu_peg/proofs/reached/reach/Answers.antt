@@ -1,5 +1,5 @@
 use Rattle.std.proofs.Common.{List, Bool, ◌∙◌, ap, refl, sym}
-use Rattle.cu_peg.specs.Closure.{marked}
+use Rattle.cu_peg.specs.Inside.Closure.{marked}
 use Rattle.cu_peg.proofs.ReachLemmas.{spreads-one}
 use Rattle.cu_peg.proofs.reached.reach.Goals as goal
 

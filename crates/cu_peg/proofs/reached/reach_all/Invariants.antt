@@ -1,7 +1,7 @@
 use Rattle.std.proofs.Common.{◌≡◌, true, take}
 use Rattle.std.specs.Prelude.{All}
-use Rattle.cu_peg.specs.Closure.{marked}
-use Rattle.cu_peg.specs.Reached.{Spreads}
+use Rattle.cu_peg.specs.Inside.Closure.{marked}
+use Rattle.cu_peg.specs.Inside.Reached.{Spreads}
 use Rattle.cu_peg.proofs.reached.reach_all.Given as goal
 
 abbrev pub invariant-loop-part : goal.invariant-loop-part

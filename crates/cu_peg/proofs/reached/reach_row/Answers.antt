@@ -1,7 +1,7 @@
 use Rattle.std.proofs.Common.{◌≡◌, refl}
 use Rattle.std.specs.Prelude.{All, OnOk, true}
 use Rattle.std.proofs.lemmas.Option.{slice_get_read}
-use Rattle.cu_peg.specs.Closure.{marked}
+use Rattle.cu_peg.specs.Inside.Closure.{marked}
 use Rattle.cu_peg.specs.WellFormed.{named}
 use Rattle.cu_peg.proofs.ReachLemmas.{same-row}
 use Rattle.cu_peg.proofs.reached.reach_row.Goals as goal

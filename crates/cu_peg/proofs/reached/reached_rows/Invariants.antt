@@ -1,5 +1,5 @@
 use Rattle.std.proofs.Common.{◌+◌, length}
-use Rattle.cu_peg.specs.Closure.{unmarked}
+use Rattle.cu_peg.specs.Inside.Closure.{unmarked}
 use Rattle.cu_peg.proofs.ReachLemmas.{Going}
 use Rattle.cu_peg.proofs.reached.reached_rows.Given as goal
 

@@ -1,7 +1,7 @@
 use Rattle.std.proofs.Common.{◌≡◌, ◌+◌, drop}
 use Rattle.std.specs.Option.{option_map}
-use Rattle.cu_peg.specs.Cursors.{first_alternative}
-use Rattle.cu_peg.specs.Ends.{end_at}
+use Rattle.cu_peg.specs.Inside.Cursors.{first_alternative}
+use Rattle.cu_peg.specs.Inside.Ends.{end_at}
 use Rattle.cu_peg.proofs.reading.first_alternative.Given as goal
 
 abbrev pub invariant-loop-number : goal.invariant-loop-number

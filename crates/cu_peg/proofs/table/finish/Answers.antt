@@ -1,5 +1,5 @@
 use Rattle.std.proofs.Common.{◌∙◌, ◌∷◌, ◌++◌, [], ℕ, List, length, sym, ap, subst}
-use Rattle.cu_peg.specs.Places.{Rising, columns}
+use Rattle.cu_peg.specs.Inside.Places.{Rising, columns}
 use Rattle.cu_peg.proofs.PlaceLemmas.{finished, finished-rising, rising-grows}
 use Rattle.cu_peg.proofs.table.finish.Goals as goal
 

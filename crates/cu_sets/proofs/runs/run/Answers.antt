@@ -5,7 +5,7 @@ use Rattle.cu_machine.specs.Run.{only_state, run_on}
 use Rattle.cu_machine.specs.Validity.{IsValid}
 use Rattle.cu_step.specs.Outcome.{branches_of, is_inner, next_of, state_of}
 use Rattle.cu_step.proofs.Builds.{if_ok}
-use Rattle.cu_sets.specs.Onward.{GoesOnward}
+use Rattle.cu_sets.specs.Inside.Onward.{GoesOnward}
 use Rattle.cu_sets.proofs.RunLemmas.{one_follows, runs_last, runs_on, runs_out, valid_only}
 use Rattle.cu_sets.proofs.runs.run.Goals as goal
 

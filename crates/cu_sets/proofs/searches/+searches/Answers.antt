@@ -13,9 +13,9 @@ use Rattle.cu_step.specs.declared.Outcome.TheVariants as outcome
 use Rattle.cu_step.specs.Outcome.{is_inner, is_running, next_of, state_of}
 use Rattle.cu_step.proofs.Builds.{if_ok}
 use Rattle.cu_step.proofs.StepLemmas.{follow_valid}
-use Rattle.cu_sets.specs.Delivered.{delivered_by}
-use Rattle.cu_sets.specs.Levels.{event_of, level_of}
-use Rattle.cu_sets.specs.Nesting.{deepest, nesting}
+use Rattle.cu_sets.specs.Inside.Delivered.{delivered_by}
+use Rattle.cu_sets.specs.Inside.Levels.{event_of, level_of}
+use Rattle.cu_sets.specs.Inside.Nesting.{deepest, nesting}
 use Rattle.cu_sets.proofs.LevelLemmas.{call_there, empty_level, first_valid, first_within, level_empty, level_stepped, level_valid, no_ending, nothing_left, running_large, running_valid, some_ending, some_level, steps_all, steps_begin, steps_end, steps_on}
 use Rattle.cu_sets.proofs.searches.+searches.Goals as goal
 

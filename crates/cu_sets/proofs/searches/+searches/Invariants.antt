@@ -4,8 +4,8 @@ use Rattle.std.proofs.Common.{◌+◌, ◌*◌, map}
 use Rattle.std.specs.Vec.Iter.{into_iter_items}
 use Rattle.cu_machine.specs.State.{states_of}
 use Rattle.cu_step.specs.Outcome.{state_of}
-use Rattle.cu_sets.specs.Levels.{level_of}
-use Rattle.cu_sets.specs.Nesting.{deepest, nesting}
+use Rattle.cu_sets.specs.Inside.Levels.{level_of}
+use Rattle.cu_sets.specs.Inside.Nesting.{deepest, nesting}
 use Rattle.cu_sets.proofs.LevelLemmas.{Steps}
 use Rattle.cu_sets.proofs.searches.+searches.Given as goal
 

@@ -2,7 +2,7 @@ use Rattle.std.proofs.Common.{List, drop}
 use Rattle.cu_translation.specs.declared.local_names.Binder as code
 use Rattle.cu_translation.specs.declared.local_names.Local.{Local}
 use Rattle.cu_translation.specs.Dependencies.{is_bound_outside}
-use Rattle.cu_sites.specs.Inside.Counting.{IsBinderTable, binders_meaning}
+use Rattle.cu_sites.specs.Numbered.{IsBinderTable, binders_meaning}
 use Rattle.cu_sites.specs.Inside.Using.{Finds}
 use Rattle.cu_sites.proofs.InsideLemmas.{outer_left}
 use Rattle.cu_sites.proofs.definitions.push_outer.Given as goal

@@ -1,8 +1,8 @@
 use Rattle.std.proofs.Common.{List, [], drop, map}
 use Rattle.cu_translation.specs.declared.local_names.Binder as code
+use Rattle.cu_sites.specs.Depending.{is_defined}
 use Rattle.cu_sites.specs.Inside.Counting.{Counts}
 use Rattle.cu_sites.specs.Inside.Defining.{definitions_meaning}
-use Rattle.cu_sites.specs.Inside.Needing.{is_defined}
 use Rattle.cu_sites.proofs.dependencies.defined.Given as goal
 
 abbrev pub invariant-loop-definition : goal.invariant-loop-definition

@@ -1,7 +1,7 @@
 use Rattle.std.proofs.Common.{◌||◌, ◌+◌, drop, ap, arith, ◌∙◌}
-use Rattle.cu_sites.specs.Inside.Relating.{is_in}
 use Rattle.cu_sites.proofs.RelationLemmas.{set_ends, set_goes_on}
 use Rattle.cu_sites.proofs.relations.set_of.Goals as goal
+use Rattle.cu_sites.specs.Depending.{is_in}
 
 pub loop-number-init : goal.loop-number-init
 loop-number-init c k = ap (λ ks. is_in ks k || is_in c.args.numbers.now k) c.new-set.ensures.empty

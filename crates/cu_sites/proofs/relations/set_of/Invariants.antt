@@ -1,6 +1,6 @@
 use Rattle.std.proofs.Common.{◌≡◌, ℕ, ◌||◌, drop}
-use Rattle.cu_sites.specs.Inside.Relating.{is_in}
 use Rattle.cu_sites.proofs.relations.set_of.Given as goal
+use Rattle.cu_sites.specs.Depending.{is_in}
 
 -- what was inserted, and what is left, is all
 abbrev pub invariant-loop-number : goal.invariant-loop-number

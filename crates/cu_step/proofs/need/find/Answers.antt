@@ -1,7 +1,7 @@
 -- How the walk begins, and how it goes on where marks begin.
 use Rattle.std.proofs.Common.{◌≡◌, None, Some, ap, ◌∙◌, sym, option_map, [], vec_len}
-use Rattle.cu_step.specs.Needed.{need_of}
-use Rattle.cu_step.specs.Walk.{at_once, found, outcome}
+use Rattle.cu_step.specs.Inside.Needed.{need_of}
+use Rattle.cu_step.specs.Inside.Walk.{at_once, found, outcome}
 use Rattle.cu_machine.specs.Need as need
 use Rattle.cu_machine.specs.Need.{need_all}
 use Rattle.cu_step.proofs.Builds.{if_ok}

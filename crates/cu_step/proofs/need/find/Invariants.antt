@@ -2,7 +2,7 @@
 use Rattle.std.proofs.Common.{◌≡◌}
 use Rattle.cu_machine.specs.Need as need
 use Rattle.cu_machine.specs.Need.{need_all}
-use Rattle.cu_step.specs.Walk.{Fits, found, outcome}
+use Rattle.cu_step.specs.Inside.Walk.{Fits, found, outcome}
 use Rattle.cu_step.proofs.need.find.Given as goal
 
 abbrev pub invariant-unmarked : goal.invariant-unmarked

@@ -1,6 +1,6 @@
 -- The search goes on by a look, or ends, or keeps marks from then on.
 use Rattle.std.proofs.Common.{◌≡◌, sym, ◌∙◌, vec_len}
-use Rattle.cu_step.specs.Occurring.{are_reached}
+use Rattle.cu_step.specs.Inside.Occurring.{are_reached}
 use Rattle.cu_step.proofs.Builds.{if_ok}
 use Rattle.cu_step.proofs.Occurrences.{looked_there, looks_after, looks_again, looks_begin, looks_found, looks_last, looks_none, marks_count}
 use Rattle.cu_step.proofs.Reversals.{none_taken}

@@ -1,5 +1,5 @@
 -- What is still to be looked at tells the answer.
-use Rattle.cu_step.specs.Occurring.{Looks}
+use Rattle.cu_step.specs.Inside.Occurring.{Looks}
 use Rattle.cu_step.proofs.occurs.are_reached.Given as goal
 
 abbrev pub invariant-unmarked : goal.invariant-unmarked

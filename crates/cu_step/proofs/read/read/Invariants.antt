@@ -1,6 +1,6 @@
 -- The values of the goal variables so far were read.
 use Rattle.std.proofs.Common.{take}
-use Rattle.cu_step.specs.Written.{AllRead}
+use Rattle.cu_step.specs.Inside.Written.{AllRead}
 use Rattle.cu_step.proofs.read.read.Given as goal
 
 abbrev pub invariant-loop-goal : goal.invariant-loop-goal

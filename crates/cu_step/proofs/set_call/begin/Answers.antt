@@ -5,8 +5,8 @@ use Rattle.cu_calculus.specs.Value.{Value, values_of}
 use Rattle.cu_machine.specs.Next.{Go, moved}
 use Rattle.cu_machine.specs.Spell.{cells_of_all, ordinal, renumbered, spelled, variables_of_all}
 use Rattle.cu_machine.specs.State.{State, call_on}
-use Rattle.cu_step.specs.Moved.{move_of}
-use Rattle.cu_step.specs.Occurring.{are_reached}
+use Rattle.cu_step.specs.Inside.Moved.{move_of}
+use Rattle.cu_step.specs.Inside.Occurring.{are_reached}
 use Rattle.cu_step.specs.Outcome.{next_of, state_of}
 use Rattle.cu_step.specs.declared.occurs.Sought.TheVariants as sought
 use Rattle.cu_step.proofs.Builds.{if_ok}

@@ -2,7 +2,7 @@ use Rattle.std.proofs.Common.{◌≡◌, List, map, subst, sym, true}
 use Rattle.std.specs.List.{All}
 use Rattle.cu_lex.specs.declared.token.Token.{Token}
 use Rattle.cu_lex.specs.Reading.{lexeme_of, IsTokenOf}
-use Rattle.cu_syntax.specs.Fits.{fits}
+use Rattle.cu_syntax.specs.Inside.Fits.{fits}
 use Rattle.cu_syntax.specs.Parsing.{Has}
 use Rattle.cu_syntax.specs.Subtrees.{over}
 use Rattle.cu_syntax.proofs.PartLemmas.{if_none, if_some, none_of, tree_fits, tree_found}

@@ -1,7 +1,7 @@
 use Rattle.std.proofs.Common.{◌≡◌, ◌+◌, ℕ, List, drop, map}
 use Rattle.std.specs.Option.{option_map}
 use Rattle.cu_lex.specs.Reading.{lexeme_of}
-use Rattle.cu_syntax.specs.Scanning.{first_open}
+use Rattle.cu_syntax.specs.Inside.Scanning.{first_open}
 use Rattle.cu_syntax.proofs.scanning.first_open.Given as goal
 
 abbrev pub invariant-loop-number : goal.invariant-loop-number

@@ -1,6 +1,6 @@
 use Rattle.std.proofs.Common.{◌≡◌, ℕ, List, drop, map}
 use Rattle.cu_lex.specs.Reading.{lexeme_of}
-use Rattle.cu_syntax.specs.Scanning.{last_line}
+use Rattle.cu_syntax.specs.Inside.Scanning.{last_line}
 use Rattle.cu_syntax.proofs.scanning.last_line.Given as goal
 
 abbrev pub invariant-loop-token : goal.invariant-loop-token

@@ -1,6 +1,6 @@
 use Rattle.std.proofs.Common.{◌≡◌, ◌≤◌, ℕ, List, drop, map}
 use Rattle.cu_lex.specs.Reading.{lexeme_of}
-use Rattle.cu_syntax.specs.Scanning.{later, part_end}
+use Rattle.cu_syntax.specs.Inside.Scanning.{later, part_end}
 use Rattle.cu_syntax.proofs.scanning.part_end.Given as goal
 
 abbrev pub invariant-loop-number : goal.invariant-loop-number

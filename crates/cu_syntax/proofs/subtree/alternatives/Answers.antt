@@ -1,6 +1,6 @@
 -- Only a choice has alternatives.
 use Rattle.std.proofs.Common.{ap, sym, ◌∙◌}
-use Rattle.cu_syntax.specs.Meaning.{rule_meaning}
+use Rattle.cu_syntax.specs.Inside.Meaning.{rule_meaning}
 use Rattle.cu_syntax.specs.Subtrees.{is_choice}
 use Rattle.cu_syntax.proofs.FitLemmas.{only_choices}
 use Rattle.cu_syntax.proofs.subtree.alternatives.Goals as goal

@@ -6,7 +6,7 @@ use Rattle.cu_modules.specs.Scopes.{Named}
 use Rattle.cu_toplevel.specs.declared.function_heads.FunctionHead.{FunctionHead}
 use Rattle.cu_toplevel.specs.Heads.{HeadIsOf, head_meaning}
 use Rattle.cu_toplevel.specs.Inside.Marks.{head_mark}
-use Rattle.cu_toplevel.specs.SignatureTables.{AreSignatures}
+use Rattle.cu_toplevel.specs.Inside.SignatureTables.{AreSignatures}
 use Rattle.cu_translation.specs.Externals.{externals}
 use Rattle.cu_translation.specs.Numbered.{groups_in, only_in_prelude}
 use Rattle.cu_translation.specs.Parts.{external_mark, function_mark, signature_of}

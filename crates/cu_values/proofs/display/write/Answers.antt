@@ -3,7 +3,7 @@ use Rattle.std.proofs.Common.{rules, ◌≡◌, ◌<◌, ◌≤◌, ◌+◌, ◌
 use Rattle.std.specs.String.{string_bytes}
 use Rattle.cu_values.specs.Cells.{read}
 use Rattle.cu_values.specs.Display.{display}
-use Rattle.cu_values.specs.LabelsOf.{labels_meaning}
+use Rattle.cu_values.specs.Inside.LabelsOf.{labels_meaning}
 use Rattle.cu_values.specs.declared.task.Task.{Task}
 use Rattle.cu_values.specs.declared.task.Task.TheVariants.{Alone}
 use Rattle.cu_values.proofs.StepLemmas.{all_written, begin_ready, begin_whole, popped, same_on}

@@ -3,8 +3,8 @@ use Rattle.std.proofs.Common.{◌≡◌, ◌+◌, ◌*◌, ◌++◌, ◌-◌, dr
 use Rattle.std.specs.String.{string_bytes}
 use Rattle.cu_values.specs.Cells.{read, read_all}
 use Rattle.cu_values.specs.Display.{display}
-use Rattle.cu_values.specs.LabelsOf.{labels_meaning}
-use Rattle.cu_values.specs.Tasks.{written, Ready}
+use Rattle.cu_values.specs.Inside.LabelsOf.{labels_meaning}
+use Rattle.cu_values.specs.Inside.Tasks.{written, Ready}
 use Rattle.cu_values.proofs.display.write.Given as goal
 
 abbrev pub invariant-loop-task : goal.invariant-loop-task

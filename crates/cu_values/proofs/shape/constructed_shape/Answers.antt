@@ -1,7 +1,7 @@
 use Rattle.std.proofs.Common.{rules, ◌≡◌, ◌⊎◌, inl, inr, false, arith, ◌∙◌}
 use borrow.Author.Tests.{tests}
 use Rattle.cu_calculus.specs.Match.{same_constructor}
-use Rattle.cu_values.specs.LabelsOf.{labels_meaning}
+use Rattle.cu_values.specs.Inside.LabelsOf.{labels_meaning}
 use Rattle.cu_values.proofs.StackLemmas.{other_is}
 use Rattle.cu_values.proofs.shape.constructed_shape.Goals as goal
 use Rattle.cu_values.proofs.shape.constructed_shape.Goals.{else-arity-eq2-via-then-arity-eq2+else-eq-2, else-arity-eq2-via-else-arity-eq2}

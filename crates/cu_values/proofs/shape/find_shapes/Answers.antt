@@ -2,8 +2,8 @@
 use Rattle.std.proofs.Common.{◌≡◌, ◌-◌, ap, arith, drop, get_or, length, ◌∙◌}
 use Rattle.cu_values.specs.declared.cell.Cell.TheVariants.{Bottom}
 use Rattle.cu_values.specs.Cells.{arity_of, first, put, read_all}
-use Rattle.cu_values.specs.LabelsOf.{labels_meaning}
-use Rattle.cu_values.specs.Shapes.{shape_of}
+use Rattle.cu_values.specs.Inside.LabelsOf.{labels_meaning}
+use Rattle.cu_values.specs.Inside.Shapes.{shape_of}
 use Rattle.cu_values.proofs.StackLemmas.{found_left, stack_room, stack_step}
 use Rattle.cu_values.proofs.shape.find_shapes.Goals as goal
 

@@ -1,8 +1,8 @@
 -- The shapes of the values that are left on the right, and of the values at each cell there.
 use Rattle.std.proofs.Common.{◌≡◌, ◌≤◌, drop, length, reverse}
 use Rattle.cu_values.specs.Cells.{read_all}
-use Rattle.cu_values.specs.LabelsOf.{labels_meaning}
-use Rattle.cu_values.specs.Shapes.{shapes_at, stacked}
+use Rattle.cu_values.specs.Inside.LabelsOf.{labels_meaning}
+use Rattle.cu_values.specs.Inside.Shapes.{shapes_at, stacked}
 use Rattle.cu_values.proofs.shape.find_shapes.Given as goal
 
 abbrev pub invariant-loop-at : goal.invariant-loop-at

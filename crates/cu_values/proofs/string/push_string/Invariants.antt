@@ -3,7 +3,7 @@ use Rattle.std.proofs.Common.{◌≡◌, ◌++◌, ◌<◌, ◌≤◌, ◌-◌, 
 use Rattle.std.specs.String.{string_bytes}
 use Rattle.cu_values.specs.Cells.{suffix, first, read_all, IsSpelled}
 use Rattle.cu_values.specs.Display.{characters, string_text}
-use Rattle.cu_values.specs.Tasks.{are_characters}
+use Rattle.cu_values.specs.Inside.Tasks.{are_characters}
 use Rattle.cu_values.proofs.StringLemmas.{string_after}
 use Rattle.cu_values.proofs.string.push_string.Given as goal
 

@@ -1,5 +1,5 @@
 use Rattle.std.proofs.Common.{[], refl}
-use Rattle.cu_desugar.specs.Texts.{nodes_in}
+use Rattle.cu_desugar.specs.Inside.Texts.{nodes_in}
 use Rattle.cu_desugar.proofs.texts.FunctionText.around.Goals as goal
 
 pub returns : goal.returns

@@ -1,5 +1,5 @@
 use Rattle.std.proofs.Common.{◌∙◌, sym}
-use Rattle.cu_lex.specs.Scanning.{has, left}
+use Rattle.cu_lex.specs.Inside.Scanning.{has, left}
 use Rattle.cu_lex.proofs.ScanLemmas.{skip-none}
 use Rattle.cu_lex.proofs.class.Class.skip.Goals as goal
 

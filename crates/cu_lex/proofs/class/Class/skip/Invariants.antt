@@ -1,5 +1,5 @@
 use Rattle.std.proofs.Common.{◌≡◌, length}
-use Rattle.cu_lex.specs.Scanning.{has, left, skip}
+use Rattle.cu_lex.specs.Inside.Scanning.{has, left, skip}
 use Rattle.cu_lex.proofs.class.Class.skip.Given as goal
 
 abbrev pub invariant-loop-self : goal.invariant-loop-self

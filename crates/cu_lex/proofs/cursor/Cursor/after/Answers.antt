@@ -1,7 +1,7 @@
 use Rattle.std.proofs.Common.{◌≡◌, ◌++◌, ◌+◌, ◌≤◌, ◌∙◌, ap, sym, length, arith}
 use lib.Utf8.{encode}
 use Rattle.cu_lex.specs.Located.{position_after}
-use Rattle.cu_lex.specs.Scanning.{left, position}
+use Rattle.cu_lex.specs.Inside.Scanning.{left, position}
 use Rattle.cu_lex.proofs.CursorLemmas.{at_pair, later-end, later-char, utf8-later, shorter-later, after-line, after-tab, after-other, in_lines, in_columns}
 use Rattle.cu_lex.proofs.cursor.Cursor.after.Goals as goal
 use Rattle.cu_lex.proofs.cursor.Cursor.after.Goals.{then-first-eq10, else-first-eq10+then-first-eq9, else-first-eq10+else-first-eq9}

@@ -2,7 +2,7 @@ use Rattle.std.proofs.Common.{◌∙◌, ap, sym, arith}
 use Rattle.std.specs.Str.{chars}
 use Rattle.std.proofs.lemmas.Str.{is_utf8-from_IsUtf8}
 use Rattle.cu_lex.specs.Located.{first_position, located_from}
-use Rattle.cu_lex.specs.Scanning.{left, position}
+use Rattle.cu_lex.specs.Inside.Scanning.{left, position}
 use Rattle.cu_lex.proofs.CursorLemmas.{same-text, start-plain, first-located, is-some-mark, no-some-mark}
 use Rattle.cu_lex.proofs.cursor.Cursor.new.Goals as goal
 

@@ -1,6 +1,6 @@
 use Rattle.std.proofs.Common.{ap, slice_get, ◌∙◌}
 use Rattle.std.specs.Str.{chars}
-use Rattle.cu_lex.specs.Scanning.{left, position}
+use Rattle.cu_lex.specs.Inside.Scanning.{left, position}
 use Rattle.cu_lex.proofs.CursorLemmas.{first-located}
 use Rattle.cu_lex.proofs.cursor.Cursor.peek.Goals as goal
 

@@ -1,4 +1,4 @@
-use Rattle.cu_lex.specs.Scanning.{left, position}
+use Rattle.cu_lex.specs.Inside.Scanning.{left, position}
 use Rattle.cu_lex.proofs.CursorLemmas.{first-at}
 use Rattle.cu_lex.proofs.cursor.Cursor.place.Goals as goal
 

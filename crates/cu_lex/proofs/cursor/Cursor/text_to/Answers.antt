@@ -1,7 +1,7 @@
 use Rattle.std.proofs.Common.{◌∙◌}
 use lib.Utf8.{encodes}
 use Rattle.cu_lex.specs.Located.{characters}
-use Rattle.cu_lex.specs.Scanning.{left, position}
+use Rattle.cu_lex.specs.Inside.Scanning.{left, position}
 use Rattle.cu_lex.proofs.CursorLemmas.{before, fits-before, boundary, taken}
 use Rattle.cu_lex.proofs.cursor.Cursor.text_to.Goals as goal
 

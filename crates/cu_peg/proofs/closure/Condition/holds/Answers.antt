@@ -2,7 +2,7 @@ use Rattle.std.proofs.Common.{rules, ap, sym, ◌∙◌}
 use Rattle.std.proofs.lemmas.Iterator.{YieldsList-from_slice}
 use Rattle.std.proofs.lemmas.Iterator.Search.{all_from_yields_List, any_from_yields_List}
 use borrow.Author.Tests.{tests}
-use Rattle.cu_peg.specs.Closure.{holds_of, marked}
+use Rattle.cu_peg.specs.Inside.Closure.{holds_of, marked}
 use Rattle.cu_peg.specs.declared.closure.Quantifier.{Quantifier}
 use Rattle.cu_peg.proofs.closure.Condition.holds.Goals as goal
 

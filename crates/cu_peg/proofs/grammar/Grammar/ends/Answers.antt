@@ -1,8 +1,8 @@
 use Rattle.std.proofs.Common.{◌∙◌, List, length, map, subst}
 use Rattle.cu_lex.specs.Reading.{lexeme_of}
 use Rattle.cu_peg.specs.declared.row.Row.{Row}
-use Rattle.cu_peg.specs.Ends.{IsRight}
-use Rattle.cu_peg.specs.Reached.{kept}
+use Rattle.cu_peg.specs.Inside.Ends.{IsRight}
+use Rattle.cu_peg.specs.Inside.Reached.{kept}
 use Rattle.cu_peg.specs.Result.{has_at}
 use Rattle.cu_peg.proofs.grammar.Grammar.ends.Goals as goal
 

@@ -1,7 +1,7 @@
 use Rattle.std.proofs.Common.{◌≡◌, ◌≤◌, ◌+◌, ◌-◌, ℕ, List, length, map}
 use Rattle.cu_lex.specs.Reading.{lexeme_of}
-use Rattle.cu_peg.specs.Ends.{IsRight}
-use Rattle.cu_peg.specs.Reached.{kept}
+use Rattle.cu_peg.specs.Inside.Ends.{IsRight}
+use Rattle.cu_peg.specs.Inside.Reached.{kept}
 use Rattle.cu_peg.specs.Result.{has_at}
 use Rattle.cu_peg.proofs.grammar.Grammar.ends.Given as goal
 

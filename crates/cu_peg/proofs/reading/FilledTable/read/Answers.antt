@@ -3,11 +3,11 @@ use Rattle.std.specs.Prelude.{MatchOption, slice_get}
 use Rattle.std.specs.Option.{option_to_list}
 use Rattle.std.proofs.lemmas.List.{nil_from_length}
 use Rattle.cu_lex.specs.Reading.{lexeme_of}
-use Rattle.cu_peg.specs.Cursors.{first_parts, next_part, node_of}
+use Rattle.cu_peg.specs.Inside.Cursors.{first_parts, next_part, node_of}
 use Rattle.cu_peg.specs.declared.node.Node.{Node}
 use Rattle.cu_peg.specs.declared.reading.Cursor.{Cursor}
-use Rattle.cu_peg.specs.Ends.{end_at}
-use Rattle.cu_peg.specs.Reached.{kept}
+use Rattle.cu_peg.specs.Inside.Ends.{end_at}
+use Rattle.cu_peg.specs.Inside.Reached.{kept}
 use Rattle.cu_peg.specs.Result.{has_at}
 use Rattle.cu_peg.proofs.GrammarLemmas.{owner-real, to-kept, within-kept, within-real}
 use Rattle.cu_peg.proofs.KeptLemmas.{kept-marked, kept-real}

@@ -1,9 +1,9 @@
 use Rattle.std.proofs.Common.{◌-◌, ℕ, Bool, List, length, map, ◌≡◌, ◌+◌}
 use Rattle.cu_lex.specs.Reading.{lexeme_of}
-use Rattle.cu_peg.specs.Ends.{IsRight, last}
+use Rattle.cu_peg.specs.Inside.Ends.{IsRight, last}
 use Rattle.cu_peg.specs.Matches.{HasTree}
 use Rattle.cu_peg.specs.Parse.{ParseTree}
-use Rattle.cu_peg.specs.Reached.{IsReached, kept}
+use Rattle.cu_peg.specs.Inside.Reached.{IsReached, kept}
 use Rattle.cu_peg.specs.Result.{has_at}
 use Rattle.cu_peg.proofs.ReadLemmas.{Reading}
 use Rattle.cu_peg.proofs.reading.FilledTable.read.Given as goal

@@ -1,6 +1,6 @@
 use Rattle.std.proofs.Common.{◌≡◌, ◌<◌, ◌≤◌, ◌∙◌, sym, ap, arith, length}
-use Rattle.cu_peg.specs.Ends.{end_at}
-use Rattle.cu_peg.specs.Places.{TableView, cell, span_at}
+use Rattle.cu_peg.specs.Inside.Ends.{end_at}
+use Rattle.cu_peg.specs.Inside.Places.{TableView, cell, span_at}
 use Rattle.cu_peg.proofs.TableLemmas.{end-filled, end-kept, end-past, end-wide}
 use Rattle.cu_peg.proofs.table.Table.end.Goals as goal
 

@@ -1,5 +1,5 @@
 use Rattle.std.proofs.Common.{◌∙◌, ap, length}
-use Rattle.cu_peg.specs.Places.{TableView}
+use Rattle.cu_peg.specs.Inside.Places.{TableView}
 use Rattle.cu_peg.proofs.TableLemmas.{len-some}
 use Rattle.cu_peg.proofs.table.Table.len.Goals as goal
 

@@ -1,7 +1,7 @@
 use Rattle.std.proofs.Common.{◌∙◌, ap₂}
 use Rattle.cu_translation.specs.Meaning.{binder_meaning}
-use Rattle.cu_sites.specs.Inside.Relating.{relates}
 use Rattle.cu_sites.proofs.dependencies.Dependencies.depends.Goals as goal
+use Rattle.cu_sites.specs.Depending.{relates}
 
 pub returns : goal.returns
 returns c nodes h =

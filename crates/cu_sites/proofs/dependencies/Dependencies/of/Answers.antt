@@ -3,14 +3,14 @@ use Rattle.cu_lex.specs.Located.{Position}
 use Rattle.cu_locals.specs.Places.{positions_meaning}
 use Rattle.cu_translation.specs.Dependencies.{Definition, definitions}
 use Rattle.cu_translation.specs.LocalNames.{Binder}
+use Rattle.cu_sites.specs.Depending.{is_defined}
 use Rattle.cu_sites.specs.declared.definitions.Definition as definitions_found
 use Rattle.cu_sites.specs.declared.uses.Usage as usages_found
 use Rattle.cu_sites.specs.Inside.Capturing.{IsGraph}
-use Rattle.cu_sites.specs.Inside.Counting.{binders_meaning}
 use Rattle.cu_sites.specs.Inside.Defining.{definitions_meaning}
-use Rattle.cu_sites.specs.Inside.Needing.{IsNeeded, defined_variables, functions_around, is_defined, used_variables}
+use Rattle.cu_sites.specs.Inside.Needing.{IsNeeded, defined_variables, functions_around, used_variables}
 use Rattle.cu_sites.specs.Inside.Using.{Usage, usage_of, usages_meaning}
-use Rattle.cu_sites.specs.Numbered.{HasNumbers}
+use Rattle.cu_sites.specs.Numbered.{HasNumbers, binders_meaning}
 use Rattle.cu_sites.proofs.WholeLemmas.{all_around, all_variables, dependencies_are}
 use Rattle.cu_sites.proofs.dependencies.Dependencies.of.Goals as goal
 

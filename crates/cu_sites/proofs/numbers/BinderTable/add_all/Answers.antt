@@ -1,7 +1,7 @@
 use Rattle.std.proofs.Common.{◌++◌, append-nil, subst, sym, take, take_all}
-use Rattle.cu_sites.specs.Inside.Counting.{IsBinderTable}
 use Rattle.cu_sites.proofs.TableLemmas.{no_binder, taken_more}
 use Rattle.cu_sites.proofs.numbers.BinderTable.add_all.Goals as goal
+use Rattle.cu_sites.specs.Numbered.{IsBinderTable}
 
 pub loop-binder-init : goal.loop-binder-init
 loop-binder-init c = λ before has. subst (λ keys. IsBinderTable keys c.args.self.now) (sym (append-nil before)) has

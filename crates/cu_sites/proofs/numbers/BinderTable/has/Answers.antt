@@ -1,7 +1,7 @@
 use Rattle.std.proofs.Common.{◌∙◌, ap, is_some}
-use Rattle.cu_sites.specs.Inside.Counting.{same_binder}
 use Rattle.cu_sites.proofs.InsideLemmas.{some_found}
 use Rattle.cu_sites.proofs.numbers.BinderTable.has.Goals as goal
+use Rattle.cu_sites.specs.Numbered.{same_binder}
 
 pub returns : goal.returns
 returns c binders is =

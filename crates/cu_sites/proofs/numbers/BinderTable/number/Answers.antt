@@ -1,7 +1,7 @@
 use Rattle.std.proofs.Common.{◌∙◌}
 use Rattle.cu_sites.proofs.TableLemmas.{place_or_all}
-use Rattle.cu_sites.specs.Inside.Counting.{same_binder}
 use Rattle.cu_sites.proofs.numbers.BinderTable.number.Goals as goal
+use Rattle.cu_sites.specs.Numbered.{same_binder}
 
 pub returns : goal.returns
 returns c = λ keys has.

@@ -2,9 +2,9 @@ use Rattle.std.proofs.Common.{◌∙◌, ap}
 use Rattle.std.specs.List.{position_or_len}
 use Rattle.cu_translation.specs.LocalNames.{same_place}
 use Rattle.cu_translation.specs.Meaning.{position_meaning}
-use Rattle.cu_sites.specs.Inside.Counting.{same_position}
 use Rattle.cu_sites.proofs.TableLemmas.{place_of_meanings, same_positions}
 use Rattle.cu_sites.proofs.numbers.Numbers.function.Goals as goal
+use Rattle.cu_sites.specs.Numbered.{same_position}
 
 pub returns : goal.returns
 returns c binders functions has =

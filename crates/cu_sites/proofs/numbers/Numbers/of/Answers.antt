@@ -2,8 +2,8 @@ use Rattle.std.proofs.Common.{◌∙◌, ◌++◌, [], ap, map}
 use Rattle.std.proofs.lemmas.List.{map-append}
 use Rattle.cu_translation.specs.Meaning.{binder_meaning}
 use Rattle.cu_locals.specs.Places.{positions_meaning}
-use Rattle.cu_sites.specs.Inside.Counting.{binders_meaning}
 use Rattle.cu_sites.proofs.numbers.Numbers.of.Goals as goal
+use Rattle.cu_sites.specs.Numbered.{binders_meaning}
 
 pub returns : goal.returns
 returns c t nodes stands =

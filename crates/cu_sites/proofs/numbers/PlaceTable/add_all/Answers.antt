@@ -1,7 +1,7 @@
 use Rattle.std.proofs.Common.{◌++◌, append-nil, subst, sym, take, take_all}
-use Rattle.cu_sites.specs.Inside.Counting.{IsPlaceTable}
 use Rattle.cu_sites.proofs.TableLemmas.{no_place, taken_more}
 use Rattle.cu_sites.proofs.numbers.PlaceTable.add_all.Goals as goal
+use Rattle.cu_sites.specs.Numbered.{IsPlaceTable}
 
 pub loop-place-init : goal.loop-place-init
 loop-place-init c = λ before has. subst (λ keys. IsPlaceTable keys c.args.self.now) (sym (append-nil before)) has

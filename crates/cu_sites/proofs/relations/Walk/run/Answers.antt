@@ -1,6 +1,7 @@
 use Rattle.std.proofs.Common.{arith, ◌<◌, ◌≤◌, ◌^◌, ◌≡◌, ap, subst, ℕ, List, length, get_or, ◌∙◌}
 use Rattle.std.proofs.lemmas.Option.{slice_get-get_or}
-use Rattle.cu_sites.specs.Inside.Relating.{Meets, row}
+use Rattle.cu_sites.specs.Depending.{row}
+use Rattle.cu_sites.specs.Inside.Relating.{Meets}
 use Rattle.cu_sites.proofs.RelationLemmas.{walks_begin, walks_end, walks_on}
 use Rattle.cu_sites.proofs.relations.Walk.run.Goals as goal
 

@@ -1,5 +1,5 @@
 use Rattle.std.proofs.Common.{◌≡◌, ◌<◌, length, arith, ap, ◌∙◌}
-use Rattle.cu_step.specs.Walk.{Found, found, looked_at, with_frame}
+use Rattle.cu_step.specs.Inside.Walk.{Found, found, looked_at, with_frame}
 use Rattle.cu_step.proofs.Advances.{argument, frame_next, further, look_at, frame_there, leave_answer, leave_goes, next_answer, next_goes, pushed_found, within_args}
 use Rattle.cu_step.proofs.need.Walk.advance.Goals as goal
 

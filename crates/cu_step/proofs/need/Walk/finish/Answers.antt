@@ -1,6 +1,6 @@
 -- The walk ends where no node is left to be looked at.
 use Rattle.std.proofs.Common.{◌≡◌, ◌∙◌, sym, [], vec_len}
-use Rattle.cu_step.specs.Walk.{found}
+use Rattle.cu_step.specs.Inside.Walk.{found}
 use Rattle.cu_step.proofs.Finds.{end_out, none_left}
 use Rattle.cu_step.proofs.need.Walk.finish.Goals as goal
 

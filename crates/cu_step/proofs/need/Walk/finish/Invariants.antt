@@ -2,7 +2,7 @@
 -- cost that is linear in the nodes and their arguments.
 use Rattle.std.proofs.Common.{◌≡◌}
 use Rattle.cu_machine.specs.Need as need
-use Rattle.cu_step.specs.Walk.{Fits, Marked, cost, found, outcome}
+use Rattle.cu_step.specs.Inside.Walk.{Fits, Marked, cost, found, outcome}
 use Rattle.cu_step.proofs.need.Walk.finish.Given as goal
 
 abbrev pub invariant-loop-frame : goal.invariant-loop-frame

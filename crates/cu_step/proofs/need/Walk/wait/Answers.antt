@@ -1,6 +1,6 @@
 use Rattle.std.proofs.Common.{◌≡◌, true, ap, List, vec_len}
 use Rattle.cu_step.specs.declared.need.Frame.{Frame}
-use Rattle.cu_step.specs.Walk.{Found, flagged}
+use Rattle.cu_step.specs.Inside.Walk.{Found, flagged}
 use Rattle.cu_step.proofs.Frames.{flagged_frames, flagged_none}
 use Rattle.cu_step.proofs.need.Walk.wait.Goals as goal
 

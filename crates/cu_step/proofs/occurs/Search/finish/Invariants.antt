@@ -1,6 +1,6 @@
 -- What is still to be looked at tells the answer. Each look takes a node, or marks one.
 use Rattle.std.proofs.Common.{◌≡◌, ◌+◌, length}
-use Rattle.cu_step.specs.Occurring.{Looks, unseen_arguments}
+use Rattle.cu_step.specs.Inside.Occurring.{Looks, unseen_arguments}
 use Rattle.cu_step.proofs.occurs.Search.finish.Given as goal
 
 abbrev pub invariant-loop-id : goal.invariant-loop-id

@@ -1,7 +1,7 @@
 -- What was written, and the values of the nodes that are left, are the whole. Each step takes a
 -- cell's room.
 use Rattle.std.proofs.Common.{reverse}
-use Rattle.cu_step.specs.Written.{Written}
+use Rattle.cu_step.specs.Inside.Written.{Written}
 use Rattle.cu_step.proofs.read.Reader.value.Given as goal
 
 abbrev pub invariant-loop-id : goal.invariant-loop-id

@@ -3,7 +3,7 @@ use Rattle.std.proofs.Common.{◌≡◌, [], IfOk, ap, reverse, subst, vec_len}
 use Rattle.cu_machine.specs.Graph.{Graph}
 use Rattle.cu_machine.specs.Rewrite.{alone_follows}
 use Rattle.cu_step.specs.Inside.Building.{State, left_by, state_of}
-use Rattle.cu_step.specs.Moved.{move_of}
+use Rattle.cu_step.specs.Inside.Moved.{move_of}
 use Rattle.cu_step.specs.declared.build.Target.TheVariants as target
 use Rattle.cu_step.specs.declared.build.Task.TheVariants as task
 use Rattle.cu_step.proofs.Reversals.{added_first, last_first, none_taken}

@@ -2,7 +2,7 @@
 use Rattle.std.proofs.Common.{◌≡◌, ℕ, List, IfOk, ap, map, subst, sym, ◌∙◌}
 use Rattle.cu_machine.specs.Graph.{head_at, node_at}
 use Rattle.cu_machine.specs.Rewrite.{Move, literal_step}
-use Rattle.cu_step.specs.Moved.{move_of}
+use Rattle.cu_step.specs.Inside.Moved.{move_of}
 use Rattle.cu_step.proofs.Operands.{other_operations}
 use Rattle.cu_step.proofs.redex.Redex.operation_step.Goals as goal
 

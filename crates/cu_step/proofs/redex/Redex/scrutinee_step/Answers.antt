@@ -3,7 +3,7 @@ use Rattle.std.proofs.Common.{ap, map, ◌∙◌}
 use Rattle.cu_flat.specs.Meaning.{branch_meaning}
 use Rattle.cu_machine.specs.declared.Kind.TheVariants as kind
 use Rattle.cu_step.specs.Inside.Building.{branch_nests}
-use Rattle.cu_step.specs.Matching.{takes_pattern}
+use Rattle.cu_step.specs.Inside.Matching.{takes_pattern}
 use Rattle.cu_step.proofs.Nesting.{chosen_nests}
 use Rattle.cu_step.proofs.redex.Redex.scrutinee_step.Goals as goal
 

@@ -1,7 +1,7 @@
 -- A name is a token, an alternative, or stands between two tokens.
 use Rattle.std.proofs.Common.{[], ap, sym, ◌∙◌}
-use Rattle.cu_syntax.specs.Meaning.{rule_meaning}
-use Rattle.cu_syntax.specs.NameTokens.{has_name}
+use Rattle.cu_syntax.specs.Inside.Meaning.{rule_meaning}
+use Rattle.cu_syntax.specs.Inside.NameTokens.{has_name}
 use Rattle.cu_syntax.specs.Reading.{name_token}
 use Rattle.cu_syntax.specs.SubtreeMeaning.{tree_of}
 use Rattle.cu_syntax.specs.Table.{rule_of}

@@ -1,7 +1,7 @@
 -- What is inside has the same token.
 use Rattle.std.proofs.Common.{◌≡◌, ℕ, List, length, true}
 use Rattle.cu_names.specs.declared.names.NameId.{NameId}
-use Rattle.cu_syntax.specs.NameTokens.{has_name}
+use Rattle.cu_syntax.specs.Inside.NameTokens.{has_name}
 use Rattle.cu_syntax.specs.Owners.{IsOf}
 use Rattle.cu_syntax.specs.Reading.{name_token}
 use Rattle.cu_syntax.specs.SubtreeMeaning.{tree_of}

@@ -1,6 +1,6 @@
 -- The tree's nodes spell it.
 use Rattle.std.proofs.Common.{ap₂, ◌∙◌}
-use Rattle.cu_syntax.specs.Fits.{fits}
+use Rattle.cu_syntax.specs.Inside.Fits.{fits}
 use Rattle.cu_syntax.specs.Subtrees.{over}
 use Rattle.cu_syntax.proofs.NodeLemmas.{reads, spells}
 use Rattle.cu_syntax.proofs.SplitLemmas.{lexemes}

@@ -2,7 +2,7 @@ use Rattle.std.proofs.Common.{None, map, subst, take_all}
 use Rattle.cu_syntax.specs.declared.name.Name.{Name}
 use Rattle.cu_syntax.specs.Names.{name_meaning}
 use Rattle.cu_syntax.specs.Types.{type_meaning}
-use Rattle.cu_toplevel.specs.SignatureTables.{AreSignatures, and_several}
+use Rattle.cu_toplevel.specs.Inside.SignatureTables.{AreSignatures, and_several}
 use Rattle.cu_toplevel.proofs.SignatureTableLemmas.{name_more, no_name}
 use Rattle.cu_toplevel.proofs.signature_table.Signatures.add_all.Goals as goal
 

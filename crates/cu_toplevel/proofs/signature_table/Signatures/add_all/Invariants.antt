@@ -6,7 +6,7 @@ use Rattle.cu_syntax.specs.Names.{name_meaning}
 use Rattle.cu_syntax.specs.Owners.{NameIsOf, TypeIsOf}
 use Rattle.cu_syntax.specs.Syntax.{TypeTerm}
 use Rattle.cu_syntax.specs.Types.{type_meaning}
-use Rattle.cu_toplevel.specs.SignatureTables.{AreSignatures, and_several}
+use Rattle.cu_toplevel.specs.Inside.SignatureTables.{AreSignatures, and_several}
 use Rattle.cu_toplevel.proofs.signature_table.Signatures.add_all.Given as goal
 
 abbrev pub invariant-functions : goal.invariant-functions

@@ -6,7 +6,7 @@ use Rattle.cu_syntax.specs.Names.{name_meaning}
 use Rattle.cu_syntax.specs.Owners.{DeclarationNodeIsOf, NameIsOf}
 use Rattle.cu_syntax.specs.Syntax.{Declaration}
 use Rattle.cu_syntax.specs.Types.{type_meaning}
-use Rattle.cu_toplevel.specs.SignatureTables.{AreSignatures, and_several}
+use Rattle.cu_toplevel.specs.Inside.SignatureTables.{AreSignatures, and_several}
 use Rattle.cu_translation.specs.LocalFunctions.{or_else, signature_in}
 use Rattle.cu_toplevel.proofs.SignatureTableLemmas.{nothing_more, other_declaration}
 use Rattle.cu_toplevel.proofs.signature_table.Signatures.add_declaration.Goals as goal

@@ -6,7 +6,7 @@ use Rattle.cu_syntax.specs.Items.{item_node}
 use Rattle.cu_syntax.specs.Owners.{ItemNodeIsOf}
 use Rattle.cu_syntax.specs.Syntax.{Item}
 use Rattle.cu_toplevel.specs.declared.signature_table.Signatures.{Signatures}
-use Rattle.cu_toplevel.specs.SignatureTables.{AreSignatures}
+use Rattle.cu_toplevel.specs.Inside.SignatureTables.{AreSignatures}
 use Rattle.cu_translation.specs.LocalFunctions.{or_else}
 use Rattle.cu_translation.specs.Parts.{signature_by}
 use Rattle.cu_toplevel.proofs.SignatureTableLemmas.{nothing_more, other_item}

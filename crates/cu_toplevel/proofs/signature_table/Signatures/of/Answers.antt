@@ -2,7 +2,7 @@ use Rattle.std.proofs.Common.{◌∙◌, ap, map, subst, sym, take_all}
 use Rattle.cu_syntax.specs.Answer.{item_meaning, module_meaning}
 use Rattle.cu_syntax.specs.declared.text.Item.{Item}
 use Rattle.cu_syntax.specs.Owners.{ItemIsOf, ModuleIsOf}
-use Rattle.cu_toplevel.specs.SignatureTables.{AreSignatures}
+use Rattle.cu_toplevel.specs.Inside.SignatureTables.{AreSignatures}
 use Rattle.cu_translation.specs.Parts.{signature_of}
 use Rattle.cu_toplevel.proofs.SignatureTableLemmas.{item_more}
 use Rattle.cu_toplevel.proofs.signature_table.Signatures.of.Goals as goal

@@ -5,7 +5,7 @@ use Rattle.cu_values.proofs.ArgumentLemmas.{read_by, spelled_by}
 use Rattle.cu_values.proofs.CellLemmas.{spelled_one}
 use Rattle.cu_values.proofs.display.Workspace.display.Goals as goal
 use Rattle.cu_values.specs.Display.{display}
-use Rattle.cu_values.specs.LabelsOf.{labels_meaning}
+use Rattle.cu_values.specs.Inside.LabelsOf.{labels_meaning}
 
 pub find_shapes-requires : goal.find_shapes-requires
 find_shapes-requires c = rw (c.cells-cells.ensures) (spelled_one c.args.value.now)

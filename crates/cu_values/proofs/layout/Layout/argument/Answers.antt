@@ -2,7 +2,7 @@ use Rattle.std.proofs.Common.{◌≡◌, [], ◌∷◌, codes, refl, false, true
 use Rattle.std.specs.String.{string_bytes}
 use Rattle.cu_values.specs.Cells.{first, read_all}
 use Rattle.cu_values.specs.Display.{takes_parentheses}
-use Rattle.cu_values.specs.LabelsOf.{labels_meaning}
+use Rattle.cu_values.specs.Inside.LabelsOf.{labels_meaning}
 use Rattle.cu_values.specs.declared.shape.Shape.TheVariants.{Character}
 use Rattle.cu_values.specs.declared.task.Task.TheVariants.{Alone, Argument, ClosingParenthesis}
 use Rattle.cu_values.proofs.StepLemmas.{composed_ok, enclosed_here, pushed, pushed_length, shapes_within}

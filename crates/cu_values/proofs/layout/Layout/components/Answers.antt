@@ -1,6 +1,6 @@
 use Rattle.std.proofs.Common.{◌-◌, ◌∷◌, codes, arith, reverse}
 use Rattle.std.specs.String.{string_bytes}
-use Rattle.cu_values.specs.LabelsOf.{labels_meaning}
+use Rattle.cu_values.specs.Inside.LabelsOf.{labels_meaning}
 use Rattle.cu_values.specs.declared.task.Task.TheVariants.{Alone, Components}
 use Rattle.cu_values.proofs.StepLemmas.{components_here, composed_ok, pushed, pushed_length}
 use Rattle.cu_values.proofs.WriteLemmas.{prepared}

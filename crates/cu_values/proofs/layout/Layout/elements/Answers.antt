@@ -1,5 +1,5 @@
 use Rattle.std.proofs.Common.{arith}
-use Rattle.cu_values.specs.LabelsOf.{labels_meaning}
+use Rattle.cu_values.specs.Inside.LabelsOf.{labels_meaning}
 use Rattle.std.specs.String.{string_bytes}
 use Rattle.cu_values.proofs.StepLemmas.{elements_end_step, elements_step}
 use Rattle.cu_values.proofs.layout.Layout.elements.Goals as goal

@@ -1,5 +1,5 @@
 use Rattle.std.specs.String.{string_bytes}
-use Rattle.cu_values.specs.LabelsOf.{labels_meaning}
+use Rattle.cu_values.specs.Inside.LabelsOf.{labels_meaning}
 use Rattle.cu_values.proofs.StepLemmas.{open_rest_step}
 use Rattle.cu_values.proofs.layout.Layout.open_rest.Goals as goal
 

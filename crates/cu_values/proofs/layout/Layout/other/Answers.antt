@@ -1,7 +1,7 @@
 use Rattle.std.proofs.Common.{rules, ◌≡◌, ℕ, ◌-◌, ◌++◌, List, true, false, arith, ap, ◌∙◌}
 use borrow.Author.Tests.{tests}
 use Rattle.std.specs.String.{string_bytes}
-use Rattle.cu_values.specs.LabelsOf.{labels_meaning}
+use Rattle.cu_values.specs.Inside.LabelsOf.{labels_meaning}
 use Rattle.cu_values.specs.declared.shape.Shape.TheVariants.{Character}
 use Rattle.cu_values.specs.Display.{in_parentheses, is_operator}
 use Rattle.cu_values.proofs.StepLemmas.{application_step, headed, tuple_step, unit_step}

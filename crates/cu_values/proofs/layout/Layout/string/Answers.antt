@@ -1,6 +1,6 @@
 use Rattle.std.proofs.Common.{refl}
 use Rattle.std.specs.String.{string_bytes}
-use Rattle.cu_values.specs.LabelsOf.{labels_meaning}
+use Rattle.cu_values.specs.Inside.LabelsOf.{labels_meaning}
 use Rattle.cu_values.specs.declared.shape.Shape.TheVariants.{Character}
 use Rattle.cu_values.specs.declared.task.Task.TheVariants.{Alone}
 use Rattle.cu_values.proofs.StepLemmas.{string_letters, string_step}

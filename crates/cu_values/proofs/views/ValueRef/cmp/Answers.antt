@@ -4,7 +4,7 @@ use Rattle.std.specs.declared.cmp.Ordering.TheVariants.{Equal}
 use borrow.Author.Tests.{tests}
 use Rattle.cu_values.specs.declared.cell.Cell.TheVariants.{Bottom}
 use Rattle.cu_values.specs.Cells.{arity_of}
-use Rattle.cu_values.specs.HeadsOrder.{cell_order}
+use Rattle.cu_values.specs.Inside.HeadsOrder.{cell_order}
 use Rattle.cu_values.proofs.OrderLemmas.{arity_room, left_from, order_beginning, order_differ_at, order_end, order_step_at}
 use Rattle.cu_values.specs.Views.{viewed}
 use Rattle.cu_values.proofs.views.ValueRef.cmp.Goals as goal

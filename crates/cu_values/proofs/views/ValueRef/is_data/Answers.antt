@@ -2,7 +2,7 @@ use Rattle.std.proofs.Common.{rules, ◌∙◌}
 use borrow.Author.Tests.{tests}
 use Rattle.std.proofs.lemmas.Iterator.{YieldsList-from_slice}
 use Rattle.std.proofs.lemmas.Iterator.Search.{all_from_yields_List}
-use Rattle.cu_values.specs.CellKinds.{is_data_cell}
+use Rattle.cu_values.specs.Inside.CellKinds.{is_data_cell}
 use Rattle.cu_values.specs.Cells.{spell}
 use Rattle.cu_values.proofs.KindLemmas.{cells_data}
 use Rattle.cu_values.specs.Views.{viewed}

@@ -1,6 +1,6 @@
 -- What is read off the rows about the tokens that they take, as tests and lists.
 use Rattle.std.specs.Prelude.{◌≡◌, ◌&&◌, if◌then◌else◌, ℕ, Bool, true, false, List, [], ◌∷◌}
-use Rattle.cu_peg.specs.Closure.{marked}
+use Rattle.cu_peg.specs.Inside.Closure.{marked}
 use Rattle.cu_peg.specs.declared.closure.Condition.{Condition}
 use Rattle.cu_peg.specs.declared.closure.Quantifier.{Quantifier}
 use Rattle.cu_peg.specs.declared.closure.Quantifier.TheVariants as quantifier

@@ -11,7 +11,7 @@ use Rattle.cu_machine.specs.Spell.{spelled}
 use Rattle.cu_machine.specs.Validity.{are_places}
 use Rattle.cu_step.specs.declared.occurs.Sought.{Sought}
 use Rattle.cu_step.specs.declared.occurs.Sought.TheVariants as sought
-use Rattle.cu_step.specs.Walk.{height}
+use Rattle.cu_step.specs.Inside.Walk.{height}
 
 -- whether a head is what is sought: the free variable, or any partial application
 abbrev pub is_sought : Sought → ℕ → Kind → Bool

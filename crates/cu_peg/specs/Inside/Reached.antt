@@ -2,11 +2,11 @@
 use Rattle.std.specs.Prelude.{◌≡◌, ℕ, ◌+◌, ◌≤◌, ◌⊎◌, Contains, Bool, true, false, List, [], ◌∷◌, All, Option, Some, length, map, slice_get}
 use Rattle.cu_lex.specs.declared.token.Token.{Token}
 use Rattle.cu_lex.specs.Reading.{lexeme_of}
-use Rattle.cu_peg.specs.Closure.{marked, unmarked}
+use Rattle.cu_peg.specs.Inside.Closure.{marked, unmarked}
 use Rattle.cu_peg.specs.declared.row.Row.{Row}
 use Rattle.cu_peg.specs.declared.row.Row.TheVariants as row
 use Rattle.cu_peg.specs.declared.table.End.{End}
-use Rattle.cu_peg.specs.Ends.{IsRight}
+use Rattle.cu_peg.specs.Inside.Ends.{IsRight}
 use Rattle.cu_peg.specs.Result.{has_at}
 use Rattle.cu_peg.specs.WellFormed.{named}
 

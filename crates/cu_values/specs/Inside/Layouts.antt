@@ -4,9 +4,9 @@ use Rattle.std.specs.String.{string_bytes}
 use Rattle.cu_values.specs.declared.layout.Layout.{Layout}
 use Rattle.cu_values.specs.declared.task.Pen.{Pen}
 use Rattle.cu_values.specs.declared.task.Task.{Task}
-use Rattle.cu_values.specs.LabelsOf.{labels_meaning}
-use Rattle.cu_values.specs.Shapes.{shapes_at}
-use Rattle.cu_values.specs.Tasks.{Ready, Step}
+use Rattle.cu_values.specs.Inside.LabelsOf.{labels_meaning}
+use Rattle.cu_values.specs.Inside.Shapes.{shapes_at}
+use Rattle.cu_values.specs.Inside.Tasks.{Ready, Step}
 
 -- The shapes of a layout are those of its cells.
 abbrev pub IsShaped : Layout → Type 0

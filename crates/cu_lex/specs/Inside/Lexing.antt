@@ -15,19 +15,19 @@ use Rattle.cu_lex.specs.Munch.{cut_at, longest}
 use Rattle.cu_lex.specs.Pieces.{Piece, piece}
 use Rattle.cu_lex.specs.Pieces.Piece.{Blank, Token, OutOfRange}
 use Rattle.cu_lex.specs.Reading.{kind_of, position_of, spelling_of, HasKind, HasName}
-use Rattle.cu_lex.specs.Scanning.{left}
+use Rattle.cu_lex.specs.Inside.Scanning.{left}
 use Rattle.std.specs.Prelude.{[], ℕ, not, true, false, Bool, ◌==◌, ◌++◌}
 use Rattle.std.specs.Option.{option_and_then, option_map}
 use Rattle.cu_lex.specs.declared.word.Qualified.{Qualified}
 use Rattle.cu_lex.specs.declared.word.WordKind.{WordKind}
 use Rattle.cu_lex.specs.declared.word.WordKind.TheVariants as kind
-use Rattle.cu_lex.specs.Chains.{BeginsAt}
+use Rattle.cu_lex.specs.Inside.Chains.{BeginsAt}
 use Rattle.cu_lex.specs.Kind.{Kind}
 use Rattle.cu_lex.specs.Kind.Kind.{VarId, ConId, VarOp, ConOp, Keyword, Reserved}
 use Rattle.cu_lex.specs.Located.{characters}
 use Rattle.cu_lex.specs.Munch.{Cut}
 use Rattle.cu_lex.specs.Pieces.{spelled}
-use Rattle.cu_lex.specs.Scanning.{first_of, later, run, skip, IsWord}
+use Rattle.cu_lex.specs.Inside.Scanning.{first_of, later, run, skip, IsWord}
 use Rattle.cu_lex.specs.Words.{begins_with, is_module_name, is_separator, mark_of}
 use Rattle.std.specs.Char.{is_ascii_digit, is_ascii_uppercase}
 

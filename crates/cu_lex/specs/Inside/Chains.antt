@@ -5,7 +5,7 @@ use Rattle.cu_lex.specs.declared.cursor.Cursor.{Cursor}
 use Rattle.cu_lex.specs.declared.word.Qualified.{Qualified}
 use Rattle.cu_lex.specs.declared.word.WordKind.{WordKind}
 use Rattle.cu_lex.specs.Located.{Located, characters}
-use Rattle.cu_lex.specs.Scanning.{first_of, later, left, con_id_kind, is_base, IsWord}
+use Rattle.cu_lex.specs.Inside.Scanning.{first_of, later, left, con_id_kind, is_base, IsWord}
 use Rattle.cu_lex.specs.Words.{is_module_name}
 
 -- A text begins with a name or an operator, qualified or not, that ends before `rest`.

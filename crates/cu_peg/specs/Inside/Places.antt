@@ -2,10 +2,10 @@
 -- end isn't the usual one.
 use Rattle.std.specs.Prelude.{◌≡◌, ℕ, suc, ◌-◌, ◌≤◌, ◌⊎◌, ◌==◌, Bool, List, [], ◌∷◌, ◌++◌, Option, None, Some, if◌then◌else◌, drop, length, map, take, slice_index_or, MatchOption}
 use Rattle.std.specs.List.{range_with_len}
-use Rattle.cu_peg.specs.Closure.{marked}
+use Rattle.cu_peg.specs.Inside.Closure.{marked}
 use Rattle.cu_peg.specs.declared.table.End.{End}
 use Rattle.cu_peg.specs.declared.places.Entry.{Entry}
-use Rattle.cu_peg.specs.Ends.{alone}
+use Rattle.cu_peg.specs.Inside.Ends.{alone}
 
 -- What contracts see of a table of ends: how many rows each place has, and the ends of the rows at
 -- each place.

@@ -15,7 +15,7 @@ use Rattle.cu_lex.specs.Literals.{item, short_escape}
 use Rattle.cu_lex.specs.Located.{Located, Position, characters}
 use Rattle.cu_lex.specs.Munch.{Pieces, cut_all}
 use Rattle.cu_lex.specs.Pieces.{codes_of, with_code}
-use Rattle.cu_lex.specs.Scanning.{cap, digits, digits_from, is_digit_of, later, left, position, skip}
+use Rattle.cu_lex.specs.Inside.Scanning.{cap, digits, digits_from, is_digit_of, later, left, position, skip}
 use Rattle.cu_lex.specs.Words.{begins_with}
 
 -- What reading an item from the left gives: the code that it stands for, if any, and what follows
