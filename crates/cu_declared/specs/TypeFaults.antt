@@ -71,6 +71,7 @@ IsGoalFault modules number m goal fault =
 
 -- ---- the first
 
+-- the order of faults at one place
 abbrev pub rank : Wrong → ℕ
 rank TypeArity = 0
 rank (SynonymCycle name) = 1

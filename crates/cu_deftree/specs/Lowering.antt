@@ -120,7 +120,7 @@ mutual
         → leftmost row.patterns ≡ None
         → Lowers program row.names next row.body t → Tree program positions next (other ∷ rows) u
         → Tree program positions next (row ∷ other ∷ rows) (term.Or t u)
-    -- all demand a position; the leftmost such is looked at
+    -- all rows demand some position in common; the leftmost such is looked at
     branch : (positions : List ℕ) (next k position : ℕ) (row : Row) (rows : List Row)
         (alternatives : Alternatives)
         → demanded_by_all (row ∷ rows) ≡ Some k → slice_get positions k ≡ Some position

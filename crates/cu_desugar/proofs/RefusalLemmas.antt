@@ -60,7 +60,7 @@ translated owner clashes others found part made is refusal same =
 
 -- ---- answers
 
--- want of memory tells nothing
+-- an allocation failure tells nothing
 pub no_memory : (owner : NameId) (result : Outcome) (fault : DesugarFault) → fault ≡ NoMemory → Tells owner fault result
 no_memory owner result fault is = subst (λ f. Tells owner f result) (sym is) tt
 

@@ -1,6 +1,7 @@
 //! From the texts of modules and of a goal to the program that is run, or to the
-//! refusal due: the walk over the modules, the meaning of names, translation,
-//! lifting, set levels, types and definitional trees, one after another.
+//! refusal due: the walk over the modules, the meaning of names, the types that
+//! modules declare, translation, lifting, set levels, types and definitional
+//! trees, one after another.
 #![tactic(auto)]
 
 mod asked;

@@ -23,7 +23,7 @@ use Rattle.cu_names.specs.declared.place.Place.{Place}
 
 -- ---- numbers
 
--- by the line, and then by the column
+-- whether a place stands before another: by the line, and then by the column
 abbrev pub stands_before : Place → Place → Bool
 stands_before p q = nat_lt p.line q.line || (nat_eq p.line q.line && nat_lt p.column q.column)
 

@@ -21,13 +21,13 @@ pub record IsSetCycle (program : Program) (start : FunId) (cycle : List FunId) :
   pub from_collected : Walk program collected suffix start
   pub whole : cycle ≡ prefix ++ caller ∷ suffix
 
--- a function stands on such a walk
+-- a function stands on a closed walk through a set call
 abbrev pub StandsOn : Program → FunId → Type 0
 StandsOn program f = (start : FunId) × (cycle : List FunId) × IsSetCycle program start cycle
     × Contains cycle f
 
--- such a walk from the first function, in program order, that stands on one, where the program has
--- no levels
+-- the walk that is told where a program has no levels: a closed one through a set call, from the
+-- first function, in program order, that stands on any
 pub record IsSetRecursion (program : Program) (cycle : List FunId) : Type 0 where
   pub first : FunId
   pub is_cycle : IsSetCycle program first cycle

@@ -224,7 +224,7 @@ impl Local {
         Ok(local)
     }
 
-    /// Whether a variable is bound here.
+    /// Whether the rules of this local function bind a variable.
     fn binds(&self, x: u32) -> bool
         ensures holds { IsTrue result → IsIn self.now.binds.keys x }
         ensures fails { IsFalse result → IsIn self.now.binds.keys x → ⊥ }
@@ -232,7 +232,7 @@ impl Local {
         self.binds.contains(&x)
     }
 
-    /// Whether a variable is used here and not bound.
+    /// Whether the rules of this local function use a variable and don't bind it.
     fn owns(&self, x: u32) -> bool
         ensures holds { IsTrue result → Owns self.now x }
         ensures fails { IsFalse result → Owns self.now x → ⊥ }
@@ -339,7 +339,7 @@ impl Spreading {
         })
     }
 
-    /// Meets a local function.
+    /// Marks a local function as met, and leaves it to be gone on from, unless it was met before.
     fn meet(&mut self, function: usize) -> Result<(), AllocError>
         requires { function < length self.old.met.items }
         ensures { OnOk result (Met function self.old self.new) }

@@ -15,7 +15,7 @@ use std::alloc::{AllocError, Global};
 pub(crate) struct Mention {
     /// The function.
     pub function: FunId,
-    /// Whether it is mentioned in a set call.
+    /// Whether the function is mentioned in a set call.
     pub collected: bool,
 }
 

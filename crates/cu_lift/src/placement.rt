@@ -5,14 +5,14 @@ use cu_names::NameId;
 /// Where the local functions of one top-level function go.
 #[derive(Drop)]
 pub(crate) struct Placement {
-    /// Their numbers among themselves, in the order of their places.
+    /// The numbers of the local functions among themselves, in the order of their places.
     pub ordered: Vec<usize>,
-    /// The number of each in the lifted program.
+    /// The number of each local function in the lifted program.
     pub numbers: Vec<usize>,
-    /// The number after them all.
+    /// The number after those of all local functions.
     pub end: usize,
-    /// The variables that each captures, in rising order.
+    /// The variables that each local function captures, in rising order.
     pub captured: Vec<Vec<u32>>,
-    /// The name of each in the lifted program.
+    /// The name of each local function in the lifted program.
     pub names: Vec<NameId>,
 }

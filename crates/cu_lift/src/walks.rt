@@ -46,7 +46,8 @@ impl Spread {
         Ok(Spread { found, met })
     }
 
-    /// Meets a function that the one at a place mentions.
+    /// Marks a function as met and adds it to those found, unless it was met before.
+    /// The one at the place `from` mentions it.
     fn meet(&mut self, target: usize, from: usize) -> Result<(), AllocError>
         requires { target < length self.old.met.items }
         ensures { OnOk result (Meeting self.old self.new target from) }
@@ -61,7 +62,7 @@ impl Spread {
         Ok(())
     }
 
-    /// Meets all that the function at a place mentions.
+    /// Marks all functions as met that the one at a place mentions.
     fn widen(&mut self, graph: &[Vec<usize>], from: usize) -> Result<(), AllocError>
         requires whole { IsWhole (rows_in graph.now) }
         requires trail { IsTrail (rows_in graph.now) self.old }

@@ -3,6 +3,7 @@ pub mod TypeLists
 pub mod BinderSteps
 pub mod FreeSteps
 pub mod Tests
+pub mod Exposed
 pub mod UseLemmas
 pub mod FreeLemmas
 pub mod LetLemmas

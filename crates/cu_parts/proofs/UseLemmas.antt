@@ -8,9 +8,9 @@ use Rattle.cu_kernel.specs.LocalTerm as local
 use Rattle.cu_kernel.specs.LocalTerm.{LocalAlternatives, LocalTerm, LocalTerms}
 use Rattle.cu_kernel.specs.declared.local.LocalHead.TheVariants as head
 use Rattle.cu_kernel.specs.declared.local.LocalHead.{LocalHead}
+use Rattle.cu_parts.proofs.Exposed.{Use, counted, exposed, exposed_in_all, exposed_in_alternatives, exposed_in_rule, exposed_in_rules, unbound}
 use Rattle.cu_parts.proofs.Tests.{any_append, any_at, same_is, same_self, some_at}
 use Rattle.cu_parts.specs.Inside.Capturing.{is_met, met_at}
-use Rattle.cu_parts.specs.Inside.Exposed.{Use, counted, exposed, exposed_in_all, exposed_in_alternatives, exposed_in_rule, exposed_in_rules, unbound}
 
 module _ (counts : LocalHead → Bool) (v : ℕ) where
   abbrev p : Use → Bool

@@ -7,9 +7,6 @@ pub mod KnownHeads
 pub mod Scope
 -- The variables that stand in a term where nothing around binds them.
 pub mod FreeUses
--- What stands in a term where nothing around binds a variable: the uses of the variable, and the
--- heads.
-pub mod Exposed
 -- The search for the local functions that capture a variable.
 pub mod Capturing
 -- What is asked of each variable of a top-level function, and of the other parts of it.

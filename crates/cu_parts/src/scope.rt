@@ -15,7 +15,7 @@ pub(crate) enum Scope<'a> {
 }
 
 impl Scope<'_> {
-    /// Whether a variable is bound here.
+    /// Whether a variable is bound in this scope.
     #[tactic(auto, using(crate::specs::Inside::Scope::bound_variants))]
     pub(crate) fn binds(&self, x: u32) -> bool
         ensures { result ≡ bound_in self.now x }

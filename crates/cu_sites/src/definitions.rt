@@ -149,7 +149,7 @@ fn push_definitions(
     }
 }
 
-/// So many usages, from this one on.
+/// As many usages as asked for, from an index on.
 fn after(usages: &[Usage], at: usize, count: usize) -> &[Usage]
     ensures { result.now ≡ take count (drop at usages.now) }
 {

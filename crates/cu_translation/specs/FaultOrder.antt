@@ -30,6 +30,7 @@ at_name wrong name = fault wrong name.at
 
 -- ---- the first
 
+-- the number of the refusal
 abbrev pub rank : Wrong → ℕ
 rank FixityClash = 7
 rank Arity = 15

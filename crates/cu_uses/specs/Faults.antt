@@ -35,6 +35,7 @@ demand_faults bindings demands = flat_map (demand_fault bindings) demands
 
 -- ---- the first
 
+-- the order of faults at one place
 abbrev pub rank : Wrong → ℕ
 rank NotExported = 0
 rank UnknownName = 1

@@ -17,8 +17,8 @@ use std::rt::{Env, Files};
 use std::thread::{self, Builder, Threads};
 
 /// The stack on which the command runs, in bytes. Translation recurses over one
-/// item of a text, which needs at most 16 MiB for its 4,096 tokens, and the
-/// main thread often has no more than 8.
+/// item of a text, whose 4,096 tokens bound it; the forms that were measured
+/// need up to 9.4 MiB, and the main thread often has no more than 8.
 const STACK: usize = 64 * 1024 * 1024;
 
 fn main(rt: HostRuntime) -> ExitCode {

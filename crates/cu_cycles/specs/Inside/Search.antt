@@ -27,7 +27,7 @@ pub record Source (g : Graph) (path : List ℕ) (parts : List Part) (i : ℕ) (p
   pub is_open : slice_get path place ≡ Some node
   pub edge : Edge g node w
 
--- w is closed, open in a part or after it, or pending
+-- w was followed by a part: it is closed, open in this part or a later one, or pending
 pub data Followed (places : List Place) (path pending : List ℕ) (p : Part) (w : ℕ) : Type 0 where
   closed : (c : ℕ) → slice_get places w ≡ Some (Closed c) → Followed places path pending p w
   opened : (s : ℕ) → slice_get path s ≡ Some w → p.start ≤ s → Followed places path pending p w
@@ -42,16 +42,19 @@ weigh weight (row ∷ rows) (New ∷ places) = weight row + weigh weight rows pl
 weigh weight (row ∷ rows) (Open s ∷ places) = weigh weight rows places
 weigh weight (row ∷ rows) (Closed c ∷ places) = weigh weight rows places
 
+-- one for each node
 abbrev pub one : List ℕ → ℕ
 one row = 1
 
+-- for each node, two more than its edges
 abbrev pub two_more : List ℕ → ℕ
 two_more row = length row + 2
 
+-- what holds of a search between two steps
 pub record Good (g : Graph) (places : List Place) (path pending : List ℕ) (parts : List Part)
     (count : ℕ) : Type 0 where
   pub sized : length places ≡ length g
-  -- places and the stack agree
+  -- a node is open exactly where it is on the stack
   pub open_at : (s v : ℕ) → slice_get path s ≡ Some v → slice_get places v ≡ Some (Open s)
   pub at_open : (v s : ℕ) → slice_get places v ≡ Some (Open s) → slice_get path s ≡ Some v
   -- parts rise, from the bottom of the stack on
@@ -67,7 +70,7 @@ pub record Good (g : Graph) (places : List Place) (path pending : List ℕ) (par
       → Reach g u v
   pub to_start : (i : ℕ) (p : Part) (t u v : ℕ) → Own parts t i p → slice_get path t ≡ Some u
       → slice_get path p.start ≡ Some v → Reach g u v
-  -- where they lead was followed, or is pending; and to what is pending they lead
+  -- where open nodes lead was followed, or is pending; and to what is pending they lead
   pub follows : (i : ℕ) (p : Part) (t u w : ℕ) → Own parts t i p → slice_get path t ≡ Some u
       → Edge g u w → Followed places path pending p w
   pub source : (i : ℕ) (p : Part) (t w : ℕ) → Awaits parts t i p → slice_get pending t ≡ Some w
@@ -96,11 +99,12 @@ pub record MayEnter (g : Graph) (s : Search) (v : ℕ) : Type 0 where
 abbrev pub work : Graph → Search → ℕ
 work g s = weigh two_more g s.places.items + length s.pending.items + length s.parts.items
 
--- what wasn't visited yet wasn't visited before
+-- a node that was visited stays so
 abbrev pub Meets : Search → Search → Type 0
 Meets old new = (v : ℕ) → slice_get new.places.items v ≡ Some New
     → slice_get old.places.items v ≡ Some New
 
+-- the last element of a list
 abbrev pub IsLast : {A : Type 0} → List A → A → Type 0
 IsLast xs x = slice_get xs (length xs - 1) ≡ Some x
 
@@ -126,10 +130,12 @@ shut start c New = New
 shut start c (Open s) = cond (nat_le start s) (Closed c) (Open s)
 shut start c (Closed d) = Closed d
 
+-- the places of nodes, before and after those open from a place on are closed
 abbrev pub AreShut : ℕ → ℕ → List Place → List Place → Type 0
 AreShut start c old new = (v : ℕ) → slice_get new v ≡ option_map (shut start c) (slice_get old v)
 
--- what is pending last was followed by each part that stands, none of which awaits it alone
+-- The last pending node may be dropped: each part that stands has followed it, and none awaits it
+-- alone.
 pub record MayForget (g : Graph) (s : Search) : Type 0 where
   pub good : IsGood g s
   pub target : ℕ

@@ -40,7 +40,7 @@ pub record IsLowered (program : calculus.Program)
   pub name : lowered.name ≡ function.name
   pub small : body_size lowered.body ≤ most_expressions
 
--- whatever a function is lowered to is too big
+-- each function that this one may be lowered to is too big
 abbrev pub IsTooBig : calculus.Program → kernel.Function → Type 0
 IsTooBig program function =
     (lowered : calculus.Function) → FunctionLowers program (plain_function function) lowered
@@ -51,7 +51,7 @@ LowersFunction program function (Ok lowered) = IsLowered program function (funct
 LowersFunction program function (Err stop.TooBig) = IsTooBig program function
 LowersFunction program function (Err stop.NoMemory) = Unit {0}
 
--- the first functions, so many, and those that they are lowered to
+-- Of these functions the first n are lowered to these.
 pub record AreLowered (program : calculus.Program) (functions : List kernel.Function) (n : ℕ)
     (lowered : List kernel.Function) : Type 0 where
   pub count : length lowered ≡ n

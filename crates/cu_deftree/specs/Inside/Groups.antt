@@ -15,7 +15,7 @@ use Rattle.cu_deftree.specs.declared.patterns.Choice.TheVariants as choice
 use Rattle.cu_deftree.specs.declared.patterns.Key.{Key}
 use Rattle.cu_deftree.specs.declared.patterns.Key.TheVariants as key
 
--- what a row demands that goes on into the branch of this choice
+-- the demand of the rows that go on into the branch of this choice
 abbrev pub choice_demand : Choice → Demand
 choice_demand (choice.Constructor c) = calculus.AConstructor c
 choice_demand (choice.Literal l) = calculus.ALiteral l

@@ -8,7 +8,7 @@ use Rattle.cu_kernel.specs.Heads.{heads_program}
 abbrev pub program_in : Lowerer → Program
 program_in lowerer = heads_program lowerer.heads.now
 
--- its operations are the program's
+-- the operations of a lowerer are the program's
 pub record IsReady (lowerer : Lowerer) : Type 0 where
   pub failed : IsOperation (heads_program lowerer.heads.now) prim.Failed lowerer.failed
   pub equal : IsOperation (heads_program lowerer.heads.now) prim.Equal lowerer.equal

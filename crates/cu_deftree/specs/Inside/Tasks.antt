@@ -117,6 +117,7 @@ OpenedLower program m has_variables matrix k c new n t =
     RowsLower program m (spliced k new matrix.positions.now) (matrix.next + n)
     (specialize k new (goes_on has_variables (demands_choice c)) (all_rows matrix.rows.now)) t
 
+-- the pattern and the term of the branch for a choice
 abbrev pub BranchLowers : Program → Manner → Bool → Matrix → ℕ → Choice → clean.Pattern × clean.Term
     → Type 0
 BranchLowers program m has_variables matrix k c branch =
@@ -124,6 +125,7 @@ BranchLowers program m has_variables matrix k c branch =
     × OpenedLower program m has_variables matrix k c (numbers matrix.next (opened_count program c))
     (opened_count program c) branch.1
 
+-- the alternatives that branches are
 abbrev pub alternatives_in : List (clean.Pattern × clean.Term) → clean.Alternatives
 alternatives_in [] = clean.NoAlternative
 alternatives_in (b ∷ bs) = clean.MoreAlternatives b.0 b.1 (alternatives_in bs)

@@ -112,7 +112,7 @@ pub record Spreads (locals : List Local) (x : ℕ) (hand : List ℕ) (s : Spread
   pub settled : (h : ℕ) → slice_get s.met.items h ≡ Some true
       → IsIn s.pending.items h ⊎ (IsIn hand h ⊎ IsSettled locals x s.met.items h)
 
--- how much is left to do at most
+-- a bound on the steps that the search for capturing functions still takes
 abbrev pub left : Spreading → ℕ
 left s = 2 * unmet s.met.items + length s.pending.items
 

@@ -19,7 +19,7 @@ IsRow rows u row = (r : Vec Mention Global) × (slice_get rows u ≡ Some r) × 
 abbrev pub targets : List Mention → List ℕ
 targets ms = map (λ m. m.function.0) ms
 
--- their graph: an edge goes from each function to those that its row mentions
+-- the graph of rows of mentions: an edge goes from each function to those that its row mentions
 abbrev pub targets_in : MentionRows → Graph
 targets_in rows = map (λ row. targets row.items) rows
 
