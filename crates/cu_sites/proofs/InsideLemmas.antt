@@ -3,7 +3,7 @@ use Rattle.std.proofs.Common.{Bor, ◌≡◌, ◌∙◌, ◌<◌, ◌≤◌, ◌
 use Rattle.std.proofs.lemmas.Bool.{lt-ltb, ltb-true}
 use Rattle.std.proofs.lemmas.List.Folds.{list_any_at}
 use Rattle.std.proofs.lemmas.List.Sums.{passes_at_first}
-use Rattle.std.proofs.lemmas.List.{append-nil, append_assoc, drop-map, drop_all, drop_more, map-append, take-map, take_all}
+use Rattle.std.proofs.lemmas.List.{append-nil, append_assoc, drop-map, drop_all, drop_more, map-append, take-map, take_all, take_more}
 use Rattle.std.proofs.lemmas.List.Elements.{filter-append}
 use Rattle.std.specs.Prelude.{nat_eq, nat_lt}
 use Rattle.std.specs.List.{filter, flat_map, list_any, position, position_or_len}
@@ -34,6 +34,7 @@ use Rattle.cu_translation.specs.declared.local_names.Binder.TheVariants as binde
 use Rattle.cu_translation.specs.Meaning.{binder_meaning, local_meaning, position_meaning}
 use Rattle.cu_sites.specs.Numbered.{IsBinderTable, binders_meaning}
 use Rattle.cu_sites.specs.declared.definitions.Definition as found
+use Rattle.cu_sites.specs.declared.numbers.BinderTable.{BinderTable}
 use Rattle.cu_sites.specs.declared.uses.Usage as usages_found
 use Rattle.cu_sites.specs.declared.sites.Node as nodes_found
 use Rattle.cu_sites.specs.declared.sites.ScopeEntry.{ScopeEntry}
@@ -41,12 +42,12 @@ use Rattle.cu_sites.specs.declared.sites.Site as sites_found
 use Rattle.cu_sites.specs.declared.sites.Site.TheVariants as site_found
 use Rattle.cu_sites.specs.Meaning.{AreNodes, IsNode, IsSite, inside, inside_at}
 use Rattle.cu_sites.specs.Numbered as numbered
-use Rattle.cu_sites.specs.Inside.Defining.{Defines, declared_in, definition_meaning, definitions_meaning, has_depth, selections, used_among, used_in_one}
+use Rattle.cu_sites.specs.Inside.Defining.{DeclaresAll, Defines, declared_in, definition_meaning, definitions_meaning, has_depth, selections, used_among, used_in_one}
 use Rattle.cu_sites.specs.Inside.Using.{Finds, Usage, locals_meaning, usage_meaning, usage_of, usages_meaning}
 use Rattle.cu_sites.proofs.GraphLemmas.{first_within}
 use Rattle.cu_sites.proofs.TableLemmas.{same_binders}
 use Rattle.cu_sites.proofs.CountLemmas.{node_at}
-use Rattle.cu_sites.proofs.UseLemmas.{as_many, taken_one, finds_as, finds_both, finds_none}
+use Rattle.cu_sites.proofs.UseLemmas.{as_many, taken_one, finds_as, finds_both, finds_none, finds_one}
 use Rattle.cu_sites.proofs.RelationLemmas.{same_truth}
 
 -- ---- tables
@@ -104,7 +105,47 @@ filter_no p x xs e = rw e refl
 filter_yes : {X : Type 0} (p : X → Bool) (x : X) (xs : List X) → p x ≡ true → filter p (x ∷ xs) ≡ x ∷ filter p xs
 filter_yes p x xs e = rw e refl
 
+outer_first : (p : Local → Bool) (ls : List locals_found.Local) (i : ℕ) (d : locals_found.Local) → i < length ls
+    → outer_left p (drop i ls) ≡ outer_left p (get_or ls i d ∷ drop (i + 1) ls)
+outer_first p ls i d low = ap (outer_left p) (drop_more ls i d low)
+
+pub outer_take : (p : Local → Bool) (ls : List locals_found.Local) (i : ℕ) (d : locals_found.Local) (a b c : List locals_found.Local) → i < length ls
+    → p (local_meaning (get_or ls i d)) ≡ true → b ≡ a ++ get_or ls i d ∷ [] → Finds b (outer_left p (drop (i + 1) ls)) c → Finds a (outer_left p (drop i ls)) c
+outer_take p ls i d a b c low e pushed after =
+    let l = get_or ls i d in
+    finds_as a c (outer_left p (drop i ls)) (local_meaning l ∷ outer_left p (drop (i + 1) ls))
+    (outer_first p ls i d low ∙ filter_yes p (local_meaning l) (locals_meaning (drop (i + 1) ls)) e)
+    (finds_both (finds_one a b l (local_meaning l) pushed refl) after)
+
+pub outer_skip : (p : Local → Bool) (ls : List locals_found.Local) (i : ℕ) (d : locals_found.Local) (a c : List locals_found.Local) → i < length ls
+    → p (local_meaning (get_or ls i d)) ≡ false → Finds a (outer_left p (drop (i + 1) ls)) c → Finds a (outer_left p (drop i ls)) c
+outer_skip p ls i d a c low e after =
+    finds_as a c (outer_left p (drop i ls)) (outer_left p (drop (i + 1) ls))
+    (outer_first p ls i d low ∙ filter_no p (local_meaning (get_or ls i d)) (locals_meaning (drop (i + 1) ls)) e) after
+
+pub outer_end : (p : Local → Bool) (ls : List locals_found.Local) (i : ℕ) (a : List locals_found.Local) → length ls ≤ i → Finds a (outer_left p (drop i ls)) a
+outer_end p ls i a past = finds_as a a (outer_left p (drop i ls)) [] (ap (outer_left p) (drop_all i ls past)) (finds_none a)
+
 -- ---- what is declared inside
+
+pub declares_none : (table : BinderTable) → IsBinderTable [] table → DeclaresAll [] table
+declares_none table counted = record { keys = []; counted = counted; keys_are = refl }
+
+pub declares_more : (us : List usages_found.Usage) (i : ℕ) (u : usages_found.Usage) (bs : List code.Binder) (a b : BinderTable) → u ≡ get_or us i u → i < length us
+    → bs ≡ u.declared.items → DeclaresAll (usages_meaning (take i us)) a
+    → ((before : List code.Binder) → IsBinderTable before a → IsBinderTable (before ++ bs) b) → DeclaresAll (usages_meaning (take (i + 1) us)) b
+declares_more us i u bs a b is low same before more = record {
+  keys = before.keys ++ bs;
+  counted = more before.keys before.counted;
+  keys_are =
+      map-append binder_meaning before.keys bs ∙ ap₂ (λ (xs ys : List Binder). xs ++ ys) before.keys_are (ap binders_meaning same)
+      ∙ sym (one_more declared_in (usages_meaning (take i us)) (usage_meaning u))
+      ∙ sym (ap (flat_map declared_in) (ap usages_meaning (take_more us i u low ∙ ap (λ x. take i us ++ x ∷ []) (sym is)) ∙ map-append usage_meaning (take i us) (u ∷ [])));
+}
+
+pub declares_all : (us : List usages_found.Usage) (i : ℕ) (table : BinderTable) → length us ≤ i → DeclaresAll (usages_meaning (take i us)) table
+    → DeclaresAll (usages_meaning us) table
+declares_all us i table past before = subst (λ (vs : List usages_found.Usage). DeclaresAll (usages_meaning vs) table) (take_all i us past) before
 
 -- ---- what a definition uses
 
@@ -124,6 +165,13 @@ deep_take p depth us i u ls a b c is low e at here after =
     ∙ ap (λ vs. filter p (flat_map used_in_one vs)) (filter_yes (has_depth depth) (usage_meaning u) (usages_meaning (drop (i + 1) us)) e)
     ∙ filter-append p (locals_meaning u.used.items) (flat_map used_in_one (filter (has_depth depth) (usages_meaning (drop (i + 1) us))))
     ∙ ap (λ xs. outer_left p xs ++ deep_left p depth (drop (i + 1) us)) (sym at)) (finds_both here after)
+
+pub deep_skip : (p : Local → Bool) (depth : ℕ) (us : List usages_found.Usage) (i : ℕ) (u : usages_found.Usage) (a c : List locals_found.Local) → u ≡ get_or us i u
+    → i < length us → nat_eq u.depth depth ≡ false → Finds a (deep_left p depth (drop (i + 1) us)) c → Finds a (deep_left p depth (drop i us)) c
+deep_skip p depth us i u a c is low e after =
+    finds_as a c (deep_left p depth (drop i us)) (deep_left p depth (drop (i + 1) us))
+    (first_left p depth us i u is low
+    ∙ ap (λ vs. filter p (flat_map used_in_one vs)) (filter_no (has_depth depth) (usage_meaning u) (usages_meaning (drop (i + 1) us)) e)) after
 
 pub deep_end : (p : Local → Bool) (depth : ℕ) (us : List usages_found.Usage) (i : ℕ) (a : List locals_found.Local) → length us ≤ i
     → Finds a (deep_left p depth (drop i us)) a

@@ -1,8 +1,8 @@
 -- That the dependencies are those of the text.
-use Rattle.std.proofs.Common.{◌≡◌, ◌∙◌, ◌↔◌, ℕ, suc, true, List, [], ◌++◌, Option, Some, length, map, sym, ap, subst}
+use Rattle.std.proofs.Common.{◌≡◌, ◌∙◌, ◌↔◌, ℕ, suc, true, List, [], ◌++◌, Option, Some, Result, Ok, Err, IfOk, length, map, sym, ap, subst}
 use Rattle.std.specs.Option.{option_to_list}
 use Rattle.cu_lex.specs.Located.{Position}
-use Rattle.cu_translation.specs.Dependencies.{Captures, DependsOn, captures, definitions, is_recursive, used_by}
+use Rattle.cu_translation.specs.Dependencies.{Captures, Definition, DependsOn, captures, definitions, is_recursive, used_by}
 use Rattle.cu_translation.specs.LocalNames.{Binder, LocalVariable}
 use Rattle.cu_translation.specs.Numbering.{binder_number}
 use Rattle.cu_translation.specs.Sites.{Node}
@@ -13,10 +13,10 @@ use Rattle.cu_sites.specs.declared.relations.Relation.{Relation}
 use Rattle.cu_sites.specs.Depending.{AreDependencies, is_defined, is_in, row}
 use Rattle.cu_sites.specs.Meaning.{innermost}
 use Rattle.cu_sites.specs.Numbered.{HasNumbers, binders_meaning}
-use Rattle.cu_sites.specs.Inside.Capturing.{IsCaptured, IsGraph}
-use Rattle.cu_sites.specs.Inside.Needing.{IsNeeded, defined_variables, function_around, functions_around, used_variables, variable_in, variables_in, variables_of, variables_used}
+use Rattle.cu_sites.specs.Inside.Capturing.{CapturedIn, IsCaptured, IsGraph}
+use Rattle.cu_sites.specs.Inside.Needing.{IsNeeded, NeededIn, defined_variables, function_around, functions_around, used_variables, variable_in, variables_in, variables_of, variables_used}
 use Rattle.cu_sites.specs.Inside.Relating.{Reaches}
-use Rattle.cu_sites.specs.Inside.Using.{usage_of}
+use Rattle.cu_sites.specs.Inside.Using.{Usage, usage_of}
 use Rattle.cu_sites.proofs.GraphLemmas.{IsCounted, captures_related, related_captures, related_variable}
 use Rattle.cu_sites.proofs.NeedLemmas.{IsDefined, TellsCaptured, needed_exactly, needed_variable, recursive_walked}
 
@@ -51,6 +51,16 @@ all_defined nodes = record {
       (in_flat_map variables_of b d (definitions nodes) among
       (there d.variable (variables_in d.used) (in_flat_map variable_in b (LocalVariable b) d.used used (here []))));
 }
+
+pub captured_in : {E : Type 0} (binders : List Binder) (functions : List Position) (usages : List Usage) (g : Graph) (r : Result Relation E) → IsGraph binders functions usages g
+    → IfOk r (IsCaptured (suc (length functions)) g) → IfOk r (CapturedIn binders functions usages)
+captured_in binders functions usages g (Ok c) is captured = record { graph = g; is_graph = is; captured = captured }
+captured_in binders functions usages g (Err e) is captured = tt
+
+pub needed_in : {E : Type 0} (binders : List Binder) (functions : List Position) (usages : List Usage) (ds : List Definition) (c : Relation) (r : Result Relation E)
+    → CapturedIn binders functions usages c → IfOk r (IsNeeded binders functions c ds) → IfOk r (NeededIn binders functions usages ds)
+needed_in binders functions usages ds c (Ok needs) captured needed = record { captured = c; captured_in = captured; needed = needed }
+needed_in binders functions usages ds c (Err e) captured needed = tt
 
 pub dependencies_are : (nodes : List Node) (d : Dependencies) (g : Graph) (c : Relation) → HasNumbers (all_variables nodes) (all_around nodes) d.numbers
     → IsGraph (all_variables nodes) (all_around nodes) (map usage_of nodes) g → IsCaptured (suc (length (all_around nodes))) g c

@@ -10,11 +10,12 @@ ghost use Rattle.cu_locals.specs.Text.{Text};
 ghost use Rattle.cu_sites.specs.Depending.{AreDependencies, is_defined};
 ghost use Rattle.cu_sites.specs.Meaning.{Stands};
 ghost use Rattle.cu_sites.specs.Numbered.{HasNumbers, binders_meaning};
+ghost use Rattle.cu_sites.specs.Inside.Capturing.{CapturedIn};
 ghost use Rattle.cu_sites.specs.Inside.Counting.{Counts};
 ghost use Rattle.cu_sites.specs.Inside.Defining.{definition_meaning, definitions_meaning};
-ghost use Rattle.cu_sites.specs.Inside.Needing.{IsNeeded, definition_pairs, defined_variables, functions_around, need_pairs, used_variables, variables_in};
+ghost use Rattle.cu_sites.specs.Inside.Needing.{IsNeeded, NeededIn, definition_pairs, defined_variables, functions_around, need_pairs, used_variables, variables_in};
 ghost use Rattle.cu_sites.specs.Inside.Relating.{Gains};
-ghost use Rattle.cu_sites.specs.Inside.Using.{locals_meaning, usages_meaning};
+ghost use Rattle.cu_sites.specs.Inside.Using.{locals_meaning, usage_of, usages_meaning};
 
 use crate::captures::Graph;
 use crate::definitions::{Definition, definitions};
@@ -73,6 +74,33 @@ fn functions(alloc: Global, usages: &[Usage]) -> Result<Vec<Position>, AllocErro
         found.push(function)?;
     }
     Ok(found)
+}
+
+/// The numbers of the variables and of the local functions that are used or
+/// defined.
+fn numbered(
+    alloc: Global,
+    usages: &[Usage],
+    definitions: &[Definition],
+) -> Result<Numbers, AllocError>
+    ensures { IfOk result (HasNumbers
+        (used_variables (usages_meaning usages.now)
+        ++ defined_variables (definitions_meaning definitions.now))
+        (functions_around (usages_meaning usages.now))) }
+{
+    let binders = variables(alloc, usages, definitions)?;
+    let places = functions(alloc, usages)?;
+    Numbers::counted(alloc, binders.as_slice(), places.as_slice())
+}
+
+/// The variables that each local function captures, by numbers.
+fn captured(alloc: Global, numbers: &Numbers, usages: &[Usage]) -> Result<Relation, AllocError>
+    ensures { (binders : List local.Binder) (functions : List located.Position)
+        → HasNumbers binders functions numbers.now
+        → IfOk result (CapturedIn binders functions (usages_meaning usages.now)) }
+{
+    let graph = Graph::of(alloc, numbers, usages)?;
+    graph.captured(alloc, numbers)
 }
 
 /// Notes that a variable needs what its definition uses: a variable, or those
@@ -137,6 +165,23 @@ fn needs(
     Ok(needs)
 }
 
+/// The variables that the definitions of variables need where this is used, by
+/// numbers.
+fn needed(
+    alloc: Global,
+    numbers: &Numbers,
+    usages: &[Usage],
+    definitions: &[Definition],
+) -> Result<Relation, AllocError>
+    ensures { (binders : List local.Binder) (functions : List located.Position)
+        → HasNumbers binders functions numbers.now
+        → IfOk result (NeededIn binders functions (usages_meaning usages.now)
+        (definitions_meaning definitions.now)) }
+{
+    let captured = captured(alloc, numbers, usages)?;
+    needs(alloc, numbers, &captured, definitions)
+}
+
 /// The variables of definitions.
 fn defined(alloc: Global, definitions: &[Definition]) -> Result<Vec<Binder>, AllocError>
     ensures { IfOk result (λ found. binders_meaning found.items
@@ -169,17 +214,27 @@ impl Dependencies {
         ensures { (t : Text) (nodes : List text.Node) → Stands t nodes sites.now
             → IfOk result (AreDependencies nodes) }
     {
-        // The proof rests on this law.
-        captures_are_least();
         let usages = sites.usages(alloc)?;
         let definitions = definitions(alloc, sites, usages.as_slice())?;
-        let binders = variables(alloc, usages.as_slice(), definitions.as_slice())?;
-        let places = functions(alloc, usages.as_slice())?;
-        let numbers = Numbers::counted(alloc, binders.as_slice(), places.as_slice())?;
-        let graph = Graph::of(alloc, &numbers, usages.as_slice())?;
-        let captured = graph.captured(alloc, &numbers)?;
-        let needs = needs(alloc, &numbers, &captured, definitions.as_slice())?;
-        let variables = defined(alloc, definitions.as_slice())?;
+        Dependencies::between(alloc, usages.as_slice(), definitions.as_slice())
+    }
+
+    /// The dependencies of the local variables of a text in which this is used
+    /// and this is defined.
+    fn between(
+        alloc: Global,
+        usages: &[Usage],
+        found: &[Definition],
+    ) -> Result<Dependencies, AllocError>
+        ensures { (nodes : List text.Node) → usages_meaning usages.now ≡ map usage_of nodes
+            → definitions_meaning found.now ≡ definitions nodes
+            → IfOk result (AreDependencies nodes) }
+    {
+        // The proof rests on this law.
+        captures_are_least();
+        let numbers = numbered(alloc, usages, found)?;
+        let needs = needed(alloc, &numbers, usages, found)?;
+        let variables = defined(alloc, found)?;
         Ok(Dependencies {
             variables,
             numbers,

@@ -96,6 +96,20 @@ struct Walk {
 }
 
 impl Walk {
+    /// The walk that has reached these numbers alone, except those that are
+    /// shut.
+    fn begun(alloc: Global, seeds: &[usize], shut: &[usize]) -> Result<Walk, AllocError>
+        ensures { IfOk result (IsBegun seeds.now shut.now) }
+    {
+        let shut = set_of(alloc, shut)?;
+        let mut walk = Walk {
+            found: IndexSet::new(alloc),
+            shut,
+        };
+        walk.meet_all(seeds)?;
+        Ok(walk)
+    }
+
     /// Reaches a number, unless it is shut.
     fn meet(&mut self, number: usize) -> Result<(), AllocError>
         ensures { OnOk result (Meets (number ∷ []) self.old self.new) }
@@ -154,11 +168,7 @@ pub(crate) fn reached(
     ensures { IfOk result (λ found. (k : ℕ)
         → (is_in found.keys k ≡ true) ↔ Reaches relation.now seeds.now shut.now k) }
 {
-    let mut walk = Walk {
-        found: IndexSet::new(alloc),
-        shut: set_of(alloc, shut)?,
-    };
-    walk.meet_all(seeds)?;
+    let mut walk = Walk::begun(alloc, seeds, shut)?;
     walk.run(relation)?;
     let Walk { found, shut: _ } = walk;
     Ok(found)

@@ -65,3 +65,10 @@ pub record IsCaptured (n : ℕ) (g : Graph) (c : Relation) : Type 0 where
   pub sized : length c.rows.items ≡ n
   pub exact : (f v : ℕ) → f < n
       → (relates c f v ≡ true) ↔ Reaches g.users (row g.uses v) (row g.binds v) f
+
+-- The functions are related to the variables that they capture where this is what stands in a text.
+pub record CapturedIn (binders : List Binder) (functions : List Position) (usages : List Usage)
+    (c : Relation) : Type 0 where
+  pub graph : Graph
+  pub is_graph : IsGraph binders functions usages graph
+  pub captured : IsCaptured (suc (length functions)) graph c

@@ -8,6 +8,7 @@ use Rattle.cu_translation.specs.LocalNames.{Binder, Local, LocalFunction, LocalV
 use Rattle.cu_translation.specs.Numbering.{binder_number, function_number}
 use Rattle.cu_sites.specs.Depending.{row}
 use Rattle.cu_sites.specs.declared.relations.Relation.{Relation}
+use Rattle.cu_sites.specs.Inside.Capturing.{CapturedIn}
 use Rattle.cu_sites.specs.Inside.Relating.{Holds, Pair, pair}
 use Rattle.cu_sites.specs.Inside.Using.{Usage}
 
@@ -54,3 +55,11 @@ definition_pairs binders functions captured d =
 abbrev pub IsNeeded : List Binder → List Position → Relation → List Definition → Relation → Type 0
 IsNeeded binders functions captured ds needs =
     Holds (suc (length binders)) (flat_map (definition_pairs binders functions captured) ds) needs
+
+-- A relation has, by numbers, the variables that these definitions need where this is what stands in
+-- a text.
+pub record NeededIn (binders : List Binder) (functions : List Position) (usages : List Usage)
+    (ds : List Definition) (needs : Relation) : Type 0 where
+  pub captured : Relation
+  pub captured_in : CapturedIn binders functions usages captured
+  pub needed : IsNeeded binders functions captured ds needs
