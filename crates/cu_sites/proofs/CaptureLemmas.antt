@@ -5,7 +5,7 @@ use Rattle.std.proofs.lemmas.List.Folds.{list_any-append}
 use Rattle.std.proofs.lemmas.Option.{slice_get_past}
 use Rattle.std.specs.Prelude.{nat_eq}
 use Rattle.std.specs.List.{list_any}
-use Rattle.cu_sites.specs.Depending.{is_in, keys_in, relates, row}
+use Rattle.cu_sites.specs.Depending.{is_in, keys_in, row}
 use Rattle.cu_sites.specs.declared.captures.Graph.{Graph}
 use Rattle.cu_sites.specs.declared.relations.Relation.{Relation}
 use Rattle.cu_sites.specs.Inside.Capturing.{IsCaptured}

@@ -24,8 +24,6 @@ use Rattle.cu_syntax.specs.Syntax as syntax
 use Rattle.cu_syntax.specs.Owners.{NameIsOf}
 use Rattle.cu_entities.proofs.NameLemmas.{same_name}
 use Rattle.cu_translation.specs.declared.local_names.Local as code
-use Rattle.cu_translation.specs.declared.local_names.Local.TheVariants as local_found
-use Rattle.cu_translation.specs.declared.position.Position as places_found
 use Rattle.cu_translation.specs.Rules.{pattern_count}
 use Rattle.cu_translation.specs.Sites.{Node, Site}
 use Rattle.cu_sites.specs.Numbered.{binders_meaning}
@@ -180,13 +178,12 @@ parameters_counted names [] = refl
 parameters_counted names (p ∷ ps) = ap (λ n. n + 1) (parameters_counted names ps) ∙ add-one (length ps)
 
 pub lambda_found : (t : Text) (blocks : List (Vec Declaration Global)) (found : sites_found.Site) (s : Site) (scope : Scope) (place : Place) (ps : Vec Pattern Global) (body : Expression)
-    (at : places_found.Position) (n : ℕ) (a b : List code.Local) → IsSite t blocks found s → found ≡ site_found.Lambda place ps body → position_meaning at ≡ position_of place
-    → n ≡ length ps.items → b ≡ a ++ local_found.Function at n ∷ [] → Finds a (used_at scope s) b
-lambda_found t blocks found s scope place ps body at n a b is it places count pushed =
+    (n : ℕ) (a b : List code.Local) → IsSite t blocks found s → found ≡ site_found.Lambda place ps body → n ≡ length ps.items
+    → Finds a (LocalFunction (position_of place) n ∷ []) b → Finds a (used_at scope s) b
+lambda_found t blocks found s scope place ps body n a b is it count pushed =
     let meant = subst (λ (x : sites_found.Site). IsSite t blocks x s) it is in
-    finds_as a b (used_at scope s) (LocalFunction (position_of place) (pattern_count (patterns_meaning t.names ps.items)) ∷ []) (ap (used_at scope) meant.0)
-    (finds_one a b (local_found.Function at n) (LocalFunction (position_of place) (pattern_count (patterns_meaning t.names ps.items))) pushed
-    (ap₂ LocalFunction places (count ∙ sym (parameters_counted t.names ps.items))))
+    finds_as a b (used_at scope s) (LocalFunction (position_of place) n ∷ [])
+    (ap (used_at scope) meant.0 ∙ ap (λ (k : ℕ). LocalFunction (position_of place) k ∷ []) (parameters_counted t.names ps.items ∙ sym count)) pushed
 
 -- ---- usages
 

@@ -165,8 +165,8 @@ fn needs(
     Ok(needs)
 }
 
-/// The variables that the definitions of variables need where this is used, by
-/// numbers.
+/// The variables that the definitions of variables need, by numbers, in a text
+/// in which this is used.
 fn needed(
     alloc: Global,
     numbers: &Numbers,

@@ -38,6 +38,15 @@ impl BinderTable {
         }
     }
 
+    /// The table that has counted these variables.
+    fn of(alloc: Global, binders: &[Binder]) -> Result<BinderTable, AllocError>
+        ensures { IfOk result (IsBinderTable binders.now) }
+    {
+        let mut table = BinderTable::new(alloc);
+        table.add_all(binders)?;
+        Ok(table)
+    }
+
     /// Counts one more variable.
     fn add(&mut self, binder: Binder) -> Result<(), AllocError>
         ensures { (binders : List code.Binder) → IsBinderTable binders self.old
@@ -99,6 +108,15 @@ impl PlaceTable {
         }
     }
 
+    /// The table that has counted these local functions.
+    fn of(alloc: Global, places: &[Position]) -> Result<PlaceTable, AllocError>
+        ensures { IfOk result (IsPlaceTable places.now) }
+    {
+        let mut table = PlaceTable::new(alloc);
+        table.add_all(places)?;
+        Ok(table)
+    }
+
     /// Counts one more local function.
     fn add(&mut self, place: Position) -> Result<(), AllocError>
         ensures { (places : List positions.Position) → IsPlaceTable places self.old
@@ -153,13 +171,11 @@ impl Numbers {
             → IfOk result
             (HasNumbers (all_binders nodes ++ map binder_meaning last.now) (all_functions nodes)) }
     {
-        let mut variables = BinderTable::new(alloc);
         let found = binders(alloc, sites)?;
-        variables.add_all(found.as_slice())?;
+        let mut variables = BinderTable::of(alloc, found.as_slice())?;
         variables.add_all(last)?;
-        let mut functions = PlaceTable::new(alloc);
         let places = local_functions(alloc, sites)?;
-        functions.add_all(places.as_slice())?;
+        let functions = PlaceTable::of(alloc, places.as_slice())?;
         Ok(Numbers {
             variables,
             functions,
@@ -179,13 +195,9 @@ impl Numbers {
         ensures { IfOk result
             (HasNumbers (binders_meaning binders.now) (positions_meaning places.now)) }
     {
-        let mut variables = BinderTable::new(alloc);
-        variables.add_all(binders)?;
-        let mut functions = PlaceTable::new(alloc);
-        functions.add_all(places)?;
         Ok(Numbers {
-            variables,
-            functions,
+            variables: BinderTable::of(alloc, binders)?,
+            functions: PlaceTable::of(alloc, places)?,
         })
     }
 

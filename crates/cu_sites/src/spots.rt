@@ -2,11 +2,11 @@
 ghost use Rattle.std.specs.Prelude.{◌<◌, ◌∷◌, ◌++◌, IfOk, OnOk};
 ghost use Rattle.std.specs.List.{All};
 ghost use Rattle.cu_lex.specs.Reading.{position_of};
-ghost use Rattle.cu_syntax.specs.Owners.{DeclarationIsOf, NameIsOf, QualifierIsOf};
+ghost use Rattle.cu_syntax.specs.Owners.{DeclarationIsOf, NameIsOf, PatternIsOf, QualifierIsOf};
 ghost use Rattle.cu_translation.specs.LocalNames.{Scope};
 ghost use Rattle.cu_translation.specs.Sites as sites;
 ghost use Rattle.cu_translation.specs.Sites.{in_block, in_function, past, past_all, with};
-ghost use Rattle.cu_uses.specs.Gathered.{names_meaning};
+ghost use Rattle.cu_uses.specs.Gathered.{names_meaning, patterns_bind};
 ghost use Rattle.cu_sites.specs.Meaning.{IsScope};
 ghost use Rattle.cu_locals.specs.Text.{Text};
 ghost use Rattle.cu_translation.specs.Meaning.{entry_meaning};
@@ -15,9 +15,9 @@ ghost use Rattle.cu_sites.specs.Inside.Entering.{Closes, Enters, IsAt, Notes, Op
 ghost use Rattle.cu_sites.specs.Inside.Walked.{block_of, qualifier_of, qualifiers_of};
 
 use crate::sites::{Node, ScopeEntry, Site, Sites, Spot};
-use cu_locals::{block_entries, pattern_variables, variable_entries};
+use cu_locals::{block_entries, pattern_variables, variable_entries, variables};
 use cu_names::Place;
-use cu_syntax::{Declaration, Name, Qualifier};
+use cu_syntax::{Declaration, Name, Pattern, Qualifier};
 use cu_translation::{Entry, Position};
 use std::alloc::{AllocError, Global};
 
@@ -86,6 +86,25 @@ impl<'t> Sites<'t> {
             depth,
             scope,
         })
+    }
+
+    /// The spot in a rule of a local function with these parameters, where their
+    /// variables are in scope.
+    pub(crate) fn in_rule(
+        &mut self,
+        alloc: Global,
+        at: Spot,
+        place: Place,
+        parameters: &[Pattern<'t>],
+    ) -> Result<Spot, AllocError>
+        ensures { (t : Text) (spot : sites.Spot) → IsAt t self.old at spot
+            → All (PatternIsOf t.owner t.names) parameters.now
+            → IfOk result (λ inner. Enters t self.old
+            (in_function (position_of place) (patterns_bind t.names parameters.now) spot)
+            inner self.new) }
+    {
+        let names = variables(alloc, parameters)?;
+        self.in_function(alloc, at, place, names.as_slice())
     }
 
     /// The spot in a block, where its names are in scope.

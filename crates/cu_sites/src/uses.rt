@@ -1,11 +1,12 @@
 //! What the nodes of a text use and declare.
-ghost use Rattle.std.specs.Prelude.{◌≡◌, IfOk, List, OnOk, map, option_map};
+ghost use Rattle.std.specs.Prelude.{◌≡◌, [], ◌∷◌, IfOk, List, OnOk, map, option_map};
 ghost use Rattle.std.specs.List.{All, flat_map};
+ghost use Rattle.cu_lex.specs.Reading.{position_of};
 ghost use Rattle.cu_syntax.specs.ExpressionMeaning.{expression_meaning};
 ghost use Rattle.cu_syntax.specs.Names.{name_meaning};
 ghost use Rattle.cu_syntax.specs.Owners.{ExpressionIsOf, NameIsOf, OperatorItemIsOf};
 ghost use Rattle.cu_translation.specs.Dependencies.{operators_of, use_of, used_at};
-ghost use Rattle.cu_translation.specs.LocalNames.{Scope, local_named};
+ghost use Rattle.cu_translation.specs.LocalNames.{LocalFunction, Scope, local_named};
 ghost use Rattle.cu_translation.specs.Meaning.{local_meaning};
 ghost use Rattle.cu_translation.specs.Sites as text;
 ghost use Rattle.cu_locals.specs.Text.{Text};
@@ -14,6 +15,7 @@ ghost use Rattle.cu_sites.specs.Inside.Using.{Finds, operators_mean, usage_meani
 
 use crate::binders::push_binders;
 use crate::sites::{Node, Site, Sites};
+use cu_names::Place;
 use cu_syntax::{Expression, ExpressionNode, Name, OperatorItem};
 use cu_translation::{Binder, Local, Position};
 use std::alloc::{AllocError, Global};
@@ -28,6 +30,15 @@ pub(crate) struct Usage {
     pub(crate) depth: usize,
     pub(crate) used: Vec<Local>,
     pub(crate) declared: Vec<Binder>,
+}
+
+/// Adds the local function that begins here, on so many parameters.
+fn push_function(found: &mut Vec<Local>, place: Place, parameters: usize) -> Result<(), AllocError>
+    ensures { OnOk result (Finds found.old.items
+        (LocalFunction (position_of place) parameters ∷ []) found.new.items) }
+{
+    found.push(Local::Function(Position::of(place), parameters))?;
+    Ok(())
 }
 
 impl<'t> Sites<'t> {
@@ -123,14 +134,8 @@ impl<'t> Sites<'t> {
         match &node.site {
             Site::Use(name, _) => self.push_use(found, node.spot.scope, *name),
             Site::Operation(e) => self.push_operation(alloc, found, node.spot.scope, *e),
-            Site::Lambda(place, parameters, _) => {
-                found.push(Local::Function(Position::of(*place), parameters.len()))?;
-                Ok(())
-            }
-            Site::Generated(place, _, _, _) => {
-                found.push(Local::Function(Position::of(*place), 1))?;
-                Ok(())
-            }
+            Site::Lambda(place, parameters, _) => push_function(found, *place, parameters.len()),
+            Site::Generated(place, _, _, _) => push_function(found, *place, 1),
             Site::Matched(_) => Ok(()),
             Site::Function(_, _) => Ok(()),
             Site::Defined(_, _) => Ok(()),

@@ -226,8 +226,7 @@ impl<'t> Sites<'t> {
             parameters,
             body,
         } = lambda;
-        let names = variables(alloc, parameters.as_slice())?;
-        let inner = self.in_function(alloc, at, place, names.as_slice())?;
+        let inner = self.in_rule(alloc, at, place, parameters.as_slice())?;
         let copy = Vec::from_slice(alloc, parameters.as_slice())?;
         self.push(at, Site::Lambda(place, copy, body))?;
         self.push(inner, Site::Matched(parameters))?;
@@ -599,8 +598,7 @@ impl<'t> Sites<'t> {
             → OnOk result (Writes t self.old
             (inner_rule_has t.names spot function rule.entry) self.new) }
     {
-        let names = variables(alloc, rule.parameters.as_slice())?;
-        let inner = self.in_function(alloc, at, function, names.as_slice())?;
+        let inner = self.in_rule(alloc, at, function, rule.parameters.as_slice())?;
         let Rule {
             place: _,
             name: _,

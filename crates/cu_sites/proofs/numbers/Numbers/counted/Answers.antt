@@ -1,4 +1,4 @@
-use Rattle.std.proofs.Common.{[], refl}
+use Rattle.std.proofs.Common.{refl}
 use Rattle.cu_sites.proofs.numbers.Numbers.counted.Goals as goal
 
 pub returns : goal.returns
@@ -7,6 +7,6 @@ returns c = record {
   place_keys = c.args.places.now;
   variables_are = refl;
   functions_are = refl;
-  variables_counted = c.in_ok-add_all.ensures [] c.new-variables.ensures;
-  functions_counted = c.in_ok-add_all-2.ensures [] c.new-functions.ensures;
+  variables_counted = c.in_ok-of.ensures;
+  functions_counted = c.in_ok-of-2.ensures;
 }

@@ -13,10 +13,11 @@ use Rattle.cu_syntax.specs.declared.expressions.ExpressionNode.TheVariants as ex
 use Rattle.cu_syntax.specs.declared.expressions.OperatorItem.{OperatorItem}
 use Rattle.cu_syntax.specs.declared.expressions.Qualifier.{Qualifier}
 use Rattle.cu_syntax.specs.declared.expressions.Qualifier.TheVariants as qualifier
+use Rattle.cu_syntax.specs.declared.patterns.Pattern.{Pattern}
 use Rattle.cu_syntax.specs.ExpressionMeaning.{expression_meaning}
 use Rattle.cu_syntax.specs.Declarations.{right_meaning}
 use Rattle.cu_syntax.specs.Names.{name_meaning}
-use Rattle.cu_syntax.specs.Owners.{AlternativeIsOf, BodyIsOf, DeclarationIsOf, DeclarationNodeIsOf, ExpressionIsOf, ExpressionNodeIsOf, GuardIsOf, OperatorItemIsOf, QualifierIsOf}
+use Rattle.cu_syntax.specs.Owners.{AlternativeIsOf, BodyIsOf, DeclarationIsOf, DeclarationNodeIsOf, ExpressionIsOf, ExpressionNodeIsOf, GuardIsOf, OperatorItemIsOf, PatternIsOf, QualifierIsOf}
 use Rattle.cu_syntax.specs.Patterns.{pattern_meaning}
 use Rattle.cu_syntax.specs.Smaller.{alternative_size, declaration_size, expression_size, guard_size, operator_item_size, qualifier_size}
 use Rattle.cu_translation.specs.Sites.{Bound, Defined, in_block, in_function, past_all, with}
@@ -27,7 +28,7 @@ use Rattle.cu_sites.specs.Inside.Entering.{Enters, Notes, Writes}
 use Rattle.cu_sites.specs.Inside.Walked.{IsComprehension, alternatives_have, applied_has, block_of, body_has, comprehension_has, declarations_have, expressions_have, guards_have, let_has, operands_have, qualifiers_have, qualifiers_of, right_has}
 use Rattle.cu_sites.proofs.SpotLemmas.{at_after, block_after, definition_written, writes_both, writes_none, written_start}
 use Rattle.cu_sites.proofs.WalkLemmas.{alternatives_end, alternatives_prefix, applied_to_nothing, applied_writes, bound_node_has, declaration_walks, declarations_end, declarations_prefix, declarations_start, expressions_end, expressions_prefix, follow_is, guards_end, guards_prefix, maybe_none, maybe_some, operands_end, operands_prefix, past_block, qualifier_writes, qualifiers_end, qualifiers_prefix, qualifiers_start, right_writes, rule_node_has}
-use Rattle.cu_sites.proofs.PartLemmas.{alternative_written, at_pushed, begun_next, begun_none, bound_inside, comprehension_is, defined_inside, enters_names, enters_patterns, free_written, generator_written, inner_is, inner_rule_written, lambda_written, no_elements, operation_written, rule_begins, rule_defines, rule_goes_on, some_elements}
+use Rattle.cu_sites.proofs.PartLemmas.{alternative_written, at_pushed, begun_next, begun_none, bound_inside, comprehension_is, defined_inside, enters_names, free_written, generator_written, inner_is, inner_rule_written, lambda_written, no_elements, operation_written, rule_begins, rule_defines, rule_goes_on, some_elements}
 use Rattle.cu_sites.proofs.sites.Sites.+walk.Goals as goal
 
 pub applied-returns-in-Variable : goal.applied-returns-in-Variable
@@ -218,10 +219,10 @@ guards-returns t c w spot at all =
 
 pub lambda-returns : goal.lambda-returns
 lambda-returns t c w spot at placed all of =
-    lambda_written c.expression.result w c.args.self.now c.in_function.new.self c.push.new.self c.push-2.new.self c.expression.new.self c.args.at c.in_ok-inner.inner c.args.lambda.place c.args.lambda.parameters c.in_ok-copy.copy c.args.lambda.body spot at placed all of
-    (c.in_ok-copy.ensures.items ∙ c.as_slice-3.ensures.value)
-    (enters_patterns w c.args.self.now c.in_function.new.self (λ xs. in_function (position_of c.args.lambda.place) xs spot) c.args.lambda.parameters.items c.as_slice.result.now c.in_ok-names.names.items c.as_slice-2.result.now c.in_ok-inner.inner c.as_slice.ensures.value all
-    (c.in_ok-names.ensures w) c.as_slice-2.ensures.value (c.in_ok-inner.ensures w spot at))
+    lambda_written c.expression.result w c.args.self.now c.in_rule.new.self c.push.new.self c.push-2.new.self c.expression.new.self c.args.at c.in_ok-inner.inner c.args.lambda.place c.args.lambda.parameters c.in_ok-copy.copy c.args.lambda.body spot at placed all of
+    (c.in_ok-copy.ensures.items ∙ c.as_slice-2.ensures.value)
+    (subst (λ (xs : List Pattern). Enters w c.args.self.now (in_function (position_of c.args.lambda.place) (patterns_bind w.names xs) spot) c.in_ok-inner.inner c.in_rule.new.self) c.as_slice.ensures.value
+    (c.in_ok-inner.ensures w spot at (subst (All (PatternIsOf w.owner w.names)) (sym c.as_slice.ensures.value) all)))
     c.in_ok-push.ensures c.in_ok-push-2.ensures
     (λ there. c.expression.ensures w (in_function (position_of c.args.lambda.place) (patterns_bind w.names c.args.lambda.parameters.items) spot) there of)
 
@@ -400,9 +401,9 @@ rule-returns t c w spot block is known all of =
 
 pub function_rule-returns : goal.function_rule-returns
 function_rule-returns t c w spot at of =
-    inner_rule_written c.right_side.result w c.args.self.now c.in_function.new.self c.push.new.self c.right_side.new.self c.args.at c.in_ok-inner.inner c.args.function c.args.rule spot of.parameters
-    (enters_patterns w c.args.self.now c.in_function.new.self (λ xs. in_function (position_of c.args.function) xs spot) c.args.rule.parameters.items c.as_slice.result.now c.in_ok-names.names.items c.as_slice-2.result.now c.in_ok-inner.inner c.as_slice.ensures.value of.parameters
-    (c.in_ok-names.ensures w) c.as_slice-2.ensures.value (c.in_ok-inner.ensures w spot at))
+    inner_rule_written c.right_side.result w c.args.self.now c.in_rule.new.self c.push.new.self c.right_side.new.self c.args.at c.in_ok-inner.inner c.args.function c.args.rule spot of.parameters
+    (subst (λ (xs : List Pattern). Enters w c.args.self.now (in_function (position_of c.args.function) (patterns_bind w.names xs) spot) c.in_ok-inner.inner c.in_rule.new.self) c.as_slice.ensures.value
+    (c.in_ok-inner.ensures w spot at (subst (All (PatternIsOf w.owner w.names)) (sym c.as_slice.ensures.value) of.parameters)))
     c.in_ok-push.ensures (λ there. c.right_side.ensures w (in_function (position_of c.args.function) (patterns_bind w.names c.args.rule.parameters.items) spot) there of.right)
 
 pub definition-returns : goal.definition-returns
