@@ -1,5 +1,5 @@
 -- Entities, and after them those of a part of a module.
-use Rattle.std.proofs.Common.{◌≡◌, ◌∙◌, ℕ, ◌+◌, ◌<◌, ◌≤◌, Bool, true, false, List, [], ◌∷◌, ◌++◌, map, take, take_all, get_or, length, refl, sym, ap, ap₂, subst, append-nil, append_assoc, arith, if◌then◌else◌}
+use Rattle.std.proofs.Common.{◌≡◌, ◌∙◌, ℕ, ◌+◌, ◌<◌, false, List, [], ◌∷◌, ◌++◌, map, take, get_or, length, refl, sym, ap, subst, append-nil, append_assoc, arith, if◌then◌else◌}
 use Rattle.std.proofs.lemmas.List.{flat_map_more, length-map, map-append, map_more}
 use Rattle.std.specs.List.{All, flat_map}
 use Rattle.std.specs.Str.{bytes_eq}
@@ -31,7 +31,7 @@ use Rattle.cu_syntax.specs.Types.{type_meaning, types_from}
 use Rattle.cu_syntax.specs.Syntax.{ConstructorDeclaration, Item, Name, TypeTerm}
 use Rattle.cu_toplevel.specs.declared.declarations.Declarations.{Declarations}
 use Rattle.cu_toplevel.specs.Declarations.{AreListed, Lists, and_module}
-use Rattle.cu_toplevel.specs.Heads.{AreHeads, Head, HeadIsOf, head_meaning, head_of_group}
+use Rattle.cu_toplevel.specs.Heads.{Head, HeadIsOf, head_meaning, head_of_group}
 use Rattle.cu_toplevel.specs.Inside.Gathering.{and_constructors, and_functions, and_given, and_item, and_items}
 use Rattle.cu_translation.specs.Externals.{externals}
 use Rattle.cu_translation.specs.Rules.{Group}

@@ -1,5 +1,5 @@
 -- Entities of modules as numbers.
-use Rattle.std.proofs.Common.{◌≡◌, ◌∙◌, ◌+◌, ◌<◌, ◌≤◌, ◌&&◌, cond, ℕ, zero, suc, Bool, true, false, List, [], ◌∷◌, ◌++◌, Option, None, Some, refl, sym, ap, subst, arith, append-nil, get_or, length, map, take, take_all, if◌then◌else◌}
+use Rattle.std.proofs.Common.{◌≡◌, ◌∙◌, ◌+◌, ◌<◌, ◌≤◌, ◌&&◌, cond, ℕ, zero, suc, Bool, true, false, List, [], ◌∷◌, ◌++◌, Option, None, Some, refl, sym, ap, arith, append-nil, length, map, take, take_all, if◌then◌else◌}
 use Rattle.std.proofs.lemmas.Bool.{and_parts, both_ways}
 use Rattle.std.proofs.lemmas.Iterator.Adapters.{position_from-zero}
 use Rattle.std.proofs.Math.Seq.{take-append_seam}
@@ -20,7 +20,7 @@ use Rattle.cu_names.specs.declared.names.NameId.{NameId}
 use Rattle.cu_names.specs.Texts.{AllDiffer, IsKnown, text_of}
 use Rattle.cu_toplevel.specs.declared.listing.Declared as code
 use Rattle.cu_toplevel.specs.declared.listing.Listing.{Listing}
-use Rattle.cu_toplevel.specs.Declarations.{Lists, all_lists, and_module}
+use Rattle.cu_toplevel.specs.Declarations.{all_lists, and_module}
 use Rattle.cu_toplevel.specs.EntityTables.{IsText, sets_from}
 use Rattle.cu_toplevel.specs.Listings.{DeclaredIsKnown, IsListing, declared_meaning}
 use Rattle.cu_translation.specs.Numbered.{Declared, Numbered, constructors_in, functions_in, is_called, numbered, numbered_from, set_arity, synonyms_in, types_in}

@@ -1,11 +1,8 @@
 -- Functions that begin among rules, one rule after another.
-use Rattle.std.proofs.Common.{◌≡◌, ◌∙◌, ℕ, ◌+◌, ◌<◌, ◌≤◌, Bool, true, false, List, [], ◌∷◌, ◌++◌, Option, None, Some, map, take, take_all, get_or, length, refl, sym, ap, ap₂, subst, append-nil, arith, if◌then◌else◌}
+use Rattle.std.proofs.Common.{◌≡◌, ◌∙◌, ℕ, ◌+◌, ◌<◌, Bool, true, false, List, [], ◌∷◌, ◌++◌, Option, None, Some, map, take, get_or, length, refl, sym, ap, ap₂, subst, append-nil, arith, if◌then◌else◌}
 use Rattle.std.proofs.lemmas.List.{length-map, map-append, map_more}
-use Rattle.std.proofs.lemmas.List.Elements.{All-push}
 use Rattle.std.proofs.lemmas.Slice.Eq.{bytes_eq-Decides}
-use Rattle.std.specs.List.{All}
 use Rattle.std.specs.Option.{option_eq, option_map}
-use Rattle.std.specs.Prelude.{IfSome, nat_eq}
 use Rattle.std.specs.Str.{bytes_eq}
 use Rattle.cu_lex.specs.Located.{Position}
 use Rattle.cu_names.specs.contracts.names.NameIdPartialEq.TheImpl as ids
@@ -19,9 +16,9 @@ use Rattle.cu_syntax.specs.Names.{name_meaning}
 use Rattle.cu_syntax.specs.Patterns.{pattern_meaning, patterns_from, patterns_meaning}
 use Rattle.cu_syntax.specs.Syntax.{Name, Pattern, RightSide}
 use Rattle.cu_toplevel.specs.declared.function_heads.FunctionHead.{FunctionHead}
-use Rattle.cu_toplevel.specs.Heads.{Head, HeadIsOf, head_meaning, head_of_group, head_of_rule}
+use Rattle.cu_toplevel.specs.Heads.{Head, head_meaning, head_of_group, head_of_rule}
 use Rattle.cu_toplevel.specs.Inside.Heads.{IsBegun, begun_after, begun_with, heads_with}
-use Rattle.cu_translation.specs.Rules.{Begun, Group, Rule, begun_by, goes_on, groups, groups_after, leading, pattern_count}
+use Rattle.cu_translation.specs.Rules.{Begun, Rule, begun_by, goes_on, groups, groups_after, leading, pattern_count}
 use Rattle.cu_toplevel.proofs.NameLemmas.{same_id, same_name}
 
 abbrev heads_after : Option Begun → List (Option Rule) → List Head

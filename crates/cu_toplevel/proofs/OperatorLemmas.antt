@@ -1,5 +1,5 @@
 -- Fixity declarations, one more after others.
-use Rattle.std.proofs.Common.{◌≡◌, ◌∙◌, ◌+◌, ◌<◌, ℕ, List, [], ◌∷◌, ◌++◌, Some, refl, sym, ap, subst, append-nil, append_assoc, get_or, length, map, take}
+use Rattle.std.proofs.Common.{◌≡◌, ◌∙◌, ◌+◌, ◌<◌, ℕ, List, [], ◌∷◌, ◌++◌, sym, ap, append_assoc, get_or, length, map, take}
 use Rattle.std.proofs.lemmas.List.{flat_map_more, map-append, map_more}
 use Rattle.std.specs.List.{All, flat_map}
 use Rattle.cu_kernel.specs.declared.declarations.Operator.{Operator}
@@ -12,7 +12,7 @@ use Rattle.cu_syntax.specs.declared.text.Item as texts
 use Rattle.cu_syntax.specs.Names.{name_meaning}
 use Rattle.cu_syntax.specs.Owners.{NameIsOf}
 use Rattle.cu_syntax.specs.Syntax.{Name}
-use Rattle.cu_translation.specs.ModuleNames.{Declared, declaration, fixities_by}
+use Rattle.cu_translation.specs.ModuleNames.{declaration, fixities_by}
 use Rattle.cu_translation.specs.Parts.{grouped_to, operator}
 use Rattle.cu_toplevel.proofs.NameLemmas.{stands}
 use Rattle.cu_toplevel.proofs.TopLemmas.{id_is}

@@ -2,15 +2,10 @@
 use Rattle.std.proofs.Common.{◌≡◌, ◌∙◌, ℕ, List, Option, None, Some, refl, sym, ap}
 use Rattle.std.specs.List.{Contains}
 use Rattle.std.specs.Option.{unwrap_or}
-use Rattle.std.specs.Prelude.{slice_get}
-use Rattle.std.proofs.lemmas.Option.{get_or_from_slice_get, slice_get_within}
 use Rattle.cu_calculus.specs.declared.ConId.{ConId}
-use Rattle.cu_calculus.specs.declared.FunId.{FunId}
 use Rattle.cu_calculus.specs.declared.Head.TheVariants as global
 use Rattle.cu_kernel.specs.declared.local.LocalHead.TheVariants as head
 use Rattle.cu_modules.specs.Scopes.{Named}
-use Rattle.cu_names.specs.declared.names.NameId.{NameId}
-use Rattle.cu_names.specs.Texts.{IsKnown, text_of}
 use Rattle.cu_toplevel.specs.declared.entities.Entities.{Entities}
 use Rattle.cu_toplevel.specs.EntityTables.{AreEntities}
 use Rattle.cu_translation.specs.Around.{Callable, Nothing, Referent, SetFunction, Variable}

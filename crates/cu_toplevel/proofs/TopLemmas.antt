@@ -1,18 +1,16 @@
 -- What names of top level refer to, and the numbers of names.
-use Rattle.std.proofs.Common.{◌≡◌, ◌∙◌, ◌↔◌, ◌<◌, ◌≤◌, ℕ, Bool, true, false, List, [], ◌∷◌, Option, None, Some, refl, sym, ap, subst, arith, get_or, length}
-use Rattle.std.proofs.lemmas.Bool.{both_ways}
+use Rattle.std.proofs.Common.{◌≡◌, ◌∙◌, ◌↔◌, ◌<◌, ℕ, Bool, true, false, List, [], ◌∷◌, Option, None, Some, refl, sym, ap, arith, get_or, length}
 use Rattle.std.proofs.lemmas.List.{get_or-map, get_or_default}
 use Rattle.std.proofs.lemmas.List.Sums.{position_or_len_is}
 use Rattle.std.proofs.lemmas.Option.{get_or_from_slice_get, slice_get-get_or, slice_get_within}
 use Rattle.std.proofs.lemmas.Slice.Eq.{bytes_eq-Decides}
-use Rattle.std.specs.List.{Contains, position_or_len}
+use Rattle.std.specs.List.{Contains}
 use Rattle.std.specs.Option.{option_map}
-use Rattle.std.specs.Prelude.{IfSome, slice_get}
+use Rattle.std.specs.Prelude.{slice_get}
 use Rattle.std.specs.Str.{bytes_eq}
 use Rattle.cu_entities.specs.declared.entities.Entity as code
 use Rattle.cu_entities.specs.Entities.{Entity, Space}
 use Rattle.cu_entities.specs.EntityMeaning.{entity_meaning}
-use Rattle.cu_kernel.specs.declared.type_term.TypeName.{TypeName}
 use Rattle.cu_modules.specs.BuiltInEntities.{prelude_name}
 use Rattle.cu_modules.specs.declared.modules.Module.{Module}
 use Rattle.cu_modules.specs.Means.{Means, interfaces_before}
@@ -23,8 +21,7 @@ use Rattle.cu_names.specs.Texts.{AllDiffer, IsKnown, text_of}
 use Rattle.cu_syntax.specs.Syntax.{Name}
 use Rattle.cu_toplevel.specs.declared.entities.Entities.{Entities}
 use Rattle.cu_toplevel.specs.EntityTables.{AreEntities}
-use Rattle.cu_toplevel.specs.TupleTables.{IsFound}
-use Rattle.cu_translation.specs.Around.{Names, Nothing, Referent}
+use Rattle.cu_translation.specs.Around.{Names, Nothing}
 use Rattle.cu_translation.specs.ModuleNames.{alone, constructor_referent, entity_meant, function_referent, id_of, module_at, no_module, of_entity, set_referent, synonym_named, type_named, type_of, value_of}
 use Rattle.cu_translation.specs.Numbered.{all_constructors, all_functions, all_synonyms, all_types, numbered, set_arity}
 use Rattle.cu_toplevel.proofs.EntityLemmas.{not_declared}

@@ -1,10 +1,9 @@
 -- Names of tuples in a table of names.
-use Rattle.std.proofs.Common.{◌≡◌, ◌∙◌, ◌+◌, ◌-◌, ◌<◌, ◌≤◌, ℕ, zero, suc, Bool, true, false, List, [], ◌∷◌, ◌++◌, Option, None, Some, refl, sym, ap, subst, arith, get_or, length, drop, if◌then◌else◌}
+use Rattle.std.proofs.Common.{◌≡◌, ◌∙◌, ◌+◌, ◌-◌, ◌<◌, ◌≤◌, ℕ, zero, suc, Bool, true, false, List, [], ◌∷◌, ◌++◌, Option, None, Some, refl, sym, ap, subst, arith, get_or, length, length-drop, drop, if◌then◌else◌}
 use Rattle.std.proofs.lemmas.Bool.{both_ways}
 use Rattle.std.proofs.lemmas.Bool.Decides.{Decides-eqb}
 use Rattle.std.proofs.lemmas.List.{drop_more}
-use Rattle.std.proofs.lemmas.Option.{slice_get-get_or, slice_get_past}
-use Rattle.std.specs.List.{Contains}
+use Rattle.std.proofs.lemmas.Option.{slice_get-get_or}
 use Rattle.std.specs.Prelude.{IfSome, codes, nat_eq, slice_get}
 use Rattle.cu_modules.specs.BuiltInEntities.{commas}
 use Rattle.cu_names.specs.declared.names.NameId.{NameId}
@@ -72,6 +71,18 @@ no_end bs i past left = sym (ap (commas_in i) (drop_none bs i past)) ∙ left
 pub comma_goes_on : (bs : List ℕ) (i : ℕ) → i < length bs → get_or bs i 0 ≡ 44 → commas_in i (drop i bs) ≡ commas_in 0 bs → commas_in (i + 1) (drop (i + 1) bs) ≡ commas_in 0 bs
 comma_goes_on bs i within is left =
     sym (ap (λ b. if nat_eq b 44 then commas_in (i + 1) (drop (i + 1) bs) else closed i b (drop (i + 1) bs)) is) ∙ sym (ap (commas_in i) (drop_more bs i 0 within)) ∙ left
+
+-- a byte that is no comma is the last, or there are no commas alone
+pub comma_ends : (bs : List ℕ) (i : ℕ) (made : Option ℕ) → i < length bs → (get_or bs i 0 ≡ 44 → ⊥)
+    → ((rest : List ℕ) → length bs - i - 1 ≡ length rest → made ≡ closed i (get_or bs i 0) rest) → commas_in i (drop i bs) ≡ commas_in 0 bs → made ≡ commas_in 0 bs
+comma_ends bs i made within other is left =
+    let b = get_or bs i 0 in
+    let rest = drop (i + 1) bs in
+    is rest (omega (arith, length-drop (i + 1) bs)) ∙ by b rest (nat_eq b 44) other refl ∙ sym (ap (commas_in i) (drop_more bs i 0 within)) ∙ left
+  where
+    by : (b : ℕ) (rest : List ℕ) (h : Bool) → (b ≡ 44 → ⊥) → nat_eq b 44 ≡ h → closed i b rest ≡ (if h then commas_in (i + 1) rest else closed i b rest)
+    by b rest true other here = absurd (other ((Decides-eqb b 44).0 here))
+    by b rest false other here = refl
 
 -- ---- tables
 

@@ -6,8 +6,8 @@ ghost use Rattle.cu_modules.specs.Ordering.{module_of, modules_of};
 ghost use Rattle.cu_modules.specs.Reading.{HasModule};
 ghost use Rattle.cu_modules.specs.Scopes.{Named};
 ghost use Rattle.cu_names.specs.Texts.{AllDiffer, IsKnown, text_of};
-ghost use Rattle.cu_toplevel.specs.EntityTables.{AreEntities};
-ghost use Rattle.cu_toplevel.specs.Listings.{numbered_meaning};
+ghost use Rattle.cu_toplevel.specs.EntityTables.{AreEntities, set_functions};
+ghost use Rattle.cu_toplevel.specs.Listings.{IsListing, numbered_meaning};
 ghost use Rattle.cu_translation.specs.Around as meant;
 ghost use Rattle.cu_translation.specs.Meaning.{referent_meaning};
 ghost use Rattle.cu_translation.specs.ModuleNames.{constructor_referent, fixity_of, function_referent, set_referent, synonym_named, type_named, type_of, value_of};
@@ -56,9 +56,7 @@ impl Entities {
         ensures { IfOk result (AreEntities names.now (modules_of names.now modules.now)) }
     {
         let mut entities = Entities::new(alloc, names)?;
-        'modules: for module in modules {
-            entities.add_module(alloc, names, module)?;
-        }
+        entities.add_modules(alloc, names, modules)?;
         Ok(entities)
     }
 
@@ -67,20 +65,39 @@ impl Entities {
         requires built_in { HasBuiltIn names.now }
         ensures { IfOk result (AreEntities names.now []) }
     {
-        let mut set_functions = Listing::new(alloc);
         let _count = names.count();
+        let prelude = found(names, "Prelude");
+        let cons = found(names, ":");
         let tuples = TupleNames::of(alloc, names)?;
-        let owner = found(names, "SetFunctions");
-        add_given(names, owner, &SET_FUNCTIONS, &mut set_functions)?;
+        let set_functions = set_functions(alloc, names)?;
         Ok(Entities {
             declarations: Declarations::new(alloc),
             set_functions,
             fixities: FixityTable::new(alloc),
             starts: Vec::new(alloc),
             tuples,
-            prelude: found(names, "Prelude"),
-            cons: found(names, ":"),
+            prelude,
+            cons,
         })
+    }
+
+    /// Adds the entities and fixities of further modules, one after another.
+    fn add_modules(
+        &mut self,
+        alloc: Global,
+        names: &Names,
+        modules: &[Module],
+    ) -> Result<(), AllocError>
+        requires built_in { HasBuiltIn names.now }
+        requires has { All (HasModule names.now) modules.now }
+        ensures { (before : List Named) → AreEntities names.now before self.old
+            → OnOk result
+            (AreEntities names.now (before ++ modules_of names.now modules.now) self.new) }
+    {
+        'modules: for module in modules {
+            self.add_module(alloc, names, module)?;
+        }
+        Ok(())
     }
 
     /// Adds the entities and fixities of the next module.
@@ -216,6 +233,18 @@ impl Entities {
     {
         owner == self.prelude && name == self.cons
     }
+}
+
+/// The listing of the functions that give all values of calls.
+fn set_functions(alloc: Global, names: &Names) -> Result<Listing, AllocError>
+    requires built_in { HasBuiltIn names.now }
+    ensures { IfOk result (IsListing names.now set_functions) }
+{
+    let mut listing = Listing::new(alloc);
+    let _count = names.count();
+    let owner = found(names, "SetFunctions");
+    add_given(names, owner, &SET_FUNCTIONS, &mut listing)?;
+    Ok(listing)
 }
 
 /// The constructor of a number, as what a name refers to.

@@ -1,5 +1,6 @@
 //! What is known of functions beside their rules.
-ghost use Rattle.std.specs.Prelude.{◌≡◌, ◌++◌, List, ℕ, IfOk, IfSome, map};
+ghost use Rattle.std.specs.Prelude.{◌≡◌, ◌++◌, List, ℕ, IfOk, IfSome, OnOk, map};
+ghost use Rattle.std.specs.List.{All};
 ghost use Rattle.std.specs.Option.{option_map};
 ghost use Rattle.cu_kernel.specs.KernelOf.{mark_meaning};
 ghost use Rattle.cu_kernel.specs.TypesOf as kernel;
@@ -69,6 +70,43 @@ fn function_mark(
     })
 }
 
+/// Adds what is known of each of these functions of a module, which has these
+/// signatures.
+fn add_marks(
+    alloc: Global,
+    reading: &Reading<'_>,
+    signatures: &Signatures<'_>,
+    functions: &[FunctionHead],
+    marks: &mut Vec<Mark>,
+) -> Result<(), AllocError>
+    ensures { (names : List (List ℕ)) (r : meant.Reading) → IsReading names r reading.now
+        → All (HeadIsOf reading.now.«module».now.name names) functions.now
+        → AreSignatures reading.now.«module».now.name names
+        (λ text. signature_of text r.m.syntax.items) signatures.now
+        → OnOk result (map mark_meaning marks.new.items ≡ map mark_meaning marks.old.items
+        ++ map (λ head. head_mark r (head_meaning names head)) functions.now) }
+{
+    'functions: for head in functions {
+        marks.push(function_mark(alloc, reading, signatures, *head)?)?;
+    }
+    Ok(())
+}
+
+/// Adds what is known of the functions of a module that have rules.
+fn add_functions(
+    alloc: Global,
+    reading: &Reading<'_>,
+    marks: &mut Vec<Mark>,
+) -> Result<(), AllocError>
+    ensures { (names : List (List ℕ)) (r : meant.Reading) → IsReading names r reading.now
+        → OnOk result (map mark_meaning marks.new.items
+        ≡ map mark_meaning marks.old.items ++ map (function_mark r) (groups_in r.m)) }
+{
+    let functions = heads(alloc, reading.module)?;
+    let signatures = Signatures::of(alloc, reading.module)?;
+    add_marks(alloc, reading, &signatures, functions.as_slice(), marks)
+}
+
 /// What is known of the functions of a module beside their rules, in the order
 /// of their numbers.
 ///
@@ -82,10 +120,6 @@ pub(crate) fn marks(alloc: Global, reading: &Reading<'_>) -> Result<Vec<Mark>, A
         ++ map (function_mark r) (groups_in r.m)) }
 {
     let mut marks = external_marks(alloc, reading)?;
-    let signatures = Signatures::of(alloc, reading.module)?;
-    let functions = heads(alloc, reading.module)?;
-    'functions: for head in functions.as_slice() {
-        marks.push(function_mark(alloc, reading, &signatures, *head)?)?;
-    }
+    add_functions(alloc, reading, &mut marks)?;
     Ok(marks)
 }

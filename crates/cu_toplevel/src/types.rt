@@ -77,7 +77,6 @@ fn variable(variables: &[Name], name: Name) -> Result<TypeTerm, AllocError>
 /// # Errors
 ///
 /// An allocation failure.
-#[tactic(auto, using(cu_kernel::specs::TypesOf::types_of_variants))]
 pub(crate) fn arrow(alloc: Global, from: TypeTerm, to: TypeTerm) -> Result<TypeTerm, AllocError>
     ensures { IfOk result (λ found. kernel.type_of found
         ≡ expr.Arrow (kernel.type_of from) (kernel.type_of to)) }

@@ -1,6 +1,6 @@
 use Rattle.std.proofs.Common.{◌∙◌, ap, map, subst, sym, take_all}
 use Rattle.cu_names.specs.Texts.{text_of}
-use Rattle.cu_syntax.specs.Answer.{item_meaning, items_meaning, module_meaning}
+use Rattle.cu_syntax.specs.Answer.{item_meaning, module_meaning}
 use Rattle.cu_syntax.specs.Owners.{ModuleIsOf}
 use Rattle.cu_toplevel.specs.Declarations.{AreListed, Lists}
 use Rattle.cu_toplevel.specs.Inside.Gathering.{and_items}

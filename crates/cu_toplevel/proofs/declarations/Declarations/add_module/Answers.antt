@@ -1,4 +1,4 @@
-use Rattle.std.proofs.Common.{subst, sym}
+use Rattle.std.proofs.Common.{subst}
 use Rattle.std.specs.Prelude.{OnOk}
 use Rattle.cu_modules.specs.Ordering.{module_of}
 use Rattle.cu_names.specs.declared.names.NameId.{NameId}

@@ -1,22 +1,5 @@
-use Rattle.std.proofs.Common.{◌∙◌, ◌++◌, ◌∷◌, List, [], ap, map, subst, sym, take, take_all}
-use Rattle.std.proofs.lemmas.List.{map_more}
-use Rattle.cu_modules.specs.declared.modules.Module.{Module}
-use Rattle.cu_modules.specs.Ordering.{module_of}
-use Rattle.cu_modules.specs.Scopes.{Named}
-use Rattle.cu_toplevel.specs.EntityTables.{AreEntities}
+use Rattle.std.proofs.Common.{[]}
 use Rattle.cu_toplevel.proofs.entities.Entities.of.Goals as goal
 
-pub modules-init : goal.modules-init
-modules-init c = c.in_ok-entities.ensures
-
-pub modules-preserved : goal.modules-preserved
-modules-preserved c =
-    let names = c.args.names.now in
-    let done = map (module_of names) (take c.modules.module-index c.args.modules.now) in
-    subst (λ (ms : List Named). AreEntities names ms c.add_module.new.self)
-    (ap (λ (m : Module). done ++ module_of names m ∷ []) c.module-item.is ∙ sym (map_more (module_of names) c.args.modules.now c.modules.module-index c.module-item.result c.modules-test.true))
-    (c.in_ok-add_module.ensures done c.modules.invariant)
-
 pub returns : goal.returns
-returns c =
-    subst (λ ms. AreEntities c.args.names.now (map (module_of c.args.names.now) ms) c.modules.entities) (take_all c.modules.module-index c.args.modules.now c.modules-test.false) c.modules.invariant
+returns c = c.in_ok-add_modules.ensures [] c.in_ok-entities.ensures

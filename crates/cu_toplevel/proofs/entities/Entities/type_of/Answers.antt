@@ -1,9 +1,9 @@
-use Rattle.std.proofs.Common.{◌∙◌, None, Option, Some, ap, sym}
+use Rattle.std.proofs.Common.{◌∙◌, ap, sym}
 use Rattle.std.specs.Option.{option_map}
 use Rattle.cu_names.specs.Texts.{text_of}
 use Rattle.cu_toplevel.specs.Listings.{numbered_meaning}
-use Rattle.cu_translation.specs.ModuleNames.{constructor_referent, function_referent, set_referent, synonym_named, type_named}
-use Rattle.cu_translation.specs.Numbered.{Numbered, all_functions, all_synonyms, numbered, set_arity}
+use Rattle.cu_translation.specs.ModuleNames.{synonym_named, type_named}
+use Rattle.cu_translation.specs.Numbered.{all_synonyms, numbered}
 use Rattle.cu_toplevel.proofs.entities.Entities.type_of.Goals as goal
 
 pub returns-in-Some : goal.returns-in-Some

@@ -1,11 +1,8 @@
-use Rattle.std.proofs.Common.{◌<◌, ◌∙◌, ap, refl, subst, sym, length}
+use Rattle.std.proofs.Common.{◌<◌, ◌∙◌, ap, refl, subst, sym}
 use Rattle.std.proofs.lemmas.List.{length-map}
 use Rattle.cu_modules.specs.declared.modules.Module.{Module}
 use Rattle.cu_modules.specs.Ordering.{module_of, modules_of}
-use Rattle.cu_modules.specs.Reading.{HasModule}
-use Rattle.cu_names.specs.declared.names.NameId.{NameId}
 use Rattle.cu_names.specs.Texts.{IsKnown}
-use Rattle.cu_translation.specs.Around.{Names}
 use Rattle.cu_translation.specs.ModuleNames.{names_in}
 use Rattle.cu_toplevel.proofs.TopLemmas.{owned_by, owner_is}
 use Rattle.cu_toplevel.proofs.top_names.TopNames.of.Goals as goal

@@ -1,16 +1,11 @@
-use Rattle.std.proofs.Common.{◌≡◌, ◌∙◌, ℕ, List, Option, None, Some, ap, subst, sym}
-use Rattle.std.specs.Prelude.{IfSome, slice_get}
+use Rattle.std.proofs.Common.{◌∙◌, Option, ap, subst, sym}
+use Rattle.std.specs.Prelude.{IfSome}
 use Rattle.cu_entities.specs.declared.entities.Entity.{Entity}
 use Rattle.cu_entities.specs.EntityMeaning.{EntityIsKnown}
-use Rattle.cu_fixity.specs.Pieces.{undeclared}
-use Rattle.cu_names.specs.declared.names.NameId.{NameId}
 use Rattle.cu_syntax.specs.Names.{name_meaning}
-use Rattle.cu_toplevel.specs.Surrounding.{type_text}
-use Rattle.cu_toplevel.specs.TupleTables.{AreTuples, IsFound}
 use Rattle.cu_translation.specs.Around.{Names, Nothing}
-use Rattle.cu_translation.specs.Meaning.{built_in_text}
-use Rattle.cu_translation.specs.ModuleNames.{fixity_of, synonym_named, type_of, value_of}
-use Rattle.cu_toplevel.proofs.TopLemmas.{found_is, no_type, no_value, none_is, of_prelude}
+use Rattle.cu_translation.specs.ModuleNames.{value_of}
+use Rattle.cu_toplevel.proofs.TopLemmas.{found_is, none_is}
 use Rattle.cu_toplevel.proofs.top_names.TopNames.value.Goals as goal
 
 pub returns-in-Some : goal.returns-in-Some
