@@ -1,6 +1,6 @@
 //! Which modules are built in, and that the whole front end reads them.
 use cu_io::ShelfLibrary;
-use cu_modules::order;
+use cu_modules::{Module, order};
 use cu_names::Names;
 use std::alloc::Global;
 
@@ -12,32 +12,44 @@ fn begins_with(module: &str, line: &str) -> bool {
     }
 }
 
-/// How many items a built-in module and those that it imports have, with no
-/// library beside them.
+/// How many items a built-in module has that is read with those that it
+/// imports, and no library beside them.
 fn items_of(alloc: Global, root: &str) -> Option<usize> {
     let mut names = Names::new(alloc);
     let mut library = ShelfLibrary::new(alloc, Vec::new(alloc));
-    let modules = order(alloc, &mut names, root, "nowhere", &mut library).ok()?;
-    modules
-        .as_slice()
-        .last()
-        .map(|module| module.syntax().items().len())
+    match order(alloc, &mut names, root, "nowhere", &mut library) {
+        Ok(modules) => last_items(modules.as_slice()),
+        Err(_) => None,
+    }
 }
+
+/// How many items the last of some modules has.
+fn last_items(modules: &[Module]) -> Option<usize> {
+    let module = modules.last()?;
+    Some(module.syntax().items().len())
+}
+
+/// Names that no built-in module has.
+const OTHER_NAMES: [&str; 6] = [
+    "",
+    "prelude",
+    "Prelud",
+    "Prelude ",
+    "SetFunction",
+    "Data.Prelude",
+];
 
 #[test]
 fn built_in_modules(rt: HostRuntime) {
     assert!(rt; begins_with("Prelude", "-- How tightly operators bind.\n"));
     assert!(rt; begins_with("SetFunctions", "module SetFunctions\n"));
-    for name in [
-        "",
-        "prelude",
-        "Prelud",
-        "Prelude ",
-        "SetFunction",
-        "Data.Prelude",
-    ] {
+    for name in &OTHER_NAMES {
         assert!(rt; cu_prelude::text(name).is_none(), "{name}");
     }
+}
+
+#[test]
+fn items_of_built_in_modules(rt: HostRuntime) {
     assert_eq!(rt; items_of(rt.alloc(), "Prelude"), Some(95));
     assert_eq!(rt; items_of(rt.alloc(), "SetFunctions"), Some(6));
 }

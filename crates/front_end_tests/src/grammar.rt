@@ -2,9 +2,9 @@
 mod modules;
 mod productions;
 
+use crate::tokens::tokens_of;
 use cu_layout::block;
-use cu_lex::{Token, lex};
-use cu_names::Names;
+use cu_lex::Token;
 use cu_syntax::{ParseFault, one_reading, parse_goal, parse_module};
 use modules::{GOALS, PERM, PRELUDE, QUEENS, SET_FUNCTIONS};
 use productions::{
@@ -27,9 +27,7 @@ enum Start {
 
 /// The tokens of a text with its layout, if it has some.
 fn laid(alloc: Global, start: Start, text: &str) -> Option<Vec<Token>> {
-    let mut names = Names::new(alloc);
-    let module = names.intern("M").ok()?;
-    let tokens = lex(alloc, &mut names, module, text.as_bytes()).ok()?;
+    let tokens = tokens_of(alloc, text.as_bytes()).ok()?;
     block(alloc, tokens, matches!(start, Start::Module)).ok()
 }
 
@@ -224,7 +222,11 @@ fn no_tokens(rt: HostRuntime) {
 }
 
 /// A text in which a piece is repeated, between a beginning and an end.
-fn repeated(alloc: Global, parts: [&str; 3], count: usize) -> Result<String, AllocError> {
+pub(crate) fn repeated(
+    alloc: Global,
+    parts: [&str; 3],
+    count: usize,
+) -> Result<String, AllocError> {
     let [prefix, piece, end] = parts;
     let mut text = String::from_str(alloc, prefix)?;
     for _ in 0..count {

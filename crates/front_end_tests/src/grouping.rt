@@ -1,14 +1,12 @@
 //! Expressions, grouped by hand.
+use crate::goals::goal_of;
 use cu_fixity::{
     Cell, Fixities, Fixity, FixityClash, Part, Piece, Side, UNDECLARED, group, one_tree, resolve,
     resolve_pattern,
 };
-use cu_layout::block;
-use cu_lex::lex;
 use cu_names::Names;
-use cu_syntax::{Expression, ExpressionNode, Items, PatItems, Pattern, PatternNode, parse_goal};
+use cu_syntax::{Expression, ExpressionNode, Items, PatItems, Pattern, PatternNode};
 use std::alloc::{AllocError, Global};
-use std::process::Abort;
 
 const LEFT_6: Piece = Piece::Operator(Fixity {
     side: Side::Left,
@@ -65,19 +63,26 @@ type Outcome = Result<Vec<u32>, FixityClash>;
 
 /// The fixities of `+`, `-`, `*` and `==`, and of a `-` of another module,
 /// which is grouped to the right.
+const FIXITIES: [(&str, Side, u32); 6] = [
+    ("+", Side::Left, 6),
+    ("-", Side::Left, 6),
+    ("*", Side::Left, 7),
+    ("==", Side::Neither, 4),
+    ("A.-", Side::Right, 6),
+    (":", Side::Left, 3),
+];
+
+/// The table of these fixities.
 fn declared(alloc: Global, names: &mut Names) -> Option<Fixities> {
     names.intern(":").ok()?;
     let mut table = Fixities::new(alloc, names);
-    for (operator, side, level) in [
-        ("+", Side::Left, 6),
-        ("-", Side::Left, 6),
-        ("*", Side::Left, 7),
-        ("==", Side::Neither, 4),
-        ("A.-", Side::Right, 6),
-        (":", Side::Left, 3),
-    ] {
+    for (operator, side, level) in &FIXITIES {
         let operator = names.intern(operator).ok()?;
-        table.declare(operator, Fixity { side, level }).ok()?;
+        let fixity = Fixity {
+            side: *side,
+            level: *level,
+        };
+        table.declare(operator, fixity).ok()?;
     }
     Some(table)
 }
@@ -86,10 +91,7 @@ fn declared(alloc: Global, names: &mut Names) -> Option<Fixities> {
 /// first parameter has operators.
 fn outcome(alloc: Global, text: &str) -> Option<Outcome> {
     let mut names = Names::new(alloc);
-    let module = names.intern("M").ok()?;
-    let tokens = lex(alloc, &mut names, module, text.as_bytes()).ok()?;
-    let tokens = block(alloc, tokens, false).ok()?;
-    let goal = parse_goal(alloc, tokens.as_slice()).ok()?;
+    let goal = goal_of(alloc, &mut names, text)?;
     let table = declared(alloc, &mut names)?;
     expression_outcome(alloc, goal.expression(), &table)
 }
@@ -99,12 +101,24 @@ fn expression_outcome(
     expression: Expression<'_>,
     table: &Fixities,
 ) -> Option<Outcome> {
-    match expression.node(alloc).ok()? {
-        ExpressionNode::Operators(items) => Some(of_expression(alloc, &items, table)),
-        ExpressionNode::Lambda(_, patterns, _) => match patterns.first()?.node(alloc).ok()? {
-            PatternNode::Operators(items) => Some(of_pattern(alloc, &items, table)),
-            _ => None,
-        },
+    match expression.node(alloc) {
+        Ok(ExpressionNode::Operators(items)) => Some(of_expression(alloc, &items, table)),
+        Ok(ExpressionNode::Lambda(_, parameters, _)) => {
+            parameter_outcome(alloc, parameters.as_slice(), table)
+        }
+        _ => None,
+    }
+}
+
+/// The outcome of the first of these patterns, if it has operators.
+fn parameter_outcome(
+    alloc: Global,
+    parameters: &[Pattern<'_>],
+    table: &Fixities,
+) -> Option<Outcome> {
+    let parameter = parameters.first()?;
+    match parameter.node(alloc) {
+        Ok(PatternNode::Operators(items)) => Some(of_pattern(alloc, &items, table)),
         _ => None,
     }
 }
@@ -162,26 +176,19 @@ fn clash_column(alloc: Global, text: &str) -> Option<u32> {
     }
 }
 
-/// Expects that a goal is grouped to parts of these columns, in Polish
-/// notation.
-fn grouped<R: Abort>(rt: &R, alloc: Global, text: &str, columns: &[u32]) {
-    assert!(rt; is_grouped(alloc, text, columns), "{text}");
-}
-
-fn operators<R: Abort>(rt: &R, alloc: Global) {
-    grouped(rt, alloc, "1 - 2 - 3", &[7, 3, 1, 5, 9]);
-    grouped(rt, alloc, "1 A.- 2 A.- 3", &[3, 1, 9, 7, 13]);
-    grouped(rt, alloc, "a + b ! c", &[3, 1, 7, 5, 9]);
-    grouped(rt, alloc, "a * b + c", &[7, 3, 1, 5, 9]);
-    grouped(rt, alloc, "a + (b - c)", &[3, 1, 6]);
-    grouped(rt, alloc, "\\(x : y : zs) -> x", &[5, 3, 9, 7, 11]);
-}
-
-fn prefix_minuses<R: Abort>(rt: &R, alloc: Global) {
-    grouped(rt, alloc, "- 1 + 2", &[5, 1, 3, 7]);
-    grouped(rt, alloc, "- 1 * 2", &[1, 5, 3, 7]);
-    grouped(rt, alloc, "a == - b", &[3, 1, 6, 8]);
-}
+/// Goals, and the columns of their parts in Polish notation.
+const TREES: [(&str, &[u32]); 9] = [
+    ("1 - 2 - 3", &[7, 3, 1, 5, 9]),
+    ("1 A.- 2 A.- 3", &[3, 1, 9, 7, 13]),
+    ("a + b ! c", &[3, 1, 7, 5, 9]),
+    ("a * b + c", &[7, 3, 1, 5, 9]),
+    ("a + (b - c)", &[3, 1, 6]),
+    ("\\(x : y : zs) -> x", &[5, 3, 9, 7, 11]),
+    // a prefix minus
+    ("- 1 + 2", &[5, 1, 3, 7]),
+    ("- 1 * 2", &[1, 5, 3, 7]),
+    ("a == - b", &[3, 1, 6, 8]),
+];
 
 /// Goals that have no tree, and the columns of their clashes.
 const GOALS_THAT_CLASH: [(&str, u32); 5] = [
@@ -195,8 +202,9 @@ const GOALS_THAT_CLASH: [(&str, u32); 5] = [
 #[test]
 fn goals(rt: HostRuntime) {
     let alloc = rt.alloc();
-    operators(&rt, alloc);
-    prefix_minuses(&rt, alloc);
+    for (text, columns) in &TREES {
+        assert!(rt; is_grouped(alloc, text, columns), "{text}");
+    }
     for (text, column) in &GOALS_THAT_CLASH {
         assert_eq!(rt; clash_column(alloc, text), Some(*column), "{text}");
     }

@@ -1,4 +1,5 @@
 //! Layouts of texts, worked out by hand.
+use crate::grammar::repeated;
 use crate::tokens::tokens_of;
 use cu_layout::{TooDeep, block};
 use cu_lex::{LayoutMark, Mark, Token, TokenKind};
@@ -276,41 +277,47 @@ fn marks_of_modules(rt: HostRuntime) -> Result<(), Fail> {
     Ok(())
 }
 
-/// What so many opening parentheses after a prefix give.
-fn parentheses(
-    alloc: Global,
-    whole: bool,
-    prefix: &str,
-    count: u16,
-) -> Result<Option<TooDeep>, Fail> {
-    let mut text = String::from_str(alloc, prefix)?;
-    for _ in 0..count {
-        text.push_str("(")?;
-    }
-    let tokens = tokens_of(alloc, text.as_bytes())?;
-    match block(alloc, tokens, whole) {
-        Ok(_) => Ok(None),
-        Err(fault) => Ok(Some(fault)),
+/// Why a text has no layout, if it has none. A text without tokens or without
+/// memory gives `NoMemory`.
+fn text_fault(alloc: Global, whole: bool, text: &str) -> Option<TooDeep> {
+    match tokens_of(alloc, text.as_bytes()) {
+        Ok(tokens) => block(alloc, tokens, whole).err(),
+        Err(_) => Some(TooDeep::NoMemory),
     }
 }
 
+/// What so many opening parentheses after a prefix give.
+fn parentheses(alloc: Global, whole: bool, prefix: &str, count: usize) -> Option<TooDeep> {
+    match repeated(alloc, [prefix, "(", ""], count) {
+        Ok(text) => text_fault(alloc, whole, text.as_str()),
+        Err(_) => Some(TooDeep::NoMemory),
+    }
+}
+
+/// The fault of the token in a column of the first line.
+fn too_deep(column: u32) -> TooDeep {
+    TooDeep::At(Place {
+        module: NameId(0),
+        line: 1,
+        column,
+    })
+}
+
+/// Whether a text is a whole module, its prefix, how many parentheses may follow
+/// that, and the column of one more.
+const DEPTHS: [(bool, &str, usize, u32); 2] = [(false, "", 256, 257), (true, "f = ", 255, 260)];
+
 #[test]
-fn entries_of_the_stack(rt: HostRuntime) -> Result<(), Fail> {
+fn entries_of_the_stack(rt: HostRuntime) {
     let alloc = rt.alloc();
-    let at = |column: u32| {
-        let module = NameId(0);
-        let line = 1;
-        TooDeep::At(Place {
-            module,
-            line,
-            column,
-        })
-    };
-    assert_eq!(rt; parentheses(alloc, false, "", 257)?, Some(at(257)));
-    assert_eq!(rt; parentheses(alloc, false, "", 256)?, None);
-    assert_eq!(rt; parentheses(alloc, true, "f = ", 256)?, Some(at(260)));
-    assert_eq!(rt; parentheses(alloc, true, "f = ", 255)?, None);
-    Ok(())
+    for (whole, prefix, most, column) in &DEPTHS {
+        let more = most.saturating_add(1);
+        assert_eq!(rt; parentheses(alloc, *whole, prefix, *most), None);
+        assert_eq!(rt;
+            parentheses(alloc, *whole, prefix, more),
+            Some(too_deep(*column))
+        );
+    }
 }
 
 /// The marks with their places.
@@ -331,11 +338,15 @@ fn shown_mark(alloc: Global, mark: LayoutMark, place: Place) -> Result<String, A
     format!(in alloc; "{mark:?} {line}:{column};")
 }
 
+/// The marks of the layout of a module, with their places.
+fn marks_of(alloc: Global, text: &str) -> Result<String, Fail> {
+    let found = laid(alloc, true, text)?;
+    Ok(shown_marks(alloc, found.as_slice())?)
+}
+
 #[test]
 fn places_of_marks(rt: HostRuntime) -> Result<(), Fail> {
-    let alloc = rt.alloc();
-    let found = laid(alloc, true, "x = 1\ny = let")?;
-    let shown = shown_marks(alloc, found.as_slice())?;
+    let shown = marks_of(rt.alloc(), "x = 1\ny = let")?;
     let expected = "Open 1:1;Separator 2:1;Open 2:5;Close 2:5;Close 2:5;";
     assert_eq!(rt; shown.as_str(), expected);
     Ok(())

@@ -7,6 +7,8 @@ mod built_in;
 #[cfg(test)]
 mod entities;
 #[cfg(test)]
+mod goals;
+#[cfg(test)]
 mod grammar;
 #[cfg(test)]
 mod grouping;

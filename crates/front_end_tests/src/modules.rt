@@ -95,41 +95,65 @@ fn gives(alloc: Global, modules: &[(&str, &str)], expected: &str) -> bool {
     is_outcome(alloc, modules, Vec::new(alloc), expected)
 }
 
+/// Modules, each by its name and its text, and the outcome for the root `M`.
+type Case = (&'static [(&'static str, &'static str)], &'static str);
+
+const IMPORTS: [Case; 4] = [
+    (
+        &[
+            ("M", "import B\nimport C\ny = x"),
+            ("B", "import C\nx = 1"),
+            ("C", "module C where\nz = 2"),
+        ],
+        "Prelude C B M",
+    ),
+    (
+        &[
+            ("M", "import B\nx = 1"),
+            ("B", "import SetFunctions\ny = 2"),
+        ],
+        "Prelude SetFunctions B M",
+    ),
+    (
+        &[("M", "import A"), ("A", "import B"), ("B", "import A")],
+        "cycle A B",
+    ),
+    (&[("M", "import M")], "cycle M"),
+];
+
+const FAULTS: [Case; 6] = [
+    (&[], "missing M"),
+    (&[("M", "import B")], "missing B"),
+    (
+        &[("M", "import B\nx = 1"), ("B", "module C where\ny = 2")],
+        "header of B",
+    ),
+    (&[("M", "x =")], "syntax of M"),
+    (&[("M", "x = \"a")], "token of M"),
+    (
+        &[("M", "x = 99999999999999999999999999999999999999999")],
+        "literal of M",
+    ),
+];
+
+/// The first outcome among these that isn't so.
+fn unexpected(alloc: Global, cases: &[Case]) -> Option<&'static str> {
+    for (modules, expected) in cases {
+        if !gives(alloc, modules, expected) {
+            return Some(expected);
+        }
+    }
+    None
+}
+
 #[test]
 fn imports_before_importers(rt: HostRuntime) {
-    let alloc = rt.alloc();
-    let shared = [
-        ("M", "import B\nimport C\ny = x"),
-        ("B", "import C\nx = 1"),
-        ("C", "module C where\nz = 2"),
-    ];
-    assert!(rt; gives(alloc, &shared, "Prelude C B M"));
-    let built_in = [
-        ("M", "import B\nx = 1"),
-        ("B", "import SetFunctions\ny = 2"),
-    ];
-    assert!(rt; gives(alloc, &built_in, "Prelude SetFunctions B M"));
-    let cycle = [("M", "import A"), ("A", "import B"), ("B", "import A")];
-    assert!(rt; gives(alloc, &cycle, "cycle A B"));
-    assert!(rt; gives(alloc, &[("M", "import M")], "cycle M"));
+    assert_eq!(rt; unexpected(rt.alloc(), &IMPORTS), None);
 }
 
 #[test]
 fn faults_of_texts(rt: HostRuntime) {
-    let alloc = rt.alloc();
-    assert!(rt; gives(alloc, &[], "missing M"));
-    assert!(rt; gives(alloc, &[("M", "import B")], "missing B"));
-    let header = [("M", "import B\nx = 1"), ("B", "module C where\ny = 2")];
-    assert!(rt; gives(alloc, &header, "header of B"));
-    assert!(rt; gives(alloc, &[("M", "x =")], "syntax of M"));
-    assert!(rt; gives(alloc, &[("M", "x = \"a")], "token of M"));
-    assert!(rt;
-        gives(
-            alloc,
-            &[("M", "x = 99999999999999999999999999999999999999999")],
-            "literal of M"
-        )
-    );
+    assert_eq!(rt; unexpected(rt.alloc(), &FAULTS), None);
 }
 
 /// The second fetch of a walk fails: that is no lack of the module.

@@ -1,13 +1,15 @@
 //! What names mean in modules and in a goal. What is expected of each text was
 //! worked out by hand from the rules of scopes.
-use cu_entities::Space;
+ghost use Rattle.std.specs.Prelude.{◌<◌, IfSome, length};
+
+use crate::goals::goal_of;
+use cu_entities::{Entity, Space};
 use cu_io::ShelfLibrary;
-use cu_layout::block;
-use cu_lex::lex;
-use cu_modules::{ScopeFault, order, scope, scope_goal};
+use cu_modules::{Module, ScopeFault, Scopes, order, scope, scope_goal};
 use cu_names::{NameId, Names, Place};
-use cu_syntax::{GoalText, parse_goal};
+use cu_syntax::GoalText;
 use std::alloc::{AllocError, Global};
+use std::process::Abort;
 
 /// The folder in which all modules lie.
 const DIR: &str = "here";
@@ -235,13 +237,6 @@ fn library(alloc: Global, text: &str) -> Result<ShelfLibrary, AllocError> {
     Ok(library)
 }
 
-fn goal_of(alloc: Global, names: &mut Names, text: &str) -> Option<GoalText> {
-    let module = names.intern("goal").ok()?;
-    let tokens = lex(alloc, names, module, text.as_bytes()).ok()?;
-    let tokens = block(alloc, tokens, false).ok()?;
-    parse_goal(alloc, tokens.as_slice()).ok()
-}
-
 /// The text of a name, if the table has it.
 fn text_of(names: &Names, name: NameId) -> &str {
     if name.0 < names.count() {
@@ -275,30 +270,40 @@ fn line(
     format!(in alloc; "{wrong} {module}:{line}:{column} {name}")
 }
 
+/// The number of the last module.
+fn last(modules: &[Module]) -> Option<u32>
+    ensures within { IfSome result (λ number. number < length modules.now) }
+{
+    u32::try_from(modules.len().checked_sub(1)?).ok()
+}
+
+/// What is said of the names in the module `M` of a library, and in a goal there.
+fn said(
+    alloc: Global,
+    names: &mut Names,
+    library: &mut ShelfLibrary,
+    goal: &GoalText,
+) -> Option<String> {
+    let Ok(modules) = order(alloc, names, "M", DIR, library) else {
+        return None;
+    };
+    let root = last(modules.as_slice())?;
+    let scoped = match scope(alloc, names, modules.as_slice()) {
+        Ok(scopes) => scope_goal(alloc, names, modules.as_slice(), root, scopes, goal),
+        Err(fault) => Err(fault),
+    };
+    match scoped {
+        Ok(_) => String::from_str(alloc, RIGHT).ok(),
+        Err(fault) => told(alloc, names, &fault).ok(),
+    }
+}
+
 /// What is said of the names in a module `M` of a text, and in a goal there.
 fn outcome(alloc: Global, text: &str, goal: &str) -> Option<String> {
     let mut names = Names::new(alloc);
     let goal = goal_of(alloc, &mut names, goal)?;
     let mut library = library(alloc, text).ok()?;
-    let Ok(modules) = order(alloc, &mut names, "M", DIR, &mut library) else {
-        return None;
-    };
-    let scopes = match scope(alloc, &names, modules.as_slice()) {
-        Ok(scopes) => scopes,
-        Err(fault) => return told(alloc, &names, &fault).ok(),
-    };
-    let root = modules.len().checked_sub(1)?;
-    match scope_goal(
-        alloc,
-        &names,
-        modules.as_slice(),
-        u32::try_from(root).ok()?,
-        scopes,
-        &goal,
-    ) {
-        Ok(_) => String::from_str(alloc, RIGHT).ok(),
-        Err(fault) => told(alloc, &names, &fault).ok(),
-    }
+    said(alloc, &mut names, &mut library, &goal)
 }
 
 /// Whether this is said of a module of a text, and of a goal there.
@@ -329,49 +334,78 @@ fn unexpected_goal(alloc: Global) -> Option<&'static str> {
     None
 }
 
+/// Expects that of each text is said what stands beside it.
+fn expect<R: Abort>(rt: &R, alloc: Global, cases: &[Case]) {
+    assert_eq!(rt; unexpected(alloc, cases), None);
+}
+
 #[test]
 fn exports(rt: HostRuntime) {
     let alloc = rt.alloc();
-    assert_eq!(rt; unexpected(alloc, &EXPORTED), None);
-    assert_eq!(rt; unexpected(alloc, &NOT_EXPORTED), None);
+    expect(&rt, alloc, &EXPORTED);
+    expect(&rt, alloc, &NOT_EXPORTED);
 }
 
 #[test]
 fn imports(rt: HostRuntime) {
     let alloc = rt.alloc();
-    assert_eq!(rt; unexpected(alloc, &IMPORTED), None);
-    assert_eq!(rt; unexpected(alloc, &NOT_IMPORTED), None);
+    expect(&rt, alloc, &IMPORTED);
+    expect(&rt, alloc, &NOT_IMPORTED);
 }
 
 #[test]
 fn uses(rt: HostRuntime) {
     let alloc = rt.alloc();
-    assert_eq!(rt; unexpected(alloc, &ALWAYS), None);
-    assert_eq!(rt; unexpected(alloc, &USED), None);
+    expect(&rt, alloc, &ALWAYS);
+    expect(&rt, alloc, &USED);
 }
 
 #[test]
 fn declarations(rt: HostRuntime) {
     let alloc = rt.alloc();
-    assert_eq!(rt; unexpected(alloc, &TYPES), None);
-    assert_eq!(rt; unexpected(alloc, &DECLARED), None);
-    assert_eq!(rt; unexpected(alloc, &ANNOTATED), None);
+    expect(&rt, alloc, &TYPES);
+    expect(&rt, alloc, &DECLARED);
+    expect(&rt, alloc, &ANNOTATED);
+}
+
+/// The entity that a name means in a module, where the table has the name.
+fn meaning(
+    scopes: &Scopes,
+    names: &Names,
+    module: u32,
+    qualifier: Option<&str>,
+    base: &str,
+) -> Option<Entity> {
+    let qualifier = match qualifier {
+        Some(text) => Some(names.find(text)?),
+        None => None,
+    };
+    scopes.meaning(module, Space::Values, qualifier, names.find(base)?)
+}
+
+/// The entity that a name means in the module `M` of a library.
+fn entity_of(
+    alloc: Global,
+    names: &mut Names,
+    library: &mut ShelfLibrary,
+    qualifier: Option<&str>,
+    base: &str,
+) -> Option<Entity> {
+    let Ok(modules) = order(alloc, names, "M", DIR, library) else {
+        return None;
+    };
+    let root = last(modules.as_slice())?;
+    match scope(alloc, names, modules.as_slice()) {
+        Ok(scopes) => meaning(&scopes, names, root, qualifier, base),
+        Err(_) => None,
+    }
 }
 
 /// The module of the function that a name means in a module `M` of a text.
 fn owner_of(alloc: Global, text: &str, qualifier: Option<&str>, base: &str) -> Option<String> {
     let mut names = Names::new(alloc);
     let mut library = library(alloc, text).ok()?;
-    let Ok(modules) = order(alloc, &mut names, "M", DIR, &mut library) else {
-        return None;
-    };
-    let scopes = scope(alloc, &names, modules.as_slice()).ok()?;
-    let root = u32::try_from(modules.len().checked_sub(1)?).ok()?;
-    let qualifier = match qualifier {
-        Some(text) => Some(names.find(text)?),
-        None => None,
-    };
-    let entity = scopes.meaning(root, Space::Values, qualifier, names.find(base)?)?;
+    let entity = entity_of(alloc, &mut names, &mut library, qualifier, base)?;
     String::from_str(alloc, text_of(&names, entity.owner)).ok()
 }
 
@@ -385,14 +419,26 @@ fn is_owned(alloc: Global, qualifier: Option<&str>, base: &str, expected: Option
     }
 }
 
+/// A qualifier and a base name, and the module of the function that they mean.
+type Owned = (Option<&'static str>, &'static str, Option<&'static str>);
+
+const OWNED: [Owned; 6] = [
+    (None, "x", Some("M")),
+    (Some("Z"), "x", Some("B")),
+    (Some("D"), "x", Some("B")),
+    (Some("B"), "x", None),
+    (None, "y", Some("D")),
+    (None, "Z", None),
+];
+
 #[test]
 fn goals(rt: HostRuntime) {
     let alloc = rt.alloc();
     assert_eq!(rt; unexpected_goal(alloc), None);
-    assert!(rt; is_owned(alloc, None, "x", Some("M")));
-    assert!(rt; is_owned(alloc, Some("Z"), "x", Some("B")));
-    assert!(rt; is_owned(alloc, Some("D"), "x", Some("B")));
-    assert!(rt; is_owned(alloc, Some("B"), "x", None));
-    assert!(rt; is_owned(alloc, None, "y", Some("D")));
-    assert!(rt; is_owned(alloc, None, "Z", None));
+    for (qualifier, base, expected) in &OWNED {
+        assert!(rt;
+            is_owned(alloc, *qualifier, base, *expected),
+            "{qualifier:?} {base}"
+        );
+    }
 }
