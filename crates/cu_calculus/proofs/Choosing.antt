@@ -67,7 +67,7 @@ spliced_demands k arguments ps =
     let place : list_demands (drop (k + 1) ps) ≡ list_demands (drop (suc k) ps) = ap (λ n. list_demands (drop n ps)) (add-one k) in
     omega arith
 
--- the patterns of a row, narrowed, demand no more than before, and less where the row demands
+-- the patterns of a row, specialized, demand no more than before, and less where the row demands
 -- something there
 specialized_demands : (k n : ℕ) (row : Row) → list_demands (specialized_row k n row).patterns + demanded (demand_at k row) ≤ list_demands row.patterns
 specialized_demands k n row = by (slice_get row.patterns k) refl
@@ -96,7 +96,7 @@ kept_fewer : (b : Bool) (k n : ℕ) (row : Row) (kept rows : List Row) → deman
 kept_fewer true k n row kept rows e h = let fewer = specialized_demands k n row in omega arith
 kept_fewer false k n row kept rows e h = omega arith
 
--- rows that pass a test, narrowed, take no more looks, and fewer where the first demands something
+-- rows that pass a test, specialized, take no more looks, and fewer where the first demands something
 -- there
 specialized_looks : (k n : ℕ) (test : Row → Bool) (rows : List Row) → looks (map (specialized_row k n) (filter test rows)) ≤ looks rows
 specialized_looks k n test [] = omega arith

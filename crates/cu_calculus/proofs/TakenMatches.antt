@@ -136,7 +136,7 @@ first_fits program rows values choice t fit =
     let here : Among t.first rows = subst (λ (rs : List Row). Among t.first rs) (sym t.are) (inl refl) in
     record { row = t.first; among = here; is = t.is; matches = free_match t.first.patterns values t.free (fit t.first here).long }
 
--- what a row has at a place, and the row narrowed
+-- what a row has at a place, and the row specialized
 pub record Inside (program : Program) (rows fewer : List Row) (values parts : List Value) (n : Specializes rows values fewer parts) (row : Row) : Type 0 where
   pub source : Row
   pub among : Among source rows

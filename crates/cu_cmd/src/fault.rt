@@ -9,7 +9,7 @@ use cu_search::SearchFault;
 use std::alloc::AllocError;
 
 /// Why a run breaks off.
-#[derive(Clone, Copy, Debug, PartialEq, Eq)]
+#[derive(Clone, Copy, PartialEq, Eq)]
 pub(crate) enum RunFault {
     /// The library failed.
     Read,

@@ -14,7 +14,7 @@ use cu_translation::{Fault, Referent, Surroundings, Wrong};
 use std::alloc::{AllocError, Global};
 
 /// Which faults of patterns are told.
-#[derive(Clone, Copy, Debug, PartialEq, Eq)]
+#[derive(Clone, Copy, PartialEq, Eq)]
 pub(crate) enum Sought {
     /// Constructor operators between patterns that have no grouped tree.
     Clashes,

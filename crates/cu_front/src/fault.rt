@@ -7,7 +7,7 @@ use std::alloc::AllocError;
 
 /// Why a stage ends early: a text or a program is refused, or there is no
 /// memory left.
-#[derive(Debug, Drop)]
+#[derive(Drop)]
 pub(crate) enum StageFault {
     Refused(Refusal),
     NoMemory,

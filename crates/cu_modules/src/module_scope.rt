@@ -4,7 +4,7 @@ use cu_names::NameId;
 
 /// An entity that is bound, with the qualifier by which a text can name it, or
 /// without one.
-#[derive(Clone, Copy, Debug)]
+#[derive(Clone, Copy)]
 pub(crate) struct Bound {
     pub(crate) qualifier: Option<NameId>,
     pub(crate) entity: Entity,

@@ -25,7 +25,7 @@ use crate::{Name, pattern_forms};
 use std::alloc::{AllocError, Global};
 
 /// The left-hand side of a rule: a function on parameters, or a pattern.
-#[derive(Debug, Drop)]
+#[derive(Drop)]
 enum Left<'t> {
     Function(Name, Vec<Pattern<'t>>),
     Pattern(Pattern<'t>),

@@ -21,6 +21,7 @@ pub fn grammar(alloc: Global) -> Result<Grammar, AllocError>
     }
 }
 
+/// The rows of the symbols of the grammar, in the order of their numbers.
 fn all_rows(alloc: Global) -> Result<Vec<Row>, AllocError>
     ensures { IfOk result (λ found. found.items ≡ rows) }
 {
@@ -55,6 +56,7 @@ fn row(alloc: Global, rule: Rule) -> Result<Row, AllocError>
     })
 }
 
+/// The numbers of the rows of symbols.
 fn numbers(alloc: Global, symbols: &[Symbol]) -> Result<RowNumbers, AllocError>
     ensures { IfOk result (λ numbers. numbers ≡ map number symbols.now) }
 {

@@ -10,7 +10,7 @@ use cu_lex::{LayoutMark, Mark, Token, TokenKind};
 const MAX_TOKENS: usize = 4096;
 
 /// Where a part of a module's block ends.
-#[derive(Clone, Copy, Debug)]
+#[derive(Clone, Copy)]
 pub(crate) enum PartEnd {
     /// The part ends after so many tokens, at a semicolon.
     Separator(usize),

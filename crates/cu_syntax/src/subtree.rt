@@ -14,9 +14,10 @@ use crate::symbol::Symbol;
 use cu_lex::Token;
 use cu_peg::{Form, Node};
 use std::alloc::{AllocError, Global};
+use std::fmt;
 
 /// A tree of a symbol of the grammar, over tokens.
-#[derive(Clone, Copy, Debug)]
+#[derive(Clone, Copy)]
 pub(crate) struct Subtree<'t> {
     pub(crate) symbol: Symbol,
     pub(crate) tokens: &'t [Token],
@@ -25,6 +26,15 @@ pub(crate) struct Subtree<'t> {
     ghost spelled: { spelled (read nodes.now) ≡ nodes.now },
     ghost fits: { (names : List (List ℕ))
         → fits symbol (over (map (lexeme_of names) tokens.now) (read nodes.now)) ≡ true },
+}
+
+/// A tree is shown by its tokens. Symbols have no names outside of this crate.
+impl fmt::Debug for Subtree<'_> {
+    fn fmt<W: fmt::Write>(&self, f: &mut fmt::Formatter<W>) -> fmt::Result {
+        f.debug_struct("Subtree")
+            .field("tokens", &self.tokens)
+            .finish_non_exhaustive()
+    }
 }
 
 impl<'t> Subtree<'t> {

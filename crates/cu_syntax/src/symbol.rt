@@ -1,6 +1,6 @@
 //! The symbols of the grammar.
 /// A symbol of the grammar of Curry modules and goals.
-#[derive(Clone, Copy, Debug)]
+#[derive(Clone, Copy)]
 pub(crate) enum Symbol {
     // Tokens.
     VarId,

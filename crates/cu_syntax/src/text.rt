@@ -10,15 +10,25 @@ use crate::subtree::Subtree;
 use crate::symbol::Symbol;
 use cu_lex::Token;
 use cu_peg::Tree;
+use std::fmt;
 
 /// Tokens, and the tree that the grammar gives of them.
-#[derive(Debug, Drop)]
+#[derive(Drop)]
 pub(crate) struct Parsed {
     pub(crate) symbol: Symbol,
     pub(crate) tokens: Vec<Token>,
     pub(crate) tree: Tree,
     ghost fits: { (names : List (List ℕ))
         → fits symbol (over (map (lexeme_of names) tokens.items) tree) ≡ true },
+}
+
+/// A text is shown by its tokens. Symbols have no names outside of this crate.
+impl fmt::Debug for Parsed {
+    fn fmt<W: fmt::Write>(&self, f: &mut fmt::Formatter<W>) -> fmt::Result {
+        f.debug_struct("Parsed")
+            .field("tokens", &self.tokens)
+            .finish_non_exhaustive()
+    }
 }
 
 impl Parsed {

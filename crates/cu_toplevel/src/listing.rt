@@ -12,7 +12,7 @@ use std::alloc::{AllocError, Global};
 
 /// An entity of a module, by its name there, and how many parameters, fields or
 /// arguments it takes.
-#[derive(Clone, Copy, Debug)]
+#[derive(Clone, Copy)]
 pub(crate) struct Declared {
     pub(crate) owner: NameId,
     pub(crate) name: NameId,
@@ -28,7 +28,7 @@ pub struct Numbered {
 }
 
 /// What tells entities of one kind apart.
-#[derive(Clone, Copy, Debug, PartialEq, Eq, Hash)]
+#[derive(Clone, Copy, PartialEq, Eq, Hash)]
 pub(crate) struct Key {
     pub(crate) owner: NameId,
     pub(crate) name: NameId,

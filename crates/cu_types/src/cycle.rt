@@ -10,7 +10,7 @@ use crate::order::Task;
 use std::alloc::{AllocError, Global};
 
 /// A type of a class, by its place.
-#[derive(Clone, Copy, Debug, PartialEq, Eq)]
+#[derive(Clone, Copy, PartialEq, Eq)]
 pub(crate) struct Member {
     /// The class, by its representative.
     class: usize,

@@ -10,7 +10,7 @@ use crate::Node;
 use std::alloc::{AllocError, Global};
 
 /// The state of a class in the walk.
-#[derive(Clone, Copy, Debug, PartialEq, Eq)]
+#[derive(Clone, Copy, PartialEq, Eq)]
 pub(crate) enum State {
     /// The class wasn't visited yet.
     Unseen,
@@ -21,7 +21,7 @@ pub(crate) enum State {
 }
 
 /// What a walk has still to do.
-#[derive(Clone, Copy, Debug, PartialEq, Eq)]
+#[derive(Clone, Copy, PartialEq, Eq)]
 pub(crate) enum Task {
     /// To place the class of a type.
     Enter(usize),

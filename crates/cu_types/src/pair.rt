@@ -1,7 +1,7 @@
 //! Pairs of places in a table.
 
 /// Two places of a table whose types shall be the same.
-#[derive(Clone, Copy, Debug, PartialEq, Eq)]
+#[derive(Clone, Copy, PartialEq, Eq)]
 pub(crate) struct Pair {
     /// The place of one of the types.
     pub(crate) left: usize,
