@@ -30,13 +30,14 @@ fn last_items(modules: &[Module]) -> Option<usize> {
 }
 
 /// Names that no built-in module has.
-const OTHER_NAMES: [&str; 6] = [
+const OTHER_NAMES: [&str; 7] = [
     "",
     "prelude",
     "Prelud",
     "Prelude ",
     "SetFunction",
     "Data.Prelude",
+    "Data.List",
 ];
 
 #[test]

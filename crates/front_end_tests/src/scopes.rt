@@ -91,8 +91,11 @@ const NOT_EXPORTED: [Case; 9] = [
     ("import L\nz = r", "UnknownName L:1:5 q"),
 ];
 
-const IMPORTED: [Case; 18] = [
+const IMPORTED: [Case; 21] = [
     ("import B\ny = B.x", RIGHT),
+    ("import B (x)\ny = (x, B.x)", RIGHT),
+    ("import D (y)\nz = y", RIGHT),
+    ("import D (y)\nz = x", "UnknownName M:2:5 x"),
     ("import qualified B\ny = B.x", RIGHT),
     ("import qualified B\ny = x", "UnknownName M:2:5 x"),
     ("import B as Z\ny = Z.x", RIGHT),
@@ -145,7 +148,7 @@ const ALWAYS: [Case; 7] = [
     ("import Prelude ()\ny = 1 + 2", "UnknownName M:2:7 +"),
 ];
 
-const USED: [Case; 15] = [
+const USED: [Case; 16] = [
     ("y = q", "UnknownName M:1:5 q"),
     ("y :: Foo\ny = 1", "UnknownName M:1:6 Foo"),
     ("import B\nimport C\ny = x", "Ambiguous M:3:5 x"),
@@ -157,6 +160,8 @@ const USED: [Case; 15] = [
     ("import B\nx = 3\ny = (M.x, B.x)", RIGHT),
     ("import B as M\nx = 3\ny = M.x", "Ambiguous M:3:5 M.x"),
     ("data P = Int : Int\ny z = 1 : z", "Ambiguous M:2:9 :"),
+    // a list in brackets has no use of the name
+    ("data P = Int : Int\ny = [1]", RIGHT),
     // a local variable hides all outer ones
     ("import B\nimport C\ny x = x", RIGHT),
     ("import B\nimport C\ny z = x", "Ambiguous M:3:7 x"),
@@ -166,7 +171,7 @@ const USED: [Case; 15] = [
     ("import B\nimport C\ny z | x = z where x = True", RIGHT),
 ];
 
-const TYPES: [Case; 11] = [
+const TYPES: [Case; 13] = [
     // types are one name space, functions and constructors another
     ("data P = P\nf = P", RIGHT),
     ("data P = Q\ndata P = R", "Duplicate M:2:6 P"),
@@ -176,8 +181,10 @@ const TYPES: [Case; 11] = [
     ("data P a a = P a", "Duplicate M:1:10 a"),
     ("newtype P a = P [a]", RIGHT),
     ("newtype P a = P b", "UnknownName M:1:17 b"),
+    ("newtype P a a = P a", "Duplicate M:1:13 a"),
     ("type P a = a -> P a", RIGHT),
     ("type P a = [b]", "UnknownName M:1:13 b"),
+    ("type P a a = [a]", "Duplicate M:1:10 a"),
     ("f :: a -> b\nf z = z", RIGHT),
 ];
 
