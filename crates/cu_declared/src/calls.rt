@@ -34,6 +34,7 @@ fn add_built_in(names: &Names, numbers: &mut Numbers) -> Result<(), AllocError>
     requires { HasBuiltIn names.now }
     ensures { OnOk result (Gains names.now numbers.old built_in_parameters numbers.new) }
 {
+    // Called for its clause that the texts of the table differ.
     let _count = names.count();
     let prelude = found(names, "Prelude");
     let int = found(names, "Int");
@@ -59,6 +60,7 @@ fn parameters(alloc: Global, names: &Names, modules: &[Module]) -> Result<Number
     requires known { All (HasModule names.now) modules.now }
     ensures { IfOk result (Have names.now (all_parameters (modules_of names.now modules.now))) }
 {
+    // Called for its clause that the texts of the table differ.
     let _count = names.count();
     let mut numbers = Numbers::new(alloc);
     add_built_in(names, &mut numbers)?;
@@ -124,6 +126,7 @@ pub fn declared_types(
         (TellsFault names.now (IsWrong (modules_of names.now modules.now))) }
     ensures known { IfErr result (FaultIsKnown names.now) }
 {
+    // Called for its clause that the texts of the table differ.
     let _count = names.count();
     let Ok(count) = u32::try_from(modules.len()) else {
         return Err(TypeNameFault::NoMemory);
@@ -167,6 +170,7 @@ pub fn declared_types_goal(
     ensures known { (owner : NameId) → IsKnown names.now owner → GoalIsOf owner names.now goal.now
         → IfErr result (GoalFaultIsKnown names.now) }
 {
+    // Called for its clause that the texts of the table differ.
     let _count = names.count();
     let types = parameters(alloc, names, modules)?;
     let mut uses = Vec::new(alloc);

@@ -68,6 +68,7 @@ pub(crate) fn runnable(
     test_levels(alloc, names, &program)?;
     let typing = typed(alloc, names, &program)?;
     let flat = lowered(alloc, names, &program)?;
+    // Called for its clause that the program is valid.
     let _functions = program.functions();
     match typing {
         Typing::Data(interface) => Ok(Compiled {
@@ -91,6 +92,7 @@ fn lifted(alloc: Global, names: &mut Names, local: LocalProgram) -> Result<Progr
         return Err(StageFault::NoMemory);
     }
     let program = lift(alloc, names, local)?;
+    // Called for its clause that the texts of the table differ.
     let _count = names.count();
     Ok(program)
 }

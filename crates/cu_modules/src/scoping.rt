@@ -79,6 +79,7 @@ fn scope_module(
     ensures known { (before : List Interface) → AreInterfaces names.now before interfaces.old
         → IfErr result (FaultIsKnown names.now) }
 {
+    // Called for its clause that the texts of the table differ.
     let _count = names.count();
     let scoped = scoped(alloc, names, module, interfaces)?;
     let found = first_fault(alloc, module, interfaces, &scoped)?;
@@ -129,6 +130,7 @@ pub fn scope_goal(
     ensures known { (owner : NameId) → IsKnown names.now owner → GoalIsOf owner names.now goal.now
         → IfErr result (FaultIsKnown names.now) }
 {
+    // Called for its clause that the texts of the table differ.
     let _count = names.count();
     let mut first = FirstFault::new();
     goal_faults(alloc, &scopes.tables[root as usize], goal, &mut first)?;

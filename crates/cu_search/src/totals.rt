@@ -5,6 +5,7 @@ ghost use Rattle.cu_search.specs.Totals.{and_answer, and_wait, no_lines};
 ghost use Rattle.cu_step.specs.Outcome.{reading_of};
 
 use cu_calculus::Lit;
+use cu_int::Int;
 use cu_step::Reading;
 use cu_values::{Cell, Value};
 use std::alloc::AllocError;
@@ -66,14 +67,14 @@ fn value_addend(value: &Value) -> i128
 }
 
 /// What a number adds to the sum.
-fn number_addend(number: i128) -> i128
+fn number_addend(number: Int) -> i128
     ensures { result ≡ spec.number_addend number }
 {
     if is_short(number) { number } else { 0 }
 }
 
 /// Whether a number has one to ten digits and no sign.
-fn is_short(number: i128) -> bool
+fn is_short(number: Int) -> bool
     ensures { result ≡ spec.is_short number }
 {
     0 <= number && number < 10_000_000_000

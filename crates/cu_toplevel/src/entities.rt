@@ -65,6 +65,7 @@ impl Entities {
         requires built_in { HasBuiltIn names.now }
         ensures { IfOk result (AreEntities names.now []) }
     {
+        // Called for its clause that the texts of the table differ.
         let _count = names.count();
         let prelude = found(names, "Prelude");
         let cons = found(names, ":");
@@ -241,6 +242,7 @@ fn set_functions(alloc: Global, names: &Names) -> Result<Listing, AllocError>
     ensures { IfOk result (IsListing names.now set_functions) }
 {
     let mut listing = Listing::new(alloc);
+    // Called for its clause that the texts of the table differ.
     let _count = names.count();
     let owner = found(names, "SetFunctions");
     add_given(names, owner, &SET_FUNCTIONS, &mut listing)?;

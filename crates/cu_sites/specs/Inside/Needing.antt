@@ -56,8 +56,8 @@ abbrev pub IsNeeded : List Binder → List Position → Relation → List Defini
 IsNeeded binders functions captured ds needs =
     Holds (suc (length binders)) (flat_map (definition_pairs binders functions captured) ds) needs
 
--- A relation has, by numbers, the variables that these definitions need where this is what stands in
--- a text.
+-- A relation has, by numbers, the variables that these definitions need where this is what stands
+-- in a text.
 pub record NeededIn (binders : List Binder) (functions : List Position) (usages : List Usage)
     (ds : List Definition) (needs : Relation) : Type 0 where
   pub captured : Relation
