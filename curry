@@ -42,7 +42,7 @@ prove() {
 }
 
 build() {
-  echo "curry: proving and building the program; the first time takes an hour or more" >&2
+  echo "curry: proving and building the program; the first time takes an hour or more ($log says how far it is)" >&2
   mkdir -p "$(dirname "$stamp")"
   touch "$stamp.begun"
   rm -f "$stamp"
