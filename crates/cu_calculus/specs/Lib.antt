@@ -4,8 +4,6 @@
 pub mod Literal
 -- Partial values.
 pub mod Value
--- The order of approximation on partial values.
-pub mod Below
 -- Patterns and terms.
 pub mod Term
 -- Programs: functions with their rules, constructors, built-in entities.
@@ -16,6 +14,8 @@ pub mod Shape
 pub mod Order
 -- Matching, and what variables stand for.
 pub mod Match
+-- The order of approximation on partial values.
+pub mod Below
 -- What the built-in operations answer.
 pub mod Builtin
 -- Which alternative of a case distinction a value takes.

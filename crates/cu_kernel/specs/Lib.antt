@@ -18,14 +18,14 @@ pub mod Captures
 pub mod LocalValid
 -- The tests by which the code decides whether a kernel program is valid.
 pub mod Tests
--- The functions and constructors that a table of heads has.
-pub mod Heads
 -- The types that the code's boxed types stand for.
 pub mod TypesOf
 -- The patterns and terms that the code's boxed ones stand for.
 pub mod TermsOf
 -- The kernel program that the code's parts stand for.
 pub mod KernelOf
+-- The functions and constructors that a table of heads has.
+pub mod Heads
 -- The terms before lifting that the code's boxed terms stand for.
 pub mod LocalTermsOf
 -- The program before lifting that the code's parts stand for.

@@ -91,13 +91,14 @@ impl ProgramParts {
     ///   number may not stand either.
     /// - The types begin with the list, unit, the tuples of 2 to 15
     ///   components, `Int` and `Char`, all of the first module, which is the
-    ///   Prelude. These have the parameters and the constructors with the
-    ///   fields that the language gives them, and `[]` and `:` are those of
+    ///   Prelude. These have as many parameters, and constructors of as many
+    ///   fields, as the language gives them, and `[]` and `:` are those of
     ///   the built-in entities.
     /// - The other built-in entities are there: `False`, declared before
     ///   `True`, both without fields; `&&` with its two rules or with the
-    ///   case distinction that is made of them; and a constructor of one field
-    ///   for the values of set functions wherever a set function stands.
+    ///   case distinction that is made of them; and a constructor for the
+    ///   values of set functions, of one field where one is named, which is so
+    ///   wherever a set function stands.
     /// - The variables in a declared type's fields and in a synonym's body
     ///   are its parameters.
     /// - Each function has one mark, in the order of the functions, which

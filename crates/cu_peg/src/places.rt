@@ -17,11 +17,11 @@ pub struct Entry {
 }
 
 /// A number in 32 bits. A text whose numbers don't fit fits no memory.
-fn narrow(number: usize) -> Result<u32, AllocError>
-    ensures { IfOk result (λ narrow. narrow ≡ number) }
+fn in_32_bits(number: usize) -> Result<u32, AllocError>
+    ensures { IfOk result (λ short. short ≡ number) }
 {
     match u32::try_from(number) {
-        Ok(narrow) => Ok(narrow),
+        Ok(short) => Ok(short),
         Err(_) => Err(AllocError),
     }
 }
@@ -30,7 +30,7 @@ fn pack(row: usize, end: Option<End>) -> Result<Entry, AllocError>
     ensures row { IfOk result (λ entry. entry.row ≡ row) }
     ensures end { IfOk result (λ entry. unpacked entry ≡ end) }
 {
-    let row = narrow(row)?;
+    let row = in_32_bits(row)?;
     let end = match end {
         Some(end) => end,
         None => {
@@ -44,8 +44,8 @@ fn pack(row: usize, end: Option<End>) -> Result<Entry, AllocError>
     if end.nodes == 0 {
         return Err(AllocError);
     }
-    let left = narrow(end.left)?;
-    let nodes = narrow(end.nodes)?;
+    let left = in_32_bits(end.left)?;
+    let nodes = in_32_bits(end.nodes)?;
     Ok(Entry { row, left, nodes })
 }
 

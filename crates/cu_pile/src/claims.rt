@@ -56,7 +56,7 @@ impl<I: Drop> Claims<I> {
         self.count
     }
 
-    // Divides the workers of a seat: half of them get a seat of their own.
+    /// Divides the workers of a seat: half of them get a seat of their own.
     pub(crate) fn split(&self, seat: &mut Seat<I>) -> Seat<I>
         requires table { seat.old.table_id ≡ self.now.table.shared.table_id }
         requires fresh { IsFresh (items_of self.now.table.shared.key) seat.old.me }
@@ -72,7 +72,7 @@ impl<I: Drop> Claims<I> {
         self.table.shared.split_seat::<Halves>(seat)
     }
 
-    // Joins another seat to this one, which then has the numbers of both.
+    /// Joins another seat to this one, which then has the numbers of both.
     pub(crate) fn join(&self, seat: &mut Seat<I>, other: Seat<I>)
         requires tables { (seat.old.table_id ≡ self.now.table.shared.table_id)
             × (other.table_id ≡ self.now.table.shared.table_id) }
@@ -88,7 +88,7 @@ impl<I: Drop> Claims<I> {
         self.table.shared.join_seat::<Both>(seat, other);
     }
 
-    // Ends the round. The one seat that is left drew each item's number once.
+    /// Ends the round. The one seat that is left drew each item's number once.
     pub(crate) fn close(self, seat: Seat<I>)
         requires table { seat.table_id ≡ self.table.shared.table_id }
         requires done { IsDone (items_of self.table.shared.key) seat.me }
@@ -101,7 +101,7 @@ impl<I: Drop> Claims<I> {
     }
 }
 
-// Drops what is left in the slots of a closed table.
+/// Drops what is left in the slots of a closed table.
 fn drop_slots<I: Drop>(mut closed: Closed<Option<I>, Global>)
     requires { IsFull closed.slots }
 {
@@ -113,7 +113,7 @@ fn drop_slots<I: Drop>(mut closed: Closed<Option<I>, Global>)
     closed.free();
 }
 
-// The items, each in a slot of its own.
+/// The items, each in a slot of its own.
 fn filled<I: Drop>(alloc: Global, items: Vec<I>) -> Result<Vec<Option<I>>, AllocError>
     ensures { IfOk result (λ slots. slots.items ≡ map (λ item. Some item) items.items) }
 {

@@ -41,7 +41,7 @@ impl<I> TableRule<Option<I>, SeatView<I>, Start<I>> for ClaimRule {
 /// A seat at a round's table.
 pub type Seat<I> = atomic_table::Seat<Option<I>, SeatView<I>>;
 
-// The step in which a worker draws a number.
+/// The step in which a worker draws a number.
 pub(crate) struct Draw;
 
 impl<I> Play<Option<I>, SeatView<I>> for Draw {
@@ -50,7 +50,7 @@ impl<I> Play<Option<I>, SeatView<I>> for Draw {
     ghost then = { Draws };
 }
 
-// The step in which the workers of a seat are divided between two seats.
+/// The step in which the workers of a seat are divided between two seats.
 pub(crate) struct Halves;
 
 impl<I> Split<SeatView<I>> for Halves {
@@ -62,8 +62,8 @@ impl<I> Split<SeatView<I>> for Halves {
     ghost right = { λ v. seated v.items [] (v.workers / 2) };
 }
 
-// The step in which the numbers of two seats are joined, one list after the
-// other.
+/// The step in which the numbers of two seats are joined, one list after the
+/// other.
 pub(crate) struct Both;
 
 impl<I> Join<SeatView<I>> for Both {

@@ -39,14 +39,14 @@ impl<'t, J: Job> Worker<'t, J> {
         seat
     }
 
-    // How many items the round has.
+    /// How many items the round has.
     fn count(&self) -> u64
         ensures { result ≡ length self.now.seat.me.0.items }
     {
         self.claims.count()
     }
 
-    // Draws the next number.
+    /// Draws the next number.
     fn draw(&mut self) -> u64
         requires { number_past (length self.old.seat.me.0.items) self.old.seat.me.0.drawn ≡ 0 }
         ensures table { self.new.seat.table_id ≡ self.old.seat.table_id }
@@ -61,7 +61,7 @@ impl<'t, J: Job> Worker<'t, J> {
             .fetch_add::<Draw>(&mut self.seat, 0, 1)
     }
 
-    // Takes the item of the number that was drawn last out of its slot.
+    /// Takes the item of the number that was drawn last out of its slot.
     fn take(&mut self, number: u64) -> J::In
         requires item { number < length self.old.seat.me.0.items }
         requires slot { self.old.seat.me.1
@@ -110,8 +110,8 @@ pub fn work<J: Job, G: Gate>(
     outcomes
 }
 
-// The outcomes with that of one item more. Once memory ran out, the item is
-// dropped.
+/// The outcomes with that of one item more. Once memory ran out, the item is
+/// dropped.
 fn with_outcome<J: Job>(
     outcomes: Result<Vec<(u64, J::Out)>, AllocError>,
     number: u64,

@@ -61,7 +61,7 @@ fn trial_command<'a>(alloc: Global) -> Result<Command<'a>, AllocError>
         .arg(option(alloc, "stride").default_value("1"))
 }
 
-// An option of this name that has a value.
+/// An option of this name that has a value.
 fn option(alloc: Global, name: &str) -> Arg<'_>
     ensures rule { rule_of result ≡ option name.entry.now }
     ensures local { result.global ≡ false }

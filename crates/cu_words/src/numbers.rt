@@ -24,7 +24,7 @@ fn has_only_digits(text: &str) -> bool
     text.as_bytes().iter().all(|byte| byte.is_ascii_digit())
 }
 
-// A number, where it is from `low` to `high`.
+/// A number, where it is from `low` to `high`.
 fn within(number: u64, low: u64, high: u64) -> Option<u64>
     ensures read { IfSome result (λ n. (n ≡ number) × IsIn low high n) }
     ensures refused { IfNone result (IsIn low high number → ⊥) }

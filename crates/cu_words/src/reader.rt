@@ -38,7 +38,7 @@ pub fn read_words(alloc: Global, words: &[String]) -> Result<Option<Asked<'_>>, 
     }
 }
 
-// What the command that was met asks for.
+/// What the command that was met asks for.
 fn read_command<'a>(matches: &ArgMatches<'a>) -> Option<Asked<'a>>
     ensures read { IfSome result
         (λ command. Asks (subcommand_rows_of matches.now) (asked command)) }
@@ -53,7 +53,7 @@ fn read_command<'a>(matches: &ArgMatches<'a>) -> Option<Asked<'a>>
     }
 }
 
-// What the words after `solve` ask for, as a command.
+/// What the words after `solve` ask for, as a command.
 fn asked_solve<'a>(found: &ArgMatches<'a>) -> Option<Asked<'a>>
     ensures read { IfSome result (λ command.
         Asks (Some (codes "solve", rows_of (found_of found.now))) (asked command)) }
@@ -63,7 +63,7 @@ fn asked_solve<'a>(found: &ArgMatches<'a>) -> Option<Asked<'a>>
     Some(Asked::Solve(read_solve(found)?))
 }
 
-// What the words after `compile` ask for, as a command.
+/// What the words after `compile` ask for, as a command.
 fn asked_compile<'a>(found: &ArgMatches<'a>) -> Option<Asked<'a>>
     ensures read { IfSome result (λ command.
         Asks (Some (codes "compile", rows_of (found_of found.now))) (asked command)) }
@@ -73,7 +73,7 @@ fn asked_compile<'a>(found: &ArgMatches<'a>) -> Option<Asked<'a>>
     Some(Asked::Compile(read_compile(found)?))
 }
 
-// What the words after `trial` ask for, as a command.
+/// What the words after `trial` ask for, as a command.
 fn asked_trial<'a>(found: &ArgMatches<'a>) -> Option<Asked<'a>>
     ensures read { IfSome result (λ command.
         Asks (Some (codes "trial", rows_of (found_of found.now))) (asked command)) }
@@ -83,8 +83,8 @@ fn asked_trial<'a>(found: &ArgMatches<'a>) -> Option<Asked<'a>>
     Some(Asked::Trial(read_trial(found)?))
 }
 
-// What the words after `solve` ask for: its module, goal, folder, workers and
-// limits.
+/// What the words after `solve` ask for: its module, goal, folder, workers and
+/// limits.
 fn read_solve<'a>(found: &ArgMatches<'a>) -> Option<Solve<'a>>
     ensures read { IfSome result (λ solve.
         IsSolve (rows_of (found_of found.now)) (solve_of solve)) }
@@ -105,7 +105,7 @@ fn read_solve<'a>(found: &ArgMatches<'a>) -> Option<Solve<'a>>
     })
 }
 
-// What the words after `compile` ask for: its module and folder.
+/// What the words after `compile` ask for: its module and folder.
 fn read_compile<'a>(found: &ArgMatches<'a>) -> Option<Compile<'a>>
     ensures read { IfSome result (λ compile.
         IsCompile (rows_of (found_of found.now)) (compile_of compile)) }
@@ -117,7 +117,7 @@ fn read_compile<'a>(found: &ArgMatches<'a>) -> Option<Compile<'a>>
     Some(Compile { module, folder })
 }
 
-// What the words after `trial` ask for: its numbers.
+/// What the words after `trial` ask for: its numbers.
 fn read_trial(found: &ArgMatches<'_>) -> Option<Trial>
     ensures read { IfSome result (λ trial.
         IsTrial (rows_of (found_of found.now)) (trial_of trial)) }
@@ -136,7 +136,7 @@ fn read_trial(found: &ArgMatches<'_>) -> Option<Trial>
     })
 }
 
-// The depth of a trial.
+/// The depth of a trial.
 fn read_depth(found: &ArgMatches<'_>) -> Option<u32>
     ensures read { IfSome result (λ n. HasDepth (rows_of (found_of found.now)) n) }
     ensures refused { IfNone result ((n : ℕ) →
@@ -162,7 +162,7 @@ fn read_module<'a>(found: &ArgMatches<'a>) -> Option<&'a str>
     }
 }
 
-// The limits of the search that the words ask for.
+/// The limits of the search that the words ask for.
 fn read_limits(found: &ArgMatches<'_>) -> Option<SearchLimits>
     ensures read { IfSome result (λ limits. HasLimits (rows_of (found_of found.now)) limits) }
     ensures refused { IfNone result ((limits : machine.SearchLimits)
@@ -181,7 +181,7 @@ fn read_limits(found: &ArgMatches<'_>) -> Option<SearchLimits>
     })
 }
 
-// The limit on answers, where the words have one.
+/// The limit on answers, where the words have one.
 fn read_answers(found: &ArgMatches<'_>) -> Option<Option<u64>>
     ensures read { IfSome result (λ answers. IsMaybeNumber 1000000000
         (first_of (codes "answers") (rows_of (found_of found.now))) answers) }
@@ -194,7 +194,7 @@ fn read_answers(found: &ArgMatches<'_>) -> Option<Option<u64>>
     }
 }
 
-// How many workers the words ask for.
+/// How many workers the words ask for.
 fn read_workers(found: &ArgMatches<'_>) -> Option<u32>
     ensures read { IfSome result (λ n.
         HasNumber (rows_of (found_of found.now)) (codes "workers") 64 n) }
@@ -204,7 +204,7 @@ fn read_workers(found: &ArgMatches<'_>) -> Option<u32>
     small_number(found, "workers", 64)
 }
 
-// How many branches a level may have, by the words.
+/// How many branches a level may have, by the words.
 fn read_width(found: &ArgMatches<'_>) -> Option<u32>
     ensures read { IfSome result (λ n.
         HasNumber (rows_of (found_of found.now)) (codes "width") 1048576 n) }
@@ -214,7 +214,7 @@ fn read_width(found: &ArgMatches<'_>) -> Option<u32>
     small_number(found, "width", 1_048_576)
 }
 
-// How many steps a round takes a branch on, by the words.
+/// How many steps a round takes a branch on, by the words.
 fn read_stride(found: &ArgMatches<'_>) -> Option<u64>
     ensures read { IfSome result (λ n.
         HasNumber (rows_of (found_of found.now)) (codes "stride") 1000000 n) }
@@ -224,8 +224,8 @@ fn read_stride(found: &ArgMatches<'_>) -> Option<u64>
     number(found, "stride", 1_000_000)
 }
 
-// The number that stands in the words under this name, where it is from 1 to
-// `high`.
+/// The number that stands in the words under this name, where it is from 1 to
+/// `high`.
 fn number(found: &ArgMatches<'_>, name: &str, high: u64) -> Option<u64>
     ensures read { IfSome result (λ n.
         HasNumber (rows_of (found_of found.now)) name.now high n) }
@@ -235,8 +235,8 @@ fn number(found: &ArgMatches<'_>, name: &str, high: u64) -> Option<u64>
     read_number(text(found, name)?, 1, high)
 }
 
-// The number that stands in the words under this name, where it is from 1 to
-// `high`, in 32 bits.
+/// The number that stands in the words under this name, where it is from 1 to
+/// `high`, in 32 bits.
 fn small_number(found: &ArgMatches<'_>, name: &str, high: u32) -> Option<u32>
     ensures read { IfSome result (λ n.
         HasNumber (rows_of (found_of found.now)) name.now high n) }
@@ -247,7 +247,7 @@ fn small_number(found: &ArgMatches<'_>, name: &str, high: u32) -> Option<u32>
     Some(number as u32)
 }
 
-// What stands in the words under this name, or else by default.
+/// What stands in the words under this name, or else by default.
 fn text<'a>(found: &ArgMatches<'a>, name: &str) -> Option<&'a str>
     ensures { option_map (λ text. text.now) result
         ≡ first_of name.now (rows_of (found_of found.now)) }
