@@ -12,8 +12,12 @@ pub mod Puts
 pub mod Reads
 -- Calls of an object in memory.
 pub mod Calls
+-- Counts of faults that rise by one.
+pub mod Once
 -- A source in memory.
 pub mod Input
+-- A source that reads the system's input.
+pub mod Intake
 -- A sink in memory.
 pub mod Output
 -- A library in memory.

@@ -1,13 +1,16 @@
 //! Files of a file system as a library.
-ghost use Rattle.std.specs.Prelude.{◌≡◌, ◌<◌, ◌≤◌, ◌++◌, ℕ, None, Ok, Err, ◌≢◌, IsErr, IfErr, IfOk, IfSome, MatchOption, MatchResult, length, take};
+ghost use Rattle.std.specs.Prelude.{◌≡◌, ◌<◌, ◌≤◌, ◌++◌, ℕ, None, Ok, Err, ◌≢◌, ◌↔◌, IsTrue, IsErr, IfErr, IfOk, IfSome, MatchOption, MatchResult, length, take};
+ghost use Rattle.std.specs.Fs.{IsFile, file_type};
 ghost use Rattle.std.specs.IoError.{error_kind};
 ghost use Rattle.std.specs.String.{string_bytes};
 ghost use Rattle.std.specs.Io.KnownBytes.{IsAtEnd};
 ghost use Rattle.cu_io.specs.Fetches.{FetchCount, max_fetched_bytes};
+ghost use Rattle.cu_io.specs.Once.{fetch_faults};
 ghost use Rattle.cu_io.specs.Inside.Outside.{IsTextWithin, Moves, module_path, path_char, slashed};
 
 use crate::library::{Fetched, Library, MAX_FETCHED_BYTES};
 use std::alloc::{AllocError, Global};
+use std::fs::Metadata;
 use std::io::{ErrorKind, Read};
 use std::marker::Model;
 use std::rt::Files;
@@ -83,6 +86,27 @@ fn module_path(alloc: Global, dir: &str, name: &str) -> Result<String, AllocErro
     format!(in alloc; "{dir}/{name}.curry")
 }
 
+/// Whether a path is opened, by what the system said of it: what is there has
+/// to be a regular file. An error is left to the opening, which meets it again.
+fn may_open(said: &io::Result<Metadata>) -> bool
+    ensures there { IfOk said.now (λ found. IsTrue result ↔ IsFile (file_type found)) }
+    ensures error { IfErr said.now (λ _. IsTrue result) }
+{
+    match said {
+        Ok(found) => found.is_file(),
+        Err(_) => true,
+    }
+}
+
+/// Opens a file to read it. A directory, a pipe, a socket and a device are
+/// errors, so that no opening or read of them waits.
+fn open_regular<R: Files>(files: &R, path: &str) -> io::Result<R::File> {
+    if may_open(&fs::metadata(files, path)) {
+        return fs::open(files, path);
+    }
+    Err(io::Error::from(ErrorKind::InvalidInput))
+}
+
 /// What a file holds that couldn't be opened: nothing where it isn't there.
 fn unopened(error: io::Error) -> io::Result<Option<Vec<u8>>>
     ensures absent { error_kind error ≡ ErrorKind.NotFound → result ≡ Ok None }
@@ -147,6 +171,7 @@ impl<R: Files> FolderLibrary<R> {
         ensures count { MatchResult result
             (λ fetched. FetchCount fetched self.old self.new)
             (λ _. self.new ≡ self.old) }
+        ensures once { IfOk result (λ fetched. self.new ≡ fetch_faults fetched self.old) }
     {
         match read {
             Ok(Some(text)) => Ok(Fetched::Text(text)),
@@ -164,8 +189,9 @@ impl<R: Files> FolderLibrary<R> {
         ensures count { MatchResult result
             (λ fetched. FetchCount fetched self.old self.new)
             (λ _. self.new ≡ self.old) }
+        ensures once { IfOk result (λ fetched. self.new ≡ fetch_faults fetched self.old) }
     {
-        let opened = fs::open(&self.files, path);
+        let opened = open_regular(&self.files, path);
         self.answer(held(alloc, opened))
     }
 }

@@ -6,6 +6,7 @@
 
 mod calls;
 mod folder_library;
+mod input_source;
 mod library;
 mod output_sink;
 mod shelf;
@@ -15,6 +16,7 @@ mod vec_sink;
 mod vec_source;
 
 pub use folder_library::FolderLibrary;
+pub use input_source::InputSource;
 pub use library::{Fetched, Library};
 pub use output_sink::OutputSink;
 pub use shelf::ShelfLibrary;

@@ -1,6 +1,8 @@
 //! The standard output as a sink.
 ghost use Rattle.std.specs.Prelude.{◌≡◌, None};
 ghost use Rattle.cu_io.specs.Inside.Outside.{gone, Writes};
+ghost use Rattle.cu_io.specs.Once.{put_faults};
+ghost use Rattle.cu_io.specs.Puts.{PutCount, Puts};
 
 use crate::sink::{Put, Sink};
 use std::io;
@@ -67,7 +69,11 @@ impl<R: Print> Sink for OutputSink<R> {
         self.faults
     }
 
-    fn put(&mut self, piece: &[u8]) -> Put {
+    fn put(&mut self, piece: &[u8]) -> Put
+        ensures told { Puts result piece.now None None }
+        ensures count { PutCount result self.old self.new }
+        ensures once { self.new ≡ put_faults result self.old }
+    {
         let put = write_whole(&mut io::writer(&self.output), piece);
         if put == Put::Failed {
             self.faults = self.faults.saturating_add(1);

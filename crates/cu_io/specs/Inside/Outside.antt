@@ -4,6 +4,8 @@ use Rattle.std.specs.Str.{chars, encode_utf8_all}
 use Rattle.std.specs.Io.KnownBytes.{Appends, Consumes}
 use Rattle.cu_io.specs.declared.library.Fetched.{Fetched}
 use Rattle.cu_io.specs.declared.library.Fetched.TheVariants.{Absent, Failed, Text}
+use Rattle.cu_io.specs.declared.source.Took.{Took}
+use Rattle.cu_io.specs.declared.source.Took.TheVariants as took
 use Rattle.cu_io.specs.declared.sink.Put.{Put}
 use Rattle.cu_io.specs.declared.sink.Put.TheVariants as put
 
@@ -44,3 +46,8 @@ slashed name = encode_utf8_all (map path_char (chars name))
 -- ending
 abbrev pub module_path : List ℕ → List ℕ → List ℕ
 module_path dir name = dir ++ (codes "/" ++ slashed name ++ codes ".curry")
+
+-- What a source answers, by what a read said: an error is a fault, and never the end of the input.
+abbrev pub answer_of : {E : Type 0} → Result ℕ E → Took
+answer_of (Ok count) = took.Bytes count
+answer_of (Err error) = took.Failed
