@@ -2,7 +2,7 @@
 use Rattle.std.proofs.Common.{◌≡◌, ℕ, zero, suc, ◌+◌, ◌-◌, ◌<◌, ◌≤◌, List, [], ◌∷◌, ◌++◌, length, map, replicate, take, get_or, Option, None, Some, IfSome, option_to_list, refl, ap, sym, subst, ◌∙◌, arith}
 use Rattle.std.proofs.lemmas.List.{length-append, map-append, map_push, get_or-map, length-map, map-id, replicate_more, take_all}
 use Rattle.cu_machine.specs.Graph.{Graph, Node, node_at}
-use Rattle.cu_frozen.specs.Layers.{Layer, Amends, AreLaid, Holds, Leaves, Shows, laid, over, written}
+use Rattle.cu_frozen.specs.Layers.{Layer, Amends, AreFrozen, AreLaid, Holds, Leaves, Shows, laid, over, written}
 use Rattle.cu_frozen.proofs.Overlays.{length-written}
 
 pub length-over : (layer : Layer) (graph : Graph) → length graph ≡ layer.base → length (over layer graph) ≡ layer.base + length layer.added
@@ -15,9 +15,12 @@ pub none_laid : (graph : Graph) → laid graph [] ≡ graph
 unfolding laid
 none_laid graph = refl
 
-pub none_are_laid : (graph : Graph) → AreLaid graph []
+none_are_laid : (graph : Graph) → AreLaid graph []
 unfolding AreLaid
 none_are_laid graph = tt
+
+pub none_are_frozen : AreFrozen []
+none_are_frozen = record { laid = none_are_laid []; few = omega arith }
 
 laid_more : (graph : Graph) (layers : List Layer) (layer : Layer) → laid graph (layers ++ layer ∷ []) ≡ over layer (laid graph layers)
 unfolding laid
@@ -123,11 +126,18 @@ module _ {X : Type 0} (f : X → Layer) where
       stands_at (map f items) k layer are (omega (arith, length-map items f))
       (get_or-map f items k x layer within ∙ ap f is ∙ means)
 
-  pub pushed_are_laid : (items new : List X) (x : X) (layers : List Layer) (layer : Layer) → new ≡ items ++ x ∷ [] → f x ≡ layer → map f items ≡ layers
+  pushed_are_laid : (items new : List X) (x : X) (layers : List Layer) (layer : Layer) → new ≡ items ++ x ∷ [] → f x ≡ layer → map f items ≡ layers
       → AreLaid [] (map f items) → length (laid [] layers) ≡ layer.base → AreLaid [] (map f new)
   pushed_are_laid items new x layers layer pushed means is are fits =
       subst (AreLaid []) (sym (ap (map f) pushed ∙ map_push f items x))
       (are_laid_more [] (map f items) (f x) are (ap (λ ls. length (laid [] ls)) is ∙ fits ∙ ap (λ (l : Layer). l.base) (sym means)))
+
+  pub pushed_are_frozen : (items new : List X) (x : X) (layers : List Layer) (layer : Layer) → new ≡ items ++ x ∷ [] → f x ≡ layer → map f items ≡ layers
+      → AreFrozen (map f items) → length (laid [] layers) ≡ layer.base → length layers < 24 → AreFrozen (map f new)
+  pushed_are_frozen items new x layers layer pushed means is are fits room = record {
+    laid = pushed_are_laid items new x layers layer pushed means is are.laid fits;
+    few = omega (arith, ap length (ap (map f) pushed ∙ map_push f items x), length-append (map f items) (f x ∷ []), ap length is);
+  }
 
   pub pushed_graph : (items new : List X) (x : X) (layers : List Layer) (layer : Layer) → new ≡ items ++ x ∷ [] → f x ≡ layer → map f items ≡ layers
       → laid [] (map f new) ≡ over layer (laid [] layers)
@@ -135,9 +145,17 @@ module _ {X : Type 0} (f : X → Layer) where
       ap (laid []) (ap (map f) pushed ∙ map_push f items x) ∙ laid_more [] (map f items) (f x)
       ∙ ap (λ (l : Layer). over l (laid [] (map f items))) means ∙ ap (λ ls. over layer (laid [] ls)) is
 
-  pub prefix_are_laid : (items prefix suffix : List X) → items ≡ prefix ++ suffix → AreLaid [] (map f items) → AreLaid [] (map f prefix)
+  prefix_are_laid : (items prefix suffix : List X) → items ≡ prefix ++ suffix → AreLaid [] (map f items) → AreLaid [] (map f prefix)
   prefix_are_laid items prefix suffix is are =
       are_laid_prefix [] (map f prefix) (map f suffix) (subst (AreLaid []) (ap (map f) is ∙ map-append f prefix suffix) are)
+
+  pub prefix_are_frozen : (items prefix suffix : List X) → items ≡ prefix ++ suffix → AreFrozen (map f items) → AreFrozen (map f prefix)
+  prefix_are_frozen items prefix suffix is are =
+      let few = are.few in
+      record {
+        laid = prefix_are_laid items prefix suffix is are.laid;
+        few = omega (arith, ap length (ap (map f) is ∙ map-append f prefix suffix), length-append (map f prefix) (map f suffix));
+      }
 
   pub popped_graph : (items prefix : List X) (layers : List Layer) (last : Option X) → items ≡ prefix ++ option_to_list last → map f items ≡ layers
       → IfSome last (λ x. laid [] layers ≡ over (f x) (laid [] (map f prefix)))

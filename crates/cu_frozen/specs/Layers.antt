@@ -1,5 +1,5 @@
 -- Layers of writes: what was written over a graph, and what was written over the result.
-use Rattle.std.specs.Prelude.{◌≡◌, ℕ, ◌+◌, ◌<◌, ◌^◌, List, [], ◌∷◌, ◌++◌, length}
+use Rattle.std.specs.Prelude.{◌≡◌, ℕ, ◌+◌, ◌<◌, ◌≤◌, ◌^◌, List, [], ◌∷◌, ◌++◌, length}
 use Rattle.std.specs.List.{All}
 use Rattle.cu_machine.specs.Graph.{Graph, Node, node_at, put}
 
@@ -39,6 +39,12 @@ laid graph (layer ∷ layers) = laid (over layer graph) layers
 unfoldable pub AreLaid : Graph → List Layer → Type 0
 AreLaid graph [] = Unit {0}
 AreLaid graph (layer ∷ layers) = (length graph ≡ layer.base) × AreLaid (over layer graph) layers
+
+-- Layers as a frozen graph has them: each was written over the graph of those before it, and there
+-- are few.
+pub record AreFrozen (layers : List Layer) : Type 0 where
+  pub laid : AreLaid [] layers
+  pub few : length layers ≤ 24
 
 -- A layer fits a graph of its size.
 pub record IsWhole (layer : Layer) : Type 0 where

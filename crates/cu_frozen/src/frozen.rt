@@ -1,5 +1,5 @@
 //! Frozen segments of a graph, which its forks share.
-ghost use Rattle.std.specs.Prelude.{◌≡◌, ◌<◌, [], IfOk, IfSome, IsNone, OnOk, length};
+ghost use Rattle.std.specs.Prelude.{◌≡◌, ◌<◌, ◌≤◌, [], IfOk, IfSome, IsNone, OnOk, length, false};
 ghost use Rattle.std.specs.Arc.{arc_value};
 ghost use Rattle.cu_frozen.specs.Layers.{Amends, Shows, laid, over};
 
@@ -8,23 +8,26 @@ use std::alloc::{AllocError, Global};
 use std::marker::Model;
 use std::sync::Arc;
 
-/// Segments that never change, each written over those before it. Each has at
-/// least twice the size of the next, so there are few.
+/// How many segments there are at most.
+const MOST_SEGMENTS: usize = 24;
+
+/// Segments that never change, each written over those before it. There are at
+/// most 24, so a node is looked for in as many at most.
 #[derive(Drop)]
 pub(crate) struct Frozen {
     segments: Vec<Arc<Segment>>,
 }
 
 impl Model for Frozen {
-    ghost use Rattle.std.specs.Prelude.{List, [], map};
+    ghost use Rattle.std.specs.Prelude.{List, map};
     ghost use Rattle.std.specs.Arc.{arc_value};
-    ghost use Rattle.cu_frozen.specs.Layers.{AreLaid, Layer};
+    ghost use Rattle.cu_frozen.specs.Layers.{AreFrozen, Layer};
 
     ghost Value = { List Layer };
 
     ghost view = { λ f. map arc_value f.segments.items };
 
-    ghost invariant = { λ f. AreLaid [] (map arc_value f.segments.items) };
+    ghost invariant = { λ f. AreFrozen (map arc_value f.segments.items) };
 }
 
 /// The segment of an `Arc`, or a copy where it has other owners.
@@ -74,15 +77,18 @@ impl Frozen {
         Ok(Frozen { segments })
     }
 
-    /// These segments and a new one. The last ones that aren't much larger than
-    /// what comes after them are joined with it.
+    /// These segments and a new one, with which small ones at the end are
+    /// joined. Segments that other graphs have too are left as they are, unless
+    /// there are as many segments as there may be.
     pub(crate) fn with(self, alloc: Global, newest: Segment) -> Result<Frozen, AllocError>
         requires { length (laid [] self) ≡ newest.base }
-        ensures { IfOk result (λ frozen. laid [] frozen ≡ over newest (laid [] self)) }
+        ensures graph { IfOk result (λ frozen. laid [] frozen ≡ over newest (laid [] self)) }
+        ensures few { IfOk result (λ frozen. length frozen ≤ 24) }
     {
         let mut frozen = self;
+        let joins_shared = frozen.is_full();
         let mut joined = newest;
-        while let Some(last) = frozen.pop_small(joined.size()) {
+        while let Some(last) = frozen.pop_small(joined.size(), joins_shared) {
             let mut segment = owned(last)?;
             segment.follow(&joined)?;
             joined = segment;
@@ -91,25 +97,45 @@ impl Frozen {
         Ok(frozen)
     }
 
-    /// Takes the last segment if it has less than twice this size.
-    fn pop_small(&mut self, size: usize) -> Option<Arc<Segment>>
+    /// Whether there are as many segments as there may be.
+    fn is_full(&self) -> bool
+        ensures { result ≡ false → length self.now < 24 }
+    {
+        self.segments.len() >= MOST_SEGMENTS
+    }
+
+    /// Takes the last segment if there are as many as there may be, or if it is
+    /// small.
+    fn pop_small(&mut self, size: usize, joins_shared: bool) -> Option<Arc<Segment>>
         ensures graph { IfSome result (λ last. laid [] self.old
             ≡ over (arc_value last) (laid [] self.new)) }
         ensures fits { IfSome result (λ last. length (laid [] self.new)
             ≡ (arc_value last).base) }
         ensures fewer { IfSome result (λ _. length self.new < length self.old) }
         ensures none { IsNone result → self.new ≡ self.old }
+        ensures room { IsNone result → length self.new < 24 }
     {
-        let last = self.segments.last()?;
-        if last.size() / 2 >= size {
+        if !self.is_full() && !self.ends_small(size, joins_shared) {
             return None;
         }
         self.segments.pop()
     }
 
+    /// Whether the last segment has less than twice this size, and has no other
+    /// owner or may have others.
+    fn ends_small(&self, size: usize, joins_shared: bool) -> bool {
+        match self.segments.last() {
+            Some(last) => {
+                last.size() / 2 < size && (joins_shared || Arc::strong_count(last) == 1)
+            }
+            None => false,
+        }
+    }
+
     /// Adds a segment, unless nothing was written in it.
     fn push(&mut self, alloc: Global, segment: Segment) -> Result<(), AllocError>
-        requires { length (laid [] self.old) ≡ segment.base }
+        requires fits { length (laid [] self.old) ≡ segment.base }
+        requires room { length self.old < 24 }
         ensures { OnOk result (laid [] self.new ≡ over segment (laid [] self.old)) }
     {
         if segment.size() > 0 {

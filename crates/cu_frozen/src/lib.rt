@@ -2,6 +2,7 @@
 #![tactic(auto)]
 
 mod frozen;
+mod marks;
 mod segment;
 mod store;
 

@@ -4,6 +4,7 @@ ghost use Rattle.std.specs.List.{list_any};
 ghost use Rattle.cu_machine.specs.Graph.{put};
 ghost use Rattle.cu_frozen.specs.Layers.{Amends, Holds, Leaves, layer_of, over, written};
 
+use crate::marks::Marks;
 use cu_graph::{Kind, NodeVec};
 use indexmap::IndexSet;
 use std::alloc::{AllocError, Global};
@@ -27,18 +28,23 @@ pub(crate) struct Segment {
     /// there now.
     changed: IndexSet<u32>,
     changes: NodeVec,
+    /// Marks of the changed indices, which tell of most others that they
+    /// weren't changed.
+    marks: Marks,
     /// The nodes after those of the graph below.
     added: NodeVec,
 }
 
 impl Model for Segment {
-    ghost use Rattle.cu_frozen.specs.Layers.{IsWhole, Layer, layer_of};
+    ghost use Rattle.cu_frozen.specs.Layers.{Layer, layer_of};
+    ghost use Rattle.cu_frozen.specs.Inside.Marked.{IsMarked};
 
     ghost Value = { Layer };
 
     ghost view = { λ s. layer_of s.base s.changed.keys s.changes s.added };
 
-    ghost invariant = { λ s. IsWhole (layer_of s.base s.changed.keys s.changes s.added) };
+    ghost invariant = { λ s. IsMarked s.marks
+        (layer_of s.base s.changed.keys s.changes s.added) };
 }
 
 impl Segment {
@@ -52,6 +58,7 @@ impl Segment {
             base,
             changed: IndexSet::new(alloc),
             changes: NodeVec::new(alloc),
+            marks: Marks::none(),
             added: NodeVec::new(alloc),
         }
     }
@@ -84,6 +91,9 @@ impl Segment {
                 nodes: &self.added,
                 place,
             });
+        }
+        if !self.marks.may_have(id) {
+            return None;
         }
         let place = self.changed.get_index_of(&id)?;
         Some(Spot {
@@ -136,6 +146,7 @@ impl Segment {
         self.changed.reserve(1)?;
         self.changes.push(kind, args)?;
         self.changed.insert(id)?;
+        self.marks = self.marks.with(id);
         Ok(())
     }
 
@@ -159,7 +170,8 @@ impl Segment {
         while left > 0 {
             left -= 1;
             let id = next.changed[left];
-            self.put(id, next.changes.kind(left), next.changes.args(left))?;
+            let node = next.changes.node(left);
+            self.put(id, node.kind, node.args)?;
         }
         Ok(())
     }
@@ -170,7 +182,8 @@ impl Segment {
         ensures { OnOk result (Amends self.old self.new (λ graph. graph ++ next.now.added)) }
     {
         for place in 0..next.added.len() {
-            self.push(next.added.kind(place), next.added.args(place))?;
+            let node = next.added.node(place);
+            self.push(node.kind, node.args)?;
         }
         Ok(())
     }

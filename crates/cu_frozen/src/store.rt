@@ -4,7 +4,7 @@ ghost use Rattle.cu_frozen.specs.Layers.{Shows, laid};
 
 use crate::frozen::Frozen;
 use crate::segment::{Segment, Spot};
-use cu_graph::{Kind, Store};
+use cu_graph::{Kind, NodeRef, Store};
 use std::alloc::{AllocError, Global};
 use std::marker::Model;
 
@@ -71,19 +71,21 @@ impl Store for FrozenStore {
         self.top.len()
     }
 
-    fn kind(&self, id: u32) -> Kind {
+    fn node(&self, id: u32) -> NodeRef<'_> {
         let spot = self.spot(id);
-        spot.nodes.kind(spot.place)
+        spot.nodes.node(spot.place)
+    }
+
+    fn kind(&self, id: u32) -> Kind {
+        self.node(id).kind
     }
 
     fn arity(&self, id: u32) -> u32 {
-        let spot = self.spot(id);
-        spot.nodes.arity(spot.place)
+        self.node(id).args.len() as u32
     }
 
     fn arg(&self, id: u32, i: u32) -> u32 {
-        let spot = self.spot(id);
-        spot.nodes.args(spot.place)[i as usize]
+        self.node(id).args[i as usize]
     }
 
     fn push(&mut self, kind: Kind, args: &[u32]) -> Result<u32, AllocError> {

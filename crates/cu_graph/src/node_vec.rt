@@ -1,8 +1,9 @@
 //! Lists of nodes in flat arrays.
-ghost use Rattle.std.specs.Prelude.{◌≡◌, ◌<◌, [], ◌∷◌, ◌++◌, IfOk, OnErr, OnOk, length, slice_set};
+ghost use Rattle.std.specs.Prelude.{◌≡◌, ◌<◌, [], ◌∷◌, ◌++◌, ◌^◌, IfOk, OnErr, OnOk, length, slice_set};
 ghost use Rattle.cu_machine.specs.Graph.{node_at};
 ghost use Rattle.cu_graph.specs.FlatArrays.{IsWithin, node_of};
 
+use crate::node_ref::NodeRef;
 use cu_machine::Kind;
 use std::alloc::{AllocError, Global};
 use std::marker::Model;
@@ -86,29 +87,18 @@ impl NodeVec {
         self.entries.len()
     }
 
-    /// What a node is.
-    pub fn kind(&self, index: usize) -> Kind
+    /// A node: what it is, and the indices of its arguments.
+    pub fn node(&self, index: usize) -> NodeRef<'_>
         requires { index < length self.now }
-        ensures { result ≡ (node_at self.now index).kind }
-    {
-        self.entries[index].kind
-    }
-
-    /// How many arguments a node has.
-    pub fn arity(&self, index: usize) -> u32
-        requires { index < length self.now }
-        ensures { result ≡ length (node_at self.now index).args }
-    {
-        self.entries[index].arity
-    }
-
-    /// The arguments of a node.
-    pub fn args(&self, index: usize) -> &[u32]
-        requires { index < length self.now }
-        ensures { result.now ≡ (node_at self.now index).args }
+        ensures kind { result.kind ≡ (node_at self.now index).kind }
+        ensures args { result.args.now ≡ (node_at self.now index).args }
+        ensures few { length result.args.now < 2 ^ 32 }
     {
         let entry = self.entries[index];
-        &self.args[entry.start..entry.start + entry.arity as usize]
+        NodeRef {
+            kind: entry.kind,
+            args: &self.args[entry.start..entry.start + entry.arity as usize],
+        }
     }
 
     /// Adds a node after the others. An `Err` changes nothing; a node of more
@@ -170,7 +160,8 @@ impl NodeVec {
     {
         let mut copy = NodeVec::new(self.alloc);
         for index in 0..self.len() {
-            copy.push(self.kind(index), self.args(index))?;
+            let node = self.node(index);
+            copy.push(node.kind, node.args)?;
         }
         Ok(copy)
     }

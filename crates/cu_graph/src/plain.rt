@@ -1,6 +1,7 @@
 //! A graph that is copied whole where it is forked.
 ghost use Rattle.std.specs.Prelude.{◌≡◌, IfOk};
 
+use crate::node_ref::NodeRef;
 use crate::node_vec::NodeVec;
 use crate::store::Store;
 use cu_machine::Kind;
@@ -51,16 +52,20 @@ impl Store for PlainStore {
         self.nodes.len() as u32
     }
 
+    fn node(&self, id: u32) -> NodeRef<'_> {
+        self.nodes.node(id as usize)
+    }
+
     fn kind(&self, id: u32) -> Kind {
-        self.nodes.kind(id as usize)
+        self.node(id).kind
     }
 
     fn arity(&self, id: u32) -> u32 {
-        self.nodes.arity(id as usize)
+        self.node(id).args.len() as u32
     }
 
     fn arg(&self, id: u32, i: u32) -> u32 {
-        self.nodes.args(id as usize)[i as usize]
+        self.node(id).args[i as usize]
     }
 
     fn push(&mut self, kind: Kind, args: &[u32]) -> Result<u32, AllocError> {

@@ -2,6 +2,7 @@
 ghost use Rattle.std.specs.Prelude.{◌≡◌, ◌<◌, ◌+◌, ◌-◌, ◌^◌, List, [], ◌∷◌, ◌++◌, IfOk, OnErr, OnOk, length, map, replicate, slice_index, slice_set};
 ghost use Rattle.cu_machine.specs.Graph.{Node, node_at};
 
+use crate::node_ref::NodeRef;
 use cu_machine::Kind;
 use std::alloc::{AllocError, Global};
 
@@ -18,6 +19,13 @@ pub trait Store: Sized + Send + Drop {
     /// How many nodes there are.
     fn len(&self) -> u32
         ensures { result ≡ length (content self.now) };
+
+    /// A node: what it is, and the indices of its arguments.
+    fn node(&self, id: u32) -> NodeRef<'_>
+        requires { id < length (content self.now) }
+        ensures kind { result.kind ≡ (node_at (content self.now) id).kind }
+        ensures args { result.args.now ≡ (node_at (content self.now) id).args }
+        ensures few { length result.args.now < 2 ^ 32 };
 
     /// What a node is.
     fn kind(&self, id: u32) -> Kind

@@ -3,20 +3,22 @@ use Rattle.std.proofs.Common.{◌≡◌, ℕ, zero, suc, ◌-◌, ◌<◌, List,
 use Rattle.std.specs.List.{All}
 use Rattle.cu_calculus.specs.Code.{Code}
 use Rattle.cu_machine.specs.declared.Limits.{Limits}
+use Rattle.cu_graph.specs.declared.store.Store.{Ghosts}
 use Rattle.cu_machine.specs.Graph.{Graph}
 use Rattle.cu_machine.specs.Next.{Go, Next, next}
 use Rattle.cu_machine.specs.Run.{only_state, run_on}
 use Rattle.cu_machine.specs.State.{State}
 use Rattle.cu_machine.specs.Validity.{IsValid}
 use Rattle.cu_machine.proofs.Runs.{run_otherwise}
-use Rattle.cu_step.specs.declared.branch.Branch.{Branch}
+use Rattle.cu_step.specs.declared.branch.BranchOver.{BranchOver}
+use Rattle.cu_step.specs.declared.focus.Focus.{Focus}
 use Rattle.cu_step.specs.declared.Outcome.{Outcome}
 use Rattle.cu_step.specs.declared.Outcome.TheVariants as outcome
 use Rattle.cu_step.specs.Outcome.{branches_of, next_of, state_of}
 
 -- ---- whether one branch follows
 
-pub none_alone : {S : Type 0} (content : S → Graph) (branches : List (Branch S)) → (length branches ≡ 1 → ⊥) → only_state (Go (map (state_of content) branches)) ≡ None
+pub none_alone : {S : Type 0} {G : Ghosts S} (content : S → Graph) (branches : List (BranchOver (Focus S G))) → (length branches ≡ 1 → ⊥) → only_state (Go (map (state_of content) branches)) ≡ None
 none_alone content [] other = refl
 none_alone content (branch ∷ []) other = absurd (other refl)
 none_alone content (branch ∷ next_one ∷ branches) other = refl
@@ -29,9 +31,9 @@ one_alone branches (other ∷ rest) branch one is =
     let no : ⊥ = omega arith in absurd no
 
 -- what follows is one branch, where branches are one
-pub one_follows : {S : Type 0} (content : S → Graph) (o : Outcome S) (branch : Branch S) → branches_of o ≡ branch ∷ [] → next_of content o ≡ Go (state_of content branch ∷ [])
-one_follows content (outcome.Go branches) branch is = ap (λ (bs : List (Branch _)). Go (map (state_of content) bs)) is
-one_follows content (outcome.Inner inner) branch is = ap (λ (bs : List (Branch _)). Go (map (state_of content) bs)) is
+pub one_follows : {S : Type 0} {G : Ghosts S} (content : S → Graph) (o : Outcome S G) (branch : BranchOver (Focus S G)) → branches_of o ≡ branch ∷ [] → next_of content o ≡ Go (state_of content branch ∷ [])
+one_follows content (outcome.Go branches) branch is = ap (λ (bs : List (BranchOver _)). Go (map (state_of content) bs)) is
+one_follows content (outcome.Inner inner) branch is = ap (λ (bs : List (BranchOver _)). Go (map (state_of content) bs)) is
 one_follows content _ branch is = let no : ⊥ = cc in absurd no
 
 -- ---- the run

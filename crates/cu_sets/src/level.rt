@@ -12,7 +12,7 @@ use std::alloc::{AllocError, Global};
 /// What became of the first branches of a level, none of which ended the
 /// search.
 #[derive(Drop)]
-pub(crate) struct Level<S> {
+pub(crate) struct Level<S: Store> {
     /// The values that were found, in the order of the branches.
     pub values: Vec<Value>,
     /// The branches that follow, in order.
@@ -30,7 +30,7 @@ pub(crate) enum Ending {
 
 /// What became of a whole level.
 #[derive(Drop)]
-pub(crate) enum Stepped<S> {
+pub(crate) enum Stepped<S: Store> {
     /// The search goes on with another level.
     On(Level<S>),
     /// The search for all values ends.

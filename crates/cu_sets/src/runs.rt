@@ -16,7 +16,7 @@ use std::alloc::{AllocError, Global};
 
 /// What becomes of a branch, by whether exactly one follows.
 #[derive(Drop)]
-enum Onward<S> {
+enum Onward<S: Store> {
     /// Exactly this branch follows.
     Only(Branch<S>),
     /// Anything else becomes of the branch.

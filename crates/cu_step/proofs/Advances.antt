@@ -38,7 +38,7 @@ leave_goes truth graph f new frame (Err e) fits last answers now = tt
 
 -- ---- the next argument
 
-asked_at : (k : Kind) (args : List ℕ) (i : ℕ) → i < length (asked_of k args) → get_or (asked_of k args) i 0 ≡ get_or args i 0
+pub asked_at : (k : Kind) (args : List ℕ) (i : ℕ) → i < length (asked_of k args) → get_or (asked_of k args) i 0 ≡ get_or args i 0
 asked_at kind.Apply [] i within = refl
 asked_at kind.Apply (x ∷ args) zero within = refl
 asked_at kind.Apply (x ∷ args) (suc i) within = absurd (omega arith)
@@ -47,7 +47,7 @@ asked_at (kind.Case mode e) (x ∷ args) zero within = refl
 asked_at (kind.Case mode e) (x ∷ args) (suc i) within = absurd (omega arith)
 asked_at _ args i within = refl
 
-asked_within : (k : Kind) (args : List ℕ) (i : ℕ) → i < length (asked_of k args) → i < length args
+pub asked_within : (k : Kind) (args : List ℕ) (i : ℕ) → i < length (asked_of k args) → i < length args
 asked_within kind.Apply [] i within = within
 asked_within kind.Apply (x ∷ args) i within = omega arith
 asked_within (kind.Case mode e) [] i within = within

@@ -126,7 +126,7 @@ goes_waiting truth graph f frame fits last waits =
 
 -- ---- where none does
 
-none_waits : (truth : ConId) (graph : Graph) (told_so_far : Need) (frame : Frame) (fits : FrameFits truth graph told_so_far frame Done)
+pub none_waits : (truth : ConId) (graph : Graph) (told_so_far : Need) (frame : Frame) (fits : FrameFits truth graph told_so_far frame Done)
     → frame.next ≡ length (looked_at graph frame.node) → frame.waits ≡ false → marked_need (is_inside frame.ask) truth graph frame.node ≡ then_at truth graph frame
 unfolding entered
 none_waits truth graph told_so_far frame fits last waits =
@@ -249,7 +249,7 @@ goes_again truth graph f frame fits last waits is then =
 
 -- ---- by kinds
 
-then_answers : (truth : ConId) (graph : Graph) (id : ℕ) (k : Kind) (a : Ask) (args : List ℕ) (n : Need) → Some n ≡ left_need id k a → then_needed truth graph id k a args ≡ At id × (n ≡ At id)
+pub then_answers : (truth : ConId) (graph : Graph) (id : ℕ) (k : Kind) (a : Ask) (args : List ℕ) (n : Need) → Some n ≡ left_need id k a → then_needed truth graph id k a args ≡ At id × (n ≡ At id)
 then_answers truth graph id (kind.Cons c) a args n is = let no : ⊥ = cc in absurd no
 then_answers truth graph id (kind.Part h) a args n is = let no : ⊥ = cc in absurd no
 then_answers truth graph id (kind.SetCall g) ask.All args n is = let no : ⊥ = cc in absurd no

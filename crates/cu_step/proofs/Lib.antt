@@ -1,4 +1,5 @@
 pub mod Advances
+pub mod Bindings
 pub mod BranchStates
 pub mod Builds
 pub mod Finds
@@ -20,9 +21,18 @@ pub mod Orders
 pub mod Ordinals
 pub mod Pushings
 pub mod Readings
+pub mod Resumed
 pub mod Reversals
+pub mod Rewritten
+pub mod RowsKeep
 pub mod SetCalls
+pub mod Stand
+pub mod Standing
 pub mod StepLemmas
 pub mod Steps
 pub mod Tasks
 pub mod Walks
+mod Begins
+mod Lasts
+mod Merely
+mod Known

@@ -1,5 +1,5 @@
 -- What a look at an argument shows is what the argument needs.
-use Rattle.std.proofs.Common.{◌≡◌, ℕ, ◌<◌, ◌≤◌, Bool, true, false, List, [], ◌∷◌, if◌then◌else◌, refl, ap, sym, ◌∙◌, length, map}
+use Rattle.std.proofs.Common.{◌≡◌, ℕ, ◌<◌, ◌≤◌, Bool, true, false, List, [], ◌∷◌, if◌then◌else◌, refl, ap, sym, ◌∙◌, subst, length, map}
 use Rattle.cu_calculus.specs.declared.ConId.{ConId}
 use Rattle.cu_calculus.specs.declared.Mode.TheVariants.{Flex, Rigid}
 use Rattle.cu_calculus.specs.declared.builtin.Primitive.TheVariants as prim
@@ -206,6 +206,12 @@ of_looked truth graph by ask.Truth id k args = of_true truth graph by id k args
 of_looked truth graph by ask.All id k args = of_all truth graph id k args
 of_looked truth graph by ask.Ground id k args = of_inside truth graph id k args
 of_looked truth graph by ask.Inside id k args = of_inside truth graph id k args
+
+-- a look at a head that shows a node shows the head itself
+pub shown_node : (truth : ConId) (by : ℕ) (a : Ask) (id : ℕ) (k : Kind) (args : List ℕ) (other : ℕ) (b : Ask) → looked truth by a id k args ≡ look.Node other b → other ≡ id
+shown_node truth by a id k args other b is =
+    let of : IsOf truth [] id k args (look.Node other b) = subst (λ (l : Look). IsOf truth [] id k args l) is (of_looked truth [] by a id k args) in
+    of.0
 
 -- ---- what is asked
 

@@ -8,6 +8,7 @@ use Rattle.cu_calculus.specs.WellFormed.{is_well_formed}
 use Rattle.cu_calculus.specs.declared.ConId.{ConId}
 use Rattle.cu_calculus.specs.declared.FunId.{FunId}
 use Rattle.cu_calculus.specs.declared.Head.TheVariants.{Fun}
+use Rattle.cu_graph.specs.declared.store.Store.{Ghosts}
 use Rattle.cu_machine.specs.declared.Limits.{Limits}
 use Rattle.cu_machine.specs.declared.Kind.{Kind}
 use Rattle.cu_machine.specs.declared.Kind.TheVariants as kind
@@ -22,7 +23,8 @@ use Rattle.cu_machine.proofs.NeedPlaces.{need_at_redex}
 use Rattle.cu_machine.proofs.Searches.{follows_valid}
 use Rattle.cu_machine.proofs.Successors.{mapped_among}
 use Rattle.cu_step.specs.Outcome.{branches_of, next_of, state_of}
-use Rattle.cu_step.specs.declared.branch.Branch as step_branch
+use Rattle.cu_step.specs.declared.branch.BranchOver.{BranchOver}
+use Rattle.cu_step.specs.declared.focus.Focus.{Focus}
 use Rattle.cu_step.specs.declared.Outcome as step_outcome
 use Rattle.cu_step.specs.declared.Outcome.TheVariants as outcome
 use Rattle.cu_step.proofs.Frees.{length_frees}
@@ -93,15 +95,15 @@ one_valid P branch valid zero d below = valid
 one_valid P branch valid (suc k) d below = let no : ⊥ = omega arith in absurd no
 
 -- the branches that follow a valid state are valid
-module _ {S : Type 0} (content : S → Graph) (program : Code) (limits : Limits) (state : State) (well : IsTrue (is_well_formed program)) (valid : IsValid program state) where
-  go_valid : (branches : List (step_branch.Branch S)) → Go (map (state_of content) branches) ≡ next program limits state
-      → All (λ (branch : step_branch.Branch S). IsValid program (state_of content branch)) branches
+module _ {S : Type 0} {G : Ghosts S} (content : S → Graph) (program : Code) (limits : Limits) (state : State) (well : IsTrue (is_well_formed program)) (valid : IsValid program state) where
+  go_valid : (branches : List (BranchOver (Focus S G))) → Go (map (state_of content) branches) ≡ next program limits state
+      → All (λ (branch : BranchOver (Focus S G)). IsValid program (state_of content branch)) branches
   go_valid branches is =
       λ k d below. follows_valid program limits well state (state_of content (get_or branches k d)) (map (state_of content) branches) valid (sym is)
       (mapped_among (state_of content) branches k d below)
 
-  pub follow_valid : (o : step_outcome.Outcome S) → next_of content o ≡ next program limits state
-      → All (λ (branch : step_branch.Branch S). IsValid program (state_of content branch)) (branches_of o)
+  pub follow_valid : (o : step_outcome.Outcome S G) → next_of content o ≡ next program limits state
+      → All (λ (branch : BranchOver (Focus S G)). IsValid program (state_of content branch)) (branches_of o)
   follow_valid (outcome.Go branches) is = go_valid branches.items is
   follow_valid (outcome.Inner branch) is = go_valid (branch ∷ []) is
   follow_valid _ is = none_left _

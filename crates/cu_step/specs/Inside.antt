@@ -24,3 +24,5 @@ pub mod Reading
 pub mod Written
 -- The walk that finds a node's need.
 pub mod Walk
+-- The walk that a branch keeps.
+pub mod Kept

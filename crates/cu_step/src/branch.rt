@@ -5,25 +5,28 @@ ghost use Rattle.cu_machine.specs.State as state;
 ghost use Rattle.cu_machine.specs.State.{Idle, graph_of, states_of};
 ghost use Rattle.cu_step.specs.Outcome.{is_running, running_state, state_of};
 
+use crate::focus::Focus;
 use cu_graph::Store;
 use cu_values::Value;
 
-/// A branch of the search: a graph, the node whose value is sought, the nodes of
-/// the goal's variables, and a search for all values of a function that may run
-/// in it.
+/// A branch of the search: a graph with the node whose value is sought and the
+/// walk that is kept, the nodes of the goal's variables, and a search for all
+/// values of a function that may run in it.
+pub type Branch<S> = BranchOver<Focus<S>>;
+
+/// A branch by what it keeps of its graph.
 #[derive(Drop)]
 #[cycle(branches)]
-pub struct Branch<S> {
-    pub(crate) store: S,
-    pub(crate) root: u32,
+pub struct BranchOver<F> {
+    pub(crate) focus: F,
     pub(crate) goals: Vec<u32>,
-    pub(crate) search: Search<S>,
+    pub(crate) search: Search<F>,
 }
 
 /// A search for all values of a function, which runs inside a branch.
 #[derive(Drop)]
 #[cycle(branches)]
-pub(crate) enum Search<S> {
+pub(crate) enum Search<F> {
     /// No search runs in the branch.
     Idle,
     /// A search runs in the branch.
@@ -33,13 +36,13 @@ pub(crate) enum Search<S> {
         /// The values that were found so far, in the order in which they were.
         found: Vec<Value>,
         /// The level that is next, from left to right.
-        level: Vec<Branch<S>>,
+        level: Vec<BranchOver<F>>,
     },
 }
 
-/// A branch in which a search runs, taken apart.
+/// A branch in which a search runs, taken apart. No walk is kept.
 #[derive(Drop)]
-pub struct Running<S> {
+pub struct Running<S: Store> {
     /// The graph of the branch.
     pub store: S,
     /// The node whose value is sought.
@@ -54,12 +57,12 @@ pub struct Running<S> {
     pub level: Vec<Branch<S>>,
 }
 
-impl<S: Store> Branch<S> {
+impl<S: Store> BranchOver<Focus<S>> {
     /// The graph of the branch.
     pub fn store(&self) -> &S
         ensures { S.content result.now ≡ graph_of (state_of S.content self.now) }
     {
-        &self.store
+        &self.focus.store
     }
 
     /// Whether a search runs in the branch.
@@ -77,12 +80,16 @@ impl<S: Store> Branch<S> {
         requires { IsTrue (is_running (state_of S.content self)) }
         ensures { running_state S.content result ≡ state_of S.content self }
     {
-        let Branch {
-            store,
-            root,
+        let BranchOver {
+            focus,
             goals,
             search,
         } = self;
+        let Focus {
+            store,
+            root,
+            walk: _,
+        } = focus;
         match search {
             Search::Idle => unreachable!(),
             Search::Running { call, found, level } => Running {
@@ -102,9 +109,8 @@ impl<S: Store> Running<S> {
     pub fn going_on(self) -> Branch<S>
         ensures { state_of S.content result ≡ running_state S.content self }
     {
-        Branch {
-            store: self.store,
-            root: self.root,
+        BranchOver {
+            focus: Focus::new(self.store, self.root),
             goals: self.goals,
             search: Search::Running {
                 call: self.call,
@@ -119,9 +125,8 @@ impl<S: Store> Running<S> {
         ensures { state_of S.content result
             ≡ state.Branch (S.content self.store) self.root self.goals.items Idle }
     {
-        Branch {
-            store: self.store,
-            root: self.root,
+        BranchOver {
+            focus: Focus::new(self.store, self.root),
             goals: self.goals,
             search: Search::Idle,
         }

@@ -26,8 +26,9 @@ fn target<S: Store>(store: &S, id: u32) -> Option<u32>
     ensures { result ≡ target_of (node_at (S.content store.now) id).kind
         (node_at (S.content store.now) id).args }
 {
-    match node::kind_at(store, id) {
-        Kind::Ind => node::first_arg(store, id),
+    let node = node::at(store, id);
+    match node.kind {
+        Kind::Ind => node.args.first().copied(),
         _ => None,
     }
 }

@@ -1,12 +1,14 @@
 //! One step of a branch of the search.
 #![tactic(auto)]
 
+mod aim;
 mod apply;
 mod branch;
 mod build;
 mod call;
 mod case;
 mod equal;
+mod focus;
 mod free;
 mod head;
 mod moved;
@@ -38,17 +40,21 @@ ghost use Rattle.cu_machine.specs.Sets.{IsWithoutSets};
 ghost use Rattle.cu_machine.specs.State as state;
 ghost use Rattle.cu_machine.specs.State.{Idle, start_of};
 ghost use Rattle.cu_machine.specs.Validity.{ArgumentsThere, IsAcyclic, IsValid, are_places};
+ghost use Rattle.cu_machine.specs.Need.{At};
+ghost use Rattle.cu_step.specs.Inside.Kept.{AllMayGoOn, MayGoOn, StandsAtNode};
 ghost use Rattle.cu_step.specs.Inside.Moved.{move_of};
 ghost use Rattle.cu_step.specs.Outcome.{branches_of, is_inner, is_running, next_of, state_of};
 ghost use Rattle.cu_step.specs.declared.Outcome.TheVariants.{Inner};
 
+use aim::Aim;
 use branch::Search;
-pub use branch::{Branch, Running};
+pub use branch::{Branch, BranchOver, Running};
 use cu_flat::{FlatProgram, FunId, Head};
 use cu_graph::{Kind, Store};
 pub use cu_machine::{Limits, SearchLimits, Stop, Waited};
+pub use focus::Focus;
 use moved::Moved;
-use need::Needed;
+use need::Demand;
 pub use push::push_value;
 pub use read::Reading;
 use redex::Redex;
@@ -57,7 +63,7 @@ use std::alloc::{AllocError, Global};
 
 /// What becomes of a branch in one step.
 #[derive(Drop)]
-pub enum Outcome<S> {
+pub enum Outcome<S: Store> {
     /// The branch goes on as these branches, from left to right.
     Go(Vec<Branch<S>>),
     /// The branch's value is there.
@@ -90,9 +96,8 @@ pub fn start<S: Store>(
     let mut store = S::empty(alloc)?;
     let goals = free::push(alloc, &mut store, count)?;
     let root = node::push(&mut store, kind, goals.as_slice())?;
-    Ok(Branch {
-        store,
-        root,
+    Ok(BranchOver {
+        focus: Focus::new(store, root),
         goals,
         search: Search::Idle,
     })
@@ -143,25 +148,23 @@ fn answered<S: Store>(
     }
 }
 
-/// The branches with these graphs.
-fn branches<S: Store>(
-    alloc: Global,
-    stores: Vec<S>,
-    root: u32,
-    goals: &[u32],
-) -> Result<Vec<Branch<S>>, AllocError>
+/// The branches with these graphs, in which the same is sought.
+fn branches<S: Store>(alloc: Global, stores: Vec<S>, aim: Aim) -> Result<Vec<Branch<S>>, AllocError>
+    requires { All (λ store. MayGoOn (S.content store) aim.root aim.walk) stores.items }
     ensures { IfOk result (λ branches. map (state_of S.content) branches.items
-        ≡ map (λ store. state.Branch (S.content store) root goals.now Idle) stores.items) }
+        ≡ map (λ store. state.Branch (S.content store) aim.root aim.goals.items Idle)
+        stores.items) }
 {
     let mut branches = Vec::with_capacity(alloc, stores.len())?;
+    if stores.len() == 1 {
+        let mut stores = stores;
+        let store = stores.pop().unwrap();
+        branches.push(aim.in_graph(store))?;
+        return Ok(branches);
+    }
     for store in stores {
-        let goals = Vec::from_slice(alloc, goals)?;
-        branches.push(Branch {
-            store,
-            root,
-            goals,
-            search: Search::Idle,
-        })?;
+        let aim = aim.copied(alloc)?;
+        branches.push(aim.in_graph(store))?;
     }
     Ok(branches)
 }
@@ -170,13 +173,14 @@ fn branches<S: Store>(
 fn following<S: Store>(
     alloc: Global,
     graphs: Moved<S>,
-    root: u32,
-    goals: &[u32],
+    aim: Aim,
     limits: &Limits,
 ) -> Result<Outcome<S>, AllocError>
+    requires walk { AllMayGoOn aim.root aim.walk (move_of S.content graphs) }
     ensures next { IfOk result (λ outcome. (program : Code) (graph : Graph) (id : ℕ)
         → next_of S.content outcome
-        ≡ moved program limits.now root goals.now graph id (move_of S.content graphs)) }
+        ≡ moved program limits.now aim.root aim.goals.items graph id
+        (move_of S.content graphs)) }
     ensures inner { IfOk result (λ outcome. IsFalse (is_inner outcome)) }
 {
     match graphs {
@@ -184,7 +188,7 @@ fn following<S: Store>(
             if any_too_large(stores.as_slice(), limits) {
                 return Ok(Outcome::Stop(too_large(limits)));
             }
-            let branches = branches(alloc, stores, root, goals)?;
+            let branches = branches(alloc, stores, aim)?;
             Ok(Outcome::Go(branches))
         }
         Moved::Overflow(operation, m, n) => Ok(Outcome::Stop(Stop::Overflow(operation, m, n))),
@@ -200,28 +204,31 @@ fn rewrite_step<S: Store>(
     limits: &Limits,
 ) -> Result<Outcome<S>, AllocError>
     requires code { IsTrue (is_well_formed program.now) }
-    requires id { id < length (S.content branch.store) }
-    requires arguments { ArgumentsThere (S.content branch.store) }
-    requires acyclic { IsAcyclic (S.content branch.store) }
+    requires valid { IsValid program.now
+        (state.Branch (S.content branch.focus.store) branch.focus.root branch.goals.items Idle) }
+    requires need { need_all program.now.special.truth (S.content branch.focus.store)
+        branch.focus.root ≡ At id }
+    requires walk { StandsAtNode program.now.special.truth id branch.focus.walk }
     ensures next { IfOk result (λ outcome. next_of S.content outcome
-        ≡ moved program.now limits.now branch.root branch.goals.items (S.content branch.store) id
-        (move program.now (S.content branch.store) id)) }
+        ≡ moved program.now limits.now branch.focus.root branch.goals.items
+        (S.content branch.focus.store) id
+        (move program.now (S.content branch.focus.store) id)) }
     ensures inner { IfOk result (λ outcome. IsFalse (is_inner outcome)) }
 {
-    match branch.store.kind(id) {
+    match branch.focus.store.kind(id) {
         Kind::SetCall(function) => {
             let call = SetCall { id, function };
             set_call::begin(alloc, program, branch, call, limits)
         }
         _ => {
-            let Branch {
-                store,
-                root,
+            let BranchOver {
+                focus,
                 goals,
                 search: _,
             } = branch;
+            let Focus { store, root, walk } = focus;
             let graphs = Redex { alloc, store, id }.rewrite_step(program)?;
-            following(alloc, graphs, root, goals.as_slice(), limits)
+            following(alloc, graphs, Aim { root, goals, walk }, limits)
         }
     }
 }
@@ -235,29 +242,37 @@ fn by_need<S: Store>(
     branch: Branch<S>,
     limits: &Limits,
 ) -> Result<Outcome<S>, AllocError>
-    requires root { branch.root < length (S.content branch.store) }
-    requires goals { are_places (length (S.content branch.store)) branch.goals.items ≡ true }
-    requires arguments { ArgumentsThere (S.content branch.store) }
-    requires acyclic { IsAcyclic (S.content branch.store) }
+    requires valid { IsValid program.now
+        (state.Branch (S.content branch.focus.store) branch.focus.root branch.goals.items Idle) }
     ensures well_formed { IsTrue (is_well_formed program.now) }
     ensures next { IfOk result (λ outcome. next_of S.content outcome
-        ≡ next_by program.now limits.now (S.content branch.store) branch.root branch.goals.items
-        (need_all program.now.special.truth (S.content branch.store) branch.root)) }
+        ≡ next_by program.now limits.now (S.content branch.focus.store) branch.focus.root
+        branch.goals.items
+        (need_all program.now.special.truth (S.content branch.focus.store) branch.focus.root)) }
     ensures inner { IfOk result (λ outcome. IsFalse (is_inner outcome)) }
 {
     let truth = program.special().truth;
-    match need::find(alloc, &branch.store, truth, branch.root)? {
-        Needed::Done => {
-            let goals = branch.goals.as_slice();
-            answered(alloc, &branch.store, branch.root, goals, limits)
-        }
-        Needed::Dead => Ok(Outcome::Fail),
-        Needed::Wait(ids) => {
-            let goals = branch.goals.as_slice();
-            let names = waited::names(alloc, &branch.store, goals, ids.as_slice())?;
+    let BranchOver {
+        focus,
+        goals,
+        search: _,
+    } = branch;
+    let Focus { store, root, walk } = focus;
+    match need::find(alloc, &store, truth, root, walk)? {
+        Demand::There(id) => answered(alloc, &store, id, goals.as_slice(), limits),
+        Demand::Dead => Ok(Outcome::Fail),
+        Demand::Wait(ids) => {
+            let names = waited::names(alloc, &store, goals.as_slice(), ids.as_slice())?;
             Ok(Outcome::Wait(names))
         }
-        Needed::At(id) => rewrite_step(alloc, program, branch, id, limits),
+        Demand::Rewrite(id, walk) => {
+            let branch = BranchOver {
+                focus: Focus { store, root, walk },
+                goals,
+                search: Search::Idle,
+            };
+            rewrite_step(alloc, program, branch, id, limits)
+        }
     }
 }
 
@@ -284,7 +299,7 @@ pub fn step<S: Store>(
     if branch.is_running() {
         return Ok(Outcome::Inner(branch));
     }
-    if is_too_large(&branch.store, limits) {
+    if is_too_large(&branch.focus.store, limits) {
         return Ok(Outcome::Stop(too_large(limits)));
     }
     by_need(alloc, program, branch, limits)

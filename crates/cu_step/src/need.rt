@@ -1,10 +1,13 @@
 //! The walk that finds what the value of a node needs.
-ghost use Rattle.std.specs.Prelude.{◌≡◌, ◌<◌, [], IfOk, IfSome, IfNone, OnOk, length, option_map, slice_set, false};
-ghost use Rattle.cu_machine.specs.Graph.{head_at, head_of, node_at};
+ghost use Rattle.std.specs.Prelude.{◌≡◌, ◌<◌, ℕ, [], IfOk, IfSome, IfNone, OnOk, length, option_map, slice_set, false};
+ghost use Rattle.cu_calculus.specs.declared.ConId.{ConId};
+ghost use Rattle.cu_machine.specs.Graph.{Graph, head_at, head_of, node_at};
 ghost use Rattle.cu_machine.specs.Need as need;
 ghost use Rattle.cu_machine.specs.Need.{need_all};
 ghost use Rattle.cu_machine.specs.Validity.{ArgumentsThere, IsAcyclic};
-ghost use Rattle.cu_step.specs.Inside.Needed.{need_of};
+ghost use Rattle.cu_step.specs.declared.need.Ask.TheVariants as ask;
+ghost use Rattle.cu_step.specs.Inside.Kept.{DemandFits, Ends, EndsAt, IsKept, MayGoOn, Stands, StandsAtNode, ends_with, first_node, last_ask, last_node, resumed, without_own};
+ghost use Rattle.cu_step.specs.Inside.Needed.{need_in, need_of};
 ghost use Rattle.cu_step.specs.Inside.Walk.{Fits, Goes, Marked, at_once, entered_at, found, is_inside, left, left_answer, look_all, look_bound, look_first, look_head, look_inside, look_true, looked, looked_at, mark_at, mark_of, met, outcome, so_far, unseen_all, waited, waited_for, with_frame, with_mark};
 
 use crate::{head, node};
@@ -15,20 +18,41 @@ use std::alloc::{AllocError, Global};
 
 /// What the whole value of a node needs next.
 #[derive(Drop)]
-pub(crate) enum Needed {
-    /// The value needs nothing: it is there.
-    Done,
+pub(crate) enum Demand {
+    /// The value needs nothing: it is there, and this node has it too.
+    There(u32),
     /// The node has no value.
     Dead,
     /// The value needs that one of these free variables is bound.
     Wait(IndexSet<u32>),
+    /// The value needs that the node with this index is rewritten. The walk to
+    /// it is kept where nothing that was met waits.
+    Rewrite(u32, Option<KeptWalk>),
+}
+
+/// A walk that is kept: the frames that were open when it found a node to be
+/// rewritten. The next walk goes on from them, at that node.
+#[derive(Drop)]
+pub(crate) struct KeptWalk {
+    /// The constructor that the sides of a conjunction are to have.
+    pub(crate) truth: ConId,
+    pub(crate) frames: Vec<Frame>,
+    /// The node that was to be rewritten.
+    pub(crate) place: u32,
+}
+
+/// What a walk finds before all nodes are looked at.
+#[derive(Clone, Copy)]
+enum Needed {
+    /// The node has no value.
+    Dead,
     /// The value needs that the node with this index is rewritten.
     At(u32),
 }
 
 /// What a node asks of its arguments.
 #[derive(Clone, Copy)]
-enum Ask {
+pub(crate) enum Ask {
     /// The arguments are to have their heads.
     Head,
     /// The arguments are to have their heads, and these are to be no free
@@ -60,7 +84,7 @@ enum Mark {
 /// A frame of the walk: a node whose arguments are looked at from left to
 /// right.
 #[derive(Clone, Copy)]
-struct Frame {
+pub(crate) struct Frame {
     node: u32,
     ask: Ask,
     /// The number of the argument that is looked at next.
@@ -109,36 +133,84 @@ struct Walk {
 /// variables in it.
 const LOOKS_PER_NODE: usize = 4;
 
-/// What the whole value of a node needs. Marks are kept from when a node must
-/// have been met twice. From then on a node's arguments are looked at once for
-/// its whole value, and once for the free variables in it where a set function
-/// asks for them.
+/// What the whole value of a node needs. The walk goes on from the one that is
+/// kept, where there is one, and begins at the node otherwise.
 pub(crate) fn find<S: Store>(
     alloc: Global,
     store: &S,
     truth: ConId,
     root: u32,
-) -> Result<Needed, AllocError>
+    kept: Option<KeptWalk>,
+) -> Result<Demand, AllocError>
     requires root { root < length (S.content store.now) }
     requires arguments { ArgumentsThere (S.content store.now) }
     requires acyclic { IsAcyclic (S.content store.now) }
-    ensures { IfOk result (λ needed. need_of needed ≡ need_all truth (S.content store.now) root) }
+    requires kept { MayGoOn (S.content store.now) root kept }
+    ensures need { IfOk result (λ demand. need_in demand
+        ≡ need_all truth (S.content store.now) root) }
+    ensures fits { IfOk result (λ demand.
+        DemandFits truth (S.content store.now) root demand) }
 {
-    let mut walk = Walk::new(alloc);
-    let first = look_at(store, truth, root, Ask::All, root);
-    if let Some(needed) = walk.meet(first)? {
-        return Ok(needed);
+    let KeptWalk {
+        truth: _,
+        frames,
+        place,
+    } = going_on(alloc, truth, root, kept);
+    let start = first_node(frames.as_slice(), place);
+    let mut walk = Walk::from_frames(alloc, frames);
+    match walk.search(store, truth, root, place)? {
+        Some(Needed::Dead) => Ok(Demand::Dead),
+        Some(Needed::At(id)) => Ok(Demand::Rewrite(id, walk.kept(truth, id))),
+        None => Ok(walk.demand(start)),
     }
-    'unmarked: for _ in 0..LOOKS_PER_NODE * store.len() as usize {
-        let Some(frame) = walk.frames.pop() else {
-            return Ok(walk.needed());
-        };
-        if let Some(needed) = walk.advance(store, truth, frame)? {
-            return Ok(needed);
+}
+
+/// The walk that goes on: the one that is kept, if it asks for the same truth,
+/// or else the one that begins at the root.
+fn going_on(alloc: Global, truth: ConId, root: u32, kept: Option<KeptWalk>) -> KeptWalk
+    ensures { (graph : Graph) → root < length graph → MayGoOn graph root kept
+        → (result.place < length graph)
+        × IsKept truth graph root result.frames.items result.place }
+{
+    if let Some(walk) = kept {
+        if walk.truth.0 == truth.0 {
+            return walk;
         }
     }
-    walk.keep_marks(store.len())?;
-    walk.finish(store, truth)
+    KeptWalk {
+        truth,
+        frames: Vec::new(alloc),
+        place: root,
+    }
+}
+
+/// The node at which frames begin, or else the place of the walk.
+fn first_node(frames: &[Frame], place: u32) -> u32
+    ensures { result ≡ first_node place frames.now }
+{
+    match frames {
+        [frame, ..] => frame.node,
+        [] => place,
+    }
+}
+
+/// Leaves the last frame, where it is one of this node.
+fn leave_own(frames: &mut Vec<Frame>, id: u32)
+    ensures { frames.new.items ≡ without_own id frames.old.items }
+{
+    if ends_with(frames.as_slice(), id) {
+        frames.pop();
+    }
+}
+
+/// Whether the last frame is one of this node.
+fn ends_with(frames: &[Frame], id: u32) -> bool
+    ensures { result ≡ ends_with id frames.now }
+{
+    match frames {
+        [.., frame] => frame.node == id,
+        [] => false,
+    }
 }
 
 /// A look at an argument of a node.
@@ -259,17 +331,72 @@ fn looked_at_count<S: Store>(store: &S, id: u32) -> u32
 }
 
 impl Walk {
-    /// A walk that keeps no marks, and has found nothing.
-    fn new(alloc: Global) -> Walk
+    /// A walk that goes on from these frames, keeps no marks, and has found
+    /// nothing that waits.
+    fn from_frames(alloc: Global, frames: Vec<Frame>) -> Walk
         ensures { found result
-            ≡ record { frames = []; whole = []; inside = []; waits = false; ids = [] } }
+            ≡ record { frames = frames.items; whole = []; inside = []; waits = false; ids = [] } }
     {
         Walk {
-            frames: Vec::new(alloc),
+            frames,
             whole: Vec::new(alloc),
             inside: Vec::new(alloc),
             waits: false,
             ids: IndexSet::new(alloc),
+        }
+    }
+
+    /// Looks on from a place until it is known what is needed, or nothing is
+    /// left to look at. Marks are kept from when a node must have been met
+    /// twice. From then on a node's arguments are looked at once for its whole
+    /// value, and once for the free variables in it where a set function asks
+    /// for them.
+    fn search<S: Store>(
+        &mut self,
+        store: &S,
+        truth: ConId,
+        root: u32,
+        place: u32,
+    ) -> Result<Option<Needed>, AllocError>
+        requires root { root < length (S.content store.now) }
+        requires place { place < length (S.content store.now) }
+        requires arguments { ArgumentsThere (S.content store.now) }
+        requires acyclic { IsAcyclic (S.content store.now) }
+        requires begins { found self.old ≡ resumed (found self.old).frames }
+        requires kept { IsKept truth (S.content store.now) root (found self.old).frames place }
+        ensures answer { IfOk result (λ answer. IfSome answer (λ needed.
+            need_of needed ≡ need_all truth (S.content store.now) root)) }
+        ensures none { IfOk result (λ answer. IfNone answer (
+            so_far (found self.new) ≡ need_all truth (S.content store.now) root)) }
+        ensures ends { IfOk result (λ answer. IfSome answer (λ needed.
+            EndsAt truth (S.content store.now) root (found self.new) (need_of needed))) }
+    {
+        let (node, ask) = self.innermost(root);
+        let first = look_at(store, truth, node, ask, place);
+        if let Some(needed) = self.meet(first)? {
+            return Ok(Some(needed));
+        }
+        'unmarked: for _ in 0..LOOKS_PER_NODE * store.len() as usize {
+            let Some(frame) = self.frames.pop() else {
+                return Ok(None);
+            };
+            if let Some(needed) = self.advance(store, truth, frame)? {
+                return Ok(Some(needed));
+            }
+        }
+        self.keep_marks(store.len())?;
+        self.finish(store, truth)
+    }
+
+    /// The innermost node and what it asks, or the root, of which the whole
+    /// value is asked.
+    fn innermost(&self, root: u32) -> (u32, Ask)
+        ensures node { result.0 ≡ last_node root (found self.now).frames }
+        ensures ask { result.1 ≡ last_ask ask.All (found self.now).frames }
+    {
+        match self.frames.as_slice() {
+            [.., frame] => (frame.node, frame.ask),
+            [] => (root, Ask::All),
         }
     }
 
@@ -284,21 +411,27 @@ impl Walk {
         Ok(())
     }
 
-    /// Looks on until it is known what is needed.
-    fn finish<S: Store>(mut self, store: &S, truth: ConId) -> Result<Needed, AllocError>
+    /// Looks on until it is known what is needed, or nothing is left to look
+    /// at.
+    fn finish<S: Store>(&mut self, store: &S, truth: ConId) -> Result<Option<Needed>, AllocError>
         requires arguments { ArgumentsThere (S.content store.now) }
         requires acyclic { IsAcyclic (S.content store.now) }
-        requires fits { Fits truth (S.content store.now) (found self) need.Done }
-        requires marked { Marked (S.content store.now) (found self) }
-        ensures { IfOk result (λ needed. need_of needed
-            ≡ outcome truth (S.content store.now) (found self) need.Done) }
+        requires fits { Fits truth (S.content store.now) (found self.old) need.Done }
+        requires marked { Marked (S.content store.now) (found self.old) }
+        ensures answer { IfOk result (λ answer. IfSome answer (λ needed. need_of needed
+            ≡ outcome truth (S.content store.now) (found self.old) need.Done)) }
+        ensures none { IfOk result (λ answer. IfNone answer (so_far (found self.new)
+            ≡ outcome truth (S.content store.now) (found self.old) need.Done)) }
+        ensures ends { IfOk result (λ answer. IfSome answer (λ needed. (root : ℕ)
+            → Stands truth (S.content store.now) root (found self.old)
+            → EndsAt truth (S.content store.now) root (found self.new) (need_of needed))) }
     {
         while let Some(frame) = self.frames.pop() {
             if let Some(needed) = self.advance(store, truth, frame)? {
-                return Ok(needed);
+                return Ok(Some(needed));
             }
         }
-        Ok(self.needed())
+        Ok(None)
     }
 
     /// Takes what a look shows to the node that asked for it.
@@ -412,6 +545,12 @@ impl Walk {
             (λ answer. IfNone answer
             (Goes truth (S.content store.now) (with_frame (found self.old) frame)
             (found self.new))) }
+        ensures stands { IfOk result (λ answer. IfNone answer ((root : ℕ)
+            → Stands truth (S.content store.now) root (with_frame (found self.old) frame)
+            → Stands truth (S.content store.now) root (found self.new))) }
+        ensures ends { IfOk result (λ answer. IfSome answer (λ needed. (root : ℕ)
+            → Stands truth (S.content store.now) root (with_frame (found self.old) frame)
+            → EndsAt truth (S.content store.now) root (found self.new) (need_of needed))) }
     {
         if frame.next == looked_at_count(store, frame.node) {
             return self.leave(store, frame);
@@ -454,14 +593,50 @@ impl Walk {
         }
     }
 
-    /// What is needed where nothing is left to look at.
-    fn needed(self) -> Needed
-        ensures { need_of result ≡ so_far (found self) }
+    /// What is needed where nothing is left to look at: the value is there, and
+    /// the node at which the walk began has it, or something waits.
+    fn demand(self, start: u32) -> Demand
+        ensures need { need_in result ≡ so_far (found self) }
+        ensures fits { (truth : ConId) (graph : Graph) (root : ℕ) → start < length graph
+            → head_of graph root ≡ head_of graph start → DemandFits truth graph root result }
     {
         if self.waits {
-            Needed::Wait(self.ids)
+            Demand::Wait(self.ids)
         } else {
-            Needed::Done
+            Demand::There(start)
         }
+    }
+
+    /// The walk that is kept where the node with this index is to be rewritten:
+    /// none where something waits.
+    fn kept(self, truth: ConId, id: u32) -> Option<KeptWalk>
+        ensures { (graph : Graph) (root : ℕ) → id < length graph
+            → Ends truth graph root (found self) id
+            → StandsAtNode truth id result × MayGoOn graph root result }
+    {
+        if self.waits {
+            return None;
+        }
+        let mut frames = self.frames;
+        leave_own(&mut frames, id);
+        Some(KeptWalk {
+            truth,
+            frames,
+            place: id,
+        })
+    }
+}
+
+impl KeptWalk {
+    /// A walk of its own that goes on as this one does.
+    pub(crate) fn copied(&self, alloc: Global) -> Result<KeptWalk, AllocError>
+        ensures { IfOk result (λ copy. (copy.truth ≡ self.now.truth)
+            × (copy.frames.items ≡ self.now.frames.items) × (copy.place ≡ self.now.place)) }
+    {
+        Ok(KeptWalk {
+            truth: self.truth,
+            frames: Vec::from_slice(alloc, self.frames.as_slice())?,
+            place: self.place,
+        })
     }
 }

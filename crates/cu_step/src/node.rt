@@ -2,29 +2,36 @@
 ghost use Rattle.std.specs.Prelude.{◌≡◌, ◌<◌, [], ◌∷◌, ◌++◌, IfOk, OnOk, length, slice_get};
 ghost use Rattle.cu_machine.specs.Graph.{node_at};
 
-use cu_graph::{Kind, Store};
+use cu_graph::{Kind, NodeRef, Store};
 use std::alloc::{AllocError, Global};
+
+/// A node, or a stuck node without arguments where there is none.
+pub(crate) fn at<S: Store>(store: &S, id: u32) -> NodeRef<'_>
+    ensures kind { result.kind ≡ (node_at (S.content store.now) id).kind }
+    ensures args { result.args.now ≡ (node_at (S.content store.now) id).args }
+{
+    if id < store.len() {
+        store.node(id)
+    } else {
+        NodeRef {
+            kind: Kind::Stuck,
+            args: &[],
+        }
+    }
+}
 
 /// The kind of a node, or that of a stuck node where there is none.
 pub(crate) fn kind_at<S: Store>(store: &S, id: u32) -> Kind
     ensures { result ≡ (node_at (S.content store.now) id).kind }
 {
-    if id < store.len() {
-        store.kind(id)
-    } else {
-        Kind::Stuck
-    }
+    at(store, id).kind
 }
 
 /// The first argument of a node, where there is one.
 pub(crate) fn first_arg<S: Store>(store: &S, id: u32) -> Option<u32>
     ensures { result ≡ slice_get (node_at (S.content store.now) id).args 0 }
 {
-    if id < store.len() && 0 < store.arity(id) {
-        Some(store.arg(id, 0))
-    } else {
-        None
-    }
+    at(store, id).args.first().copied()
 }
 
 /// The arguments of a node.
@@ -32,12 +39,7 @@ pub(crate) fn args<S: Store>(alloc: Global, store: &S, id: u32) -> Result<Vec<u3
     requires { id < length (S.content store.now) }
     ensures { IfOk result (λ args. args.items ≡ (node_at (S.content store.now) id).args) }
 {
-    let count = store.arity(id);
-    let mut args = Vec::with_capacity(alloc, count as usize)?;
-    for i in 0..count {
-        args.push(store.arg(id, i))?;
-    }
-    Ok(args)
+    Vec::from_slice(alloc, store.node(id).args)
 }
 
 /// Adds a node, and answers its index. In a full graph it is out of memory.

@@ -28,14 +28,11 @@ pub(crate) fn at<S: Store>(alloc: Global, store: &S, id: u32) -> Result<Operand,
         → operand.id < length (S.content store.now)) }
 {
     let id = head::find(store, id);
-    let args = if id < store.len() {
-        node::args(alloc, store, id)?
-    } else {
-        Vec::new(alloc)
-    };
+    let node = node::at(store, id);
+    let args = Vec::from_slice(alloc, node.args)?;
     Ok(Operand {
         id,
-        kind: node::kind_at(store, id),
+        kind: node.kind,
         args,
     })
 }

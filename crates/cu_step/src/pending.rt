@@ -15,10 +15,17 @@ pub(crate) fn push_args<S: Store>(
     ensures { OnOk result (pending.new.items
         ≡ pending.old.items ++ reverse (node_at (S.content store.now) id).args) }
 {
-    let mut i = store.arity(id);
+    push_all(pending, store.node(id).args)
+}
+
+/// Pushes arguments, the first one on top.
+pub(crate) fn push_all(pending: &mut Vec<u32>, args: &[u32]) -> Result<(), AllocError>
+    ensures { OnOk result (pending.new.items ≡ pending.old.items ++ reverse args.now) }
+{
+    let mut i = args.len();
     while i > 0 {
         i -= 1;
-        pending.push(store.arg(id, i))?;
+        pending.push(args[i])?;
     }
     Ok(())
 }

@@ -114,9 +114,10 @@ fn cell_at<S: Store>(store: &S, id: u32, numbering: &mut Numbering) -> Result<Ce
     ensures met { OnOk result (numbering.new.variables.keys
         ≡ with_head numbering.old.variables.keys id (node_at (S.content store.now) id).kind) }
 {
-    match store.kind(id) {
-        Kind::Cons(c) => Ok(Cell::Con(c, store.arity(id))),
-        Kind::Part(h) => Ok(Cell::Part(h, store.arity(id))),
+    let node = store.node(id);
+    match node.kind {
+        Kind::Cons(c) => Ok(Cell::Con(c, node.args.len() as u32)),
+        Kind::Part(h) => Ok(Cell::Part(h, node.args.len() as u32)),
         Kind::Lit(l) => Ok(Cell::Lit(l)),
         Kind::Free => Ok(Cell::LVar(numbering.number(id)?)),
         _ => Ok(Cell::Bottom),
@@ -130,8 +131,9 @@ fn push_parts<S: Store>(pending: &mut Vec<u32>, store: &S, id: u32) -> Result<()
         ++ reverse (parts_at (node_at (S.content store.now) id).kind
         (node_at (S.content store.now) id).args)) }
 {
-    match store.kind(id) {
-        Kind::Cons(_) | Kind::Part(_) => pending::push_args(pending, store, id),
+    let node = store.node(id);
+    match node.kind {
+        Kind::Cons(_) | Kind::Part(_) => pending::push_all(pending, node.args),
         _ => Ok(()),
     }
 }

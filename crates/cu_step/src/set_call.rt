@@ -10,7 +10,9 @@ ghost use Rattle.cu_machine.specs.State.{call_on};
 ghost use Rattle.cu_machine.specs.Validity.{ArgumentsThere, IsAcyclic, are_places};
 ghost use Rattle.cu_step.specs.Outcome.{is_inner, next_of, state_of};
 
-use crate::branch::{Branch, Running, Search};
+use crate::aim::Aim;
+use crate::branch::{Branch, BranchOver, Running, Search};
+use crate::focus::Focus;
 use crate::occurs::Sought;
 use crate::push::push_value;
 use crate::redex::Redex;
@@ -77,9 +79,8 @@ fn call_on<S: Store>(
     }
     let kind = build::kind_of_call(program, f);
     let root = node::push(&mut store, kind, ids.as_slice())?;
-    Ok(Branch {
-        store,
-        root,
+    Ok(BranchOver {
+        focus: Focus::new(store, root),
         goals: Vec::new(alloc),
         search: Search::Idle,
     })
@@ -106,21 +107,25 @@ pub(crate) fn begin<S: Store>(
     call: SetCall,
     limits: &Limits,
 ) -> Result<Outcome<S>, AllocError>
-    requires id { call.id < length (S.content branch.store) }
-    requires call { (node_at (S.content branch.store) call.id).kind ≡ kind.SetCall call.function }
-    requires arguments { ArgumentsThere (S.content branch.store) }
-    requires acyclic { IsAcyclic (S.content branch.store) }
+    requires id { call.id < length (S.content branch.focus.store) }
+    requires call { (node_at (S.content branch.focus.store) call.id).kind ≡ kind.SetCall call.function }
+    requires arguments { ArgumentsThere (S.content branch.focus.store) }
+    requires acyclic { IsAcyclic (S.content branch.focus.store) }
     ensures next { IfOk result (λ outcome. next_of S.content outcome
-        ≡ moved program.now limits.now branch.root branch.goals.items (S.content branch.store)
-        call.id (move program.now (S.content branch.store) call.id)) }
+        ≡ moved program.now limits.now branch.focus.root branch.goals.items (S.content branch.focus.store)
+        call.id (move program.now (S.content branch.focus.store) call.id)) }
     ensures inner { IfOk result (λ outcome. IsFalse (is_inner outcome)) }
 {
-    let Branch {
-        store,
-        root,
+    let BranchOver {
+        focus,
         goals,
         search: _,
     } = branch;
+    let Focus {
+        store,
+        root,
+        walk: _,
+    } = focus;
     let args = node::args(alloc, &store, call.id)?;
     if occurs::are_reached(alloc, &store, Sought::Part, args.as_slice())? {
         let redex = Redex {
@@ -129,13 +134,18 @@ pub(crate) fn begin<S: Store>(
             id: call.id,
         };
         let graphs = redex.stuck_step()?;
-        return following(alloc, graphs, root, goals.as_slice(), limits);
+        let aim = Aim {
+            root,
+            goals,
+            walk: None,
+        };
+        return following(alloc, graphs, aim, limits);
     }
     let Some(values) = arguments(alloc, &store, args.as_slice(), limits.nodes)? else {
         return Ok(Outcome::Stop(too_large(limits)));
     };
     let inner = call_on(alloc, program, call.function, values.as_slice())?;
-    if is_too_large(&inner.store, limits) {
+    if is_too_large(&inner.focus.store, limits) {
         return Ok(Outcome::Stop(too_large(limits)));
     }
     let mut level = Vec::with_capacity(alloc, 1)?;

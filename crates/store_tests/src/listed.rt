@@ -36,6 +36,10 @@ fn shows<S: Store>(store: &S, id: u32, node: &Listed) -> bool {
     if id >= store.len() || store.kind(id) != node.kind {
         return false;
     }
+    let shown = store.node(id);
+    if shown.kind != node.kind || shown.args != node.args.as_slice() {
+        return false;
+    }
     let arity = store.arity(id);
     if arity as usize != node.args.len() {
         return false;

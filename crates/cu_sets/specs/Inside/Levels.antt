@@ -1,6 +1,7 @@
 -- What became of the branches of a level, from left to right.
 use Rattle.std.specs.Prelude.{List, ◌++◌, map}
 use Rattle.cu_calculus.specs.Value.{Value}
+use Rattle.cu_graph.specs.declared.store.Store.{Ghosts}
 use Rattle.cu_machine.specs.Graph.{Graph}
 use Rattle.cu_machine.specs.Next.{Blocked, Halts, LevelEvent, On}
 use Rattle.cu_machine.specs.State.{State}
@@ -18,7 +19,7 @@ pub record Level : Type 0 where
   pub states : List State
 
 -- what a level of the code has gathered
-abbrev pub level_of : {S : Type 0} → (S → Graph) → code.Level S → Level
+abbrev pub level_of : {S : Type 0} {G : Ghosts S} → (S → Graph) → code.Level S G → Level
 level_of content level =
     record { values = level.values.items; states = map (state_of content) level.branches.items }
 
@@ -34,7 +35,7 @@ ended ending.Blocked = Blocked
 ended (ending.Halted stop) = Halts stop
 
 -- what became of a whole level
-abbrev pub event_of : {S : Type 0} → (S → Graph) → code_event.Stepped S → LevelEvent
+abbrev pub event_of : {S : Type 0} {G : Ghosts S} → (S → Graph) → code_event.Stepped S G → LevelEvent
 event_of content (stepped.On level) =
     On level.values.items (map (state_of content) level.branches.items)
 event_of content (stepped.Ended e) = ended e

@@ -1,7 +1,7 @@
 -- What was pushed is the state in which the goal begins.
-use Rattle.std.proofs.Common.{◌++◌, ◌∷◌, [], List, ℕ, ap, subst, sym, ◌∙◌}
+use Rattle.std.proofs.Common.{◌++◌, ◌∷◌, [], List, ℕ, ap, ap₂, subst, sym, ◌∙◌}
 use Rattle.cu_machine.specs.Sets.{IsWithoutSets}
-use Rattle.cu_machine.specs.State.{State}
+use Rattle.cu_machine.specs.State.{Branch, Idle, State}
 use Rattle.cu_machine.specs.Validity.{IsValid}
 use Rattle.cu_machine.proofs.Starts.{start_valid, start_without}
 use Rattle.cu_step.proofs.StepLemmas.{start_is}
@@ -11,7 +11,8 @@ pub returns-clause-next : goal.returns-clause-next
 returns-clause-next g c =
     let content = g.S.Store.content in
     let middle = content c.push.new.store in
-    start_is c.args.program.now c.args.goal (content c.in_ok-store.store) middle (content c.push-2.new.store) c.in_ok-goals.goals.items
+    ap₂ (λ graph root. Branch graph root c.in_ok-goals.goals.items Idle) c.new.ensures.store c.new.ensures.root
+    ∙ start_is c.args.program.now c.args.goal (content c.in_ok-store.store) middle (content c.push-2.new.store) c.in_ok-goals.goals.items
     c.arity-count.result c.in_ok-root.root c.kind_of_call-kind.result c.arity-count.ensures.arity c.in_ok-store.ensures
     c.in_ok-goals.ensures.places c.in_ok-goals.ensures.content c.in_ok-root.ensures.place c.kind_of_call-kind.ensures
     (c.in_ok-root.ensures.content

@@ -9,7 +9,7 @@ use Rattle.cu_machine.specs.Validity.{IsValid, are_places}
 use Rattle.cu_step.specs.Outcome.{search_of, state_of}
 use Rattle.cu_step.proofs.BranchStates.{idle_search}
 use Rattle.cu_step.proofs.Builds.{if_ok}
-use Rattle.cu_step.proofs.StepLemmas.{follow_valid, next_large, next_small, one_valid, valid_acyclic, valid_arguments, valid_goals, valid_root}
+use Rattle.cu_step.proofs.StepLemmas.{follow_valid, next_large, next_small, one_valid}
 use Rattle.cu_step.proofs.step.Given.{Over}
 use Rattle.cu_step.proofs.step.Goals.{After-is_too_large}
 use Rattle.cu_step.proofs.step.Goals as goal
@@ -28,62 +28,41 @@ returns-then-is_too_large-clause-same g c = λ running. absurd (true≢false (sy
 idle : (g : Over) (c : After-is_too_large g) → search_of g.S.Store.content c.args.branch.search ≡ Idle
 idle g c =
     let branch = c.args.branch in
-    idle_search (g.S.Store.content branch.store) branch.root branch.goals.items (search_of g.S.Store.content branch.search)
+    idle_search (g.S.Store.content branch.focus.store) branch.focus.root branch.goals.items (search_of g.S.Store.content branch.search)
     (sym c.is_running.ensures ∙ c.if-is_running.false)
 
 valid : (g : Over) (c : After-is_too_large g)
-    → IsValid c.args.program.now (Branch (g.S.Store.content c.args.branch.store) c.args.branch.root c.args.branch.goals.items Idle)
+    → IsValid c.args.program.now (Branch (g.S.Store.content c.args.branch.focus.store) c.args.branch.focus.root c.args.branch.goals.items Idle)
 valid g c =
     let branch = c.args.branch in
-    subst (λ (s : state.Search). IsValid c.args.program.now (Branch (g.S.Store.content branch.store) branch.root branch.goals.items s)) (idle g c) c.requires.valid
+    subst (λ (s : state.Search). IsValid c.args.program.now (Branch (g.S.Store.content branch.focus.store) branch.focus.root branch.goals.items s)) (idle g c) c.requires.valid
 
 same : (g : Over) (c : After-is_too_large g)
     → next c.args.program.now c.args.limits.now (state_of g.S.Store.content c.args.branch)
-    ≡ next c.args.program.now c.args.limits.now (Branch (g.S.Store.content c.args.branch.store) c.args.branch.root c.args.branch.goals.items Idle)
+    ≡ next c.args.program.now c.args.limits.now (Branch (g.S.Store.content c.args.branch.focus.store) c.args.branch.focus.root c.args.branch.goals.items Idle)
 same g c =
     let branch = c.args.branch in
-    ap (λ (s : state.Search). next c.args.program.now c.args.limits.now (Branch (g.S.Store.content branch.store) branch.root branch.goals.items s)) (idle g c)
+    ap (λ (s : state.Search). next c.args.program.now c.args.limits.now (Branch (g.S.Store.content branch.focus.store) branch.focus.root branch.goals.items s)) (idle g c)
 
 pub returns-then-is_too_large-clause-next : goal.returns-then-is_too_large-clause-next
 returns-then-is_too_large-clause-next g c =
     let branch = c.args.branch in
     let here = (goal.at.returns-then-is_too_large-clause-next g c).After-is_too_large in
-    λ idle. c.too_large.ensures ∙ sym (same g here ∙ next_large c.args.program.now c.args.limits.now (g.S.Store.content branch.store) branch.root branch.goals.items
+    λ idle. c.too_large.ensures ∙ sym (same g here ∙ next_large c.args.program.now c.args.limits.now (g.S.Store.content branch.focus.store) branch.focus.root branch.goals.items
     (sym c.is_too_large.ensures ∙ c.if-is_too_large.true))
 
-pub by_need-requires-clause-root : goal.by_need-requires-clause-root
-by_need-requires-clause-root g c κs within =
-    let branch = c.args.branch in
-    valid_root c.args.program.now (g.S.Store.content branch.store) branch.root branch.goals.items
-    (valid g (goal.at.by_need-requires-clause-root g c).After-is_too_large)
-
-pub by_need-requires-clause-goals : goal.by_need-requires-clause-goals
-by_need-requires-clause-goals g c κs within =
-    let branch = c.args.branch in
-    valid_goals c.args.program.now (g.S.Store.content branch.store) branch.root branch.goals.items
-    (valid g (goal.at.by_need-requires-clause-goals g c).After-is_too_large)
-
-pub by_need-requires-clause-arguments : goal.by_need-requires-clause-arguments
-by_need-requires-clause-arguments g c κs within =
-    let branch = c.args.branch in
-    valid_arguments c.args.program.now (g.S.Store.content branch.store) branch.root branch.goals.items
-    (valid g (goal.at.by_need-requires-clause-arguments g c).After-is_too_large)
-
-pub by_need-requires-clause-acyclic : goal.by_need-requires-clause-acyclic
-by_need-requires-clause-acyclic g c κs within =
-    let branch = c.args.branch in
-    valid_acyclic c.args.program.now (g.S.Store.content branch.store) branch.root branch.goals.items
-    (valid g (goal.at.by_need-requires-clause-acyclic g c).After-is_too_large)
+pub by_need-requires : goal.by_need-requires
+by_need-requires g c = (c.type_bounds.send-S, valid g (goal.at.by_need-requires g c).After-is_too_large)
 
 pub returns-clause-next : goal.returns-clause-next
 returns-clause-next g c =
     let branch = c.args.branch in
-    let graph = g.S.Store.content branch.store in
+    let graph = g.S.Store.content branch.focus.store in
     let program = c.args.program.now in
     let limits = c.args.limits.now in
     let here = (goal.at.returns-clause-next g c).After-is_too_large in
     if_ok c.by_need.result _ _
-    (λ o is. λ idle. is ∙ sym (same g here ∙ next_small program limits graph branch.root branch.goals.items (sym c.is_too_large.ensures ∙ c.if-is_too_large.false)))
+    (λ o is. λ idle. is ∙ sym (same g here ∙ next_small program limits graph branch.focus.root branch.goals.items (sym c.is_too_large.ensures ∙ c.if-is_too_large.false)))
     c.by_need.ensures.next
 
 pub returns-clause-inner : goal.returns-clause-inner

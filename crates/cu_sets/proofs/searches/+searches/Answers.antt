@@ -6,8 +6,10 @@ use Rattle.std.specs.Vec.Iter.{into_iter_items, into_iter_len}
 use Rattle.cu_machine.specs.Next.{next, stepped, unless_one_is_large}
 use Rattle.cu_machine.specs.State.{Branch, Idle, states_of}
 use Rattle.cu_machine.specs.Validity.{IsValid}
+use Rattle.cu_graph.specs.declared.store.Store.{Ghosts}
 use Rattle.cu_machine.specs.Graph.{Graph}
-use Rattle.cu_step.specs.declared.branch.Branch as step_branch
+use Rattle.cu_step.specs.declared.branch.BranchOver.{BranchOver}
+use Rattle.cu_step.specs.declared.focus.Focus.{Focus}
 use Rattle.cu_step.specs.declared.Outcome.{Outcome}
 use Rattle.cu_step.specs.declared.Outcome.TheVariants as outcome
 use Rattle.cu_step.specs.Outcome.{is_inner, is_running, next_of, state_of}
@@ -20,7 +22,7 @@ use Rattle.cu_sets.proofs.LevelLemmas.{call_there, empty_level, first_valid, fir
 use Rattle.cu_sets.proofs.searches.+searches.Goals as goal
 
 -- the branch that is answered is the one that was given
-same : {S : Type 0} (content : S → Graph) (o : Outcome S) (branch given : step_branch.Branch S) → o ≡ outcome.Inner branch → is_inner o ≡ is_running (state_of content given)
+same : {S : Type 0} {G : Ghosts S} (content : S → Graph) (o : Outcome S G) (branch given : BranchOver (Focus S G)) → o ≡ outcome.Inner branch → is_inner o ≡ is_running (state_of content given)
     → (is_running (state_of content given) ≡ true → o ≡ outcome.Inner given) → branch ≡ given
 same content o branch given is tells keeps =
     let kept = keeps (sym tells ∙ ap is_inner is) in

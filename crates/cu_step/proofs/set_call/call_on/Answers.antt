@@ -1,5 +1,6 @@
 -- The arguments are pushed one after another, and then the call.
-use Rattle.std.proofs.Common.{drop}
+use Rattle.std.proofs.Common.{ap₂, drop, ◌∙◌}
+use Rattle.cu_machine.specs.State.{Branch, Idle}
 use Rattle.std.proofs.lemmas.List.{drop_all}
 use Rattle.cu_step.proofs.SetCalls.{drop_next, pushes_all, pushes_none, pushes_one}
 use Rattle.cu_step.proofs.set_call.call_on.Goals as goal
@@ -20,6 +21,7 @@ pub returns : goal.returns
 returns g c =
     let all = c.args.arguments.now in
     let i = c.loop-argument.argument-index in
-    pushes_all c.args.program.now c.args.f (g.S.Store.content c.loop-argument.store) (g.S.Store.content c.push-2.new.store) c.loop-argument.ids.items (drop i all) all
-    c.kind_of_call-kind.result c.in_ok-root.root c.as_slice.result.now c.new.result.items (drop_all i all c.loop-argument-test.false) c.loop-argument.invariant
-    c.kind_of_call-kind.ensures c.as_slice.ensures.value c.in_ok-root.ensures.content c.in_ok-root.ensures.place c.new.ensures.items
+    ap₂ (λ graph root. Branch graph root c.new-2.result.items Idle) c.new.ensures.store c.new.ensures.root
+    ∙ pushes_all c.args.program.now c.args.f (g.S.Store.content c.loop-argument.store) (g.S.Store.content c.push-2.new.store) c.loop-argument.ids.items (drop i all) all
+    c.kind_of_call-kind.result c.in_ok-root.root c.as_slice.result.now c.new-2.result.items (drop_all i all c.loop-argument-test.false) c.loop-argument.invariant
+    c.kind_of_call-kind.ensures c.as_slice.ensures.value c.in_ok-root.ensures.content c.in_ok-root.ensures.place c.new-2.ensures.items

@@ -11,7 +11,7 @@ spot-requires c =
     let within : c.loop-left.left - 1 < length c.self.inside.segments.items =
     omega (arith, length-map c.self.inside.segments.items arc_value) in
     let stands = stands_in arc_value c.self.inside.segments.items (c.loop-left.left - 1) c.index.result.now c.deref-segment.result.now
-    c.self.invariant within (sym c.index.ensures) (sym c.deref-segment.ensures) in
+    c.self.invariant.laid within (sym c.index.ensures) (sym c.deref-segment.ensures) in
     let reaches = reaches_again layers c.loop-left.left c.args.id c.loop-left-test.true c.loop-left.invariant in
     reached_inside layers (c.loop-left.left - 1) c.args.id c.deref-segment.result.now stands reaches
 
@@ -21,7 +21,7 @@ returns-in-Some c =
     let within : c.loop-left.left - 1 < length c.self.inside.segments.items =
     omega (arith, length-map c.self.inside.segments.items arc_value) in
     let stands = stands_in arc_value c.self.inside.segments.items (c.loop-left.left - 1) c.index.result.now c.deref-segment.result.now
-    c.self.invariant within (sym c.index.ensures) (sym c.deref-segment.ensures) in
+    c.self.invariant.laid within (sym c.index.ensures) (sym c.deref-segment.ensures) in
     let reaches = reaches_again layers c.loop-left.left c.args.id c.loop-left-test.true c.loop-left.invariant in
     subst (λ (ls : List Layer). Shows c.in-Some.spot.nodes.now c.in-Some.spot.place (laid [] ls) c.args.id) c.self.view_is
     (reached_shown layers (c.loop-left.left - 1) c.args.id c.deref-segment.result.now c.in-Some.spot.nodes.now c.in-Some.spot.place stands reaches
@@ -33,7 +33,7 @@ loop-left-preserved c =
     let within : c.loop-left.left - 1 < length c.self.inside.segments.items =
     omega (arith, length-map c.self.inside.segments.items arc_value) in
     let stands = stands_in arc_value c.self.inside.segments.items (c.loop-left.left - 1) c.index.result.now c.deref-segment.result.now
-    c.self.invariant within (sym c.index.ensures) (sym c.deref-segment.ensures) in
+    c.self.invariant.laid within (sym c.index.ensures) (sym c.deref-segment.ensures) in
     let reaches = reaches_again layers c.loop-left.left c.args.id c.loop-left-test.true c.loop-left.invariant in
     reached_below layers (c.loop-left.left - 1) c.args.id c.deref-segment.result.now stands reaches
     (c.in_default.ensures.below refl) (c.in_default.ensures.elsewhere refl)

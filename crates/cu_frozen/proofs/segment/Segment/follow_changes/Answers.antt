@@ -8,9 +8,9 @@ loop-left-preserved c = record {
   within = omega arith;
   amended =
       changes_more c.args.self.now c.loop-left.self c.put.new.self c.next.inside.changed.keys c.next.inside.changes c.loop-left.left (c.loop-left.left - 1)
-      c.index-id.result.now (record { kind = c.kind.result; args = c.args-in-loop-left.result.now }) (omega arith) c.loop-left.invariant.within
-      c.next.invariant.paired c.index-id.ensures
-      (node_again c.kind.result c.args-in-loop-left.result.now (node_at c.next.inside.changes (c.loop-left.left - 1)) c.kind.ensures c.args-in-loop-left.ensures)
+      c.index-id.result.now (record { kind = c.node-node.result.kind; args = c.node-node.result.args.now }) (omega arith) c.loop-left.invariant.within
+      c.next.invariant.whole.paired c.index-id.ensures
+      (node_again c.node-node.result.kind c.node-node.result.args.now (node_at c.next.inside.changes (c.loop-left.left - 1)) c.node-node.ensures.kind c.node-node.ensures.args)
       c.loop-left.invariant.amended c.in_ok-put.ensures.ok;
   same = c.in_ok-put.ensures.added ∙ c.loop-left.invariant.same;
 }

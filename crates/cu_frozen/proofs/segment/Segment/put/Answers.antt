@@ -19,7 +19,7 @@ returns-in-Some-clause-ok c =
     subst (λ (s : Layer). OnOk c.put-in-Some.result (Amends s (layer_of c.self.inside.base c.self.inside.changed.keys c.put-in-Some.new.self c.self.inside.added) (λ graph. put graph c.args.id node)))
     c.self.view_is
     (on_ok_weaker c.put-in-Some.result
-    (puts_changed (layer_of c.self.inside.base c.self.inside.changed.keys c.self.inside.changes c.self.inside.added) c.put-in-Some.new.self c.args.id c.in-Some.place node c.if-id-self.false c.self.invariant.paired (sym c.in-Some.ensures.index))
+    (puts_changed (layer_of c.self.inside.base c.self.inside.changed.keys c.self.inside.changes c.self.inside.added) c.put-in-Some.new.self c.args.id c.in-Some.place node c.if-id-self.false c.self.invariant.whole.paired (sym c.in-Some.ensures.index))
     c.put-in-Some.ensures.ok)
 
 pub returns-in-None-clause-ok : goal.returns-in-None-clause-ok
