@@ -1,8 +1,9 @@
 //! The commands of the line.
-ghost use Rattle.std.specs.Prelude.{◌≡◌, ◌≤◌, IfOk, IfSome};
+ghost use Rattle.std.specs.Prelude.{◌≡◌, IfOk, IfSome};
 ghost use Rattle.cu_cmd.specs.Report.{AsksNothing, CommandReport};
 ghost use Rattle.cu_cmd.specs.Inside.Runs.{Ends, EndsWhole, HasRunCause, IsCompleted};
-ghost use Rattle.cu_words.specs.Words.{HasItsRanges, asked};
+ghost use Rattle.cu_search.specs.Rounds.{IsWorkerCount};
+ghost use Rattle.cu_words.specs.Words.{HasItsRanges, asked, workers_asked};
 
 use crate::compiling::compile;
 use crate::fault::RunFault;
@@ -16,15 +17,15 @@ use cu_words::Asked;
 use std::alloc::Global;
 use std::thread::Threads;
 
-/// How many workers a command asks for, 1 to 64. A command that searches
-/// nothing asks for one.
-pub(crate) fn workers_of(command: &Asked<'_>) -> u32
+/// How many workers the words of a command ask for, where they name a number.
+pub(crate) fn workers_of(command: &Asked<'_>) -> Option<u32>
     requires ranges { HasItsRanges (asked command.now) }
-    ensures { (1 ≤ result) × (result ≤ 64) }
+    ensures asked { result ≡ workers_asked (asked command.now) }
+    ensures range { IsWorkerCount result }
 {
     match command {
         Asked::Solve(solve) => solve.workers,
-        Asked::Compile(_) => 1,
+        Asked::Compile(_) => None,
         Asked::Trial(trial) => trial.workers,
     }
 }
@@ -37,7 +38,7 @@ pub(crate) fn run<R: Threads + Sync, G: Gate + Sync, L: Library, S: Sink>(
     library: &mut L,
     output: &mut S,
 ) -> Result<Status, RunFault>
-    requires workers { (1 ≤ workers.now.count) × (workers.now.count ≤ 64) }
+    requires workers { IsWorkerCount workers.now.count }
     requires ranges { HasItsRanges (asked command) }
     ensures ends { IfSome (L.holdings library.old) (λ held.
         Ends result (CommandReport held.module_at (asked command.entry))

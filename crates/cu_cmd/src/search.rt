@@ -7,6 +7,7 @@ ghost use Rattle.cu_cmd.specs.Inside.Runs.{HasWriteCause, IsCompleted};
 ghost use Rattle.cu_flat.specs.Layout.{laid_out};
 ghost use Rattle.cu_front.specs.CompileAnswers.{HasGoal};
 ghost use Rattle.cu_kernel.specs.Kernel.{Goal};
+ghost use Rattle.cu_search.specs.Rounds.{IsWorkerCount};
 ghost use Rattle.cu_search.specs.Standing.{widest};
 ghost use Rattle.cu_search.specs.Written.{Adds, AddsPrefix};
 ghost use Rattle.cu_theorem.specs.Listed.{listing_of};
@@ -27,8 +28,8 @@ use std::thread::Threads;
 pub(crate) struct Workers<'a, R, G> {
     pub(crate) rt: &'a R,
     pub(crate) gate: &'a G,
-    /// How many workers there are, 1 to 64.
-    pub(crate) count: u32,
+    /// How many workers there are to be, 1 to 64, where a number is named.
+    pub(crate) count: Option<u32>,
 }
 
 /// Writes the listing of a goal, and answers how the run ends.
@@ -42,7 +43,7 @@ pub(crate) fn list<R: Threads + Sync, G: Gate + Sync, S: Sink>(
         problem.now.compiled.now.flat }
     requires layout { problem.now.compiled.now.flat
         ≡ laid_out (flats.program_of problem.now.compiled.now.flat) }
-    requires workers { (1 ≤ workers.now.count) × (workers.now.count ≤ 64) }
+    requires workers { IsWorkerCount workers.now.count }
     requires width { problem.now.limits.step.width ≤ widest }
     ensures status { (goal : Goal) → problem.now.compiled.now.program.goal ≡ Some goal
         → IfOk result (λ status. status ≡ report.status_of (listing_of problem.now.limits

@@ -5,6 +5,7 @@ ghost use Rattle.cu_cmd.specs.Inside.Runs.{Ends, EndsWhole, HasRunCause, HasWrit
 ghost use Rattle.cu_cmd.specs.declared.status.Status.TheVariants.{Refused};
 ghost use Rattle.cu_front.specs.RefusalLine.{refusal_line};
 ghost use Rattle.cu_front.specs.RefusalMeaning.{RefusalIsKnown, refusal_meaning};
+ghost use Rattle.cu_search.specs.Rounds.{IsWorkerCount};
 ghost use Rattle.cu_search.specs.Standing.{widest};
 ghost use Rattle.cu_search.specs.Written.{Adds, AddsPrefix};
 ghost use Rattle.cu_words.specs.Words.{Solving, solve_of};
@@ -31,7 +32,7 @@ pub(crate) fn solve<R: Threads + Sync, G: Gate + Sync, L: Library, S: Sink>(
     library: &mut L,
     output: &mut S,
 ) -> Result<Status, RunFault>
-    requires workers { (1 ≤ workers.now.count) × (workers.now.count ≤ 64) }
+    requires workers { IsWorkerCount workers.now.count }
     requires width { solve.limits.step.width ≤ widest }
     ensures ends { IfSome (L.holdings library.old) (λ held.
         Ends result (SolveReport held.module_at (solve_of solve.entry))

@@ -3,6 +3,7 @@ ghost use Rattle.std.specs.Prelude.{◌≡◌, ◌≤◌, IfOk, string_bytes};
 ghost use Rattle.cu_cmd.specs.Report.{TrialReport};
 ghost use Rattle.cu_cmd.specs.Inside.Runs.{Ends, EndsWhole, HasWriteCause, IsCompleted};
 ghost use Rattle.cu_cmd.specs.Trials as trials;
+ghost use Rattle.cu_search.specs.Rounds.{IsWorkerCount};
 ghost use Rattle.cu_search.specs.Standing.{widest};
 ghost use Rattle.cu_words.specs.Words.{Trying, trial_of};
 
@@ -29,7 +30,7 @@ pub(crate) fn run_trial<R: Threads + Sync, G: Gate + Sync, S: Sink>(
     trial: Trial,
     output: &mut S,
 ) -> Result<Status, RunFault>
-    requires workers { (1 ≤ workers.now.count) × (workers.now.count ≤ 64) }
+    requires workers { IsWorkerCount workers.now.count }
     requires width { trial.width ≤ widest }
     ensures ends { Ends result (TrialReport (trial_of trial))
         (S.written output.old) (S.written output.new) }

@@ -30,6 +30,25 @@ only_below count (x ∷ xs) n h far =
     let low : x < count = grind (arith, nat_tests) in let r : List ℕ = numbers_below count (xs ++ n ∷ []) in
     ap (λ (b : Bool). cond b (x ∷ r) r) (lt-ltb x count low) ∙ ap (λ (l : List ℕ). x ∷ l) (only_below count xs n (omega arith) far)
 
+below-append : (count : ℕ) (xs ys : List ℕ) → numbers_below count (xs ++ ys) ≡ numbers_below count xs ++ numbers_below count ys
+below-append count [] ys = refl
+below-append count (x ∷ xs) ys = one_more (nat_lt x count) (below-append count xs ys)
+  where
+    one_more : (b : Bool) → numbers_below count (xs ++ ys) ≡ numbers_below count xs ++ numbers_below count ys
+        → cond b (x ∷ numbers_below count (xs ++ ys)) (numbers_below count (xs ++ ys)) ≡ cond b (x ∷ numbers_below count xs) (numbers_below count xs) ++ numbers_below count ys
+    one_more true h = ap (λ (l : List ℕ). x ∷ l) h
+    one_more false h = h
+
+-- Of numbers below the count and then one past it, those below are kept.
+pub told_below : (P : ℕ → Type 0) (count : ℕ) (below : List ℕ) (n : ℕ) (drawn : List ℕ) → drawn ≡ below ++ n ∷ [] → number_past count below ≡ 0 → count ≤ n → All P below
+    → All P (numbers_below count drawn)
+told_below P count below n drawn is h far all = subst (All P) (sym (ap (numbers_below count) is ∙ only_below count below n h far)) all
+
+-- What holds of each number of two seats below the count holds of each when they are joined.
+pub told_by_both : (P : ℕ → Type 0) (count : ℕ) (xs ys drawn : List ℕ) → drawn ≡ xs ++ ys → All P (numbers_below count xs) → All P (numbers_below count ys) → All P (numbers_below count drawn)
+told_by_both P count xs ys drawn is one two =
+    subst (All P) (sym (ap (numbers_below count) is ∙ below-append count xs ys)) (All-append P (numbers_below count xs) (numbers_below count ys) one two)
+
 pub nearer : (count m n : ℕ) → m < n → m < count → count - n < count - m
 nearer count m n a b = omega arith
 
@@ -45,15 +64,6 @@ slot_past {I} (x ∷ xs) (suc n) far = nothing_there xs n (omega arith)
 
 ends_past : (count : ℕ) (drawn : List ℕ) → RunsOut count drawn → EndsPast count drawn
 ends_past count drawn out = (out.1, (out.0, out.2), out.4)
-
-below-append : (count : ℕ) (xs ys : List ℕ) → numbers_below count (xs ++ ys) ≡ numbers_below count xs ++ numbers_below count ys
-below-append count [] ys = refl
-below-append count (x ∷ xs) ys = one_more (nat_lt x count) (below-append count xs ys)
-  where
-    one_more : (b : Bool) → numbers_below count (xs ++ ys) ≡ numbers_below count xs ++ numbers_below count ys
-        → cond b (x ∷ numbers_below count (xs ++ ys)) (numbers_below count (xs ++ ys)) ≡ cond b (x ∷ numbers_below count xs) (numbers_below count xs) ++ numbers_below count ys
-    one_more true h = ap (λ (l : List ℕ). x ∷ l) h
-    one_more false h = h
 
 module _ {I O E A : Type 0} (promises : I → O → Type 0) (items : List I) where
   pub outcome_more : (number : ℕ) (numbers : List ℕ) (before : Result (Vec (ℕ × O) A) E) (pairs : Vec (ℕ × O) A) (after : List (ℕ × O)) (item : I) (outcome : O) → before ≡ Ok pairs

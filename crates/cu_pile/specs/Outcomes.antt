@@ -5,6 +5,10 @@ use Rattle.std.specs.Prelude.{◌≡◌, ℕ, ◌<◌, ◌≤◌, nat_lt, List, 
 abbrev pub numbers_below : ℕ → List ℕ → List ℕ
 numbers_below count drawn = filter (λ n. nat_lt n count) drawn
 
+-- The fact holds of each number below the count.
+abbrev pub EachBelow : ℕ → (ℕ → Type 0) → Type 0
+EachBelow count P = (n : ℕ) → n < count → P n
+
 -- The numbers are some below the count, and then one that is not.
 abbrev pub RunsOut : ℕ → List ℕ → Type 0
 RunsOut count drawn =

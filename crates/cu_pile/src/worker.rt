@@ -76,9 +76,9 @@ impl<'t, J: Job> Worker<'t, J> {
     }
 }
 
-/// Draws numbers until one is past the items, and runs the job on the item of
-/// each number before. It answers the outcomes beside their numbers, in the
-/// order drawn. Once memory ran out, it drops what it draws.
+/// Draws numbers until one is past the items, tells the gate of each number
+/// before, and runs the job on its item. It answers the outcomes beside their
+/// numbers, in the order drawn. Once memory ran out, it drops what it draws.
 pub fn work<J: Job, G: Gate>(
     alloc: Global,
     worker: &mut Worker<J>,
@@ -98,6 +98,8 @@ pub fn work<J: Job, G: Gate>(
         (view_of worker.new.seat).drawn) }
     ensures outcomes { IfOk result (λ pairs.
         All (IsOutcome (J.promises job.now) (view_of worker.old.seat).items) pairs.items) }
+    ensures told { All (G.told gate.now) (numbers_below (length (view_of worker.old.seat).items)
+        (view_of worker.new.seat).drawn) }
 {
     let mut outcomes = Ok(Vec::new(alloc));
     let mut number = worker.draw();

@@ -4,22 +4,24 @@ use Rattle.std.specs.List.{All}
 use Rattle.std.proofs.lemmas.List.{get_or-map, length-map, map-append}
 use Rattle.std.proofs.lemmas.List.Elements.{All-append, All-nil}
 use Rattle.cu_calculus.specs.Code.{Code}
+use Rattle.cu_graph.specs.declared.store.Store.{Ghosts}
 use Rattle.cu_machine.specs.Graph.{Graph}
 use Rattle.cu_machine.specs.Level.{go_list}
 use Rattle.cu_machine.specs.State.{State}
 use Rattle.cu_machine.specs.Validity.{IsValid}
 use Rattle.cu_pile.specs.Outcomes.{Pairwise}
-use Rattle.cu_step.specs.declared.branch.Branch.{Branch}
+use Rattle.cu_step.specs.declared.branch.BranchOver.{BranchOver}
+use Rattle.cu_step.specs.declared.focus.Focus.{Focus}
 use Rattle.cu_step.specs.declared.Outcome.{Outcome}
 use Rattle.cu_step.specs.declared.Outcome.TheVariants as outcome
 use Rattle.cu_step.specs.Outcome.{branches_of, next_of, state_of}
 
 -- a branch that stands for a valid state
-abbrev pub IsValidBranch : {S : Type 0} → (S → Graph) → Code → Branch S → Type 0
+abbrev pub IsValidBranch : {S : Type 0} {G : Ghosts S} → (S → Graph) → Code → BranchOver (Focus S G) → Type 0
 IsValidBranch content program branch = IsValid program (state_of content branch)
 
 -- an outcome after which valid branches follow
-abbrev pub HasValid : {S : Type 0} → (S → Graph) → Code → Outcome S → Type 0
+abbrev pub HasValid : {S : Type 0} {G : Ghosts S} → (S → Graph) → Code → Outcome S G → Type 0
 HasValid content program outcome = All (IsValidBranch content program) (branches_of outcome)
 
 -- one element and others
@@ -48,7 +50,7 @@ pairwise-all promises P tells (item ∷ items) (outcome ∷ outcomes) h =
     all-cons P outcome outcomes (tells item outcome h.0) (pairwise-all promises P tells items outcomes h.1)
 
 -- the states that follow one outcome, and those that follow several
-states-of_one : {S : Type 0} (content : S → Graph) (outcome : Outcome S) → map (state_of content) (branches_of outcome) ≡ go_list (next_of content outcome)
+states-of_one : {S : Type 0} {G : Ghosts S} (content : S → Graph) (outcome : Outcome S G) → map (state_of content) (branches_of outcome) ≡ go_list (next_of content outcome)
 states-of_one content (outcome.Go branches) = refl
 states-of_one content (outcome.Answer reading) = refl
 states-of_one content outcome.Fail = refl
@@ -56,7 +58,7 @@ states-of_one content (outcome.Wait names) = refl
 states-of_one content (outcome.Stop stop) = refl
 states-of_one content (outcome.Inner branch) = refl
 
-pub states-follow : {S : Type 0} (content : S → Graph) (outcomes : List (Outcome S))
+pub states-follow : {S : Type 0} {G : Ghosts S} (content : S → Graph) (outcomes : List (Outcome S G))
     → map (state_of content) (flat_map branches_of outcomes) ≡ flat_map go_list (map (next_of content) outcomes)
 states-follow content [] = refl
 states-follow content (outcome ∷ outcomes) =
@@ -65,7 +67,7 @@ states-follow content (outcome ∷ outcomes) =
     ∙ ap (λ (suffix : List State). go_list (next_of content outcome) ++ suffix) (states-follow content outcomes)
 
 -- what holds of the branches of each outcome holds of those that follow all
-pub all-follow : {S : Type 0} (P : Branch S → Type 0) (outcomes : List (Outcome S)) → All (λ outcome. All P (branches_of outcome)) outcomes
+pub all-follow : {S : Type 0} {G : Ghosts S} (P : BranchOver (Focus S G) → Type 0) (outcomes : List (Outcome S G)) → All (λ outcome. All P (branches_of outcome)) outcomes
     → All P (flat_map branches_of outcomes)
 all-follow P [] all = All-nil P
 all-follow P (outcome ∷ outcomes) all =

@@ -5,4 +5,3 @@ mod ListingLemmas
 mod LineLemmas
 mod BranchLemmas
 mod TotalsLemmas
-mod PartLemmas

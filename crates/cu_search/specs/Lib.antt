@@ -12,5 +12,3 @@ pub mod Rounds
 pub mod Stands
 -- What the lines of a listing come to.
 pub mod Totals
--- What private contracts and invariants of loops say.
-pub mod Inside

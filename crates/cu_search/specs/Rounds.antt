@@ -1,5 +1,5 @@
 -- What a round does to a search and to its output, by what it comes to.
-use Rattle.std.specs.Prelude.{◌≡◌, ℕ, List, Option, Some, None, true, Result, Ok, Err}
+use Rattle.std.specs.Prelude.{◌≡◌, ◌≤◌, ℕ, List, Option, Some, None, IfSome, true, Result, Ok, Err}
 use Rattle.cu_machine.specs.Listing.{after_lines}
 use Rattle.cu_search.specs.declared.fault.SearchFault.{SearchFault}
 use Rattle.cu_search.specs.declared.search.Round.{Round}
@@ -7,6 +7,10 @@ use Rattle.cu_search.specs.declared.search.Round.TheVariants.{Ended, Going}
 use Rattle.cu_search.specs.Lines.{lines_bytes, listing_bytes}
 use Rattle.cu_search.specs.Standing.{IsGoing, Standing, end_at, left_of, next_of, round_at}
 use Rattle.cu_search.specs.Written.{Adds, AddsPrefix}
+
+-- Where a number of workers is named, it is 1 to 64.
+abbrev pub IsWorkerCount : Option ℕ → Type 0
+IsWorkerCount named = IfSome named (λ count. (1 ≤ count) × (count ≤ 64))
 
 -- The round leaves the new search. Where the search goes on, it stands before the next round, and
 -- the lines of this round with what is left of the listing then are what was left before. It ends

@@ -1,6 +1,7 @@
 -- Where searches of the code stand, however their graphs are kept: `content` says which nodes a
 -- store has.
 use Rattle.std.specs.Prelude.{map}
+use Rattle.cu_graph.specs.declared.store.Store.{Ghosts}
 use Rattle.cu_machine.specs.Graph.{Graph}
 use Rattle.cu_names.specs.Texts.{text_of}
 use Rattle.cu_step.specs.Outcome.{state_of}
@@ -18,7 +19,7 @@ notation_of wording = record {
 }
 
 -- where a search of the code stands
-abbrev pub standing_of : {S : Type 0} → (S → Graph) → Search S → Standing
+abbrev pub standing_of : {S : Type 0} {G : Ghosts S} → (S → Graph) → Search S G → Standing
 standing_of content search = record {
   code = search.program.now;
   notation = notation_of search.wording;

@@ -1,6 +1,6 @@
 //! Searches whose lines are counted, and not written.
 ghost use Rattle.std.specs.Prelude.{◌≡◌, ◌≤◌, true, IfOk, OnOk};
-ghost use Rattle.cu_search.specs.Rounds.{Leaves};
+ghost use Rattle.cu_search.specs.Rounds.{IsWorkerCount, Leaves};
 ghost use Rattle.cu_search.specs.Standing.{IsGoing, left_of, round_at};
 ghost use Rattle.cu_search.specs.Stands.{standing_of};
 ghost use Rattle.cu_search.specs.Totals.{and_lines, totals_of};
@@ -8,6 +8,7 @@ ghost use Rattle.cu_search.specs.Totals.{and_lines, totals_of};
 use crate::counting::count_outcomes;
 use crate::level::{Steps, next_level, step_level};
 use crate::outcomes::Turn;
+use crate::pace::Pace;
 use crate::search::{Round, Search, ending};
 use crate::totals::Totals;
 use cu_graph::Store;
@@ -19,15 +20,16 @@ use std::thread::Threads;
 
 impl<'p, S: Store + Send + Sync> Search<'p, S> {
     /// Runs the rounds that are left and writes nothing, and answers how the
-    /// listing ends and what its lines come to.
+    /// listing ends and what its lines come to. It has as many workers as
+    /// `list` would.
     pub fn tally<R: Threads + Sync, G: Gate + Sync>(
         &mut self,
         rt: &R,
-        workers: u32,
+        workers: Option<u32>,
         gate: &G,
     ) -> Result<(End, Totals), AllocError>
         requires going { IsGoing (standing_of S.content self.old) }
-        requires workers { (1 ≤ workers) × (workers ≤ 64) }
+        requires workers { IsWorkerCount workers }
         ensures end { IfOk result (λ found. found.0
             ≡ (left_of (standing_of S.content self.old)).end) }
         ensures totals { IfOk result (λ found. found.1
@@ -35,10 +37,13 @@ impl<'p, S: Store + Send + Sync> Search<'p, S> {
         ensures ended { (standing_of S.content self.new).ended ≡ true }
     {
         let mut totals = Totals::new();
+        let mut pace = Pace::new(self.limits.stride);
         loop {
-            if let Round::Ended(end) = self.count_round(rt, workers, gate, &mut totals)? {
+            let count = pace.workers(workers, self.level.len());
+            if let Round::Ended(end) = self.count_round(rt, count, gate, &mut totals)? {
                 return Ok((end, totals));
             }
+            pace.note(self.level.as_slice());
         }
     }
 

@@ -2,7 +2,8 @@
 ghost use Rattle.std.specs.Prelude.{◌≡◌, ◌+◌, ◌<◌, ◌≤◌, ◌^◌, true, Some, IfErr, IfNone, IfOk, IsTrue, OnErr, OnOk, length};
 ghost use Rattle.cu_calculus.specs.Code.{body_of, function_arity, is_rule};
 ghost use Rattle.cu_search.specs.Lines.{end_text, listing_bytes};
-ghost use Rattle.cu_search.specs.Rounds.{Leaves, Writes};
+ghost use Rattle.cu_pile.specs.Outcomes.{EachBelow};
+ghost use Rattle.cu_search.specs.Rounds.{IsWorkerCount, Leaves, Writes};
 ghost use Rattle.cu_search.specs.Standing.{IsGoing, end_after, left_of, opened, widest};
 ghost use Rattle.cu_search.specs.Stands.{notation_of, standing_of};
 ghost use Rattle.cu_search.specs.Written.{Adds, AddsPrefix, HasCause};
@@ -11,6 +12,7 @@ use crate::fault::SearchFault;
 use crate::level::{Steps, next_level, step_level};
 use crate::lines::end_line;
 use crate::outcomes::{Turn, list_outcomes};
+use crate::pace::Pace;
 use crate::page::Page;
 use crate::tally::Tally;
 use crate::wording::Wording;
@@ -37,7 +39,7 @@ pub enum Round {
 
 /// The search for a goal's values, between two rounds.
 #[derive(Drop)]
-pub struct Search<'p, S> {
+pub struct Search<'p, S: Store> {
     pub(crate) alloc: Global,
     pub(crate) program: &'p FlatProgram,
     pub(crate) wording: Wording<'p>,
@@ -99,9 +101,11 @@ impl<'p, S: Store> Search<'p, S> {
 }
 
 impl<'p, S: Store + Send + Sync> Search<'p, S> {
-    /// Runs the next round: takes all branches of the level on, side by side
-    /// where there are two or more, and writes a line for each answer and each
-    /// branch that waits, and the last line where the listing ends with it.
+    /// Runs the next round: takes all branches of the level on, and writes a
+    /// line for each answer and each branch that waits, and the last line where
+    /// the listing ends with it. Where there are two branches or more, workers
+    /// draw them side by side, no more workers than branches, and the gate is
+    /// told the number of each in the level.
     pub fn round<R: Threads + Sync, G: Gate + Sync, K: Sink>(
         &mut self,
         rt: &R,
@@ -116,6 +120,8 @@ impl<'p, S: Store + Send + Sync> Search<'p, S> {
         ensures written { Writes result (standing_of S.content self.old) (K.written sink.old)
             (K.written sink.new) }
         ensures cause { HasCause result (K.fault_count sink.old) (K.fault_count sink.new) }
+        ensures told { 2 ≤ length (standing_of S.content self.old).level → IfOk result
+            (λ _. EachBelow (length (standing_of S.content self.old).level) (G.told gate.now)) }
     {
         self.ended = true;
         let level = mem::replace(&mut self.level, Vec::new(self.alloc));
@@ -153,16 +159,18 @@ impl<'p, S: Store + Send + Sync> Search<'p, S> {
         Ok(Round::Going)
     }
 
-    /// Runs the rounds that are left, and answers how the listing ends.
+    /// Runs the rounds that are left, and answers how the listing ends. Where
+    /// no number of workers is named, a round has up to four of them, as its
+    /// work is worth it.
     pub fn list<R: Threads + Sync, G: Gate + Sync, K: Sink>(
         &mut self,
         rt: &R,
-        workers: u32,
+        workers: Option<u32>,
         gate: &G,
         sink: &mut K,
     ) -> Result<End, SearchFault>
         requires going { IsGoing (standing_of S.content self.old) }
-        requires workers { (1 ≤ workers) × (workers ≤ 64) }
+        requires workers { IsWorkerCount workers }
         ensures end { IfOk result (λ end. end ≡ (left_of (standing_of S.content self.old)).end) }
         ensures whole { OnOk result (Adds (K.written sink.old) (K.written sink.new)
             (listing_bytes (standing_of S.content self.old).notation
@@ -173,10 +181,13 @@ impl<'p, S: Store + Send + Sync> Search<'p, S> {
         ensures cause { HasCause result (K.fault_count sink.old) (K.fault_count sink.new) }
         ensures ended { (standing_of S.content self.new).ended ≡ true }
     {
+        let mut pace = Pace::new(self.limits.stride);
         loop {
-            if let Round::Ended(end) = self.round(rt, workers, gate, sink)? {
+            let count = pace.workers(workers, self.level.len());
+            if let Round::Ended(end) = self.round(rt, count, gate, sink)? {
                 return Ok(end);
             }
+            pace.note(self.level.as_slice());
         }
     }
 }

@@ -57,7 +57,7 @@ limits_once rows one other p q =
     ≡ limits_by other.rounds other.answers other.stride other.step.nodes other.step.width = cc in
     same
 
-abbrev solve_by : Text → Text → Text → ℕ → SearchLimits → Solve
+abbrev solve_by : Text → Text → Text → Option ℕ → SearchLimits → Solve
 solve_by name goal folder workers limits =
     record { name = name; goal = goal; folder = folder; workers = workers; limits = limits }
 
@@ -66,7 +66,7 @@ solve_once rows one other p q =
     let name = met_once (first_of (codes "MODULE") rows) one.name other.name p.name q.name in
     let goal = met_once (first_of (codes "goal") rows) one.goal other.goal p.goal q.goal in
     let folder = met_once (first_of (codes "dir") rows) one.folder other.folder p.folder q.folder in
-    let workers = named_once rows (codes "workers") 64 one.workers other.workers p.workers q.workers in
+    let workers = maybe_once 64 (first_of (codes "workers") rows) one.workers other.workers p.workers q.workers in
     let limits = limits_once rows one.limits other.limits p.limits q.limits in
     let same : solve_by one.name one.goal one.folder one.workers one.limits
     ≡ solve_by other.name other.goal other.folder other.workers other.limits = cc in
@@ -80,14 +80,14 @@ compile_once rows one other p q =
     ap₂ compile_by (met_once (first_of (codes "MODULE") rows) one.name other.name p.name q.name)
     (met_once (first_of (codes "dir") rows) one.folder other.folder p.folder q.folder)
 
-abbrev trial_by : ℕ → ℕ → ℕ → ℕ → Trial
+abbrev trial_by : ℕ → Option ℕ → ℕ → ℕ → Trial
 trial_by depth workers width stride = record { depth = depth; workers = workers; width = width; stride = stride }
 
 trial_once : (rows : List Row) (one other : Trial) → IsTrial rows one → IsTrial rows other → one ≡ other
 trial_once rows one other p q =
     let text = met_once (first_of (codes "N") rows) p.depth.0 q.depth.0 p.depth.1 q.depth.1 in
     let depth = number_once 0 14 p.depth.0 q.depth.0 one.depth other.depth text p.depth.2 q.depth.2 in
-    let workers = named_once rows (codes "workers") 64 one.workers other.workers p.workers q.workers in
+    let workers = maybe_once 64 (first_of (codes "workers") rows) one.workers other.workers p.workers q.workers in
     let width = named_once rows (codes "width") 1048576 one.width other.width p.width q.width in
     let stride = named_once rows (codes "stride") 1000000 one.stride other.stride p.stride q.stride in
     let same : trial_by one.depth one.workers one.width one.stride ≡ trial_by other.depth other.workers other.width other.stride = cc in

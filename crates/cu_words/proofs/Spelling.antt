@@ -1,6 +1,6 @@
 -- Words that ask for a thing, whatever its texts are: each option as `--name=value`, and the
 -- module's name after `--`.
-use Rattle.std.proofs.Common.{◌≡◌, ◌∙◌, sym, subst, refl, ℕ, ◌^◌, ◌<◌, List, [], ◌∷◌, ◌++◌, Option, Some, None, IfSome, IsTrue, codes, arith}
+use Rattle.std.proofs.Common.{◌≡◌, ◌∙◌, sym, refl, ℕ, ◌^◌, ◌<◌, List, [], ◌∷◌, ◌++◌, Option, Some, None, IfSome, IsTrue, codes, arith}
 use Rattle.std.specs.Fmt.{decimal}
 use Rattle.std.proofs.lemmas.Fmt.{decimal_is_IsNumeral, digits_decimal, length-decimal-le}
 use Rattle.std.proofs.lemmas.Str.Parse.{numerals_by_value, tells_all_ascii_digits}
@@ -25,46 +25,66 @@ number high n short fits range =
       range = range;
     }
 
+-- a number in decimal digits, where there is one
+abbrev maybe_decimal : Option ℕ → Option Text
+maybe_decimal None = None
+maybe_decimal (Some n) = Some (decimal n)
+
+maybe_number : (high : ℕ) (n : Option ℕ) → high < 10 ^ 19 → high < 2 ^ 64 → IfSome n (IsIn 1 high) → IsMaybeNumber high (maybe_decimal n) n
+maybe_number high None short fits range = tt
+maybe_number high (Some n) short fits range = number high n short fits range
+
 -- the numbers that every solve has
 pub record Numbers (solve : Solve) : Type 0 where
-  pub workers : IsNumber 1 64 (decimal solve.workers) solve.workers
+  pub workers : IsMaybeNumber 64 (maybe_decimal solve.workers) solve.workers
   pub rounds : IsNumber 1 1000000000 (decimal solve.limits.rounds) solve.limits.rounds
+  pub answers : IsMaybeNumber 1000000000 (maybe_decimal solve.limits.answers) solve.limits.answers
   pub nodes : IsNumber 1 16777216 (decimal solve.limits.step.nodes) solve.limits.step.nodes
   pub width : IsNumber 1 1048576 (decimal solve.limits.step.width) solve.limits.step.width
   pub stride : IsNumber 1 1000000 (decimal solve.limits.stride) solve.limits.stride
 
 numbers : (solve : Solve) → IsInRange solve → Numbers solve
 numbers solve range = record {
-  workers = number 64 solve.workers (omega arith) (omega arith) range.workers;
+  workers = maybe_number 64 solve.workers (omega arith) (omega arith) range.workers;
   rounds = number 1000000000 solve.limits.rounds (omega arith) (omega arith) range.rounds;
+  answers = maybe_number 1000000000 solve.limits.answers (omega arith) (omega arith) range.answers;
   nodes = number 16777216 solve.limits.step.nodes (omega arith) (omega arith) range.nodes;
   width = number 1048576 solve.limits.step.width (omega arith) (omega arith) range.width;
   stride = number 1000000 solve.limits.stride (omega arith) (omega arith) range.stride;
 }
 
--- without a limit on answers
-abbrev plain : (name goal folder workers rounds nodes width stride : Text) → List Text
-plain name goal folder workers rounds nodes width stride =
-    codes "solve" ∷ (codes "--goal=" ++ goal) ∷ (codes "--dir=" ++ folder) ∷ (codes "--workers=" ++ workers) ∷ (codes "--rounds=" ++ rounds) ∷ (codes "--nodes=" ++ nodes)
-    ∷ (codes "--width=" ++ width) ∷ (codes "--stride=" ++ stride) ∷ codes "--" ∷ name ∷ []
+-- the words that are left out where there is no such number
+abbrev named : Option Text → Option Text → List Text → List Text
+named None None words = words
+named None (Some answers) words = (codes "--answers=" ++ answers) ∷ words
+named (Some workers) None words = (codes "--workers=" ++ workers) ∷ words
+named (Some workers) (Some answers) words = (codes "--workers=" ++ workers) ∷ (codes "--answers=" ++ answers) ∷ words
 
-plain_right : (name goal folder workers rounds nodes width stride : Text) → fault_of curry (plain name goal folder workers rounds nodes width stride) ≡ []
-unfolding clap_on_literals
-plain_right name goal folder workers rounds nodes width stride = refl
+abbrev line : (name goal folder : Text) → (workers answers : Option Text) → (rounds nodes width stride : Text) → List Text
+line name goal folder workers answers rounds nodes width stride =
+    codes "solve" ∷ (codes "--goal=" ++ goal) ∷ (codes "--dir=" ++ folder) ∷ (codes "--rounds=" ++ rounds) ∷ (codes "--nodes=" ++ nodes)
+    ∷ (codes "--width=" ++ width) ∷ (codes "--stride=" ++ stride) ∷ named workers answers (codes "--" ∷ name ∷ [])
 
-plain_asks : (solve : Solve) (workers rounds nodes width stride : Text) → IsTrue (is_module_name solve.name) → IsNumber 1 64 workers solve.workers
-    → IsNumber 1 1000000000 rounds solve.limits.rounds → IsNumber 1 16777216 nodes solve.limits.step.nodes → IsNumber 1 1048576 width solve.limits.step.width
-    → IsNumber 1 1000000 stride solve.limits.stride → IsMaybeNumber 1000000000 None solve.limits.answers
-    → Asks (subcommand_of curry (plain solve.name solve.goal solve.folder workers rounds nodes width stride)) (Solving solve)
+line_right : (name goal folder : Text) (workers answers : Option Text) (rounds nodes width stride : Text) → fault_of curry (line name goal folder workers answers rounds nodes width stride) ≡ []
 unfolding clap_on_literals
-plain_asks solve workers rounds nodes width stride is_name w r n b k a = (
+line_right name goal folder None None rounds nodes width stride = refl
+line_right name goal folder None (Some answers) rounds nodes width stride = refl
+line_right name goal folder (Some workers) None rounds nodes width stride = refl
+line_right name goal folder (Some workers) (Some answers) rounds nodes width stride = refl
+
+line_asks : (solve : Solve) (workers answers : Option Text) (rounds nodes width stride : Text) → IsTrue (is_module_name solve.name) → IsMaybeNumber 64 workers solve.workers
+    → IsMaybeNumber 1000000000 answers solve.limits.answers → IsNumber 1 1000000000 rounds solve.limits.rounds → IsNumber 1 16777216 nodes solve.limits.step.nodes
+    → IsNumber 1 1048576 width solve.limits.step.width → IsNumber 1 1000000 stride solve.limits.stride
+    → Asks (subcommand_of curry (line solve.name solve.goal solve.folder workers answers rounds nodes width stride)) (Solving solve)
+unfolding clap_on_literals
+line_asks solve None None rounds nodes width stride is_name w a r n b k = (
   refl,
   record {
     name = refl;
     is_name = is_name;
     goal = refl;
     folder = refl;
-    workers = (workers, refl, w);
+    workers = w;
     limits = record {
       rounds = (rounds, refl, r);
       answers = a;
@@ -74,30 +94,48 @@ plain_asks solve workers rounds nodes width stride is_name w r n b k a = (
     };
   },
 )
-
--- with one
-abbrev limited : (name goal folder workers rounds nodes width stride answers : Text) → List Text
-limited name goal folder workers rounds nodes width stride answers =
-    codes "solve" ∷ (codes "--goal=" ++ goal) ∷ (codes "--dir=" ++ folder) ∷ (codes "--workers=" ++ workers) ∷ (codes "--rounds=" ++ rounds) ∷ (codes "--nodes=" ++ nodes)
-    ∷ (codes "--width=" ++ width) ∷ (codes "--stride=" ++ stride) ∷ (codes "--answers=" ++ answers) ∷ codes "--" ∷ name ∷ []
-
-limited_right : (name goal folder workers rounds nodes width stride answers : Text) → fault_of curry (limited name goal folder workers rounds nodes width stride answers) ≡ []
-unfolding clap_on_literals
-limited_right name goal folder workers rounds nodes width stride answers = refl
-
-limited_asks : (solve : Solve) (workers rounds nodes width stride answers : Text) → IsTrue (is_module_name solve.name) → IsNumber 1 64 workers solve.workers
-    → IsNumber 1 1000000000 rounds solve.limits.rounds → IsNumber 1 16777216 nodes solve.limits.step.nodes → IsNumber 1 1048576 width solve.limits.step.width
-    → IsNumber 1 1000000 stride solve.limits.stride → IsMaybeNumber 1000000000 (Some answers) solve.limits.answers
-    → Asks (subcommand_of curry (limited solve.name solve.goal solve.folder workers rounds nodes width stride answers)) (Solving solve)
-unfolding clap_on_literals
-limited_asks solve workers rounds nodes width stride answers is_name w r n b k a = (
+line_asks solve None (Some answers) rounds nodes width stride is_name w a r n b k = (
   refl,
   record {
     name = refl;
     is_name = is_name;
     goal = refl;
     folder = refl;
-    workers = (workers, refl, w);
+    workers = w;
+    limits = record {
+      rounds = (rounds, refl, r);
+      answers = a;
+      nodes = (nodes, refl, n);
+      width = (width, refl, b);
+      stride = (stride, refl, k);
+    };
+  },
+)
+line_asks solve (Some workers) None rounds nodes width stride is_name w a r n b k = (
+  refl,
+  record {
+    name = refl;
+    is_name = is_name;
+    goal = refl;
+    folder = refl;
+    workers = w;
+    limits = record {
+      rounds = (rounds, refl, r);
+      answers = a;
+      nodes = (nodes, refl, n);
+      width = (width, refl, b);
+      stride = (stride, refl, k);
+    };
+  },
+)
+line_asks solve (Some workers) (Some answers) rounds nodes width stride is_name w a r n b k = (
+  refl,
+  record {
+    name = refl;
+    is_name = is_name;
+    goal = refl;
+    folder = refl;
+    workers = w;
     limits = record {
       rounds = (rounds, refl, r);
       answers = a;
@@ -109,30 +147,16 @@ limited_asks solve workers rounds nodes width stride answers is_name w r n b k a
 )
 
 pub spelled : (solve : Solve) → IsTrue (is_module_name solve.name) → IsInRange solve → (words : List Text) × ReadsAs words (Solving solve)
-spelled solve is_name range = go solve.limits.answers refl range.answers where
-  all : Numbers solve
-  all = numbers solve range
-
-  go : (answers : Option ℕ) → solve.limits.answers ≡ answers → IfSome answers (IsIn 1 1000000000) → (words : List Text) × ReadsAs words (Solving solve)
-  go None is small = (
-    plain solve.name solve.goal solve.folder (decimal solve.workers) (decimal solve.limits.rounds) (decimal solve.limits.step.nodes) (decimal solve.limits.step.width)
-        (decimal solve.limits.stride),
-    record {
-      right = plain_right solve.name solve.goal solve.folder (decimal solve.workers) (decimal solve.limits.rounds) (decimal solve.limits.step.nodes) (decimal solve.limits.step.width)
-          (decimal solve.limits.stride);
-      asks = plain_asks solve _ _ _ _ _ is_name all.workers all.rounds all.nodes all.width all.stride (subst (IsMaybeNumber 1000000000 None) (sym is) tt);
-    },
-  )
-  go (Some n) is small = (
-    limited solve.name solve.goal solve.folder (decimal solve.workers) (decimal solve.limits.rounds) (decimal solve.limits.step.nodes) (decimal solve.limits.step.width)
-        (decimal solve.limits.stride) (decimal n),
-    record {
-      right = limited_right solve.name solve.goal solve.folder (decimal solve.workers) (decimal solve.limits.rounds) (decimal solve.limits.step.nodes) (decimal solve.limits.step.width)
-          (decimal solve.limits.stride) (decimal n);
-      asks = limited_asks solve _ _ _ _ _ (decimal n) is_name all.workers all.rounds all.nodes all.width all.stride
-          (subst (IsMaybeNumber 1000000000 (Some (decimal n))) (sym is) (number 1000000000 n (omega arith) (omega arith) small));
-    },
-  )
+spelled solve is_name range =
+    let all = numbers solve range in (
+      line solve.name solve.goal solve.folder (maybe_decimal solve.workers) (maybe_decimal solve.limits.answers) (decimal solve.limits.rounds) (decimal solve.limits.step.nodes)
+          (decimal solve.limits.step.width) (decimal solve.limits.stride),
+      record {
+        right = line_right solve.name solve.goal solve.folder (maybe_decimal solve.workers) (maybe_decimal solve.limits.answers) (decimal solve.limits.rounds) (decimal solve.limits.step.nodes)
+            (decimal solve.limits.step.width) (decimal solve.limits.stride);
+        asks = line_asks solve (maybe_decimal solve.workers) (maybe_decimal solve.limits.answers) _ _ _ _ is_name all.workers all.answers all.rounds all.nodes all.width all.stride;
+      },
+    )
 
 -- ---- trials
 
@@ -149,23 +173,33 @@ from_zero high n short fits range =
       range = range;
     }
 
-abbrev tried : (depth workers width stride : Text) → List Text
+abbrev tried : (depth : Text) → Option Text → (width stride : Text) → List Text
 tried depth workers width stride =
-    codes "trial" ∷ (codes "--workers=" ++ workers) ∷ (codes "--width=" ++ width) ∷ (codes "--stride=" ++ stride) ∷ codes "--" ∷ depth ∷ []
+    codes "trial" ∷ (codes "--width=" ++ width) ∷ (codes "--stride=" ++ stride) ∷ named workers None (codes "--" ∷ depth ∷ [])
 
-tried_right : (depth workers width stride : Text) → fault_of curry (tried depth workers width stride) ≡ []
+tried_right : (depth : Text) (workers : Option Text) (width stride : Text) → fault_of curry (tried depth workers width stride) ≡ []
 unfolding clap_on_literals
-tried_right depth workers width stride = refl
+tried_right depth None width stride = refl
+tried_right depth (Some workers) width stride = refl
 
-tried_asks : (trial : Trial) (depth workers width stride : Text) → IsNumber 0 14 depth trial.depth → IsNumber 1 64 workers trial.workers
+tried_asks : (trial : Trial) (depth : Text) (workers : Option Text) (width stride : Text) → IsNumber 0 14 depth trial.depth → IsMaybeNumber 64 workers trial.workers
     → IsNumber 1 1048576 width trial.width → IsNumber 1 1000000 stride trial.stride
     → Asks (subcommand_of curry (tried depth workers width stride)) (Trying trial)
 unfolding clap_on_literals
-tried_asks trial depth workers width stride d w b k = (
+tried_asks trial depth None width stride d w b k = (
   refl,
   record {
     depth = (depth, refl, d);
-    workers = (workers, refl, w);
+    workers = w;
+    width = (width, refl, b);
+    stride = (stride, refl, k);
+  },
+)
+tried_asks trial depth (Some workers) width stride d w b k = (
+  refl,
+  record {
+    depth = (depth, refl, d);
+    workers = w;
     width = (width, refl, b);
     stride = (stride, refl, k);
   },
@@ -173,11 +207,12 @@ tried_asks trial depth workers width stride d w b k = (
 
 pub spelled_trial : (trial : Trial) → IsTrialInRange trial → (words : List Text) × ReadsAs words (Trying trial)
 spelled_trial trial range = (
-  tried (decimal trial.depth) (decimal trial.workers) (decimal trial.width) (decimal trial.stride),
+  tried (decimal trial.depth) (maybe_decimal trial.workers) (decimal trial.width) (decimal trial.stride),
   record {
-    right = tried_right (decimal trial.depth) (decimal trial.workers) (decimal trial.width) (decimal trial.stride);
-    asks = tried_asks trial _ _ _ _ (from_zero 14 trial.depth (omega arith) (omega arith) range.depth) (number 64 trial.workers (omega arith) (omega arith) range.workers)
-        (number 1048576 trial.width (omega arith) (omega arith) range.width) (number 1000000 trial.stride (omega arith) (omega arith) range.stride);
+    right = tried_right (decimal trial.depth) (maybe_decimal trial.workers) (decimal trial.width) (decimal trial.stride);
+    asks = tried_asks trial _ (maybe_decimal trial.workers) _ _ (from_zero 14 trial.depth (omega arith) (omega arith) range.depth)
+        (maybe_number 64 trial.workers (omega arith) (omega arith) range.workers) (number 1048576 trial.width (omega arith) (omega arith) range.width)
+        (number 1000000 trial.stride (omega arith) (omega arith) range.stride);
   },
 )
 

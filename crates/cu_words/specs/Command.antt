@@ -20,7 +20,7 @@ abbrev pub solve_rules : List Rule
 solve_rules = required (new_rule (codes "MODULE"))
     ∷ required (option (codes "goal"))
     ∷ or (option (codes "dir")) (codes ".")
-    ∷ or (option (codes "workers")) (codes "4")
+    ∷ option (codes "workers")
     ∷ or (option (codes "rounds")) (codes "100000")
     ∷ option (codes "answers")
     ∷ or (option (codes "nodes")) (codes "1000000")
@@ -43,7 +43,7 @@ compile = record (new_shape (codes "compile")) { rules = compile_rules }
 -- what follows `trial` on the line: a number, and options in any order
 abbrev pub trial_rules : List Rule
 trial_rules = required (new_rule (codes "N"))
-    ∷ or (option (codes "workers")) (codes "4")
+    ∷ option (codes "workers")
     ∷ or (option (codes "width")) (codes "65536")
     ∷ or (option (codes "stride")) (codes "1")
     ∷ []

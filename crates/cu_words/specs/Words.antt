@@ -11,12 +11,13 @@ use Rattle.cu_words.specs.Command.{curry}
 use Rattle.cu_words.specs.Names.{is_module_name}
 use Rattle.cu_words.specs.Numbers.{IsIn, IsNumber}
 
--- a goal in a module of a folder, so many workers, and where the search ends
+-- a goal in a module of a folder, how many workers there are to be, where the words name a number,
+-- and where the search ends
 pub record Solve : Type 0 where
   pub name : List ℕ
   pub goal : List ℕ
   pub folder : List ℕ
-  pub workers : ℕ
+  pub workers : Option ℕ
   pub limits : SearchLimits
 
 -- the text of a module of a folder
@@ -24,10 +25,11 @@ pub record Compile : Type 0 where
   pub name : List ℕ
   pub folder : List ℕ
 
--- a trial of the search to this depth, with so many workers, and two of its limits
+-- a trial of the search to this depth, how many workers there are to be, where the words name a
+-- number, and two of its limits
 pub record Trial : Type 0 where
   pub depth : ℕ
-  pub workers : ℕ
+  pub workers : Option ℕ
   pub width : ℕ
   pub stride : ℕ
 
@@ -66,7 +68,7 @@ pub record IsSolve (rows : List Row) (solve : Solve) : Type 0 where
   pub is_name : IsTrue (is_module_name solve.name)
   pub goal : Has rows (codes "goal") solve.goal
   pub folder : Has rows (codes "dir") solve.folder
-  pub workers : HasNumber rows (codes "workers") 64 solve.workers
+  pub workers : IsMaybeNumber 64 (first_of (codes "workers") rows) solve.workers
   pub limits : HasLimits rows solve.limits
 
 -- the words after `compile` ask for this
@@ -82,7 +84,7 @@ HasDepth rows n = (text : Text) × Has rows (codes "N") text × IsNumber 0 14 te
 -- the words after `trial` ask for this
 pub record IsTrial (rows : List Row) (trial : Trial) : Type 0 where
   pub depth : HasDepth rows trial.depth
-  pub workers : HasNumber rows (codes "workers") 64 trial.workers
+  pub workers : IsMaybeNumber 64 (first_of (codes "workers") rows) trial.workers
   pub width : HasNumber rows (codes "width") 1048576 trial.width
   pub stride : HasNumber rows (codes "stride") 1000000 trial.stride
 
@@ -104,7 +106,7 @@ IsCommand words = (command : Command) × ReadsAs words command
 
 -- each number of a `solve` is in the range that its option allows
 pub record IsInRange (solve : Solve) : Type 0 where
-  pub workers : IsIn 1 64 solve.workers
+  pub workers : IfSome solve.workers (IsIn 1 64)
   pub rounds : IsIn 1 1000000000 solve.limits.rounds
   pub answers : IfSome solve.limits.answers (IsIn 1 1000000000)
   pub nodes : IsIn 1 16777216 solve.limits.step.nodes
@@ -113,7 +115,7 @@ pub record IsInRange (solve : Solve) : Type 0 where
 
 pub record IsTrialInRange (trial : Trial) : Type 0 where
   pub depth : IsIn 0 14 trial.depth
-  pub workers : IsIn 1 64 trial.workers
+  pub workers : IfSome trial.workers (IsIn 1 64)
   pub width : IsIn 1 1048576 trial.width
   pub stride : IsIn 1 1000000 trial.stride
 
@@ -121,6 +123,12 @@ abbrev pub HasItsRanges : Command → Type 0
 HasItsRanges (Solving solve) = IsInRange solve
 HasItsRanges (Compiling compile) = ⊤
 HasItsRanges (Trying trial) = IsTrialInRange trial
+
+-- how many workers a command asks for, where its words name a number
+abbrev pub workers_asked : Command → Option ℕ
+workers_asked (Solving solve) = solve.workers
+workers_asked (Compiling compile) = None
+workers_asked (Trying trial) = trial.workers
 
 -- the `solve` of the definitions that one of the reader stands for
 abbrev pub solve_of : solves.Solve → Solve

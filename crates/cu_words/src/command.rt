@@ -33,7 +33,7 @@ fn solve_command<'a>(alloc: Global) -> Result<Command<'a>, AllocError>
         .arg(Arg::new(alloc, "MODULE").required(true))?
         .arg(option(alloc, "goal").required(true))?
         .arg(option(alloc, "dir").default_value("."))?
-        .arg(option(alloc, "workers").default_value("4"))?
+        .arg(option(alloc, "workers"))?
         .arg(option(alloc, "rounds").default_value("100000"))?
         .arg(option(alloc, "answers"))?
         .arg(option(alloc, "nodes").default_value("1000000"))?
@@ -56,7 +56,7 @@ fn trial_command<'a>(alloc: Global) -> Result<Command<'a>, AllocError>
 {
     Command::new(alloc, "trial")
         .arg(Arg::new(alloc, "N").required(true))?
-        .arg(option(alloc, "workers").default_value("4"))?
+        .arg(option(alloc, "workers"))?
         .arg(option(alloc, "width").default_value("65536"))?
         .arg(option(alloc, "stride").default_value("1"))
 }

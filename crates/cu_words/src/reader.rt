@@ -194,14 +194,17 @@ fn read_answers(found: &ArgMatches<'_>) -> Option<Option<u64>>
     }
 }
 
-/// How many workers the words ask for.
-fn read_workers(found: &ArgMatches<'_>) -> Option<u32>
-    ensures read { IfSome result (λ n.
-        HasNumber (rows_of (found_of found.now)) (codes "workers") 64 n) }
-    ensures refused { IfNone result ((n : ℕ) →
-        HasNumber (rows_of (found_of found.now)) (codes "workers") 64 n → ⊥) }
+/// How many workers the words ask for, where they name a number.
+fn read_workers(found: &ArgMatches<'_>) -> Option<Option<u32>>
+    ensures read { IfSome result (λ workers. IsMaybeNumber 64
+        (first_of (codes "workers") (rows_of (found_of found.now))) workers) }
+    ensures refused { IfNone result ((workers : Option ℕ) → IsMaybeNumber 64
+        (first_of (codes "workers") (rows_of (found_of found.now))) workers → ⊥) }
 {
-    small_number(found, "workers", 64)
+    match text(found, "workers") {
+        Some(text) => Some(Some(read_number(text, 1, 64)? as u32)),
+        None => Some(None),
+    }
 }
 
 /// How many branches a level may have, by the words.

@@ -1,5 +1,6 @@
 //! Gates that count, and that hold an item until others have entered.
 use cu_pile::Gate;
+use std::alloc::{AllocError, Global};
 use std::sync::{Mutex, Wait};
 use std::thread;
 
@@ -50,6 +51,8 @@ impl<'r, R: Wait> HoldingGate<'r, R> {
 }
 
 impl<'r, R: Wait> Gate for HoldingGate<'r, R> {
+    ghost told = { λ _ _. Unit {0} };
+
     fn enter(&self, number: u32) {
         if number != self.held {
             let mut passed = self.passed.lock(self.rt);
@@ -63,5 +66,43 @@ impl<'r, R: Wait> Gate for HoldingGate<'r, R> {
             thread::yield_now();
         }
         self.passed.lock(self.rt).ended = true;
+    }
+}
+
+/// Counts how often it is told of each number.
+#[derive(Drop)]
+pub struct CountingGate<'r, R: Wait> {
+    rt: &'r R,
+    counts: Mutex<Vec<u32>>,
+}
+
+impl<'r, R: Wait> CountingGate<'r, R> {
+    /// A gate for the numbers below a count.
+    pub fn new(rt: &'r R, alloc: Global, count: usize) -> Result<CountingGate<'r, R>, AllocError> {
+        let mut counts = Vec::new(alloc);
+        for _ in 0..count {
+            counts.push(0)?;
+        }
+        Ok(CountingGate {
+            rt,
+            counts: Mutex::new(counts),
+        })
+    }
+
+    /// Whether it was told of each number as often as this.
+    pub fn told_each(&self, times: u32) -> bool {
+        let counts = self.counts.lock(self.rt);
+        counts.iter().all(|count| *count == times)
+    }
+}
+
+impl<'r, R: Wait> Gate for CountingGate<'r, R> {
+    ghost told = { λ _ _. Unit {0} };
+
+    fn enter(&self, number: u32) {
+        let mut counts = self.counts.lock(self.rt);
+        if let Some(count) = counts.get_mut(number as usize) {
+            *count = count.saturating_add(1);
+        }
     }
 }

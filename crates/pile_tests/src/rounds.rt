@@ -1,7 +1,7 @@
 //! Rounds: outcomes in the order of their items.
 ghost use Rattle.std.specs.Prelude.{◌<◌, ◌≤◌, All, IfOk, length};
 
-use crate::gates::HoldingGate;
+use crate::gates::{CountingGate, HoldingGate};
 use crate::jobs::{Failing, Tenfold};
 use cu_pile::{OpenGate, round};
 use std::alloc::{AllocError, Global};
@@ -61,6 +61,17 @@ fn many_workers_answer_in_order(rt: HostRuntime) -> Result<(), Fail> {
         let items = numbers(rt.alloc(), count)?;
         let outcomes = round(&rt, rt.alloc(), items, workers, &OpenGate, &Tenfold)?;
         assert!(rt; are_tens(outcomes.as_slice(), count as usize));
+    }
+    Ok(())
+}
+
+#[test]
+fn each_item_is_told_to_the_gate_once(rt: HostRuntime) -> Result<(), Fail> {
+    for workers in [1, 2, 64] {
+        let gate = CountingGate::new(&rt, rt.alloc(), 200)?;
+        let items = numbers(rt.alloc(), 200)?;
+        let outcomes = round(&rt, rt.alloc(), items, workers, &gate, &Tenfold)?;
+        assert!(rt; are_tens(outcomes.as_slice(), 200) && gate.told_each(1));
     }
     Ok(())
 }

@@ -17,6 +17,12 @@ const NORTH: ConId = ConId(19);
 
 const VALUES: ConId = ConId(23);
 
+/// The first of many constructors without arguments.
+const FIRST_OF_MANY: ConId = ConId(24);
+
+/// How many there are.
+const MANY: u8 = 200;
+
 fn one<T: Drop>(alloc: Global, item: T) -> Result<Vec<T>, AllocError> {
     let mut items = Vec::new(alloc);
     items.push(item)?;
@@ -84,6 +90,16 @@ fn side_type(alloc: Global, names: &mut Names) -> Result<DataType, AllocError> {
     Ok(data_type(names.intern("Side")?, 0, constructors))
 }
 
+/// `data Many = M | M | M` and so on
+fn many_type(alloc: Global, names: &mut Names) -> Result<DataType, AllocError> {
+    let name = names.intern("M")?;
+    let mut constructors = Vec::new(alloc);
+    for _ in 0..MANY {
+        constructors.push(constructor(name, Vec::new(alloc)))?;
+    }
+    Ok(data_type(names.intern("Many")?, 0, constructors))
+}
+
 /// `data Values a = Values [a]`
 fn values_type(alloc: Global, names: &mut Names) -> Result<DataType, AllocError> {
     let arguments = one(alloc, TypeTerm::Var(0))?;
@@ -105,6 +121,7 @@ fn types(alloc: Global, names: &mut Names) -> Result<Vec<DataType>, AllocError> 
     types.push(bool_type(alloc, names)?)?;
     types.push(side_type(alloc, names)?)?;
     types.push(values_type(alloc, names)?)?;
+    types.push(many_type(alloc, names)?)?;
     Ok(types)
 }
 
@@ -210,13 +227,14 @@ fn whole(head: Head, arguments: Vec<Term>) -> Term {
     Term::Whole(head, arguments)
 }
 
-/// `number North = 0; number East = 1` and so on
-fn number_of_side(alloc: Global) -> Result<Function, AllocError> {
+/// The numbers of so many constructors, from the first on: `number North = 0`,
+/// `number East = 1` and so on.
+fn numbers(alloc: Global, first: ConId, count: u8) -> Result<Function, AllocError> {
     let mut rules = Vec::new(alloc);
-    for n in 0..4u8 {
-        let side = ConId(NORTH.0 + usize::from(n));
+    for n in 0..count {
+        let constructor = ConId(first.0.wrapping_add(usize::from(n)));
         rules.push(Rule {
-            params: one(alloc, Pattern::Con(side, Vec::new(alloc)))?,
+            params: one(alloc, Pattern::Con(constructor, Vec::new(alloc)))?,
             body: number(Int::from(n)),
         })?;
     }
@@ -309,6 +327,9 @@ const OPEN_SUM: usize = 15;
 /// `sortValues (set0 p)`, where `p = y + 1 where y free`
 pub(crate) const OPEN_SORTED: usize = 16;
 
+/// The numbers 0 to 199 of constructors.
+pub(crate) const MANY_NUMBER: usize = 17;
+
 fn functions(alloc: Global) -> Result<Vec<Function>, AllocError> {
     let mut functions = one(alloc, both(alloc)?)?;
     functions.push(built_in(0, Prim::Failed))?;
@@ -319,7 +340,7 @@ fn functions(alloc: Global) -> Result<Vec<Function>, AllocError> {
     functions.push(rigid(alloc)?)?;
     functions.push(call(alloc, LOOP)?)?;
     functions.push(built_in(2, Prim::Add))?;
-    functions.push(number_of_side(alloc)?)?;
+    functions.push(numbers(alloc, NORTH, 4)?)?;
     functions.push(raised(alloc)?)?;
     functions.push(sort_values(alloc)?)?;
     functions.push(sorted(alloc, RAISED, one(alloc, coin_call(alloc))?)?)?;
@@ -327,6 +348,7 @@ fn functions(alloc: Global) -> Result<Vec<Function>, AllocError> {
     functions.push(sorted(alloc, RAISED_COIN, Vec::new(alloc))?)?;
     functions.push(open_sum(alloc)?)?;
     functions.push(sorted(alloc, OPEN_SUM, Vec::new(alloc))?)?;
+    functions.push(numbers(alloc, FIRST_OF_MANY, MANY)?)?;
     Ok(functions)
 }
 

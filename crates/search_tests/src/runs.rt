@@ -1,5 +1,6 @@
 //! Searches of a lowered program, as the text that they write.
-ghost use Rattle.std.specs.Prelude.{◌≤◌, IfSome};
+ghost use Rattle.std.specs.Prelude.{IfSome};
+ghost use Rattle.cu_search.specs.Rounds.{IsWorkerCount};
 ghost use Rattle.cu_search.specs.Standing.{IsGoing};
 ghost use Rattle.cu_search.specs.Stands.{standing_of};
 
@@ -112,10 +113,10 @@ pub(crate) fn written<S: Store + Send + Sync, R: Threads + Abort + Sync, G: Gate
     bench: &Bench,
     goal: &Goal,
     limits: SearchLimits,
-    workers: u32,
+    workers: Option<u32>,
     gate: &G,
 ) -> VecSink
-    requires { (1 ≤ workers) × (workers ≤ 64) }
+    requires { IsWorkerCount workers }
 {
     let failing = Vec::new(bench.alloc);
     let mut sink = VecSink::new(bench.alloc, ROOM, failing).expect(rt, "memory");

@@ -11,7 +11,7 @@ struct Case<'a> {
     module: &'a str,
     goal: &'a str,
     folder: &'a str,
-    workers: u32,
+    workers: Option<u32>,
     rounds: u64,
     answers: Option<u64>,
     nodes: u32,
@@ -27,7 +27,7 @@ fn read(line: &str) -> Case<'_> {
         module: "M",
         goal: "coin",
         folder: ".",
-        workers: 4,
+        workers: None,
         rounds: 100_000,
         answers: None,
         nodes: 1_000_000,
@@ -53,7 +53,7 @@ impl<'a> Case<'a> {
     }
 
     fn workers(mut self, workers: u32) -> Case<'a> {
-        self.workers = workers;
+        self.workers = Some(workers);
         self
     }
 
@@ -217,18 +217,18 @@ fn words_are_read(rt: HostRuntime) {
 }
 
 /// A line that asks for a trial, and its depth, workers, width and stride.
-type TrialCase = (&'static str, u32, u32, u32, u64);
+type TrialCase = (&'static str, u32, Option<u32>, u32, u64);
 
 const TRIALS: [TrialCase; 9] = [
-    ("trial 0", 0, 4, 65_536, 1),
-    ("trial 14", 14, 4, 65_536, 1),
-    ("trial 007", 7, 4, 65_536, 1),
-    ("trial 3 --workers 64", 3, 64, 65_536, 1),
-    ("trial --width=1048576 3", 3, 4, 1_048_576, 1),
-    ("trial --stride 1000000 -- 3", 3, 4, 65_536, 1_000_000),
-    ("trial --workers 1 --width 1 3 --stride 1", 3, 1, 1, 1),
-    ("trial 3 --", 3, 4, 65_536, 1),
-    ("trial 0000000000000000014", 14, 4, 65_536, 1),
+    ("trial 0", 0, None, 65_536, 1),
+    ("trial 14", 14, None, 65_536, 1),
+    ("trial 007", 7, None, 65_536, 1),
+    ("trial 3 --workers 64", 3, Some(64), 65_536, 1),
+    ("trial --width=1048576 3", 3, None, 1_048_576, 1),
+    ("trial --stride 1000000 -- 3", 3, None, 65_536, 1_000_000),
+    ("trial --workers 1 --width 1 3 --stride 1", 3, Some(1), 1, 1),
+    ("trial 3 --", 3, None, 65_536, 1),
+    ("trial 0000000000000000014", 14, None, 65_536, 1),
 ];
 
 /// Whether a line asks for this trial.

@@ -16,17 +16,16 @@ all c =
     (ap rule_of c.required-2.ensures ∙ ap required c.option.ensures.rule) (ap (λ a. a.global) c.required-2.ensures ∙ c.option.ensures.local) c.in_ok-arg-2.ensures in
     let dir_added = more (or (option (codes "dir")) (codes ".")) c.default_value.result goal_added
     (ap rule_of c.default_value.ensures ∙ ap (λ r. or r (codes ".")) c.option-2.ensures.rule) (ap (λ a. a.global) c.default_value.ensures ∙ c.option-2.ensures.local) c.in_ok-arg-3.ensures in
-    let workers_added = more (or (option (codes "workers")) (codes "4")) c.default_value-2.result dir_added
-    (ap rule_of c.default_value-2.ensures ∙ ap (λ r. or r (codes "4")) c.option-3.ensures.rule) (ap (λ a. a.global) c.default_value-2.ensures ∙ c.option-3.ensures.local) c.in_ok-arg-4.ensures in
-    let rounds_added = more (or (option (codes "rounds")) (codes "100000")) c.default_value-3.result workers_added
-    (ap rule_of c.default_value-3.ensures ∙ ap (λ r. or r (codes "100000")) c.option-4.ensures.rule) (ap (λ a. a.global) c.default_value-3.ensures ∙ c.option-4.ensures.local) c.in_ok-arg-5.ensures in
+    let workers_added = more (option (codes "workers")) c.option-3.result dir_added c.option-3.ensures.rule c.option-3.ensures.local c.in_ok-arg-4.ensures in
+    let rounds_added = more (or (option (codes "rounds")) (codes "100000")) c.default_value-2.result workers_added
+    (ap rule_of c.default_value-2.ensures ∙ ap (λ r. or r (codes "100000")) c.option-4.ensures.rule) (ap (λ a. a.global) c.default_value-2.ensures ∙ c.option-4.ensures.local) c.in_ok-arg-5.ensures in
     let answers_added = more (option (codes "answers")) c.option-5.result rounds_added c.option-5.ensures.rule c.option-5.ensures.local c.in_ok-arg-6.ensures in
-    let nodes_added = more (or (option (codes "nodes")) (codes "1000000")) c.default_value-4.result answers_added
-    (ap rule_of c.default_value-4.ensures ∙ ap (λ r. or r (codes "1000000")) c.option-6.ensures.rule) (ap (λ a. a.global) c.default_value-4.ensures ∙ c.option-6.ensures.local) c.in_ok-arg-7.ensures in
-    let width_added = more (or (option (codes "width")) (codes "65536")) c.default_value-5.result nodes_added
-    (ap rule_of c.default_value-5.ensures ∙ ap (λ r. or r (codes "65536")) c.option-7.ensures.rule) (ap (λ a. a.global) c.default_value-5.ensures ∙ c.option-7.ensures.local) c.in_ok-arg-8.ensures in
-    IfOk-weaker c.arg-9.result _ _ (λ made adds. more (or (option (codes "stride")) (codes "1")) c.default_value-6.result width_added
-    (ap rule_of c.default_value-6.ensures ∙ ap (λ r. or r (codes "1")) c.option-8.ensures.rule) (ap (λ a. a.global) c.default_value-6.ensures ∙ c.option-8.ensures.local) adds) c.arg-9.ensures
+    let nodes_added = more (or (option (codes "nodes")) (codes "1000000")) c.default_value-3.result answers_added
+    (ap rule_of c.default_value-3.ensures ∙ ap (λ r. or r (codes "1000000")) c.option-6.ensures.rule) (ap (λ a. a.global) c.default_value-3.ensures ∙ c.option-6.ensures.local) c.in_ok-arg-7.ensures in
+    let width_added = more (or (option (codes "width")) (codes "65536")) c.default_value-4.result nodes_added
+    (ap rule_of c.default_value-4.ensures ∙ ap (λ r. or r (codes "65536")) c.option-7.ensures.rule) (ap (λ a. a.global) c.default_value-4.ensures ∙ c.option-7.ensures.local) c.in_ok-arg-8.ensures in
+    IfOk-weaker c.arg-9.result _ _ (λ made adds. more (or (option (codes "stride")) (codes "1")) c.default_value-5.result width_added
+    (ap rule_of c.default_value-5.ensures ∙ ap (λ r. or r (codes "1")) c.option-8.ensures.rule) (ap (λ a. a.global) c.default_value-5.ensures ∙ c.option-8.ensures.local) adds) c.arg-9.ensures
 
 pub returns-clause-shape : goal.returns-clause-shape
 returns-clause-shape c = IfOk-weaker c.arg-9.result _ _ (λ made is. ap (λ (app : App). app.top) is.app) (all c)

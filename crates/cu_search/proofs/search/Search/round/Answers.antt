@@ -1,4 +1,5 @@
-use Rattle.std.proofs.Common.{◌≡◌, ◌∙◌, ap, flat_map, map, refl, subst, sym}
+use Rattle.std.proofs.Common.{◌≡◌, ◌≤◌, ◌∙◌, ap, arith, flat_map, length, map, refl, subst, sym}
+use Rattle.cu_pile.specs.Outcomes.{EachBelow}
 use Rattle.std.proofs.lemmas.List.{length-map}
 use Rattle.std.proofs.lemmas.List.Elements.{All-map}
 use Rattle.std.specs.List.{All}
@@ -12,7 +13,7 @@ use Rattle.cu_search.specs.Stands.{standing_of}
 use Rattle.cu_search.specs.Written.{Adds, AddsPrefix}
 use Rattle.cu_search.proofs.BranchLemmas.{all-follow, all-of_map, states-follow}
 use Rattle.cu_search.proofs.ListingLemmas.{Listed, end-prefix, end-written, last-is, left-ends, left-goes_on, lines-prefix, next-going, next-is, writes-err}
-use Rattle.cu_search.proofs.WrittenLemmas.{whole_prefix}
+use Rattle.cu_search.proofs.WrittenLemmas.{Adds-nothing, whole_prefix}
 use Rattle.cu_search.proofs.search.Search.round.Given.{Over}
 use Rattle.cu_search.proofs.search.Search.round.Goals as goal
 use Rattle.cu_search.proofs.search.Search.round.Goals.{After-or, In_ok-listed, In_ok-outcomes}
@@ -27,6 +28,21 @@ step_level-requires-clause-valid g c =
 -- what became of the level's branches
 outcomes : (g : Over) (c : In_ok-outcomes g) → map (next_of g.S.Store.content) c.in_ok-outcomes.outcomes.items ≡ outcomes_of (standing_of g.S.Store.content c.args.self.now)
 outcomes g c = rw (← c.replace-level.ensures.value) c.in_ok-outcomes.ensures.next
+
+pub returns-in_err-outcomes-clause-written : goal.returns-in_err-outcomes-clause-written
+returns-in_err-outcomes-clause-written g c =
+    let written = g.K.Sink.written c.args.sink.now in
+    writes-err c.from_residual.result (standing_of g.S.Store.content c.args.self.now) written written c.from_residual.ensures.0 (0, omega arith, Adds-nothing written)
+
+-- the gate was told the number of each branch
+told_each : (g : Over) (c : In_ok-outcomes g) → 2 ≤ length (standing_of g.S.Store.content c.args.self.now).level
+    → EachBelow (length (standing_of g.S.Store.content c.args.self.now).level) (g.G.Gate.told c.args.gate.now)
+told_each g c two =
+    let level = c.args.self.now.level in
+    let same : length (map (state_of g.S.Store.content) level.items) ≡ length c.replace-level.result.items =
+    length-map level.items (state_of g.S.Store.content) ∙ sym (ap (λ v. length v.items) c.replace-level.ensures.value) in
+    let each : EachBelow (length c.replace-level.result.items) (g.G.Gate.told c.args.gate.now) = c.in_ok-outcomes.ensures.told (subst (λ k. 2 ≤ k) same two) in
+    subst (λ k. EachBelow k (g.G.Gate.told c.args.gate.now)) (sym same) each
 
 pub returns-in_err-listed-clause-written : goal.returns-in_err-listed-clause-written
 returns-in_err-listed-clause-written g c =
@@ -127,3 +143,12 @@ returns-clause-standing g c =
       next-going it c.requires.going c.in_default.is (follow g place),
       left-goes_on s c.requires.going.within none ∙ ap (λ t. after_lines (round_at s).lines (left_of t)) (sym (next-is it)),
     )
+
+pub returns-in-Some-clause-told : goal.returns-in-Some-clause-told
+returns-in-Some-clause-told g c = told_each g (goal.at.returns-in-Some-clause-told g c).In_ok-outcomes
+
+pub returns-clause-written : goal.returns-clause-written
+returns-clause-written g c = lines g (goal.at.returns-clause-written g c).In_ok-listed
+
+pub returns-clause-told : goal.returns-clause-told
+returns-clause-told g c = told_each g (goal.at.returns-clause-told g c).In_ok-outcomes

@@ -1,2 +1,0 @@
--- What private contracts say. No public contract speaks of it.
-pub mod Parts
