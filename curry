@@ -1,64 +1,57 @@
-#!/usr/bin/env bash
-# Runs the system with the words given, in the caller's folder. Builds it first where it isn't built or its sources are newer.
-set -u
-top=$(cd "$(dirname "$(readlink -f "${BASH_SOURCE[0]}")")" && pwd)
-program=$top/crates/curry/out/curry
-stamp=$top/crates/curry/out/built
-log=$top/crates/curry/out/build.log
+#!/usr/bin/env python3
+"""Runs the system with the words given, in the caller's folder.
 
-is_stale() {
-  [ -x "$program" ] && [ -f "$stamp" ] || return 0
-  [ -n "$(find "$top/crates" "$top/crates.txt" \( -name out -o -name must-fail \) -prune -o -type f -newer "$stamp" -print -quit)" ]
-}
+Where the proved program stands and its sources are as they were, it runs. Otherwise the sources are built and run as they are, with
+no proof. Where that gives no answer, a line on standard error says why, and the status is one that the program never has.
+"""
 
-# The lines of crates.txt for the program and the crates that it stands on.
-needed() {
-  awk '
-    function need(name,   parts, count, i) {
-      if (is_needed[name]++) return
-      count = split(below[name], parts, " ")
-      for (i = 1; i <= count; i++) need(parts[i])
-    }
-    /^#/ { next }
-    {
-      name = $1; sub(/:$/, "", name)
-      names[++all] = name; lines[name] = $0
-      $1 = ""; below[name] = $0
-    }
-    END {
-      need("curry")
-      for (i = 1; i <= all; i++) if (is_needed[names[i]]) print lines[names[i]]
-    }
-  ' "$top/crates.txt"
-}
+import os
+import pathlib
+import sys
 
-# Proves and builds these crates in a folder of their own, without their must-fail edits. What rt has kept isn't proved anew.
-prove() {
-  local folder=$1
-  cp "$top/HANDLES" "$folder" && needed >"$folder/crates.txt" || return 1
-  cut -d: -f1 "$folder/crates.txt" | sed 's|^|crates/|' |
-    tar -C "$top" --exclude=out --exclude=must-fail -c -T - | tar -C "$folder" -x || return 1
-  git -C "$folder" init -q && (cd "$folder" && rt ci)
-}
+sys.dont_write_bytecode = True
+sys.path.insert(0, str(pathlib.Path(__file__).resolve().parent / "scripts"))
+import program
 
-build() {
-  echo "curry: proving and building the program; the first time takes an hour or more ($log says how far it is)" >&2
-  mkdir -p "$(dirname "$stamp")"
-  touch "$stamp.begun"
-  rm -f "$stamp"
-  local folder
-  folder=$(mktemp -d) || exit 70
-  if prove "$folder" >"$log" 2>&1 </dev/null && [ -x "$folder/crates/curry/out/curry" ]; then
-    cp "$folder/crates/curry/out/curry" "$program"
-    mv "$stamp.begun" "$stamp"
-    rm -rf "$folder"
-  else
-    rm -rf "$folder"
-    echo "curry: the build failed:" >&2
-    tail -n 20 "$log" >&2
-    exit 70
-  fi
-}
+NOT_WRITTEN, NO_ANSWER, INTERRUPTED = 7, 70, 130
 
-if is_stale; then build; fi
-exec "$program" "$@"
+
+def say(text):
+    print(f"curry: {text}", file=sys.stderr, flush=True)
+
+
+def has_written(text):
+    """Writes to standard output, and tells whether it took all."""
+    try:
+        while text:
+            text = text[os.write(1, text) :]
+    except OSError:
+        return False
+    return True
+
+
+def run_unproved(words):
+    """Runs the sources as they are, and tells the status."""
+    import unproved
+
+    why = "no proved program of these sources stands here, so this runs them unproved, which takes minutes"
+    say(f"{why}; {program.TOP}/prove makes the proved program")
+    try:
+        written, status = unproved.answer(words)
+    except unproved.NoAnswer as error:
+        sys.stderr.buffer.write(error.said)
+        say(error)
+        return NO_ANSWER
+    except KeyboardInterrupt:
+        return INTERRUPTED
+    return status if has_written(written) else NOT_WRITTEN
+
+
+def main():
+    words = sys.argv[1:]
+    if program.is_up_to_date():
+        os.execv(program.PROGRAM, ["curry", *words])
+    return run_unproved(words)
+
+
+sys.exit(main())

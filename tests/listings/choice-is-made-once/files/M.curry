@@ -1,2 +1,0 @@
-coin = 0 ? 1
-double x = x + x

@@ -1,3 +1,0 @@
-module Forms2 where
-type Name = String
-name = ""

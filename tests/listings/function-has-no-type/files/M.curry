@@ -1,2 +1,0 @@
-twice x = x + x
-size = twice "ab"

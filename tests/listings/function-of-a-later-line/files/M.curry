@@ -1,2 +1,0 @@
-both = low ? 5
-low = 0 ? 1

@@ -1,1 +1,0 @@
-module N where

@@ -1,1 +1,0 @@
-x = let xs = 1 : xs in xs

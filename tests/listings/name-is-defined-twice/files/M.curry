@@ -1,3 +1,0 @@
-coin = 0
-toss = 1
-coin = 2

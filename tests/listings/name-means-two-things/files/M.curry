@@ -1,4 +1,0 @@
-import B
-import C
-
-y = x

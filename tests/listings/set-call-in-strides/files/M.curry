@@ -1,7 +1,0 @@
-import SetFunctions
-
-toss = 0
-toss = 1
-shift x = x
-shift x = x + 10
-shifted = shift toss

@@ -1,3 +1,0 @@
-import SetFunctions
-
-h x = sortValues (set1 h x)

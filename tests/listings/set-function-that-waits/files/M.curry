@@ -1,4 +1,0 @@
-import SetFunctions
-
-next = x + 1
-  where x free

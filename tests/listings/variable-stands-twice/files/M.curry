@@ -1,1 +1,0 @@
-same x x = True

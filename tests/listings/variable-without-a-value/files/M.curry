@@ -1,1 +1,0 @@
-data Test = Test (Bool -> Bool)
