@@ -1,21 +1,28 @@
--- Nodes in flat arrays: one array of the nodes, and one of all their arguments.
+-- Nodes in flat arrays: one array of the nodes, one of all their arguments, and one of the kinds
+-- that are too wide for an entry.
 use Rattle.std.specs.Prelude.{ℕ, ◌+◌, ◌≤◌, List, length, map, take, drop}
 use Rattle.std.specs.List.{All}
+use Rattle.cu_machine.specs.declared.Kind.{Kind}
 use Rattle.cu_machine.specs.Graph.{Graph, Node}
 use Rattle.cu_graph.specs.declared.node_vec.Entry.{Entry}
+use Rattle.cu_graph.specs.Small.{IsInTable, kind_of}
 
--- the node of an entry, whose arguments stand among these
-abbrev pub node_of : List ℕ → Entry → Node
-node_of args entry = record { kind = entry.kind; args = take entry.arity (drop entry.start args) }
+-- the node of an entry, whose kind is in this table if it is wide, and whose arguments stand among
+-- these
+abbrev pub node_of : List Kind → List ℕ → Entry → Node
+node_of wide args entry =
+    record { kind = kind_of wide entry.kind; args = take entry.arity (drop entry.start args) }
 
--- All arguments of an entry stand in the array.
-abbrev pub IsWithin : List ℕ → Entry → Type 0
-IsWithin args entry = entry.start + entry.arity ≤ length args
+-- The kind of an entry has its place in the table, if it is wide, and all its arguments stand in the
+-- array.
+pub record IsWithin (wide : List Kind) (args : List ℕ) (entry : Entry) : Type 0 where
+  pub known : IsInTable wide entry.kind
+  pub bounded : entry.start + entry.arity ≤ length args
 
--- the nodes of entries, whose arguments stand among these
-abbrev pub nodes_of : List ℕ → List Entry → Graph
-nodes_of args entries = map (node_of args) entries
+-- the nodes of entries
+abbrev pub nodes_of : List Kind → List ℕ → List Entry → Graph
+nodes_of wide args entries = map (node_of wide args) entries
 
--- All arguments of several entries stand in the array.
-abbrev pub AreWithin : List ℕ → List Entry → Type 0
-AreWithin args entries = All (IsWithin args) entries
+-- All kinds and arguments of several entries stand in the arrays.
+abbrev pub AreWithin : List Kind → List ℕ → List Entry → Type 0
+AreWithin wide args entries = All (IsWithin wide args) entries

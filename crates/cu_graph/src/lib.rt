@@ -4,6 +4,7 @@
 mod node_ref;
 mod node_vec;
 mod plain;
+mod small;
 mod store;
 
 pub use cu_machine::Kind;

@@ -1,37 +1,46 @@
 //! Lists of nodes in flat arrays.
 ghost use Rattle.std.specs.Prelude.{◌≡◌, ◌<◌, [], ◌∷◌, ◌++◌, ◌^◌, IfOk, OnErr, OnOk, length, slice_set};
 ghost use Rattle.cu_machine.specs.Graph.{node_at};
-ghost use Rattle.cu_graph.specs.FlatArrays.{IsWithin, node_of};
+ghost use Rattle.cu_graph.specs.Inside.Packing.{IsEntryOf, KeepsNodes};
 
 use crate::node_ref::NodeRef;
+use crate::small::SmallKind;
 use cu_machine::Kind;
 use std::alloc::{AllocError, Global};
 use std::marker::Model;
+use std::mem::size_of;
 
 /// A node: what it is, and where its arguments stand among those of all nodes.
 #[derive(Clone, Copy)]
 struct Entry {
-    kind: Kind,
-    start: usize,
+    kind: SmallKind,
+    start: u32,
     arity: u32,
 }
 
-/// A list of nodes in two flat arrays: one has each node's kind and where its
-/// arguments begin, the other one the arguments of all nodes. Nodes are named
-/// by their indices.
+const _: () = prove!(size_of::<Entry>() == 16);
+
+/// A list of nodes in flat arrays. One has an entry of 16 bytes for each node:
+/// its kind, and where its arguments begin. Another one has the arguments of
+/// all nodes, and a third one the kinds that don't fit in an entry. Nodes are
+/// named by their indices.
 ///
 /// A node that is put in the place of another has its arguments written after
-/// those of all nodes, and the old ones become stale. Before that, `put` drops
-/// the stale arguments if they outnumber both the nodes and the arguments in
-/// use. So a `put` begins to write with no more stale arguments than there are
-/// nodes or arguments in use, whichever is more, and what calls take is
-/// amortised in proportion to what they write.
+/// those of all nodes, and its kind after the others if it is wide; the old
+/// ones become stale. Before that, `put` drops what is stale if that is more
+/// than there are nodes, and more than the arguments and wide kinds in use. So
+/// a `put` begins to write with no more stale than there are nodes, or
+/// arguments and wide kinds in use, whichever is more, and what calls take is
+/// amortised in proportion to what they write. What a call wrote before it
+/// found no more memory isn't counted.
 #[derive(Drop)]
 pub struct NodeVec {
     alloc: Global,
     entries: Vec<Entry>,
     args: Vec<u32>,
-    /// How many of the arguments are stale.
+    /// The kinds of nodes that don't fit in an entry.
+    wide: Vec<Kind>,
+    /// How many of the arguments and wide kinds are stale.
     stale: usize,
 }
 
@@ -42,27 +51,43 @@ impl Model for NodeVec {
 
     ghost use Rattle.cu_graph.specs.FlatArrays.{AreWithin, nodes_of};
 
-    ghost view = { λ v. nodes_of v.args.items v.entries.items };
+    ghost view = { λ v. nodes_of v.wide.items v.args.items v.entries.items };
 
-    ghost invariant = { λ v. AreWithin v.args.items v.entries.items };
+    ghost invariant = { λ v. AreWithin v.wide.items v.args.items v.entries.items };
 }
 
-/// Writes a node's arguments after those of all nodes.
-fn append(all: &mut Vec<u32>, kind: Kind, args: &[u32]) -> Result<Entry, AllocError>
-    ensures node { IfOk result (λ entry. node_of all.new.items entry
-        ≡ record { kind = kind; args = args.now }) }
-    ensures within { IfOk result (IsWithin all.new.items) }
-    ensures ok { OnOk result (all.new.items ≡ all.old.items ++ args.now) }
-    ensures err { OnErr result (all.new.items ≡ all.old.items) }
+impl Entry {
+    /// How many arguments and wide kinds are written for the node.
+    fn written(self) -> usize {
+        let arguments = self.arity as usize;
+        match self.kind {
+            SmallKind::Wide(_) => arguments + 1,
+            _ => arguments,
+        }
+    }
+}
+
+/// Writes a node's arguments after those of all nodes, and its kind after the
+/// wide ones if it is wide. An `Err` changes no node.
+fn append(
+    wide: &mut Vec<Kind>,
+    all: &mut Vec<u32>,
+    kind: Kind,
+    args: &[u32],
+) -> Result<Entry, AllocError>
+    ensures ok { IfOk result (λ entry. IsEntryOf wide.new.items all.new.items entry
+        (record { kind = kind; args = args.now })) }
+    ensures kept { KeepsNodes wide.old.items all.old.items wide.new.items all.new.items }
 {
-    if args.len() > u32::MAX as usize {
+    let start = all.len();
+    if start > u32::MAX as usize || args.len() > u32::MAX as usize {
         return Err(AllocError);
     }
-    let start = all.len();
+    let kind = SmallKind::pack(wide, kind)?;
     all.extend_from_slice(args)?;
     Ok(Entry {
         kind,
-        start,
+        start: start as u32,
         arity: args.len() as u32,
     })
 }
@@ -76,6 +101,7 @@ impl NodeVec {
             alloc,
             entries: Vec::new(alloc),
             args: Vec::new(alloc),
+            wide: Vec::new(alloc),
             stale: 0,
         }
     }
@@ -88,6 +114,7 @@ impl NodeVec {
     }
 
     /// A node: what it is, and the indices of its arguments.
+    #[inline(always)]
     pub fn node(&self, index: usize) -> NodeRef<'_>
         requires { index < length self.now }
         ensures kind { result.kind ≡ (node_at self.now index).kind }
@@ -95,26 +122,28 @@ impl NodeVec {
         ensures few { length result.args.now < 2 ^ 32 }
     {
         let entry = self.entries[index];
+        let start = entry.start as usize;
         NodeRef {
-            kind: entry.kind,
-            args: &self.args[entry.start..entry.start + entry.arity as usize],
+            kind: entry.kind.kind(&self.wide),
+            args: &self.args[start..start + entry.arity as usize],
         }
     }
 
     /// Adds a node after the others. An `Err` changes nothing; a node of more
-    /// than 4,294,967,295 arguments gives one too.
+    /// than 4,294,967,295 arguments gives one too, and any node after so many
+    /// arguments or wide kinds, also stale ones.
     pub fn push(&mut self, kind: Kind, args: &[u32]) -> Result<(), AllocError>
         ensures ok { OnOk result (self.new
             ≡ self.old ++ record { kind = kind; args = args.now } ∷ []) }
         ensures err { OnErr result (self.new ≡ self.old) }
     {
-        let entry = append(&mut self.args, kind, args)?;
+        let entry = append(&mut self.wide, &mut self.args, kind, args)?;
         self.entries.push(entry)?;
         Ok(())
     }
 
-    /// Puts another node in the place of one. An `Err` changes nothing; a node
-    /// of more than 4,294,967,295 arguments gives one too.
+    /// Puts another node in the place of one. An `Err` changes nothing; what
+    /// gives one in `push` gives one here too.
     pub fn put(&mut self, index: usize, kind: Kind, args: &[u32]) -> Result<(), AllocError>
         requires { index < length self.old }
         ensures ok { OnOk result (self.new
@@ -133,20 +162,23 @@ impl NodeVec {
     {
         let entries = Vec::from_slice(self.alloc, self.entries.as_slice())?;
         let args = Vec::from_slice(self.alloc, self.args.as_slice())?;
+        let wide = Vec::from_slice(self.alloc, self.wide.as_slice())?;
         Ok(NodeVec {
             alloc: self.alloc,
             entries,
             args,
+            wide,
             stale: self.stale,
         })
     }
 
-    /// Whether so many arguments are stale that it pays to copy the others.
+    /// Whether so much is stale that it pays to copy the rest.
     fn is_sparse(&self) -> bool {
-        self.stale > self.entries.len() && self.stale > self.args.len() / 2
+        let written = self.args.len() + self.wide.len();
+        self.stale > self.entries.len() && self.stale > written / 2
     }
 
-    /// Drops the stale arguments.
+    /// Drops what is stale.
     fn compact(&mut self) -> Result<(), AllocError>
         ensures { self.new ≡ self.old }
     {
@@ -154,7 +186,7 @@ impl NodeVec {
         Ok(())
     }
 
-    /// A copy of the list without stale arguments.
+    /// A copy of the list without what is stale.
     fn compacted(&self) -> Result<NodeVec, AllocError>
         ensures { IfOk result (λ copy. copy ≡ self.now) }
     {
@@ -166,16 +198,16 @@ impl NodeVec {
         Ok(copy)
     }
 
-    /// Writes another node in the place of one, and its arguments after those
-    /// of all nodes. The old arguments become stale.
+    /// Writes another node in the place of one, and its arguments and its kind
+    /// after the others as `append` does. The old ones become stale.
     fn write(&mut self, index: usize, kind: Kind, args: &[u32]) -> Result<(), AllocError>
         requires { index < length self.old }
         ensures ok { OnOk result (self.new
             ≡ slice_set self.old index (record { kind = kind; args = args.now })) }
         ensures err { OnErr result (self.new ≡ self.old) }
     {
-        let entry = append(&mut self.args, kind, args)?;
-        let old = self.entries[index].arity as usize;
+        let entry = append(&mut self.wide, &mut self.args, kind, args)?;
+        let old = self.entries[index].written();
         self.stale = self.stale.saturating_add(old);
         self.entries[index] = entry;
         Ok(())

@@ -45,7 +45,8 @@ pub trait Store: Sized + Send + Drop {
         ensures { result ≡ slice_index (node_at (content self.now) id).args i };
 
     /// Adds a node, and answers its index. An `Err` changes nothing; a node of
-    /// more than 4,294,967,295 arguments gives one too.
+    /// more than 4,294,967,295 arguments gives one too, and so may any node of
+    /// a graph that has so many in all.
     fn push(&mut self, kind: Kind, args: &[u32]) -> Result<u32, AllocError>
         requires { length (content self.old) < 2 ^ 32 - 1 }
         ensures place { IfOk result (λ id. id ≡ length (content self.old)) }
@@ -53,8 +54,8 @@ pub trait Store: Sized + Send + Drop {
             ≡ content self.old ++ record { kind = kind; args = args.now } ∷ []) }
         ensures err { OnErr result (content self.new ≡ content self.old) };
 
-    /// Puts another node in the place of one. An `Err` changes nothing; a node
-    /// of more than 4,294,967,295 arguments gives one too.
+    /// Puts another node in the place of one. An `Err` changes nothing; what
+    /// gives one where a node is added gives one here too.
     fn put(&mut self, id: u32, kind: Kind, args: &[u32]) -> Result<(), AllocError>
         requires { id < length (content self.old) }
         ensures ok { OnOk result (content self.new
