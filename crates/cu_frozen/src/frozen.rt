@@ -51,6 +51,7 @@ impl Frozen {
     }
 
     /// Where the node with this number stands.
+    #[inline(always)]
     pub(crate) fn spot(&self, id: u32) -> Spot<'_>
         requires { id < length (laid [] self.now) }
         ensures { Shows result.nodes.now result.place (laid [] self.now) id }

@@ -13,6 +13,7 @@ pub(crate) struct Marks {
 }
 
 /// Whether a bit is set.
+#[inline(always)]
 fn is_set(word: u64, bit: u32) -> bool
     requires { bit < 64 }
     ensures { result ≡ (bit_at word bit == 1) }
@@ -50,6 +51,7 @@ impl Marks {
     }
 
     /// Whether an index may have been added.
+    #[inline(always)]
     pub(crate) fn may_have(self, id: u32) -> bool
         ensures { result ≡ may_have self id }
     {

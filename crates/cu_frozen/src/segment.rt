@@ -79,6 +79,7 @@ impl Segment {
 
     /// Where the node with this number stands, if it was written in this
     /// segment.
+    #[inline(always)]
     pub(crate) fn spot(&self, id: u32) -> Option<Spot<'_>>
         requires { id < self.now.base + length self.now.added }
         ensures here { IfSome result (λ spot. Holds self.now id spot.nodes.now spot.place) }

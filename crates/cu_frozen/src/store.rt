@@ -8,9 +8,17 @@ use cu_graph::{Kind, NodeRef, Store};
 use std::alloc::{AllocError, Global};
 use std::marker::Model;
 
-/// A graph of frozen segments, which forks share, and a segment of its own.
+/// A graph of frozen segments, which forks share, and a segment of its own. All
+/// of it stands behind one pointer, so that a store is moved by one word.
 #[derive(Drop)]
 pub struct FrozenStore {
+    segments: Box<Segments>,
+}
+
+/// The segments of a graph: those that are frozen, and the one on top of them,
+/// which is written.
+#[derive(Drop)]
+struct Segments {
     alloc: Global,
     frozen: Frozen,
     top: Segment,
@@ -23,32 +31,34 @@ impl Model for FrozenStore {
 
     ghost Value = { Graph };
 
-    ghost view = { λ s. over s.top (laid [] s.frozen) };
+    ghost view = { λ s. over s.segments.value.top (laid [] s.segments.value.frozen) };
 
-    ghost invariant = { λ s. length (laid [] s.frozen) ≡ s.top.base };
+    ghost invariant = { λ s. length (laid [] s.segments.value.frozen)
+        ≡ s.segments.value.top.base };
 }
 
 impl FrozenStore {
     /// A graph of frozen segments that have so many nodes.
-    fn over(alloc: Global, frozen: Frozen, count: u32) -> FrozenStore
+    fn over(alloc: Global, frozen: Frozen, count: u32) -> Result<FrozenStore, AllocError>
         requires { length (laid [] frozen) ≡ count }
-        ensures { result ≡ laid [] frozen }
+        ensures { IfOk result (λ store. store ≡ laid [] frozen) }
     {
-        FrozenStore {
-            alloc,
-            frozen,
-            top: Segment::new(alloc, count),
-        }
+        let top = Segment::new(alloc, count);
+        let segments = Segments { alloc, frozen, top };
+        Ok(FrozenStore {
+            segments: Box::new(alloc, segments)?,
+        })
     }
 
     /// Where the node with this number stands.
+    #[inline(always)]
     fn spot(&self, id: u32) -> Spot<'_>
         requires { id < length self.now }
         ensures { Shows result.nodes.now result.place self.now id }
     {
-        match self.top.spot(id) {
+        match self.segments.top.spot(id) {
             Some(spot) => spot,
-            None => self.frozen.spot(id),
+            None => self.segments.frozen.spot(id),
         }
     }
 
@@ -56,7 +66,8 @@ impl FrozenStore {
     fn freeze(self) -> Result<Frozen, AllocError>
         ensures { IfOk result (λ frozen. laid [] frozen ≡ self) }
     {
-        self.frozen.with(self.alloc, self.top)
+        let segments = Box::into_inner(self.segments);
+        segments.frozen.with(segments.alloc, segments.top)
     }
 }
 
@@ -64,11 +75,11 @@ impl Store for FrozenStore {
     ghost content = { λ s. s };
 
     fn empty(alloc: Global) -> Result<FrozenStore, AllocError> {
-        Ok(FrozenStore::over(alloc, Frozen::new(alloc), 0))
+        FrozenStore::over(alloc, Frozen::new(alloc), 0)
     }
 
     fn len(&self) -> u32 {
-        self.top.len()
+        self.segments.top.len()
     }
 
     fn node(&self, id: u32) -> NodeRef<'_> {
@@ -89,18 +100,18 @@ impl Store for FrozenStore {
     }
 
     fn push(&mut self, kind: Kind, args: &[u32]) -> Result<u32, AllocError> {
-        let id = self.top.len();
-        self.top.push(kind, args)?;
+        let id = self.segments.top.len();
+        self.segments.top.push(kind, args)?;
         Ok(id)
     }
 
     fn put(&mut self, id: u32, kind: Kind, args: &[u32]) -> Result<(), AllocError> {
-        self.top.put(id, kind, args)
+        self.segments.top.put(id, kind, args)
     }
 
     fn fork(self, count: u32) -> Result<Vec<FrozenStore>, AllocError> {
-        let alloc = self.alloc;
-        let nodes = self.top.len();
+        let alloc = self.segments.alloc;
+        let nodes = self.segments.top.len();
         let mut stores = Vec::with_capacity(alloc, count as usize)?;
         if count == 1 {
             stores.push(self)?;
@@ -108,9 +119,9 @@ impl Store for FrozenStore {
         }
         let frozen = self.freeze()?;
         for _ in 0..count - 1 {
-            stores.push(FrozenStore::over(alloc, frozen.shared(alloc)?, nodes))?;
+            stores.push(FrozenStore::over(alloc, frozen.shared(alloc)?, nodes)?)?;
         }
-        stores.push(FrozenStore::over(alloc, frozen, nodes))?;
+        stores.push(FrozenStore::over(alloc, frozen, nodes)?)?;
         Ok(stores)
     }
 }
