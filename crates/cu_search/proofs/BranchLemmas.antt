@@ -51,6 +51,7 @@ pairwise-all promises P tells (item ∷ items) (outcome ∷ outcomes) h =
 
 -- the states that follow one outcome, and those that follow several
 states-of_one : {S : Type 0} {G : Ghosts S} (content : S → Graph) (outcome : Outcome S G) → map (state_of content) (branches_of outcome) ≡ go_list (next_of content outcome)
+states-of_one content (outcome.On branch) = refl
 states-of_one content (outcome.Go branches) = refl
 states-of_one content (outcome.Answer reading) = refl
 states-of_one content outcome.Fail = refl

@@ -59,6 +59,7 @@ fn count_outcome<S: Store>(
         (next_of S.content outcome.now ∷ [])).lines) }
 {
     match outcome {
+        Outcome::On(_) => Ok(None),
         Outcome::Go(_) => Ok(None),
         Outcome::Answer(reading) => count_answer(turn, reading, tally, totals),
         Outcome::Fail => Ok(None),

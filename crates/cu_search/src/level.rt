@@ -88,6 +88,10 @@ fn add_following<S: Store>(
     ensures { OnOk result (level.new.items ≡ level.old.items ++ branches_of outcome) }
 {
     match outcome {
+        Outcome::On(branch) => {
+            level.push(branch)?;
+            Ok(())
+        }
         Outcome::Go(mut branches) => level.append(&mut branches),
         Outcome::Answer(_) => Ok(()),
         Outcome::Fail => Ok(()),

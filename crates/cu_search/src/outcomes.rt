@@ -87,6 +87,7 @@ fn list_outcome<S: Store, K: Sink>(
     ensures cause { HasCause result (K.fault_count sink.old) (K.fault_count sink.new) }
 {
     match outcome {
+        Outcome::On(_) => Ok(None),
         Outcome::Go(_) => Ok(None),
         Outcome::Answer(reading) => list_answer(turn, reading, tally, page, sink),
         Outcome::Fail => Ok(None),

@@ -1,3 +1,4 @@
-pub mod LevelLemmas
+pub mod FrameLemmas
 pub mod Lists
 pub mod RunLemmas
+pub mod Sorting

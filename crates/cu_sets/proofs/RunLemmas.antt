@@ -32,6 +32,7 @@ one_alone branches (other ∷ rest) branch one is =
 
 -- what follows is one branch, where branches are one
 pub one_follows : {S : Type 0} {G : Ghosts S} (content : S → Graph) (o : Outcome S G) (branch : BranchOver (Focus S G)) → branches_of o ≡ branch ∷ [] → next_of content o ≡ Go (state_of content branch ∷ [])
+one_follows content (outcome.On other) branch is = ap (λ (bs : List (BranchOver _)). Go (map (state_of content) bs)) is
 one_follows content (outcome.Go branches) branch is = ap (λ (bs : List (BranchOver _)). Go (map (state_of content) bs)) is
 one_follows content (outcome.Inner inner) branch is = ap (λ (bs : List (BranchOver _)). Go (map (state_of content) bs)) is
 one_follows content _ branch is = let no : ⊥ = cc in absurd no

@@ -5,7 +5,9 @@
 pub mod Delivered
 -- What became of the branches of a level.
 pub mod Levels
+-- How much there is to step in a state.
+pub mod Sizes
+-- Searches whose levels are being stepped, one within another.
+pub mod Frames
 -- Whether exactly one branch follows a step.
 pub mod Onward
--- How deep searches run within each other.
-pub mod Nesting

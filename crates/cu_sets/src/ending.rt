@@ -1,15 +1,15 @@
 //! What becomes of a branch in which a search runs, once its level was stepped.
 ghost use Rattle.std.specs.Prelude.{◌≡◌, ◌<◌, [], ◌∷◌, IfOk, IsFalse, length, map};
 ghost use Rattle.cu_machine.specs.declared.Limits.{Limits};
-ghost use Rattle.cu_machine.specs.Next.{Go, On, Stops, after_level, is_above, too_large, unless_one_is_large};
+ghost use Rattle.cu_machine.specs.Next.{On, Stops, after_level, is_above, too_large, unless_one_is_large};
 ghost use Rattle.cu_machine.specs.State as state;
 ghost use Rattle.cu_machine.specs.State.{Idle};
 ghost use Rattle.cu_sets.specs.Inside.Delivered.{delivered_by};
-ghost use Rattle.cu_sets.specs.Inside.Levels.{ended, event_of};
+ghost use Rattle.cu_sets.specs.Inside.Levels.{ended};
 ghost use Rattle.cu_step.specs.Outcome.{is_inner, next_of, state_of};
 
 use crate::found::deliver;
-use crate::level::{Ending, Level, Stepped};
+use crate::level::{Ending, Level};
 use cu_flat::Special;
 use cu_graph::{Kind, Store};
 use cu_machine::{Limits, Stop};
@@ -29,17 +29,6 @@ pub(crate) fn too_large(limits: &Limits) -> Stop
     ensures { Stops result ≡ too_large limits.now }
 {
     Stop::TooLarge(u64::from(limits.nodes) + 1)
-}
-
-/// The outcome in which one branch follows.
-fn alone<S: Store>(alloc: Global, branch: Branch<S>) -> Result<Outcome<S>, AllocError>
-    ensures next { IfOk result (λ outcome. next_of S.content outcome
-        ≡ Go (state_of S.content branch ∷ [])) }
-    ensures inner { IfOk result (λ outcome. IsFalse (is_inner outcome)) }
-{
-    let mut branches = Vec::with_capacity(alloc, 1)?;
-    branches.push(branch)?;
-    Ok(Outcome::Go(branches))
 }
 
 /// What becomes of a branch whose search is over: the values that were found
@@ -64,12 +53,11 @@ pub(crate) fn delivered<S: Store>(
     if is_too_large(&running.store, limits) {
         return Ok(Outcome::Stop(too_large(limits)));
     }
-    alone(alloc, running.ended())
+    Ok(Outcome::On(running.ended()))
 }
 
 /// What becomes of a branch whose search goes on with this level.
-fn goes_on<S: Store>(
-    alloc: Global,
+pub(crate) fn goes_on<S: Store>(
     running: Running<S>,
     level: Level<S>,
     limits: &Limits,
@@ -87,15 +75,11 @@ fn goes_on<S: Store>(
     let mut values = values;
     running.found.append(&mut values)?;
     running.level = branches;
-    alone(alloc, running.going_on())
+    Ok(Outcome::On(running.going_on()))
 }
 
 /// What becomes of a branch whose search ends before its level is empty.
-fn ends<S: Store>(
-    alloc: Global,
-    running: Running<S>,
-    ending: Ending,
-) -> Result<Outcome<S>, AllocError>
+pub(crate) fn ends<S: Store>(running: Running<S>, ending: Ending) -> Result<Outcome<S>, AllocError>
     requires { running.call < length (S.content running.store) }
     ensures next { IfOk result (λ outcome. (limits : Limits)
         → next_of S.content outcome ≡ after_level limits
@@ -108,26 +92,7 @@ fn ends<S: Store>(
         Ending::Blocked => {
             let mut running = running;
             running.store.put(running.call, Kind::Stuck, &[])?;
-            alone(alloc, running.ended())
+            Ok(Outcome::On(running.ended()))
         }
-    }
-}
-
-/// What becomes of a branch whose search had a level, after this was stepped.
-pub(crate) fn after_level<S: Store>(
-    alloc: Global,
-    running: Running<S>,
-    stepped: Stepped<S>,
-    limits: &Limits,
-) -> Result<Outcome<S>, AllocError>
-    requires { running.call < length (S.content running.store) }
-    ensures next { IfOk result (λ outcome. next_of S.content outcome ≡ after_level limits.now
-        (S.content running.store) running.root running.goals.items running.call running.found.items
-        (event_of S.content stepped)) }
-    ensures inner { IfOk result (λ outcome. IsFalse (is_inner outcome)) }
-{
-    match stepped {
-        Stepped::On(level) => goes_on(alloc, running, level, limits),
-        Stepped::Ended(ending) => ends(alloc, running, ending),
     }
 }

@@ -28,15 +28,6 @@ pub(crate) enum Ending {
     Halted(Stop),
 }
 
-/// What became of a whole level.
-#[derive(Drop)]
-pub(crate) enum Stepped<S: Store> {
-    /// The search goes on with another level.
-    On(Level<S>),
-    /// The search for all values ends.
-    Ended(Ending),
-}
-
 impl<S: Store> Level<S> {
     /// The level of which no branch was stepped yet.
     pub fn new(alloc: Global) -> Level<S>
@@ -59,6 +50,10 @@ impl<S: Store> Level<S> {
             ≡ before (level_of S.content self.new) others)) }
     {
         match outcome {
+            Outcome::On(branch) => {
+                self.branches.push(branch)?;
+                Ok(None)
+            }
             Outcome::Go(mut branches) => {
                 self.branches.append(&mut branches)?;
                 Ok(None)

@@ -7,11 +7,11 @@ ghost use Rattle.cu_sets.specs.Inside.Onward.{GoesOnward};
 ghost use Rattle.cu_step.specs.Outcome.{branches_of, is_inner, next_of, state_of};
 ghost use Rattle.cu_step.specs.declared.Outcome.TheVariants.{Go};
 
-use crate::advance;
+use crate::searches::advance_with;
 use cu_flat::FlatProgram;
 use cu_graph::Store;
 use cu_machine::Limits;
-use cu_step::{Branch, Outcome};
+use cu_step::{Branch, Outcome, Workspace};
 use std::alloc::{AllocError, Global};
 
 /// What becomes of a branch, by whether exactly one follows.
@@ -29,6 +29,7 @@ fn only_branch_of<S: Store>(outcome: Outcome<S>) -> Onward<S>
     ensures { GoesOnward S.content outcome result }
 {
     match outcome {
+        Outcome::On(branch) => Onward::Only(branch),
         Outcome::Go(branches) => only(branches),
         outcome => Onward::Other(outcome),
     }
@@ -50,7 +51,7 @@ fn only<S: Store>(branches: Vec<Branch<S>>) -> Onward<S>
 
 /// Takes a branch on for up to so many steps, one or more, while exactly one
 /// branch follows, and answers what becomes of it then. An `Err` says what it
-/// says of [`advance`].
+/// says of [`crate::advance`].
 pub fn run<S: Store>(
     alloc: Global,
     program: &FlatProgram,
@@ -66,15 +67,16 @@ pub fn run<S: Store>(
         (λ outcome. All (λ branch. IsValid program.now (state_of S.content branch))
         (branches_of outcome)) }
 {
+    let mut workspace = Workspace::new(alloc);
     let mut branch = branch;
     let mut more = stride.saturating_sub(1);
     'steps: while more > 0 {
-        let outcome = advance(alloc, program, branch, limits)?;
+        let outcome = advance_with(alloc, program, &mut workspace, branch, limits)?;
         match only_branch_of(outcome) {
             Onward::Only(next) => branch = next,
             Onward::Other(outcome) => return Ok(outcome),
         }
         more -= 1;
     }
-    advance(alloc, program, branch, limits)
+    advance_with(alloc, program, &mut workspace, branch, limits)
 }

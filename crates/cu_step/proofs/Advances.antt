@@ -1,5 +1,6 @@
 -- One step of the walk, over what its calls answer.
-use Rattle.std.proofs.Common.{◌≡◌, ℕ, zero, suc, ◌+◌, ◌<◌, ◌≤◌, List, [], ◌∷◌, ◌++◌, Option, None, Some, Result, Ok, Err, IfOk, IfSome, IfNone, OnOk, option_map, refl, ap, sym, ◌∙◌, subst, length, get_or, arith}
+use Rattle.std.proofs.Common.{◌≡◌, ℕ, zero, suc, ◌+◌, ◌<◌, ◌≤◌, List, [], ◌∷◌, Option, None, Some, Result, Ok, Err, IfOk, IfSome, IfNone, OnOk, option_map, refl, ap, ap₂, sym, ◌∙◌, subst, length, get_or, arith}
+use Rattle.std.proofs.lemmas.List.{get_or_default}
 use Rattle.cu_calculus.specs.declared.ConId.{ConId}
 use Rattle.cu_machine.specs.declared.Kind.{Kind}
 use Rattle.cu_machine.specs.declared.Kind.TheVariants as kind
@@ -19,22 +20,20 @@ use Rattle.cu_step.proofs.Steps.{look_answers, look_met, next_argument, next_cos
 
 -- ---- a node is left
 
-pub leave_answer : {E : Type 0} (truth : ConId) (graph : Graph) (f : Found) (frame : Frame) (r : Result (Option Needed) E) → frame.next ≡ length (looked_at graph frame.node)
-    → IfOk r (λ answer. option_map need_of answer ≡ left_answer frame (node_at graph frame.node).kind frame.waits)
-    → IfOk r (λ answer. IfSome answer (λ needed. need_of needed ≡ outcome truth graph (with_frame f frame) Done))
-leave_answer truth graph f frame (Ok (Some needed)) last answers = left_answers truth graph f frame (need_of needed) last answers
-leave_answer truth graph f frame (Ok None) last answers = tt
-leave_answer truth graph f frame (Err e) last answers = tt
+pub leave_answer : (truth : ConId) (graph : Graph) (f : Found) (frame : Frame) (answer : Option Needed) → frame.next ≡ length (looked_at graph frame.node)
+    → option_map need_of answer ≡ left_answer frame (node_at graph frame.node).kind frame.waits
+    → IfSome answer (λ needed. need_of needed ≡ outcome truth graph (with_frame f frame) Done)
+leave_answer truth graph f frame (Some needed) last answers = left_answers truth graph f frame (need_of needed) last answers
+leave_answer truth graph f frame None last answers = tt
 
-pub leave_goes : {E : Type 0} (truth : ConId) (graph : Graph) (f new : Found) (frame : Frame) (r : Result (Option Needed) E) → Fits truth graph (with_frame f frame) Done
+pub leave_goes : (truth : ConId) (graph : Graph) (f new : Found) (frame : Frame) (answer : Option Needed) → Fits truth graph (with_frame f frame) Done
     → frame.next ≡ length (looked_at graph frame.node)
-    → IfOk r (λ answer. option_map need_of answer ≡ left_answer frame (node_at graph frame.node).kind frame.waits)
-    → OnOk r (new ≡ left f frame (node_at graph frame.node).kind frame.waits)
-    → IfOk r (λ answer. IfNone answer (Goes truth graph (with_frame f frame) new))
-leave_goes truth graph f new frame (Ok (Some needed)) fits last answers now = tt
-leave_goes truth graph f new frame (Ok None) fits last answers now =
+    → option_map need_of answer ≡ left_answer frame (node_at graph frame.node).kind frame.waits
+    → new ≡ left f frame (node_at graph frame.node).kind frame.waits
+    → IfNone answer (Goes truth graph (with_frame f frame) new)
+leave_goes truth graph f new frame (Some needed) fits last answers now = tt
+leave_goes truth graph f new frame None fits last answers now =
     subst (λ (g : Found). Goes truth graph (with_frame f frame) g) (sym now) (left_goes truth graph f frame fits last (sym answers))
-leave_goes truth graph f new frame (Err e) fits last answers now = tt
 
 -- ---- the next argument
 
@@ -126,6 +125,16 @@ next_goes truth graph f pushed new frame l (Ok None) there acyclic fits within i
     (next_met truth graph f frame there acyclic fits within (sym (answers ∙ ap at_once is)))
 next_goes truth graph f pushed new frame l (Err e) there acyclic fits within is was answers now = tt
 
--- what a list of nodes with another at its end makes of what was found
-pub pushed_found : (f : Found) (frames : List Frame) (frame : Frame) → frames ≡ f.frames ++ frame ∷ [] → record f { frames = frames } ≡ with_frame f frame
-pushed_found f frames frame is = ap (λ fs. record f { frames = fs }) is
+-- ---- the node as it was read
+
+pub read_count : (graph : Graph) (id : ℕ) (k : Kind) (args : List ℕ) → k ≡ (node_at graph id).kind → args ≡ (node_at graph id).args
+    → length (asked_of k args) ≡ length (looked_at graph id)
+read_count graph id k args kinds same = ap₂ (λ (k : Kind) (xs : List ℕ). length (asked_of k xs)) kinds same
+
+pub read_look : (truth : ConId) (graph : Graph) (frame : Frame) (args : List ℕ) (default : ℕ) (l : Look) → args ≡ (node_at graph frame.node).args
+    → frame.next < length (looked_at graph frame.node) → l ≡ look_at truth graph frame (get_or args frame.next default)
+    → l ≡ look_at truth graph frame (argument graph frame)
+read_look truth graph frame args default l same within is =
+    is
+    ∙ ap (look_at truth graph frame)
+    (ap (λ (xs : List ℕ). get_or xs frame.next default) same ∙ get_or_default (node_at graph frame.node).args frame.next default 0 (within_args graph frame within))

@@ -1,5 +1,5 @@
 -- The state of a branch in which a search runs, by the branches of its level.
-use Rattle.std.proofs.Common.{◌≡◌, false, List, [], ◌∷◌, map, ℕ, refl, ap, sym, ◌∙◌}
+use Rattle.std.proofs.Common.{◌≡◌, false, List, map, ℕ, refl, ap, sym, ◌∙◌}
 use Rattle.std.specs.declared.alloc.Global.{Global}
 use Rattle.std.specs.declared.vec.Vec.{Vec}
 use Rattle.cu_calculus.specs.Value.{Value}

@@ -1,12 +1,11 @@
 -- Where the walk begins and ends.
-use Rattle.std.proofs.Common.{◌≡◌, ℕ, zero, suc, ◌-◌, ◌<◌, Bool, true, false, List, [], ◌++◌, None, Some, refl, ap, sym, ◌∙◌, subst, length, replicate, take}
+use Rattle.std.proofs.Common.{◌≡◌, ℕ, zero, suc, ◌<◌, Bool, true, false, [], None, Some, refl, ap, sym, ◌∙◌, subst, length, replicate}
 use Rattle.std.proofs.lemmas.List.{length-replicate}
 use Rattle.cu_calculus.specs.declared.ConId.{ConId}
 use Rattle.cu_machine.specs.Graph.{Graph, head_at, head_of}
 use Rattle.cu_machine.specs.Need.{Need, Done, before, need_all}
 use Rattle.cu_machine.specs.Validity.{ArgumentsThere, IsAcyclic}
 use Rattle.cu_step.specs.declared.need.Ask.TheVariants as ask
-use Rattle.cu_step.specs.declared.need.Frame.{Frame}
 use Rattle.cu_step.specs.declared.need.Look.{Look}
 use Rattle.cu_step.specs.declared.need.Mark.{Mark}
 use Rattle.cu_step.specs.declared.need.Mark.TheVariants as mark
@@ -33,10 +32,6 @@ begin_out truth graph n = refl
 pub end_out : (truth : ConId) (graph : Graph) (f : Found) → f.frames ≡ [] → outcome truth graph f Done ≡ so_far f
 unfolding outcome needed_outside
 end_out truth graph f none = ap (λ fs. before (so_far f) (needed_outside truth graph fs Done)) none ∙ before_done (so_far f)
-
--- where nothing was left to take
-pub none_left : (olds news : List Frame) (count : ℕ) → count ≡ 0 → news ≡ take (count - 1) olds → olds ≡ news ++ [] → olds ≡ []
-none_left olds news count none is was = was ∙ ap (λ fs. fs ++ []) (is ∙ ap (λ n. take (n - 1) olds) none)
 
 abbrev first_look : ConId → Graph → ℕ → Look
 first_look truth graph root = looked truth root ask.All (head_of graph root) (head_at graph root).kind (head_at graph root).args

@@ -1,5 +1,5 @@
 -- Lists of nodes that are being looked at.
-use Rattle.std.proofs.Common.{◌≡◌, ℕ, ◌+◌, Bool, true, false, ◌&&◌, ◌||◌, List, [], ◌∷◌, ◌++◌, refl, ap, sym, ◌∙◌, map, take, drop, ◌-◌, nat_eq, arith}
+use Rattle.std.proofs.Common.{◌≡◌, ℕ, ◌+◌, Bool, true, false, ◌&&◌, ◌||◌, List, [], ◌∷◌, ◌++◌, refl, ap, sym, ◌∙◌, map, drop, nat_eq, arith}
 use Rattle.cu_calculus.specs.declared.ConId.{ConId}
 use Rattle.cu_machine.specs.Graph.{Graph, node_at}
 use Rattle.cu_machine.specs.Need.{Need, At, Dead, Done, Wait, before, first, unless_done}
@@ -16,15 +16,6 @@ unfolding flagged
 flagged_last [] frame = refl
 flagged_last (x ∷ []) frame = refl
 flagged_last (x ∷ y ∷ rest) frame = ap (λ fs. x ∷ fs) (flagged_last (y ∷ rest) frame)
-
-pub flagged_frames : (olds news rest : List Frame) (frame : Frame) → olds ≡ rest ++ frame ∷ [] → news ≡ rest ++ record frame { waits = true } ∷ [] → news ≡ flagged olds
-flagged_frames olds news rest frame p q = q ∙ sym (flagged_last rest frame) ∙ ap flagged (sym p)
-
-pub flagged_none : (olds news : List Frame) (count : ℕ) → count ≡ 0 → news ≡ take (count - 1) olds → olds ≡ news ++ [] → news ≡ flagged olds
-unfolding flagged
-flagged_none olds news count none is was =
-    let empty : news ≡ [] = is ∙ ap (λ n. take (n - 1) olds) none in
-    empty ∙ sym (ap flagged (was ∙ ap (λ fs. fs ++ []) empty))
 
 -- ---- what comes out
 

@@ -1,6 +1,6 @@
 -- Whether frames may be kept is a fact that holds in one way at most, so that it is known wherever
 -- it is known to be true.
-use Rattle.std.proofs.Common.{◌≡◌, ℕ, zero, suc, ◌+◌, ◌-◌, ◌<◌, ◌≤◌, Bool, false, List, [], ◌∷◌, ◌++◌, Option, None, Some, refl, ap, sym, ◌∙◌, subst, length, take, get_or, arith, length-append}
+use Rattle.std.proofs.Common.{◌≡◌, ℕ, zero, suc, ◌-◌, ◌<◌, ◌≤◌, false, List, [], ◌∷◌, ◌++◌, Option, None, Some, refl, ap, sym, ◌∙◌, subst, length, take, get_or, arith}
 use Rattle.std.proofs.Math.Logic.{∥∥₁_elim, ∥∥₁_map}
 use Rattle.std.proofs.Props.{props}
 use Rattle.std.specs.List.{All}
@@ -12,7 +12,7 @@ use Rattle.cu_step.specs.declared.need.Ask.TheVariants as ask
 use Rattle.cu_step.specs.declared.need.Frame.{Frame}
 use Rattle.cu_step.specs.declared.need.KeptWalk.{KeptWalk}
 use Rattle.cu_step.specs.declared.need.Look.TheVariants as look
-use Rattle.cu_step.specs.Inside.Kept.{IsKept, Leads, LooksTo, MayGoOn, StandsAt}
+use Rattle.cu_step.specs.Inside.Kept.{IsKept, Leads, MayGoOn}
 use Rattle.cu_step.specs.Inside.Walk.{asked, looked, looked_at}
 
 -- the argument at which a frame stands

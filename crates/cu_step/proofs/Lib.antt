@@ -2,13 +2,18 @@ pub mod Advances
 pub mod Bindings
 pub mod BranchStates
 pub mod Builds
+pub mod Cases
+pub mod Divisions
 pub mod Finds
 pub mod Frames
 pub mod Frees
 pub mod Heads
 pub mod Heights
 pub mod Imitations
+pub mod Innermost
 pub mod Joints
+pub mod KeptFrames
+pub mod KeptLooks
 pub mod Leaves
 pub mod Looks
 pub mod Marks
@@ -26,13 +31,11 @@ pub mod Reversals
 pub mod Rewritten
 pub mod RowsKeep
 pub mod SetCalls
-pub mod Stand
-pub mod Standing
+pub mod StaysThere
 pub mod StepLemmas
 pub mod Steps
 pub mod Tasks
 pub mod Walks
-mod Begins
-mod Lasts
-mod Merely
+mod Elements
+mod FrameEnds
 mod Known

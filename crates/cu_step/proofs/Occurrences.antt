@@ -12,7 +12,6 @@ use Rattle.cu_calculus.specs.Value.{Value, values_of}
 use Rattle.cu_machine.specs.declared.Kind.{Kind}
 use Rattle.cu_machine.specs.declared.Kind.TheVariants as kind
 use Rattle.cu_machine.specs.Graph.{Graph, head_of, node_at}
-use Rattle.cu_machine.specs.Rewrite.{occurs_at}
 use Rattle.cu_machine.specs.Spell.{spelled, spelled_at}
 use Rattle.cu_machine.specs.Validity.{ArgumentsThere, IsAcyclic, are_places}
 use Rattle.cu_machine.proofs.Fuel.{both_true, left_true, right_true}

@@ -35,7 +35,7 @@ use Rattle.cu_step.specs.Inside.Walk.{asked, asked_of, height, highest, look_all
 use Rattle.cu_step.proofs.Bindings.{Keeps, is_fixed, is_free, redex_unfixed}
 use Rattle.cu_step.proofs.Heights.{head_lower, height_table}
 use Rattle.cu_step.proofs.RowsKeep.{row_keeps}
-use Rattle.cu_step.proofs.Standing.{is_ind, outer_stays, own_head, side_stays, strict_stays, through, unfixed_no_ind, whole_stays}
+use Rattle.cu_step.proofs.StaysThere.{is_ind, outer_stays, own_head, side_stays, strict_stays, through, unfixed_no_ind, whole_stays}
 
 -- ---- what looks from the root ask
 

@@ -1,19 +1,18 @@
 -- Where searches for all values of a function begin.
-use Rattle.std.proofs.Common.{◌≡◌, ℕ, zero, suc, ◌+◌, ◌<◌, Bool, true, false, not, ◌&&◌, ◌||◌, List, [], ◌∷◌, ◌++◌, Option, None, Some, if◌then◌else◌, length, map, drop, get_or, nat_lt, refl, ap, sym, ◌∙◌, subst, arith, append-nil, length-append, option_map}
+use Rattle.std.proofs.Common.{◌≡◌, ℕ, suc, ◌+◌, ◌<◌, Bool, true, false, not, List, [], ◌∷◌, ◌++◌, Option, None, Some, if◌then◌else◌, length, map, drop, get_or, nat_lt, refl, ap, sym, ◌∙◌, subst, arith, append-nil, length-append}
 use Rattle.std.proofs.lemmas.Bool.{lt-ltb, ltb-true}
-use Rattle.std.specs.List.{list_any}
 use Rattle.std.proofs.lemmas.List.{append_assoc}
 use Rattle.std.proofs.Math.Seq.{drop-cons}
 use Rattle.cu_calculus.specs.declared.FunId.{FunId}
 use Rattle.cu_calculus.specs.Code.{Code, body_of}
-use Rattle.cu_calculus.specs.Shape.{are_data, is_data}
+use Rattle.cu_calculus.specs.Shape.{are_data}
 use Rattle.cu_calculus.specs.Value as value
 use Rattle.cu_calculus.specs.Value.{Value, Values, count, values_of}
 use Rattle.cu_machine.specs.declared.Kind.{Kind}
 use Rattle.cu_machine.specs.declared.Kind.TheVariants as kind
 use Rattle.cu_machine.specs.declared.Limits.{Limits}
 use Rattle.cu_machine.specs.Build.{Built, BuiltParts, build_node, kind_of_call, place_of, pushed}
-use Rattle.cu_machine.specs.Graph.{Graph, Node, node_at}
+use Rattle.cu_machine.specs.Graph.{Graph, node_at}
 use Rattle.cu_machine.specs.Next as next_def
 use Rattle.cu_machine.specs.Next.{Go, Next, begun, is_above, is_too_large, moved, read, spelled_all, too_large}
 use Rattle.cu_machine.specs.Rewrite.{Collect, Move, move, rewrite_step, set_call_step, stuck_step}

@@ -104,6 +104,7 @@ module _ {S : Type 0} {G : Ghosts S} (content : S → Graph) (program : Code) (l
 
   pub follow_valid : (o : step_outcome.Outcome S G) → next_of content o ≡ next program limits state
       → All (λ (branch : BranchOver (Focus S G)). IsValid program (state_of content branch)) (branches_of o)
+  follow_valid (outcome.On branch) is = go_valid (branch ∷ []) is
   follow_valid (outcome.Go branches) is = go_valid branches.items is
   follow_valid (outcome.Inner branch) is = go_valid (branch ∷ []) is
   follow_valid _ is = none_left _

@@ -319,17 +319,12 @@ works_first : (program : Code) (s : State) (e : ExprId) → s.root < length s.gr
 unfolding all_done
 works_first program s e there nest = record { there = there; nest = both_true (nests program e) true nest refl; comes = refl }
 
-pub works_begin : (program : Code) (graph : Graph) (root : ℕ) (scope inner : Scope) (e : ExprId) (ids : List ℕ) (tasks : List Task) → ids ≡ [] → inner ≡ scope
-    → tasks ≡ task.Build e target.Root ∷ [] → root < length graph → nests program e ≡ true
-    → Works program (record { graph = graph; root = root; ids = []; scope = scope }) (task.Build e target.Root)
-    (record { graph = graph; root = root; ids = ids; scope = inner }) (reverse tasks)
-works_begin program graph root scope inner e ids tasks none same one there nest =
-    let start : State = record { graph = graph; root = root; ids = []; scope = scope } in
+pub works_begin : (program : Code) (start s : State) (e : ExprId) (tasks : List Task) → s ≡ start → tasks ≡ task.Build e target.Root ∷ []
+    → start.root < length start.graph → nests program e ≡ true → Works program start (task.Build e target.Root) s (reverse tasks)
+works_begin program start s e tasks same one there nest =
     let first = task.Build e target.Root in
-    subst (λ (ts : List Task). Works program start first (record { graph = graph; root = root; ids = ids; scope = inner }) (reverse ts)) (sym one)
-    (subst (λ (xs : List ℕ). Works program start first (record { graph = graph; root = root; ids = xs; scope = inner }) (first ∷ [])) (sym none)
-    (subst (λ (bindings : Scope). Works program start first (record { graph = graph; root = root; ids = []; scope = bindings }) (first ∷ [])) (sym same)
-    (works_first program start e there nest)))
+    subst (λ (ts : List Task). Works program start first s (reverse ts)) (sym one)
+    (subst (λ (now : State). Works program start first now (first ∷ [])) (sym same) (works_first program start e there nest))
 
 pub works_on : (program : Code) (start : State) (first : Task) (s after : State) (left : List Task) (t : Task) (rest now : List Task) → left ≡ t ∷ rest
     → after ≡ performed program s t → now ≡ left_by program t ++ rest → Works program start first s left → Works program start first after now

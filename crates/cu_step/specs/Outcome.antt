@@ -63,6 +63,7 @@ reading_of reading = record { bindings = reading.bindings.items; value = reading
 -- The event that an outcome of the code stands for. A branch in which a search runs is given back
 -- as it was, and counts as going on so; what follows it is told by whoever steps the search.
 abbrev pub next_of : {S : Type 0} {G : Ghosts S} → (S → Graph) → Outcome S G → Next
+next_of content (outcome.On branch) = next.Go (state_of content branch ∷ [])
 next_of content (outcome.Go branches) = next.Go (map (state_of content) branches.items)
 next_of content (outcome.Answer reading) = next.Answer (reading_of reading)
 next_of content outcome.Fail = next.Fails
@@ -73,6 +74,7 @@ next_of content (outcome.Inner branch) = next.Go (state_of content branch ∷ []
 -- the branches that go on after an outcome
 abbrev pub branches_of : {S : Type 0} {G : Ghosts S} → Outcome S G
     → List (BranchOver (Focus S G))
+branches_of (outcome.On branch) = branch ∷ []
 branches_of (outcome.Go branches) = branches.items
 branches_of (outcome.Inner branch) = branch ∷ []
 branches_of _ = []

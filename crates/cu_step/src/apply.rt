@@ -6,7 +6,7 @@ ghost use Rattle.cu_machine.specs.Graph.{node_at};
 ghost use Rattle.cu_machine.specs.Rewrite.{extended, replacement_step, rewrite_step};
 ghost use Rattle.cu_step.specs.Inside.Moved.{move_of};
 
-use crate::moved::{self, Moved};
+use crate::moved::Moved;
 use crate::operand::{self, Operand};
 use crate::redex::Redex;
 use crate::{build, node};
@@ -31,17 +31,13 @@ impl<S: Store> Redex<S> {
         let Some(arity) = program.arity_if_known(head) else {
             return self.stuck_step();
         };
-        let Redex {
-            alloc,
-            mut store,
-            id,
-        } = self;
+        let Redex { mut store, id, .. } = self;
         if args.len() < arity as usize {
             store.put(id, Kind::Part(head), args)?;
         } else {
             store.put(id, build::kind_of_whole(program, head), args)?;
         }
-        moved::alone(alloc, store)
+        Ok(Moved::Alone(store))
     }
 
     /// The step of an application. A partial application takes one argument

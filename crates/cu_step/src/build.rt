@@ -2,33 +2,20 @@
 //! tasks, so that the depth of an expression takes no stack.
 ghost use Rattle.std.specs.Prelude.{◌≡◌, ◌<◌, [], ◌∷◌, ◌++◌, ◌+◌, ◌-◌, IfOk, OnOk, length, map, reverse, slice_get, true, zip};
 ghost use Rattle.cu_calculus.specs.Code.{body_of, expr_of};
+ghost use Rattle.cu_calculus.specs.WellFormed.{bound_by};
+ghost use Rattle.cu_flat.specs.Meaning.{pattern_meaning};
 ghost use Rattle.cu_machine.specs.Build.{kind_of_call, kind_of_whole, place_in, write};
 ghost use Rattle.cu_machine.specs.Graph.{Graph};
 ghost use Rattle.cu_machine.specs.Rewrite.{alone_follows};
 ghost use Rattle.cu_step.specs.Inside.Building.{argument, begun, bound_last, finished, left_by, nests, node_tasks, performed, state_of, tasks_of, with_free, with_node, with_value};
 ghost use Rattle.cu_step.specs.Inside.Moved.{move_of};
 
-use crate::moved::{self, Moved};
+use crate::moved::Moved;
 use crate::node;
 use crate::redex::Redex;
-use cu_flat::{Expr, ExprId, FlatBody, FlatProgram, FunId, Head, Prim};
+use cu_flat::{Expr, ExprId, FlatBody, FlatProgram, FunId, Head, Pattern, Prim};
 use cu_graph::{Kind, Store};
 use std::alloc::{AllocError, Global};
-
-/// The scope in which each variable has the value at the index beside it.
-pub(crate) fn scope_of(
-    alloc: Global,
-    variables: &[u32],
-    places: &[u32],
-) -> Result<Vec<(u32, u32)>, AllocError>
-    ensures { IfOk result (λ scope. scope.items ≡ zip variables.now places.now) }
-{
-    variables
-        .iter()
-        .copied()
-        .zip(places.iter().copied())
-        .collect(alloc)
-}
 
 /// The kind of a function's call. A built-in operation has a kind of its own.
 pub(crate) fn kind_of_call(program: &FlatProgram, f: FunId) -> Kind
@@ -116,9 +103,11 @@ fn push_variables(tasks: &mut Vec<Task>, variables: &[u32]) -> Result<(), AllocE
     Ok(())
 }
 
-/// An expression that is being built.
+/// The lists that steps build expressions with, kept from one step to the next.
+/// They take no memory at first, and then as much as the largest step so far
+/// asked for. What is in them between two steps counts for nothing.
 #[derive(Drop)]
-struct Work {
+pub struct Workspace {
     /// The node that the expression is written over.
     root: u32,
     /// The tasks that are left, as a stack: the last one is on top.
@@ -127,10 +116,68 @@ struct Work {
     ids: Vec<u32>,
     /// The variables in scope and the indices of their values. The last binding
     /// of a variable counts.
-    scope: Vec<(u32, u32)>,
+    pub(crate) scope: Vec<(u32, u32)>,
 }
 
-impl Work {
+impl Workspace {
+    /// A workspace that was not used yet.
+    pub fn new(alloc: Global) -> Workspace {
+        Workspace {
+            root: 0,
+            tasks: Vec::new(alloc),
+            ids: Vec::new(alloc),
+            scope: Vec::new(alloc),
+        }
+    }
+
+    /// Begins a scope in which each variable has the value at the index beside
+    /// it.
+    pub(crate) fn begin_scope(
+        &mut self,
+        variables: &[u32],
+        places: &[u32],
+    ) -> Result<(), AllocError>
+        ensures { OnOk result (self.new.scope.items ≡ zip variables.now places.now) }
+    {
+        self.scope.clear();
+        self.extend_scope(variables, places)
+    }
+
+    /// Adds variables to the scope, each with the value at the index beside it.
+    fn extend_scope(&mut self, variables: &[u32], places: &[u32]) -> Result<(), AllocError>
+        ensures { OnOk result (self.new.scope.items
+            ≡ self.old.scope.items ++ zip variables.now places.now) }
+    {
+        let bindings = variables.iter().copied().zip(places.iter().copied());
+        self.scope.extend(bindings)
+    }
+
+    /// Adds the variables of a pattern to the scope. They have the arguments of
+    /// the head that matches the pattern as their values.
+    pub(crate) fn bind_pattern(&mut self, pattern: &Pattern, args: &[u32]) -> Result<(), AllocError>
+        ensures { OnOk result (self.new.scope.items ≡ self.old.scope.items
+            ++ zip (bound_by (pattern_meaning pattern.now)) args.now) }
+    {
+        match pattern {
+            Pattern::Lit(_) => Ok(()),
+            Pattern::Con(_, variables) => self.extend_scope(variables.as_slice(), args),
+        }
+    }
+
+    /// Begins the building of an expression over a node. Nothing is left of the
+    /// building before but the scope, which is the one of this building.
+    fn start_at(&mut self, root: u32, e: ExprId) -> Result<(), AllocError>
+        ensures state { (graph : Graph) → OnOk result (state_of graph self.new ≡ record
+            { graph = graph; root = root; ids = []; scope = self.old.scope.items }) }
+        ensures tasks { OnOk result (self.new.tasks.items ≡ Task.Build e Target.Root ∷ []) }
+    {
+        self.root = root;
+        self.ids.clear();
+        self.tasks.clear();
+        self.tasks.push(Task::Build(e, Target::Root))?;
+        Ok(())
+    }
+
     /// Makes a node without arguments.
     fn make<S: Store>(
         &mut self,
@@ -363,33 +410,24 @@ impl Work {
 
 impl<S: Store> Redex<S> {
     /// The step in which an expression is built over the redex. Its variables
-    /// have values at the indices that the scope says, in which the last
-    /// binding of a variable counts.
+    /// have values at the indices that the scope of the workspace says.
     pub(crate) fn building_step(
         self,
         program: &FlatProgram,
-        scope: &[(u32, u32)],
+        workspace: &mut Workspace,
         e: ExprId,
     ) -> Result<Moved<S>, AllocError>
         requires id { self.id < length (S.content self.store) }
         requires nests { nests program.now e ≡ true }
         ensures { IfOk result (λ moved. move_of S.content moved
-            ≡ alone_follows (write program.now scope.now (S.content self.store) self.id e)) }
+            ≡ alone_follows
+            (write program.now workspace.old.scope.items (S.content self.store) self.id e)) }
     {
-        let Redex {
-            alloc,
-            mut store,
-            id,
-        } = self;
-        let mut work = Work {
-            root: id,
-            tasks: vec![in alloc; Task::Build(e, Target::Root)]?,
-            ids: Vec::new(alloc),
-            scope: Vec::from_slice(alloc, scope)?,
-        };
-        while let Some(task) = work.tasks.pop() {
-            work.perform(program, &mut store, task)?;
+        let Redex { mut store, id, .. } = self;
+        workspace.start_at(id, e)?;
+        while let Some(task) = workspace.tasks.pop() {
+            workspace.perform(program, &mut store, task)?;
         }
-        moved::alone(alloc, store)
+        Ok(Moved::Alone(store))
     }
 }

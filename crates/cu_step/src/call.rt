@@ -6,9 +6,10 @@ ghost use Rattle.cu_machine.specs.Graph.{node_at};
 ghost use Rattle.cu_machine.specs.Rewrite.{call_step, choice_step};
 ghost use Rattle.cu_step.specs.Inside.Moved.{move_of};
 
+use crate::build::Workspace;
 use crate::moved::Moved;
+use crate::node;
 use crate::redex::Redex;
-use crate::{build, node};
 use cu_flat::{FlatBody, FlatProgram, FunId};
 use cu_graph::{Kind, Store};
 use std::alloc::AllocError;
@@ -27,7 +28,12 @@ fn fork_in_two<S: Store>(store: S) -> Result<(S, S), AllocError>
 impl<S: Store> Redex<S> {
     /// The step of a call, which becomes its function's right side, where the
     /// parameters stand for the arguments.
-    pub(crate) fn call_step(self, program: &FlatProgram, f: FunId) -> Result<Moved<S>, AllocError>
+    pub(crate) fn call_step(
+        self,
+        program: &FlatProgram,
+        workspace: &mut Workspace,
+        f: FunId,
+    ) -> Result<Moved<S>, AllocError>
         requires code { IsTrue (is_well_formed program.now) }
         requires id { self.id < length (S.content self.store) }
         ensures { IfOk result (λ moved. move_of S.content moved
@@ -36,9 +42,8 @@ impl<S: Store> Redex<S> {
     {
         match program.body(f) {
             Some(FlatBody::Rule(params, body)) => {
-                let args = node::args(self.alloc, &self.store, self.id)?;
-                let scope = build::scope_of(self.alloc, params.as_slice(), args.as_slice())?;
-                self.building_step(program, scope.as_slice(), *body)
+                workspace.begin_scope(params.as_slice(), self.store.node(self.id).args)?;
+                self.building_step(program, workspace, *body)
             }
             Some(FlatBody::External(_)) => self.stuck_step(),
             None => self.stuck_step(),

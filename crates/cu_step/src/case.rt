@@ -4,16 +4,16 @@ ghost use Rattle.cu_calculus.specs.Literal.{same_literal};
 ghost use Rattle.cu_calculus.specs.WellFormed.{is_well_formed};
 ghost use Rattle.cu_flat.specs.Meaning.{branch_meaning, pattern_meaning};
 ghost use Rattle.cu_machine.specs.declared.Kind.TheVariants as kind;
-ghost use Rattle.cu_machine.specs.Graph.{node_at};
-ghost use Rattle.cu_machine.specs.Rewrite.{bound_to, branch_for, branch_step, narrowing_step, rewrite_step, scrutinee_step};
-ghost use Rattle.cu_step.specs.Inside.Building.{branch_nests, branches_nest};
+ghost use Rattle.cu_machine.specs.Graph.{head_at, head_of, node_at};
+ghost use Rattle.cu_machine.specs.Rewrite.{bound_to, branch_for, narrowing_step, rewrite_step, scrutinee_step};
+ghost use Rattle.cu_step.specs.Inside.Building.{branches_nest};
 ghost use Rattle.cu_step.specs.Inside.Matching.{takes_pattern};
 ghost use Rattle.cu_step.specs.Inside.Moved.{move_of};
 
+use crate::build::Workspace;
 use crate::moved::Moved;
-use crate::operand::{self, Operand};
 use crate::redex::Redex;
-use crate::{build, free, node};
+use crate::{free, head};
 use cu_flat::{Expr, ExprId, FlatProgram, Lit, Mode, Pattern};
 use cu_graph::{Kind, Store};
 use std::alloc::{AllocError, Global};
@@ -98,6 +98,10 @@ fn narrowing_step<S: Store>(
     if branches.is_empty() {
         return Ok(Moved::Become(Vec::new(alloc)));
     }
+    if let [(pattern, _)] = branches {
+        let after = bound_to(alloc, store, variable, pattern)?;
+        return Ok(Moved::Alone(after));
+    }
     let Ok(count) = u32::try_from(branches.len()) else {
         return Err(AllocError);
     };
@@ -112,62 +116,38 @@ fn narrowing_step<S: Store>(
 }
 
 impl<S: Store> Redex<S> {
-    /// The step into a branch, which is built over the case distinction. The
-    /// variables of its pattern stand for the scrutinee's arguments.
-    fn branch_step(
-        self,
-        program: &FlatProgram,
-        scope: &[(u32, u32)],
-        args: &[u32],
-        branch: Option<&(Pattern, ExprId)>,
-    ) -> Result<Moved<S>, AllocError>
-        requires id { self.id < length (S.content self.store) }
-        requires nests { branch_nests program.now
-            (option_map (λ branch. branch_meaning branch.now) branch) ≡ true }
-        ensures { IfOk result (λ moved. move_of S.content moved
-            ≡ branch_step program.now scope.now (S.content self.store) self.id args.now
-            (option_map (λ branch. branch_meaning branch.now) branch.entry)) }
-    {
-        let Some((pattern, body)) = branch else {
-            return self.failing_step();
-        };
-        let bound = match pattern {
-            Pattern::Lit(_) => Vec::new(self.alloc),
-            Pattern::Con(_, variables) => build::scope_of(self.alloc, variables.as_slice(), args)?,
-        };
-        let mut inner = Vec::from_slice(self.alloc, scope)?;
-        inner.extend_from_slice(bound.as_slice())?;
-        self.building_step(program, inner.as_slice(), *body)
-    }
-
-    /// The step of a case distinction, by the head of its scrutinee.
+    /// The step of a case distinction, by the head of its scrutinee. It goes
+    /// into the branch that the head matches, where the variables of the
+    /// pattern stand for the head's arguments.
     fn scrutinee_step(
         self,
         program: &FlatProgram,
-        scope: &[(u32, u32)],
+        workspace: &mut Workspace,
         branches: &[(Pattern, ExprId)],
-        scrutinee: &Operand,
+        scrutinee: u32,
     ) -> Result<Moved<S>, AllocError>
         requires id { self.id < length (S.content self.store) }
         requires nest { branches_nest program.now (map branch_meaning branches.now) ≡ true }
-        requires free { scrutinee.now.kind ≡ kind.Free
-            → scrutinee.now.id < length (S.content self.store) }
         ensures { IfOk result (λ moved. move_of S.content moved
-            ≡ scrutinee_step program.now scope.now (S.content self.store) self.id
-            (map branch_meaning branches.now) scrutinee.now.id scrutinee.now.kind
-            scrutinee.now.args.items) }
+            ≡ scrutinee_step program.now workspace.old.scope.items (S.content self.store) self.id
+            (map branch_meaning branches.now) (head_of (S.content self.store) scrutinee)
+            (head_at (S.content self.store) scrutinee).kind
+            (head_at (S.content self.store) scrutinee).args) }
     {
-        match scrutinee.kind {
-            Kind::Free => narrowing_step(self.alloc, self.store, scrutinee.id, branches),
-            Kind::Lit(l) => {
-                let branch = branch_for(branches, Kind::Lit(l));
-                self.branch_step(program, scope, &[], branch)
-            }
-            Kind::Cons(c) => {
-                let branch = branch_for(branches, Kind::Cons(c));
-                let args = scrutinee.args.as_slice();
-                self.branch_step(program, scope, args, branch)
-            }
+        let (head, node) = head::read(&self.store, scrutinee);
+        match node.kind {
+            Kind::Free => narrowing_step(self.alloc, self.store, head, branches),
+            Kind::Lit(l) => match branch_for(branches, Kind::Lit(l)) {
+                Some(branch) => self.building_step(program, workspace, branch.1),
+                None => self.failing_step(),
+            },
+            Kind::Cons(c) => match branch_for(branches, Kind::Cons(c)) {
+                Some(branch) => {
+                    workspace.bind_pattern(&branch.0, node.args)?;
+                    self.building_step(program, workspace, branch.1)
+                }
+                None => self.failing_step(),
+            },
             Kind::Part(_) => self.failing_step(),
             _ => self.stuck_step(),
         }
@@ -177,6 +157,7 @@ impl<S: Store> Redex<S> {
     pub(crate) fn case_step(
         self,
         program: &FlatProgram,
+        workspace: &mut Workspace,
         mode: Mode,
         e: usize,
     ) -> Result<Moved<S>, AllocError>
@@ -186,15 +167,14 @@ impl<S: Store> Redex<S> {
             ≡ rewrite_step program.now (S.content self.store) self.id (kind.Case mode e)
             (node_at (S.content self.store) self.id).args) }
     {
-        let args = node::args(self.alloc, &self.store, self.id)?;
-        let [scrutinee, values @ ..] = args.as_slice() else {
+        let [scrutinee, values @ ..] = self.store.node(self.id).args else {
             return self.stuck_step();
         };
         let Some(Expr::Case(_, _, branches)) = program.find(ExprId(e)) else {
             return self.stuck_step();
         };
-        let scope = build::scope_of(self.alloc, program.kept(ExprId(e)), values)?;
-        let head = operand::at(self.alloc, &self.store, *scrutinee)?;
-        self.scrutinee_step(program, scope.as_slice(), branches.as_slice(), &head)
+        workspace.begin_scope(program.kept(ExprId(e)), values)?;
+        let scrutinee = *scrutinee;
+        self.scrutinee_step(program, workspace, branches.as_slice(), scrutinee)
     }
 }

@@ -3,10 +3,10 @@ ghost use Rattle.std.specs.Prelude.{◌≡◌, ◌<◌, IfOk, length};
 ghost use Rattle.cu_machine.specs.Rewrite.{comparison_step, conjunction_step, is_true};
 ghost use Rattle.cu_step.specs.Inside.Moved.{move_of};
 
-use crate::build;
 use crate::case::is_same_literal;
 use crate::moved::Moved;
 use crate::operand::Operand;
+use crate::pairs;
 use crate::redex::Redex;
 use cu_flat::{Prim, Special};
 use cu_graph::{Kind, Store};
@@ -42,7 +42,7 @@ impl<S: Store> Redex<S> {
                     if c != d {
                         return self.truth_step(special, false);
                     }
-                    let pairs = build::scope_of(
+                    let pairs = pairs::paired(
                         self.alloc,
                         left.args.as_slice(),
                         right.args.as_slice(),

@@ -49,6 +49,7 @@ ghost use Rattle.cu_step.specs.declared.Outcome.TheVariants.{Inner};
 use aim::Aim;
 use branch::Search;
 pub use branch::{Branch, BranchOver, Running};
+pub use build::Workspace;
 use cu_flat::{FlatProgram, FunId, Head};
 use cu_graph::{Kind, Store};
 pub use cu_machine::{Limits, SearchLimits, Stop, Waited};
@@ -64,7 +65,9 @@ use std::alloc::{AllocError, Global};
 /// What becomes of a branch in one step.
 #[derive(Drop)]
 pub enum Outcome<S: Store> {
-    /// The branch goes on as these branches, from left to right.
+    /// The branch goes on as this one alone.
+    On(Branch<S>),
+    /// The branch goes on otherwise, as these branches, from left to right.
     Go(Vec<Branch<S>>),
     /// The branch's value is there.
     Answer(Reading),
@@ -156,12 +159,6 @@ fn branches<S: Store>(alloc: Global, stores: Vec<S>, aim: Aim) -> Result<Vec<Bra
         stores.items) }
 {
     let mut branches = Vec::with_capacity(alloc, stores.len())?;
-    if stores.len() == 1 {
-        let mut stores = stores;
-        let store = stores.pop().unwrap();
-        branches.push(aim.in_graph(store))?;
-        return Ok(branches);
-    }
     for store in stores {
         let aim = aim.copied(alloc)?;
         branches.push(aim.in_graph(store))?;
@@ -184,6 +181,12 @@ fn following<S: Store>(
     ensures inner { IfOk result (λ outcome. IsFalse (is_inner outcome)) }
 {
     match graphs {
+        Moved::Alone(store) => {
+            if is_too_large(&store, limits) {
+                return Ok(Outcome::Stop(too_large(limits)));
+            }
+            Ok(Outcome::On(aim.in_graph(store)))
+        }
         Moved::Become(stores) => {
             if any_too_large(stores.as_slice(), limits) {
                 return Ok(Outcome::Stop(too_large(limits)));
@@ -199,36 +202,32 @@ fn following<S: Store>(
 fn rewrite_step<S: Store>(
     alloc: Global,
     program: &FlatProgram,
-    branch: Branch<S>,
+    workspace: &mut Workspace,
+    store: S,
+    aim: Aim,
     id: u32,
     limits: &Limits,
 ) -> Result<Outcome<S>, AllocError>
     requires code { IsTrue (is_well_formed program.now) }
     requires valid { IsValid program.now
-        (state.Branch (S.content branch.focus.store) branch.focus.root branch.goals.items Idle) }
-    requires need { need_all program.now.special.truth (S.content branch.focus.store)
-        branch.focus.root ≡ At id }
-    requires walk { StandsAtNode program.now.special.truth id branch.focus.walk }
+        (state.Branch (S.content store) aim.root aim.goals.items Idle) }
+    requires need { need_all program.now.special.truth (S.content store) aim.root ≡ At id }
+    requires stands { StandsAtNode program.now.special.truth id aim.walk }
+    requires walk { MayGoOn (S.content store) aim.root aim.walk }
     ensures next { IfOk result (λ outcome. next_of S.content outcome
-        ≡ moved program.now limits.now branch.focus.root branch.goals.items
-        (S.content branch.focus.store) id
-        (move program.now (S.content branch.focus.store) id)) }
+        ≡ moved program.now limits.now aim.root aim.goals.items (S.content store) id
+        (move program.now (S.content store) id)) }
     ensures inner { IfOk result (λ outcome. IsFalse (is_inner outcome)) }
 {
-    match branch.focus.store.kind(id) {
+    match store.kind(id) {
         Kind::SetCall(function) => {
             let call = SetCall { id, function };
-            set_call::begin(alloc, program, branch, call, limits)
+            set_call::begin(alloc, program, store, aim, call, limits)
         }
         _ => {
-            let BranchOver {
-                focus,
-                goals,
-                search: _,
-            } = branch;
-            let Focus { store, root, walk } = focus;
-            let graphs = Redex { alloc, store, id }.rewrite_step(program)?;
-            following(alloc, graphs, Aim { root, goals, walk }, limits)
+            let redex = Redex { alloc, store, id };
+            let graphs = redex.rewrite_step(program, workspace)?;
+            following(alloc, graphs, aim, limits)
         }
     }
 }
@@ -239,25 +238,22 @@ fn rewrite_step<S: Store>(
 fn by_need<S: Store>(
     alloc: Global,
     program: &FlatProgram,
-    branch: Branch<S>,
+    workspace: &mut Workspace,
+    store: S,
+    aim: Aim,
     limits: &Limits,
 ) -> Result<Outcome<S>, AllocError>
     requires valid { IsValid program.now
-        (state.Branch (S.content branch.focus.store) branch.focus.root branch.goals.items Idle) }
+        (state.Branch (S.content store) aim.root aim.goals.items Idle) }
+    requires walk { MayGoOn (S.content store) aim.root aim.walk }
     ensures well_formed { IsTrue (is_well_formed program.now) }
     ensures next { IfOk result (λ outcome. next_of S.content outcome
-        ≡ next_by program.now limits.now (S.content branch.focus.store) branch.focus.root
-        branch.goals.items
-        (need_all program.now.special.truth (S.content branch.focus.store) branch.focus.root)) }
+        ≡ next_by program.now limits.now (S.content store) aim.root aim.goals.items
+        (need_all program.now.special.truth (S.content store) aim.root)) }
     ensures inner { IfOk result (λ outcome. IsFalse (is_inner outcome)) }
 {
     let truth = program.special().truth;
-    let BranchOver {
-        focus,
-        goals,
-        search: _,
-    } = branch;
-    let Focus { store, root, walk } = focus;
+    let Aim { root, goals, walk } = aim;
     match need::find(alloc, &store, truth, root, walk)? {
         Demand::There(id) => answered(alloc, &store, id, goals.as_slice(), limits),
         Demand::Dead => Ok(Outcome::Fail),
@@ -266,12 +262,8 @@ fn by_need<S: Store>(
             Ok(Outcome::Wait(names))
         }
         Demand::Rewrite(id, walk) => {
-            let branch = BranchOver {
-                focus: Focus { store, root, walk },
-                goals,
-                search: Search::Idle,
-            };
-            rewrite_step(alloc, program, branch, id, limits)
+            let aim = Aim { root, goals, walk };
+            rewrite_step(alloc, program, workspace, store, aim, id, limits)
         }
     }
 }
@@ -296,11 +288,48 @@ pub fn step<S: Store>(
         (λ outcome. All (λ branch. IsValid program.now (state_of S.content branch))
         (branches_of outcome)) }
 {
+    let mut workspace = Workspace::new(alloc);
+    step_with(alloc, program, &mut workspace, branch, limits)
+}
+
+/// One step as by [`step`], with the lists of a workspace, which may have been
+/// used by other steps before.
+pub fn step_with<S: Store>(
+    alloc: Global,
+    program: &FlatProgram,
+    workspace: &mut Workspace,
+    branch: Branch<S>,
+    limits: &Limits,
+) -> Result<Outcome<S>, AllocError>
+    requires valid { IsValid program.now (state_of S.content branch) }
+    ensures inner { IfOk result (λ outcome. is_inner outcome
+        ≡ is_running (state_of S.content branch)) }
+    ensures same { IfOk result (λ outcome. IsTrue (is_running (state_of S.content branch))
+        → outcome ≡ Inner branch) }
+    ensures next { IfOk result (λ outcome. IsFalse (is_running (state_of S.content branch))
+        → next_of S.content outcome ≡ next program.now limits.now (state_of S.content branch)) }
+    ensures valid { IfOk result
+        (λ outcome. All (λ branch. IsValid program.now (state_of S.content branch))
+        (branches_of outcome)) }
+{
     if branch.is_running() {
         return Ok(Outcome::Inner(branch));
     }
     if is_too_large(&branch.focus.store, limits) {
         return Ok(Outcome::Stop(too_large(limits)));
     }
-    by_need(alloc, program, branch, limits)
+    let BranchOver {
+        focus,
+        goals,
+        search: _,
+    } = branch;
+    let Focus { store, root, walk } = focus;
+    by_need(
+        alloc,
+        program,
+        workspace,
+        store,
+        Aim { root, goals, walk },
+        limits,
+    )
 }

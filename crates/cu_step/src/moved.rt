@@ -1,30 +1,23 @@
 //! What becomes of a graph where one of its nodes is rewritten.
 ghost use Rattle.std.specs.Prelude.{◌≡◌, ◌<◌, IfOk, length};
 ghost use Rattle.cu_machine.specs.Graph.{alone};
-ghost use Rattle.cu_machine.specs.Rewrite.{alone_follows, failing_step, replacement_step, stuck_step, truth_step};
+ghost use Rattle.cu_machine.specs.Rewrite.{failing_step, replacement_step, stuck_step, truth_step};
 ghost use Rattle.cu_step.specs.Inside.Moved.{move_of};
 
 use crate::redex::Redex;
 use cu_flat::{Int, Prim, Special};
 use cu_graph::{Kind, Store};
-use std::alloc::{AllocError, Global};
+use std::alloc::AllocError;
 
 /// What becomes of a graph in a step of one of its nodes.
 #[derive(Drop)]
 pub(crate) enum Moved<S> {
+    /// This graph alone follows.
+    Alone(S),
     /// These graphs follow, from left to right.
     Become(Vec<S>),
     /// An operation on these integers has a result that is no `Int`.
     Overflow(Prim, Int, Int),
-}
-
-/// One graph alone follows.
-pub(crate) fn alone<S: Store>(alloc: Global, store: S) -> Result<Moved<S>, AllocError>
-    ensures { IfOk result (λ moved. move_of S.content moved ≡ alone_follows (S.content store)) }
-{
-    let mut stores = Vec::with_capacity(alloc, 1)?;
-    stores.push(store)?;
-    Ok(Moved::Become(stores))
 }
 
 impl<S: Store> Redex<S> {
@@ -34,13 +27,9 @@ impl<S: Store> Redex<S> {
         ensures { IfOk result (λ moved. move_of S.content moved
             ≡ replacement_step (S.content self.store) self.id (alone kind)) }
     {
-        let Redex {
-            alloc,
-            mut store,
-            id,
-        } = self;
+        let Redex { mut store, id, .. } = self;
         store.put(id, kind, &[])?;
-        alone(alloc, store)
+        Ok(Moved::Alone(store))
     }
 
     /// The step in which the redex fails.

@@ -1,16 +1,16 @@
 //! The walk that finds what the value of a node needs.
 ghost use Rattle.std.specs.Prelude.{◌≡◌, ◌<◌, ℕ, [], IfOk, IfSome, IfNone, OnOk, length, option_map, slice_set, false};
 ghost use Rattle.cu_calculus.specs.declared.ConId.{ConId};
-ghost use Rattle.cu_machine.specs.Graph.{Graph, head_at, head_of, node_at};
+ghost use Rattle.cu_machine.specs.Graph.{Graph, head_at, head_of};
 ghost use Rattle.cu_machine.specs.Need as need;
 ghost use Rattle.cu_machine.specs.Need.{need_all};
 ghost use Rattle.cu_machine.specs.Validity.{ArgumentsThere, IsAcyclic};
 ghost use Rattle.cu_step.specs.declared.need.Ask.TheVariants as ask;
 ghost use Rattle.cu_step.specs.Inside.Kept.{DemandFits, Ends, EndsAt, IsKept, MayGoOn, Stands, StandsAtNode, ends_with, first_node, last_ask, last_node, resumed, without_own};
 ghost use Rattle.cu_step.specs.Inside.Needed.{need_in, need_of};
-ghost use Rattle.cu_step.specs.Inside.Walk.{Fits, Goes, Marked, at_once, entered_at, found, is_inside, left, left_answer, look_all, look_bound, look_first, look_head, look_inside, look_true, looked, looked_at, mark_at, mark_of, met, outcome, so_far, unseen_all, waited, waited_for, with_frame, with_mark};
+ghost use Rattle.cu_step.specs.Inside.Walk.{Fits, Goes, Marked, asked_of, at_once, entered_at, found, is_inside, left, left_answer, look_all, look_bound, look_first, look_head, look_inside, look_true, looked, mark_at, mark_of, met, outcome, outside_of, so_far, unseen_all, waited, waited_for, with_frame, with_mark};
 
-use crate::{head, node};
+use crate::head;
 use cu_flat::{ConId, Mode, Prim};
 use cu_graph::{Kind, Store};
 use indexmap::IndexSet;
@@ -218,20 +218,19 @@ fn look_at<S: Store>(store: &S, truth: ConId, node: u32, ask: Ask, arg: u32) -> 
     ensures { result ≡ looked truth node ask (head_of (S.content store.now) arg)
         (head_at (S.content store.now) arg).kind (head_at (S.content store.now) arg).args }
 {
-    let id = head::find(store, arg);
-    let kind = node::kind_at(store, id);
+    let (id, head) = head::read(store, arg);
     match ask {
-        Ask::Head => at_head(store, id, kind),
-        Ask::Bound => bound(store, id, kind),
-        Ask::Truth => true_side(store, truth, node, id, kind),
-        Ask::All => all(store, id, kind),
-        Ask::Ground | Ask::Inside => inside(id, kind),
+        Ask::Head => at_head(id, head.kind, head.args),
+        Ask::Bound => bound(id, head.kind, head.args),
+        Ask::Truth => true_side(truth, node, id, head.kind, head.args),
+        Ask::All => all(id, head.kind, head.args),
+        Ask::Ground | Ask::Inside => inside(id, head.kind),
     }
 }
 
 /// A look at a node that is to have its head.
-fn at_head<S: Store>(store: &S, id: u32, kind: Kind) -> Look
-    ensures { result ≡ look_head id kind (node_at (S.content store.now) id).args }
+fn at_head(id: u32, kind: Kind, args: &[u32]) -> Look
+    ensures { result ≡ look_head id kind args.now }
 {
     match kind {
         Kind::Cons(_) | Kind::Lit(_) | Kind::Part(_) | Kind::Free => Look::There,
@@ -239,8 +238,8 @@ fn at_head<S: Store>(store: &S, id: u32, kind: Kind) -> Look
         Kind::Prim(Prim::Unify) => Look::Node(id, Ask::Head),
         Kind::Prim(Prim::And) => Look::Node(id, Ask::Truth),
         Kind::Prim(_) => Look::Node(id, Ask::Bound),
-        Kind::Apply | Kind::Case(Mode::Rigid, _) => at_first(store, id, Ask::Bound),
-        Kind::Case(Mode::Flex, _) => at_first(store, id, Ask::Head),
+        Kind::Apply | Kind::Case(Mode::Rigid, _) => at_first(id, Ask::Bound, args),
+        Kind::Case(Mode::Flex, _) => at_first(id, Ask::Head, args),
         Kind::SetCall(_) => Look::Node(id, Ask::All),
         Kind::Fail => Look::Dead,
         Kind::Ind | Kind::Stuck => Look::Stuck,
@@ -248,10 +247,10 @@ fn at_head<S: Store>(store: &S, id: u32, kind: Kind) -> Look
 }
 
 /// A look at a node that asks something of its first argument.
-fn at_first<S: Store>(store: &S, id: u32, ask: Ask) -> Look
-    ensures { result ≡ look_first id ask (node_at (S.content store.now) id).args }
+fn at_first(id: u32, ask: Ask, args: &[u32]) -> Look
+    ensures { result ≡ look_first id ask args.now }
 {
-    match node::first_arg(store, id) {
+    match args.first() {
         Some(_) => Look::Node(id, ask),
         None => Look::Stuck,
     }
@@ -259,33 +258,33 @@ fn at_first<S: Store>(store: &S, id: u32, ask: Ask) -> Look
 
 /// A look at a node that is to have its head, and this is to be no free
 /// variable.
-fn bound<S: Store>(store: &S, id: u32, kind: Kind) -> Look
-    ensures { result ≡ look_bound id kind (node_at (S.content store.now) id).args }
+fn bound(id: u32, kind: Kind, args: &[u32]) -> Look
+    ensures { result ≡ look_bound id kind args.now }
 {
     match kind {
         Kind::Free => Look::Free(id),
-        _ => at_head(store, id, kind),
+        _ => at_head(id, kind, args),
     }
 }
 
 /// A look at a side of the conjunction at `node`.
-fn true_side<S: Store>(store: &S, truth: ConId, node: u32, id: u32, kind: Kind) -> Look
-    ensures { result ≡ look_true truth node id kind (node_at (S.content store.now) id).args }
+fn true_side(truth: ConId, node: u32, id: u32, kind: Kind, args: &[u32]) -> Look
+    ensures { result ≡ look_true truth node id kind args.now }
 {
     match kind {
         Kind::Cons(c) if c.0 == truth.0 => Look::There,
         Kind::Cons(_) | Kind::Lit(_) | Kind::Part(_) => Look::At(node),
-        _ => bound(store, id, kind),
+        _ => bound(id, kind, args),
     }
 }
 
 /// A look at a node whose whole value is to be there.
-fn all<S: Store>(store: &S, id: u32, kind: Kind) -> Look
-    ensures { result ≡ look_all id kind (node_at (S.content store.now) id).args }
+fn all(id: u32, kind: Kind, args: &[u32]) -> Look
+    ensures { result ≡ look_all id kind args.now }
 {
     match kind {
         Kind::Cons(_) | Kind::Part(_) => Look::Node(id, Ask::All),
-        _ => at_head(store, id, kind),
+        _ => at_head(id, kind, args),
     }
 }
 
@@ -319,14 +318,13 @@ fn put_mark(marks: &mut Vec<Mark>, id: u32, mark: Mark)
     }
 }
 
-/// The number of a node's arguments of which it asks something.
-fn looked_at_count<S: Store>(store: &S, id: u32) -> u32
-    requires { id < length (S.content store.now) }
-    ensures { result ≡ length (looked_at (S.content store.now) id) }
+/// The number of its arguments of which a node of this kind asks something.
+fn looked_at_count(kind: Kind, args: &[u32]) -> usize
+    ensures { result ≡ length (asked_of kind args.now) }
 {
-    match store.kind(id) {
-        Kind::Apply | Kind::Case(_, _) if 0 < store.arity(id) => 1,
-        _ => store.arity(id),
+    match kind {
+        Kind::Apply | Kind::Case(_, _) if !args.is_empty() => 1,
+        _ => args.len(),
     }
 }
 
@@ -377,7 +375,7 @@ impl Walk {
             return Ok(Some(needed));
         }
         'unmarked: for _ in 0..LOOKS_PER_NODE * store.len() as usize {
-            let Some(frame) = self.frames.pop() else {
+            let Some(frame) = self.innermost_frame() else {
                 return Ok(None);
             };
             if let Some(needed) = self.advance(store, truth, frame)? {
@@ -426,7 +424,7 @@ impl Walk {
             → Stands truth (S.content store.now) root (found self.old)
             → EndsAt truth (S.content store.now) root (found self.new) (need_of needed))) }
     {
-        while let Some(frame) = self.frames.pop() {
+        while let Some(frame) = self.innermost_frame() {
             if let Some(needed) = self.advance(store, truth, frame)? {
                 return Ok(Some(needed));
             }
@@ -442,7 +440,7 @@ impl Walk {
         match look {
             Look::There => Ok(None),
             Look::Stuck => {
-                self.wait()?;
+                self.wait();
                 Ok(None)
             }
             Look::Free(id) => {
@@ -459,17 +457,16 @@ impl Walk {
     }
 
     /// Notes that the node that asked waits.
-    fn wait(&mut self) -> Result<(), AllocError>
-        ensures { OnOk result (found self.new ≡ waited (found self.old)) }
+    fn wait(&mut self)
+        ensures { found self.new ≡ waited (found self.old) }
     {
         self.waits = true;
-        if let Some(frame) = self.frames.pop() {
-            self.frames.push(Frame {
+        if let Some(frame) = self.innermost_frame() {
+            self.put_innermost(Frame {
                 waits: true,
                 ..frame
-            })?;
+            });
         }
-        Ok(())
     }
 
     /// Notes that the node that asked waits for a variable.
@@ -478,7 +475,8 @@ impl Walk {
         ensures { OnOk result (found self.new ≡ waited_for (found self.old) id) }
     {
         self.ids.insert(id)?;
-        self.wait()
+        self.wait();
+        Ok(())
     }
 
     /// Looks at a node's arguments next. Where what it asks of them is known,
@@ -489,7 +487,10 @@ impl Walk {
     {
         match self.mark(id, ask) {
             Mark::There => Ok(()),
-            Mark::Waits => self.wait(),
+            Mark::Waits => {
+                self.wait();
+                Ok(())
+            }
             Mark::Unseen => {
                 self.set_mark(id, ask, Mark::Waits);
                 self.frames.push(Frame {
@@ -535,62 +536,92 @@ impl Walk {
     ) -> Result<Option<Needed>, AllocError>
         requires arguments { ArgumentsThere (S.content store.now) }
         requires acyclic { IsAcyclic (S.content store.now) }
-        requires fits { Fits truth (S.content store.now)
-            (with_frame (found self.old) frame) need.Done }
-        ensures answer { IfOk result
-            (λ answer. IfSome answer (λ needed. need_of needed
-            ≡ outcome truth (S.content store.now)
-            (with_frame (found self.old) frame) need.Done)) }
-        ensures goes { IfOk result
-            (λ answer. IfNone answer
-            (Goes truth (S.content store.now) (with_frame (found self.old) frame)
-            (found self.new))) }
+        requires innermost { found self.old ≡ with_frame (outside_of (found self.old)) frame }
+        requires fits { Fits truth (S.content store.now) (found self.old) need.Done }
+        ensures answer { IfOk result (λ answer. IfSome answer (λ needed. need_of needed
+            ≡ outcome truth (S.content store.now) (found self.old) need.Done)) }
+        ensures goes { IfOk result (λ answer. IfNone answer
+            (Goes truth (S.content store.now) (found self.old) (found self.new))) }
         ensures stands { IfOk result (λ answer. IfNone answer ((root : ℕ)
-            → Stands truth (S.content store.now) root (with_frame (found self.old) frame)
+            → Stands truth (S.content store.now) root (found self.old)
             → Stands truth (S.content store.now) root (found self.new))) }
         ensures ends { IfOk result (λ answer. IfSome answer (λ needed. (root : ℕ)
-            → Stands truth (S.content store.now) root (with_frame (found self.old) frame)
+            → Stands truth (S.content store.now) root (found self.old)
             → EndsAt truth (S.content store.now) root (found self.new) (need_of needed))) }
     {
-        if frame.next == looked_at_count(store, frame.node) {
-            return self.leave(store, frame);
+        let node = store.node(frame.node);
+        let next = frame.next as usize;
+        if next == looked_at_count(node.kind, node.args) {
+            return Ok(self.leave(frame, node.kind));
         }
-        let arg = store.arg(frame.node, frame.next);
-        self.frames.push(Frame {
+        let arg = node.args[next];
+        self.put_innermost(Frame {
             next: frame.next + 1,
             ..frame
-        })?;
+        });
         self.meet(look_at(store, truth, frame.node, frame.ask, arg))
     }
 
-    /// Leaves a node whose arguments were all looked at.
-    fn leave<S: Store>(&mut self, store: &S, frame: Frame) -> Result<Option<Needed>, AllocError>
-        requires { frame.node < length (S.content store.now) }
-        ensures answer { IfOk result (λ answer. option_map need_of answer
-            ≡ left_answer frame (node_at (S.content store.now) frame.node).kind frame.waits) }
-        ensures found { OnOk result (found self.new
-            ≡ left (found self.old) frame
-            (node_at (S.content store.now) frame.node).kind frame.waits) }
+    /// Leaves the innermost node, which has this frame and is of this kind, and
+    /// whose arguments were all looked at.
+    fn leave(&mut self, frame: Frame, kind: Kind) -> Option<Needed>
+        requires { 0 < length (found self.old).frames }
+        ensures answer { option_map need_of result ≡ left_answer frame kind frame.waits }
+        ensures found { found self.new
+            ≡ left (outside_of (found self.old)) frame kind frame.waits }
     {
-        if frame.waits {
-            self.wait()?;
-            return Ok(None);
-        }
-        match (store.kind(frame.node), frame.ask) {
+        match (kind, frame.ask) {
+            _ if frame.waits => {
+                self.drop_innermost();
+                self.wait();
+                None
+            }
             (Kind::Cons(_) | Kind::Part(_), ask) => {
+                self.drop_innermost();
                 self.set_mark(frame.node, ask, Mark::There);
-                Ok(None)
+                None
             }
             (Kind::SetCall(_), Ask::All) => {
-                self.frames.push(Frame {
+                self.put_innermost(Frame {
                     ask: Ask::Ground,
                     next: 0,
                     ..frame
-                })?;
-                Ok(None)
+                });
+                None
             }
-            _ => Ok(Some(Needed::At(frame.node))),
+            _ => {
+                self.drop_innermost();
+                Some(Needed::At(frame.node))
+            }
         }
+    }
+
+    /// The innermost frame, where there is one.
+    fn innermost_frame(&self) -> Option<Frame>
+        ensures some { IfSome result (λ frame.
+            found self.now ≡ with_frame (outside_of (found self.now)) frame) }
+        ensures none { IfNone result ((found self.now).frames ≡ []) }
+    {
+        match self.frames.as_slice() {
+            [.., frame] => Some(*frame),
+            [] => None,
+        }
+    }
+
+    /// Puts a frame in the place of the innermost one.
+    fn put_innermost(&mut self, frame: Frame)
+        requires { 0 < length (found self.old).frames }
+        ensures { found self.new ≡ with_frame (outside_of (found self.old)) frame }
+    {
+        let last = self.frames.len() - 1;
+        self.frames[last] = frame;
+    }
+
+    /// Takes the innermost frame off.
+    fn drop_innermost(&mut self)
+        ensures { found self.new ≡ outside_of (found self.old) }
+    {
+        self.frames.pop();
     }
 
     /// What is needed where nothing is left to look at: the value is there, and

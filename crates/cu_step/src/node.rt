@@ -1,5 +1,5 @@
 //! Reading and adding nodes of a graph.
-ghost use Rattle.std.specs.Prelude.{◌≡◌, ◌<◌, [], ◌∷◌, ◌++◌, IfOk, OnOk, length, slice_get};
+ghost use Rattle.std.specs.Prelude.{◌≡◌, ◌<◌, [], ◌∷◌, ◌++◌, IfOk, OnOk, length};
 ghost use Rattle.cu_machine.specs.Graph.{node_at};
 
 use cu_graph::{Kind, NodeRef, Store};
@@ -25,13 +25,6 @@ pub(crate) fn kind_at<S: Store>(store: &S, id: u32) -> Kind
     ensures { result ≡ (node_at (S.content store.now) id).kind }
 {
     at(store, id).kind
-}
-
-/// The first argument of a node, where there is one.
-pub(crate) fn first_arg<S: Store>(store: &S, id: u32) -> Option<u32>
-    ensures { result ≡ slice_get (node_at (S.content store.now) id).args 0 }
-{
-    at(store, id).args.first().copied()
 }
 
 /// The arguments of a node.

@@ -1,16 +1,30 @@
 //! Comparisons and equations of arguments in pairs.
-ghost use Rattle.std.specs.Prelude.{◌≡◌, ◌<◌, ◌≤◌, ◌-◌, ◌++◌, IfOk, OnOk, length};
+ghost use Rattle.std.specs.Prelude.{◌≡◌, ◌<◌, ◌≤◌, ◌-◌, ◌++◌, IfOk, OnOk, length, zip};
 ghost use Rattle.cu_machine.specs.Build.{place_of, pushed};
 ghost use Rattle.cu_machine.specs.Rewrite.{joined_from_right, pair_nodes, pairwise_step};
 ghost use Rattle.cu_step.specs.Inside.Moved.{move_of};
 ghost use Rattle.cu_step.specs.Inside.Pairs.{over_pairs};
 
-use crate::moved::{self, Moved};
+use crate::moved::Moved;
 use crate::node;
 use crate::redex::Redex;
 use cu_flat::Special;
 use cu_graph::{Kind, Store};
-use std::alloc::AllocError;
+use std::alloc::{AllocError, Global};
+
+/// The pairs of what stands at the same places in two lists.
+pub(crate) fn paired(
+    alloc: Global,
+    left: &[u32],
+    right: &[u32],
+) -> Result<Vec<(u32, u32)>, AllocError>
+    ensures { IfOk result (λ pairs. pairs.items ≡ zip left.now right.now) }
+{
+    left.iter()
+        .copied()
+        .zip(right.iter().copied())
+        .collect(alloc)
+}
 
 /// Pushes a node over each pair, from the left.
 fn push_each<S: Store>(store: &mut S, each: Kind, pairs: &[(u32, u32)]) -> Result<(), AllocError>
@@ -99,12 +113,8 @@ impl<S: Store> Redex<S> {
         if pairs.is_empty() {
             return self.truth_step(special, true);
         }
-        let Redex {
-            alloc,
-            mut store,
-            id,
-        } = self;
+        let Redex { mut store, id, .. } = self;
         write(&mut store, id, each, joint, pairs)?;
-        moved::alone(alloc, store)
+        Ok(Moved::Alone(store))
     }
 }

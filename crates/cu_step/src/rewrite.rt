@@ -7,6 +7,7 @@ ghost use Rattle.cu_machine.specs.Rewrite.{move, operation_step, rewrite_step};
 ghost use Rattle.cu_machine.specs.Validity.{ArgumentsThere, IsAcyclic, is_set_call};
 ghost use Rattle.cu_step.specs.Inside.Moved.{move_of};
 
+use crate::build::Workspace;
 use crate::moved::Moved;
 use crate::redex::Redex;
 use crate::{head, node, operand};
@@ -81,7 +82,11 @@ impl<S: Store> Redex<S> {
 
     /// What becomes of the graph where the redex is rewritten. The call of a
     /// set function is rewritten elsewhere, by `begin` of `set_call`.
-    pub(crate) fn rewrite_step(self, program: &FlatProgram) -> Result<Moved<S>, AllocError>
+    pub(crate) fn rewrite_step(
+        self,
+        program: &FlatProgram,
+        workspace: &mut Workspace,
+    ) -> Result<Moved<S>, AllocError>
         requires code { IsTrue (is_well_formed program.now) }
         requires id { self.id < length (S.content self.store) }
         requires call { IsTrue (not (is_set_call (node_at (S.content self.store) self.id).kind)) }
@@ -91,9 +96,9 @@ impl<S: Store> Redex<S> {
             ≡ move program.now (S.content self.store) self.id) }
     {
         match self.store.kind(self.id) {
-            Kind::Call(f) => self.call_step(program, f),
+            Kind::Call(f) => self.call_step(program, workspace, f),
             Kind::Or => self.choice_step(),
-            Kind::Case(mode, e) => self.case_step(program, mode, e),
+            Kind::Case(mode, e) => self.case_step(program, workspace, mode, e),
             Kind::Apply => self.application_step(program),
             Kind::Prim(operation) => self.operation_step(program.special(), operation),
             Kind::SetCall(_) => unreachable!(),

@@ -3,7 +3,7 @@ ghost use Rattle.std.specs.Prelude.{◌≡◌, ◌<◌, [], ◌∷◌, IfOk, IsF
 ghost use Rattle.cu_calculus.specs.Value.{values_of};
 ghost use Rattle.cu_machine.specs.declared.Kind.TheVariants as kind;
 ghost use Rattle.cu_machine.specs.Graph.{node_at};
-ghost use Rattle.cu_machine.specs.Next.{Go, moved};
+ghost use Rattle.cu_machine.specs.Next.{moved};
 ghost use Rattle.cu_machine.specs.Rewrite.{move};
 ghost use Rattle.cu_machine.specs.Spell.{cells_of_all, ordinal, renumbered, spelled, variables_of_all};
 ghost use Rattle.cu_machine.specs.State.{call_on};
@@ -86,46 +86,31 @@ fn call_on<S: Store>(
     })
 }
 
-/// The outcome in which one branch alone follows.
-fn alone<S: Store>(alloc: Global, branch: Branch<S>) -> Result<Outcome<S>, AllocError>
-    ensures next { IfOk result (λ outcome. next_of S.content outcome
-        ≡ Go (state_of S.content branch ∷ [])) }
-    ensures inner { IfOk result (λ outcome. IsFalse (is_inner outcome)) }
-{
-    let mut branches = Vec::with_capacity(alloc, 1)?;
-    branches.push(branch)?;
-    Ok(Outcome::Go(branches))
-}
-
 /// What becomes of a branch where the call of a set function is rewritten: the
 /// search for all values of the function begins. A partial application in an
 /// argument leaves the call stuck.
 pub(crate) fn begin<S: Store>(
     alloc: Global,
     program: &FlatProgram,
-    branch: Branch<S>,
+    store: S,
+    aim: Aim,
     call: SetCall,
     limits: &Limits,
 ) -> Result<Outcome<S>, AllocError>
-    requires id { call.id < length (S.content branch.focus.store) }
-    requires call { (node_at (S.content branch.focus.store) call.id).kind ≡ kind.SetCall call.function }
-    requires arguments { ArgumentsThere (S.content branch.focus.store) }
-    requires acyclic { IsAcyclic (S.content branch.focus.store) }
+    requires id { call.id < length (S.content store) }
+    requires call { (node_at (S.content store) call.id).kind ≡ kind.SetCall call.function }
+    requires arguments { ArgumentsThere (S.content store) }
+    requires acyclic { IsAcyclic (S.content store) }
     ensures next { IfOk result (λ outcome. next_of S.content outcome
-        ≡ moved program.now limits.now branch.focus.root branch.goals.items (S.content branch.focus.store)
-        call.id (move program.now (S.content branch.focus.store) call.id)) }
+        ≡ moved program.now limits.now aim.root aim.goals.items (S.content store) call.id
+        (move program.now (S.content store) call.id)) }
     ensures inner { IfOk result (λ outcome. IsFalse (is_inner outcome)) }
 {
-    let BranchOver {
-        focus,
-        goals,
-        search: _,
-    } = branch;
-    let Focus {
-        store,
+    let Aim {
         root,
+        goals,
         walk: _,
-    } = focus;
+    } = aim;
     let args = node::args(alloc, &store, call.id)?;
     if occurs::are_reached(alloc, &store, Sought::Part, args.as_slice())? {
         let redex = Redex {
@@ -158,5 +143,5 @@ pub(crate) fn begin<S: Store>(
         found: Vec::new(alloc),
         level,
     };
-    alone(alloc, running.going_on())
+    Ok(Outcome::On(running.going_on()))
 }

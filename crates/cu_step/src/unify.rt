@@ -11,7 +11,7 @@ use crate::moved::Moved;
 use crate::occurs::Sought;
 use crate::operand::Operand;
 use crate::redex::Redex;
-use crate::{build, free, occurs};
+use crate::{free, occurs, pairs};
 use cu_flat::{ConId, Prim, Special};
 use cu_graph::{Kind, Store};
 use std::alloc::AllocError;
@@ -30,7 +30,7 @@ impl<S: Store> Redex<S> {
             ≡ decomposition_step special.now (S.content self.store) self.id
             (zip left.now right.now)) }
     {
-        let pairs = build::scope_of(self.alloc, left, right)?;
+        let pairs = pairs::paired(self.alloc, left, right)?;
         let each = Kind::Prim(Prim::Unify);
         let joint = Kind::Prim(Prim::And);
         self.pairwise_step(special, each, joint, pairs.as_slice())

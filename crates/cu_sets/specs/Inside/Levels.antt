@@ -9,8 +9,6 @@ use Rattle.cu_step.specs.Outcome.{state_of}
 use Rattle.cu_sets.specs.declared.level.Ending.{Ending}
 use Rattle.cu_sets.specs.declared.level.Ending.TheVariants as ending
 use Rattle.cu_sets.specs.declared.level.Level as code
-use Rattle.cu_sets.specs.declared.level.Stepped as code_event
-use Rattle.cu_sets.specs.declared.level.Stepped.TheVariants as stepped
 
 -- What is gathered so far of a level that is being stepped: the values that were found, and the
 -- states of the next level.
@@ -33,9 +31,3 @@ before level (Halts stop) = Halts stop
 abbrev pub ended : Ending → LevelEvent
 ended ending.Blocked = Blocked
 ended (ending.Halted stop) = Halts stop
-
--- what became of a whole level
-abbrev pub event_of : {S : Type 0} {G : Ghosts S} → (S → Graph) → code_event.Stepped S G → LevelEvent
-event_of content (stepped.On level) =
-    On level.values.items (map (state_of content) level.branches.items)
-event_of content (stepped.Ended e) = ended e

@@ -12,7 +12,7 @@ use Rattle.cu_step.specs.declared.build.Target.{Target}
 use Rattle.cu_step.specs.declared.build.Target.TheVariants as target
 use Rattle.cu_step.specs.declared.build.Task.{Task}
 use Rattle.cu_step.specs.declared.build.Task.TheVariants as task
-use Rattle.cu_step.specs.declared.build.Work.{Work}
+use Rattle.cu_step.specs.declared.build.Workspace.{Workspace}
 
 -- ---- what was done
 
@@ -26,9 +26,14 @@ pub record State : Type 0 where
   pub scope : Scope
 
 -- the state of a building of the code
-abbrev pub state_of : Graph → Work → State
-state_of graph work =
-    record { graph = graph; root = work.root; ids = work.ids.items; scope = work.scope.items }
+abbrev pub state_of : Graph → Workspace → State
+state_of graph workspace =
+    record {
+      graph = graph;
+      root = workspace.root;
+      ids = workspace.ids.items;
+      scope = workspace.scope.items;
+    }
 
 -- the state after a node was made
 abbrev pub with_node : Target → State → Node → State

@@ -8,5 +8,6 @@ use Rattle.cu_step.specs.declared.moved.Moved.TheVariants as moved
 
 -- the move that an outcome of the code stands for, where `content` says which graph a store has
 abbrev pub move_of : {S : Type 0} → (S → Graph) → Moved S → Move
+move_of content (moved.Alone store) = rewrite.alone_follows (content store)
 move_of content (moved.Become stores) = rewrite.Become (map content stores.items)
 move_of content (moved.Overflow operation m n) = rewrite.Overflows operation m n

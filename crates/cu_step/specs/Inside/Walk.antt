@@ -284,6 +284,10 @@ waited_for f id = waited (record f { ids = joined f.ids (id ∷ []) })
 abbrev pub with_frame : Found → Frame → Found
 with_frame f frame = record f { frames = f.frames ++ frame ∷ [] }
 
+-- what was found, without the innermost frame
+abbrev pub outside_of : Found → Found
+outside_of f = record f { frames = take (length f.frames - 1) f.frames }
+
 -- what was found, with this mark of a node
 abbrev pub with_mark : Found → Bool → ℕ → Mark → Found
 with_mark f true id m = record f { inside = slice_set f.inside id m }

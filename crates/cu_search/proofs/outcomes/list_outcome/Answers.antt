@@ -8,6 +8,9 @@ use Rattle.cu_search.proofs.RoundLemmas.{one_line_prefix}
 use Rattle.cu_search.proofs.WrittenLemmas.{Adds-nothing}
 use Rattle.cu_search.proofs.outcomes.list_outcome.Goals as goal
 
+pub returns-in-On-clause-whole : goal.returns-in-On-clause-whole
+returns-in-On-clause-whole g c = rw (c.in-On.is, round_of-Go) (Adds-nothing (g.K.Sink.written c.args.sink.now))
+
 pub returns-in-Go-clause-whole : goal.returns-in-Go-clause-whole
 returns-in-Go-clause-whole g c = rw (c.in-Go.is, round_of-Go) (Adds-nothing (g.K.Sink.written c.args.sink.now))
 

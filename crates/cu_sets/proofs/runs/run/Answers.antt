@@ -48,7 +48,7 @@ returns-in-Other-clause-valid g c =
 pub returns-clause-run : goal.returns-clause-run
 returns-clause-run g c =
     let content = g.S.Store.content in
-    if_ok c.advance-2.result _ _
+    if_ok c.advance_with-2.result _ _
     (λ o is. runs_last c.args.program.now c.args.limits.now (state_of content c.args.branch) (c.args.stride - 1) (state_of content c.steps.branch) c.steps.more (next_of content o) is
     (omega (arith, c.steps-test.false)) c.steps.invariant)
-    c.advance-2.ensures.next
+    c.advance_with-2.ensures.next

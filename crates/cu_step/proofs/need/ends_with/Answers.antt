@@ -1,5 +1,5 @@
 -- There is a last frame, or none.
-use Rattle.cu_step.proofs.Lasts.{ends_none, ends_some}
+use Rattle.cu_step.proofs.FrameEnds.{ends_none, ends_some}
 use Rattle.cu_step.proofs.need.ends_with.Goals as goal
 
 pub returns-in-empty : goal.returns-in-empty

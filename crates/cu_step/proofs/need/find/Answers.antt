@@ -1,5 +1,5 @@
 -- The walk that is kept goes on, and what it comes to is answered.
-use Rattle.std.proofs.Common.{◌≡◌, ◌<◌, ◌∙◌, ap, length, subst, sym, List, Option, Some, option_map}
+use Rattle.std.proofs.Common.{◌≡◌, ◌<◌, ◌∙◌, ap, length, subst, sym, List, Option, Some}
 use Rattle.std.specs.Option.{IfSome}
 use Rattle.cu_machine.specs.Graph.{head_of}
 use Rattle.cu_machine.specs.Need.{need_all}

@@ -1,5 +1,5 @@
 -- There is a first frame, or none.
-use Rattle.cu_step.proofs.Lasts.{first_none, first_some}
+use Rattle.cu_step.proofs.FrameEnds.{first_none, first_some}
 use Rattle.cu_step.proofs.need.first_node.Goals as goal
 
 pub returns-in-empty : goal.returns-in-empty

@@ -1,6 +1,5 @@
 -- No walk is kept, or it asks for another truth: the walk begins at the root.
-use Rattle.std.proofs.Common.{refl}
-use Rattle.cu_step.proofs.Begins.{from_root}
+use Rattle.cu_step.proofs.KeptLooks.{from_root}
 use Rattle.cu_step.proofs.need.going_on.Goals as goal
 
 pub returns : goal.returns

@@ -1,8 +1,7 @@
 -- The last frame is left, or not.
-use Rattle.std.proofs.Common.{◌≡◌, ◌-◌, ◌∙◌, List, true, false, ap, sym, take}
-use Rattle.cu_step.specs.declared.need.Frame.{Frame}
+use Rattle.std.proofs.Common.{◌≡◌, ◌-◌, ◌∙◌, true, ap, sym, take}
 use Rattle.cu_step.specs.Inside.Kept.{ends_with}
-use Rattle.cu_step.proofs.Lasts.{own_kept, own_left}
+use Rattle.cu_step.proofs.FrameEnds.{own_kept, own_left}
 use Rattle.cu_step.proofs.need.leave_own.Goals as goal
 
 pub returns-then-ends_with : goal.returns-then-ends_with

@@ -2,7 +2,7 @@
 use Rattle.std.proofs.Common.{◌∙◌, ap}
 use Rattle.cu_step.specs.declared.need.Ask.TheVariants as ask
 use Rattle.cu_step.specs.Inside.Kept.{last_ask, last_node}
-use Rattle.cu_step.proofs.Lasts.{ask_none, ask_some, node_none, node_some}
+use Rattle.cu_step.proofs.FrameEnds.{ask_none, ask_some, node_none, node_some}
 use Rattle.cu_step.proofs.need.Walk.innermost.Goals as goal
 
 pub returns-in-empty-clause-node : goal.returns-in-empty-clause-node

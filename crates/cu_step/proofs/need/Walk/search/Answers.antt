@@ -1,18 +1,16 @@
 -- How the walk begins, and how it goes on where marks begin.
-use Rattle.std.proofs.Common.{◌≡◌, ◌∙◌, ap, ap₂, sym, subst, ℕ, List, [], ◌∷◌, ◌++◌, Option, None, Some, option_map, vec_len}
+use Rattle.std.proofs.Common.{◌≡◌, ◌∙◌, ap, ap₂, sym, subst, ℕ, Option, None, Some, option_map}
 use Rattle.std.specs.Option.{IfNone, IfSome}
 use Rattle.cu_machine.specs.Graph.{head_at, head_of}
-use Rattle.cu_machine.specs.Need.{Done, need_all}
-use Rattle.cu_step.specs.declared.need.Frame.{Frame}
 use Rattle.cu_step.specs.declared.need.Needed.{Needed}
-use Rattle.cu_step.specs.Inside.Kept.{EndsAt, Standing, Stands}
+use Rattle.cu_step.specs.Inside.Kept.{EndsAt, Stands}
 use Rattle.cu_step.specs.Inside.Needed.{need_of}
-use Rattle.cu_step.specs.Inside.Walk.{Found, Goes, at_once, found, looked, outcome, so_far, with_frame}
+use Rattle.cu_step.specs.Inside.Walk.{Goes, at_once, found, looked}
 use Rattle.cu_step.proofs.Builds.{if_ok}
-use Rattle.cu_step.proofs.Finds.{end_out, kept_fits, kept_marked, kept_out, none_left}
-use Rattle.cu_step.proofs.Merely.{none_to, some_to}
+use Rattle.cu_step.proofs.Finds.{end_out, kept_fits, kept_marked, kept_out}
+use Rattle.cu_step.proofs.Elements.{none_to, some_to}
 use Rattle.cu_step.proofs.Resumed.{resumed_answer, resumed_met, resumed_shown}
-use Rattle.cu_step.proofs.Stand.{first_ends, first_stands, stands_kept}
+use Rattle.cu_step.proofs.KeptLooks.{first_ends, first_stands, stands_kept}
 use Rattle.cu_step.proofs.need.Walk.search.Given.{Over}
 use Rattle.cu_step.proofs.need.Walk.search.Goals.{After-look_at-first}
 use Rattle.cu_step.proofs.need.Walk.search.Goals as goal
@@ -58,33 +56,28 @@ unmarked-init g c =
           c.requires.arguments c.requires.acyclic c.requires.place c.requires.kept c.requires.begins (looks g here) answers c.in_ok-needed.ensures.found;
     }
 
-pub returns-in_default-pop-clause-none : goal.returns-in_default-pop-clause-none
-returns-in_default-pop-clause-none g c =
-    let empty : c.unmarked.self.frames.items ≡ [] =
-    none_left c.unmarked.self.frames.items c.pop.new.self.items (vec_len c.unmarked.self.frames) c.in_default-pop.ensures.cases.0 c.in_default-pop.ensures.rest c.in_default-pop.ensures.items in
-    sym (end_out c.args.truth (g.S.Store.content c.args.store.now) (found c.unmarked.self) empty) ∙ c.unmarked.invariant.comes
+pub returns-in_default-innermost_frame-clause-none : goal.returns-in_default-innermost_frame-clause-none
+returns-in_default-innermost_frame-clause-none g c =
+    sym (end_out c.args.truth (g.S.Store.content c.args.store.now) (found c.unmarked.self) c.in_default-innermost_frame.ensures.none) ∙ c.unmarked.invariant.comes
 
 pub returns-in-Some-2-clause-ends : goal.returns-in-Some-2-clause-ends
 returns-in-Some-2-clause-ends g c =
     let graph = g.S.Store.content c.args.store.now in
-    let popped : Found = record (found c.unmarked.self) { frames = c.pop.new.self.items } in
-    let ends = subst (λ (o : Option Needed). IfSome o (λ needed. (root : ℕ) → Stands c.args.truth graph root (with_frame popped c.in-Some-pop.frame)
+    let ends = subst (λ (o : Option Needed). IfSome o (λ needed. (root : ℕ) → Stands c.args.truth graph root (found c.unmarked.self)
     → EndsAt c.args.truth graph root (found c.advance.new.self) (need_of needed))) c.in-Some-2.is c.in_ok-needed-2.ensures.ends in
-    ends c.args.root (λ quiet. subst (λ (fs : List Frame). Standing c.args.truth graph c.args.root fs) c.in-Some-pop.ensures.items (c.unmarked.invariant.stands quiet))
+    ends c.args.root c.unmarked.invariant.stands
 
 pub unmarked-preserved : goal.unmarked-preserved
 unmarked-preserved g c =
     let graph = g.S.Store.content c.args.store.now in
-    let popped : Found = record (found c.unmarked.self) { frames = c.pop.new.self.items } in
-    let same : found c.unmarked.self ≡ with_frame popped c.in-Some-pop.frame = ap (λ (fs : List Frame). record (found c.unmarked.self) { frames = fs }) c.in-Some-pop.ensures.items in
-    let goes : Goes c.args.truth graph (with_frame popped c.in-Some-pop.frame) (found c.advance.new.self) =
-    subst (λ (o : Option Needed). IfNone o (Goes c.args.truth graph (with_frame popped c.in-Some-pop.frame) (found c.advance.new.self))) c.in_default-2.is c.in_ok-needed-2.ensures.goes in
-    let stands = subst (λ (o : Option Needed). IfNone o ((root : ℕ) → Stands c.args.truth graph root (with_frame popped c.in-Some-pop.frame)
+    let goes : Goes c.args.truth graph (found c.unmarked.self) (found c.advance.new.self) =
+    subst (λ (o : Option Needed). IfNone o (Goes c.args.truth graph (found c.unmarked.self) (found c.advance.new.self))) c.in_default-2.is c.in_ok-needed-2.ensures.goes in
+    let stands = subst (λ (o : Option Needed). IfNone o ((root : ℕ) → Stands c.args.truth graph root (found c.unmarked.self)
     → Stands c.args.truth graph root (found c.advance.new.self))) c.in_default-2.is c.in_ok-needed-2.ensures.stands in
     record {
       fits = goes.fits;
-      comes = goes.outcome ∙ sym (ap (λ f. outcome c.args.truth graph f Done) same) ∙ c.unmarked.invariant.comes;
-      stands = stands c.args.root (λ quiet. subst (λ (fs : List Frame). Standing c.args.truth graph c.args.root fs) c.in-Some-pop.ensures.items (c.unmarked.invariant.stands quiet));
+      comes = goes.outcome ∙ c.unmarked.invariant.comes;
+      stands = stands c.args.root c.unmarked.invariant.stands;
     }
 
 pub finish-requires-clause-fits : goal.finish-requires-clause-fits

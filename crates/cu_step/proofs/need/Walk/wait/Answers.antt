@@ -1,21 +1,21 @@
-use Rattle.std.proofs.Common.{◌≡◌, true, ap, List, vec_len}
+-- The innermost node waits, where there is one.
+use Rattle.std.proofs.Common.{true, ap, List}
 use Rattle.cu_step.specs.declared.need.Frame.{Frame}
-use Rattle.cu_step.specs.Inside.Walk.{Found, flagged}
-use Rattle.cu_step.proofs.Frames.{flagged_frames, flagged_none}
+use Rattle.cu_step.specs.Inside.Walk.{Found, found}
+use Rattle.cu_step.proofs.Innermost.{empty_waits, innermost_there, innermost_waits}
 use Rattle.cu_step.proofs.need.Walk.wait.Goals as goal
 
-pub returns-in_ok-push : goal.returns-in_ok-push
-returns-in_ok-push c =
-    let same : c.push.new.self.items ≡ flagged c.args.self.now.frames.items =
-    flagged_frames c.args.self.now.frames.items c.push.new.self.items c.pop.new.self.items c.in-Some.frame c.in-Some.ensures.items c.in_ok-push.ensures.items in
-    let with_frames : List Frame → Found = λ frames.
-    record { frames = frames; whole = c.args.self.now.whole.items; inside = c.args.self.now.inside.items; waits = true; ids = c.args.self.now.ids.keys } in
-    ap with_frames same
+pub put_innermost-requires : goal.put_innermost-requires
+put_innermost-requires c =
+    let waits : Found = record (found c.args.self.now) { waits = true } in
+    innermost_there waits c.in-Some.frame c.in-Some.ensures.some
+
+pub returns-in-Some : goal.returns-in-Some
+returns-in-Some c =
+    let waits : Found = record (found c.args.self.now) { waits = true } in
+    innermost_waits waits (found c.put_innermost.new.self) c.in-Some.frame c.in-Some.ensures.some c.put_innermost.ensures
 
 pub returns-in_default : goal.returns-in_default
 returns-in_default c =
-    let same : c.pop.new.self.items ≡ flagged c.args.self.now.frames.items =
-    flagged_none c.args.self.now.frames.items c.pop.new.self.items (vec_len c.args.self.now.frames) c.in_default.ensures.cases.0 c.in_default.ensures.rest c.in_default.ensures.items in
-    let with_frames : List Frame → Found = λ frames.
-    record { frames = frames; whole = c.args.self.now.whole.items; inside = c.args.self.now.inside.items; waits = true; ids = c.args.self.now.ids.keys } in
-    ap with_frames same
+    let with_frames : List Frame → Found = λ frames. record (found c.args.self.now) { frames = frames; waits = true } in
+    ap with_frames (empty_waits c.args.self.now.frames.items c.in_default.ensures.none)

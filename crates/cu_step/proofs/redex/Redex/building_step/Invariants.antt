@@ -7,8 +7,8 @@ use Rattle.cu_step.proofs.redex.Redex.building_step.Given as goal
 
 abbrev pub invariant-loop-task : goal.invariant-loop-task
 invariant-loop-task g l =
-    Works l.program (record { graph = g.S.Store.content l.fn.self.store; root = l.fn.self.id; ids = []; scope = l.scope })
-    (task.Build l.fn.e target.Root) (state_of (g.S.Store.content l.store) l.work) (reverse l.work.tasks.items)
+    Works l.program (record { graph = g.S.Store.content l.fn.self.store; root = l.fn.self.id; ids = []; scope = l.fn.workspace.scope.items })
+    (task.Build l.fn.e target.Root) (state_of (g.S.Store.content l.store) l.workspace) (reverse l.workspace.tasks.items)
 
 abbrev pub decreases-loop-task : goal.decreases-loop-task
-decreases-loop-task g l = weight l.program (reverse l.work.tasks.items)
+decreases-loop-task g l = weight l.program (reverse l.workspace.tasks.items)

@@ -12,7 +12,7 @@ pub scrutinee_step-requires-clause-nest : goal.scrutinee_step-requires-clause-ne
 scrutinee_step-requires-clause-nest g c κs within =
     let program = c.args.program.now in
     let e : ExprId = record { 0 = c.args.e } in
-    ap (λ branches. branches_nest program (map branch_meaning branches)) c.as_slice-3.ensures.value
+    ap (λ branches. branches_nest program (map branch_meaning branches)) c.as_slice.ensures.value
     ∙ found_nests program e (kept_by program e) c.find.result c.in-Some-Case.field-0 (expr.Case c.in-Some-Case.field-0-0 c.in-Some-Case.field-0-1 c.in-Some-Case.branches)
     c.in-Some-Case.field-0-0 c.in-Some-Case.field-0-1 (map branch_meaning c.in-Some-Case.branches.items) c.requires.code c.find.ensures c.in-Some-Case.is
     c.in-Some-Case.field-0-is refl
