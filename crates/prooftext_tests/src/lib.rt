@@ -1,0 +1,5 @@
+//! Tests of the text of proofs, over public calls.
+#![tactic(auto)]
+
+#[cfg(test)]
+mod texts;
