@@ -8,8 +8,6 @@ mod commands;
 #[cfg(test)]
 mod files;
 #[cfg(test)]
-mod gates;
-#[cfg(test)]
 mod memory;
 #[cfg(test)]
 mod output;

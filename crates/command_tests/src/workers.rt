@@ -1,9 +1,9 @@
 //! Two workers at a gate: each branch is held in turn until others of its round
 //! have entered.
-use crate::gates::HoldingGate;
 use crate::runs::{expect_at, whole};
 use cu_cmd::Status;
 use cu_pile::Gate;
+use samples::HoldingGate;
 use std::process::Abort;
 use std::thread::Threads;
 

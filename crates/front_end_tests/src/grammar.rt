@@ -1,5 +1,5 @@
 //! Modules and goals, worked out by hand.
-mod modules;
+pub(crate) mod modules;
 mod productions;
 
 use crate::tokens::tokens_of;

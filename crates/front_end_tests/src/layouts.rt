@@ -1,4 +1,5 @@
 //! Layouts of texts, worked out by hand.
+use crate::grammar::modules::{PERM, QUEENS};
 use crate::grammar::repeated;
 use crate::tokens::tokens_of;
 use cu_layout::{TooDeep, block};
@@ -234,36 +235,6 @@ fn texts_with_their_layout(rt: HostRuntime) -> Result<(), Fail> {
     }
     Ok(())
 }
-
-const QUEENS: &str = "module Queens (queens, boards) where
-import Perm
-import SetFunctions
-
-infix 4 `attacks`
-
-attacks :: (Int, Int) -> (Int, Int) -> Bool
-(c, r) `attacks` (d, s) = abs (c - d) == abs (r - s)
-
-safe :: [Int] -> Bool
-safe qs = and [not (p `attacks` q) | p <- places, q <- places, fst p < fst q]
-  where places = zip [1 ..] qs
-
-queens :: Int -> [Int]
-queens n | safe qs = qs
-  where qs = permute [1 .. n]
-
-boards :: Int -> [[Int]]
-boards n = let found = set1 queens n in sortValues found
-";
-
-const PERM: &str = "module Perm (permute) where
-
-permute :: [a] -> [a]
-permute []     = []
-permute (x:xs) = insert x (permute xs)
-  where insert y ys     = y : ys
-        insert y (z:zs) = z : insert y zs
-";
 
 #[test]
 fn marks_of_modules(rt: HostRuntime) -> Result<(), Fail> {

@@ -1,9 +1,11 @@
-//! Tests of the front end, from the characters of a text to syntax, grouping and
-//! modules.
+//! Tests of the front end, from the characters of a text to syntax, grouping,
+//! modules and the types that they declare.
 #![tactic(auto)]
 
 #[cfg(test)]
 mod built_in;
+#[cfg(test)]
+mod declared;
 #[cfg(test)]
 mod entities;
 #[cfg(test)]

@@ -5,7 +5,7 @@ use cu_names::{NameId, Names};
 use std::alloc::{AllocError, Global};
 
 /// The folder in which all modules lie.
-const DIR: &str = "here";
+pub(crate) const DIR: &str = "here";
 
 /// A library of modules, each given by its name and its text.
 fn library_of(
@@ -17,6 +17,17 @@ fn library_of(
     for (name, text) in modules {
         library.add_module(DIR, name, text.as_bytes())?;
     }
+    Ok(library)
+}
+
+/// A library of these modules, and of a module `M` of this text.
+pub(crate) fn library_with(
+    alloc: Global,
+    modules: &[(&str, &str)],
+    text: &str,
+) -> Result<ShelfLibrary, AllocError> {
+    let mut library = library_of(alloc, modules, Vec::new(alloc))?;
+    library.add_module(DIR, "M", text.as_bytes())?;
     Ok(library)
 }
 
@@ -39,7 +50,7 @@ fn names_of(alloc: Global, names: &Names, modules: &[Module]) -> Result<String, 
 }
 
 /// The text of a name, if the table has it.
-fn text_of(names: &Names, name: NameId) -> &str {
+pub(crate) fn text_of(names: &Names, name: NameId) -> &str {
     if name.0 < names.count() {
         names.text(name)
     } else {

@@ -3,6 +3,7 @@
 ghost use Rattle.std.specs.Prelude.{◌<◌, IfSome, length};
 
 use crate::goals::goal_of;
+use crate::modules::{DIR, library_with, text_of};
 use cu_entities::{Entity, Space};
 use cu_io::ShelfLibrary;
 use cu_modules::{Module, ScopeFault, Scopes, order, scope, scope_goal};
@@ -10,9 +11,6 @@ use cu_names::{NameId, Names, Place};
 use cu_syntax::GoalText;
 use std::alloc::{AllocError, Global};
 use std::process::Abort;
-
-/// The folder in which all modules lie.
-const DIR: &str = "here";
 
 /// What is said where nothing is wrong.
 const RIGHT: &str = "right";
@@ -234,25 +232,6 @@ const GOALS: [Case; 8] = [
 
 const GOALS_MODULE: &str = "import B\nimport C\nimport E\nz = 1";
 
-/// A library with the modules of the shelf and a module `M` of this text.
-fn library(alloc: Global, text: &str) -> Result<ShelfLibrary, AllocError> {
-    let mut library = ShelfLibrary::new(alloc, Vec::new(alloc));
-    for (name, text) in &SHELF {
-        library.add_module(DIR, name, text.as_bytes())?;
-    }
-    library.add_module(DIR, "M", text.as_bytes())?;
-    Ok(library)
-}
-
-/// The text of a name, if the table has it.
-fn text_of(names: &Names, name: NameId) -> &str {
-    if name.0 < names.count() {
-        names.text(name)
-    } else {
-        ""
-    }
-}
-
 /// A line on a fault: what is wrong, the place, and the name.
 fn told(alloc: Global, names: &Names, fault: &ScopeFault) -> Result<String, AllocError> {
     match fault {
@@ -309,7 +288,7 @@ fn said(
 fn outcome(alloc: Global, text: &str, goal: &str) -> Option<String> {
     let mut names = Names::new(alloc);
     let goal = goal_of(alloc, &mut names, goal)?;
-    let mut library = library(alloc, text).ok()?;
+    let mut library = library_with(alloc, &SHELF, text).ok()?;
     said(alloc, &mut names, &mut library, &goal)
 }
 
@@ -411,7 +390,7 @@ fn entity_of(
 /// The module of the function that a name means in a module `M` of a text.
 fn owner_of(alloc: Global, text: &str, qualifier: Option<&str>, base: &str) -> Option<String> {
     let mut names = Names::new(alloc);
-    let mut library = library(alloc, text).ok()?;
+    let mut library = library_with(alloc, &SHELF, text).ok()?;
     let entity = entity_of(alloc, &mut names, &mut library, qualifier, base)?;
     String::from_str(alloc, text_of(&names, entity.owner)).ok()
 }

@@ -13,6 +13,7 @@ use cu_step::{Branch, Limits, Outcome, Reading, SearchLimits, Stop, Waited, star
 use cu_values::{Cell, Value};
 use std::alloc::{AllocError, Global};
 use std::process::Abort;
+use std::slice;
 
 /// The most nodes, where the limit isn't what is tried.
 pub(crate) const NODES: u32 = 1000;
@@ -25,6 +26,7 @@ fn chosen(outcome: Outcome<PlainStore>, choice: usize) -> Option<Branch<PlainSto
     ensures { IfSome result (λ branch. slice_get (branches_of outcome) choice ≡ Some branch) }
 {
     match outcome {
+        Outcome::On(branch) if choice == 0 => Some(branch),
         Outcome::Go(branches) => {
             let mut branches = branches;
             if choice < branches.len() {
@@ -250,6 +252,7 @@ fn stop_text(alloc: Global, stop: Stop) -> Result<String, AllocError> {
 /// What an outcome is.
 fn outcome_text(alloc: Global, outcome: &Outcome<PlainStore>) -> Result<String, AllocError> {
     match outcome {
+        Outcome::On(branch) => branches_text(alloc, slice::from_ref(branch)),
         Outcome::Go(branches) => branches_text(alloc, branches.as_slice()),
         Outcome::Answer(reading) => reading_text(alloc, reading),
         Outcome::Fail => format!(in alloc; "fails"),

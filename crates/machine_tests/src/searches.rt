@@ -1,5 +1,5 @@
 //! Searches for all values of functions.
-use crate::programs::{self, VALUES};
+use crate::programs::{self, CONS, FALSE, TRUE, VALUES};
 use crate::runs::{expect, expect_run};
 use cu_flat::{ExprId, FlatProgram, FunId, Head, Mode, Prim};
 use std::alloc::Global;
@@ -73,6 +73,54 @@ fn expect_ends<R: Abort>(rt: &R, alloc: Global) {
     expect(rt, alloc, &program, 5, "00", "set4");
     expect(rt, alloc, &program, 5, "000", "con4 1 | []");
     expect_run(rt, alloc, &program, 5, "", 1, "answer con4 []");
+}
+
+/// `first (Values (x : xs)) = x`, and
+/// `nest n = if n == 0 then 7 else first (set1 nest (n - 1))`; `few = nest 129`
+/// and `many = nest 300`.
+fn nests<R: Abort>(rt: &R, alloc: Global) -> FlatProgram {
+    let mut parts = programs::both(rt, alloc);
+    parts.variable(rt, 2);
+    let branches = vec![in alloc; programs::branch(rt, alloc, CONS, &[2, 3], ExprId(4))].expect(
+        rt, "memory",
+    );
+    parts.case(rt, Mode::Flex, &[], ExprId(1), branches);
+    let branches = vec![in alloc; programs::branch(rt, alloc, VALUES, &[1], ExprId(5))].expect(
+        rt, "memory",
+    );
+    parts.case(rt, Mode::Flex, &[], ExprId(0), branches);
+    parts.integer(rt, 0);
+    parts.call(rt, FunId(1), &[ExprId(0), ExprId(7)]);
+    parts.integer(rt, 7);
+    parts.integer(rt, -1);
+    parts.call(rt, FunId(2), &[ExprId(0), ExprId(10)]);
+    parts.whole(rt, Head::Set(FunId(4)), &[ExprId(11)]);
+    parts.call(rt, FunId(3), &[ExprId(12)]);
+    let branches = vec![in alloc;
+        programs::branch(rt, alloc, FALSE, &[], ExprId(13)),
+        programs::branch(rt, alloc, TRUE, &[], ExprId(9)),
+    ]
+    .expect(rt, "memory");
+    parts.case(rt, Mode::Rigid, &[0], ExprId(8), branches);
+    parts.integer(rt, 129);
+    parts.call(rt, FunId(4), &[ExprId(15)]);
+    parts.integer(rt, 300);
+    parts.call(rt, FunId(4), &[ExprId(17)]);
+    parts.external(rt, 2, Prim::Equal);
+    parts.external(rt, 2, Prim::Add);
+    parts.function(rt, 1, &[0], ExprId(6));
+    parts.function(rt, 1, &[0], ExprId(14));
+    parts.function(rt, 0, &[], ExprId(16));
+    parts.function(rt, 0, &[], ExprId(18));
+    parts.program_with_sets(rt)
+}
+
+#[test]
+fn searches_run_within_each_other(rt: HostRuntime) {
+    let alloc = rt.alloc();
+    let program = nests(&rt, alloc);
+    expect_run(&rt, alloc, &program, 5, "0", 1, "answer 7");
+    expect_run(&rt, alloc, &program, 6, "000", 1, "answer 7");
 }
 
 #[test]

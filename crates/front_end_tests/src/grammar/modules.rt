@@ -1,6 +1,6 @@
 //! Modules and goals that are read.
 
-pub(super) const QUEENS: &str = "module Queens (queens, boards) where
+pub(crate) const QUEENS: &str = "module Queens (queens, boards) where
 import Perm
 import SetFunctions
 
@@ -21,7 +21,7 @@ boards :: Int -> [[Int]]
 boards n = let found = set1 queens n in sortValues found
 ";
 
-pub(super) const PERM: &str = "module Perm (permute) where
+pub(crate) const PERM: &str = "module Perm (permute) where
 
 permute :: [a] -> [a]
 permute []     = []

@@ -1,0 +1,3 @@
+pub mod CapturingScope
+pub mod NameLemmas
+pub mod Parts

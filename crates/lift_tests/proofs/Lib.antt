@@ -1,2 +1,0 @@
-pub mod CapturingScope
-pub mod NameLemmas

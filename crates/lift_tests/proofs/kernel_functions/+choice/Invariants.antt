@@ -1,4 +1,0 @@
-use Rattle.lift_tests.proofs.kernel_functions.+choice.Given as goal
-
-abbrev pub decreases-choice : goal.decreases-choice
-decreases-choice l = l.depth

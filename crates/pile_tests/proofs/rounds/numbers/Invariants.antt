@@ -1,5 +1,0 @@
-use Rattle.std.proofs.Common.{◌≡◌, ◌<◌, All, length}
-use Rattle.pile_tests.proofs.rounds.numbers.Given as goal
-
-abbrev pub invariant-loop-number : goal.invariant-loop-number
-invariant-loop-number l = (length l.all.items ≡ l.number) × All (λ n. n < 1000) l.all.items
