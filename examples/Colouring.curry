@@ -1,4 +1,7 @@
 -- The countries of a map in three colours, so that neighbours differ.
+--
+-- The idea: to choose and to test. A local name stands for one choice wherever it is used, so the
+-- guard tests the colours that the answer has.
 module Colouring where
 
 data Colour = Red | Green | Blue

@@ -1,4 +1,7 @@
--- Sums in letters: each letter stands for a digit, and different letters for different ones.
+-- A sum in letters: each letter stands for a digit, and different letters for different ones.
+--
+-- The idea: what follows from earlier choices is computed and not chosen. `SendMore` does the
+-- same with a larger sum.
 module Column where
 
 -- TO + GO = OUT: the digits of T, O, G and U. The columns are added from the right, so that what

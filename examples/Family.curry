@@ -1,4 +1,7 @@
 -- A family tree, which can be asked in every direction.
+--
+-- The idea: a function by rules over constructors is a table, and search reads it from both sides:
+-- who the mother of someone is, and whose mother someone is.
 module Family where
 
 data Person = Ada | Ben | Cleo | Dan | Eve | Finn | Gus

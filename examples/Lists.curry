@@ -1,4 +1,7 @@
--- Functions on lists by equations: what a list is made of is asked for, and search finds it.
+-- Functions on lists by equations.
+--
+-- The idea: an equation with free variables says what a list is made of, and search finds the
+-- parts. No loop says how.
 module Lists where
 
 -- the last element

@@ -1,4 +1,7 @@
 -- Parsers as functions with several results: what a prefix of the text says, and the rest of it.
+--
+-- The idea: functions that take functions, and results that are chosen. Alternatives are `?`, and
+-- a parser that doesn't fit has no value, so nothing has to be said of failure.
 module Parser where
 
 data Expression = Number Int | Plus Expression Expression | Times Expression Expression

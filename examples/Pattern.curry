@@ -1,4 +1,7 @@
 -- Regular expressions: the texts that one describes, and whether it describes a text.
+--
+-- The idea: one definition is asked in two ways. It makes texts, and compared with a text that is
+-- known it tests it.
 module Pattern where
 
 data Pattern = Letter Char | Then Pattern Pattern | Or Pattern Pattern | Many Pattern

@@ -1,4 +1,6 @@
 -- Lists in every order.
+--
+-- The idea: both rules of `insert` match a list with elements, and both are tried.
 module Permutation (permutation) where
 
 permutation :: [a] -> [a]

@@ -1,5 +1,8 @@
 -- N queens on a board of N rows and columns, none of which attacks another: the row of the queen
 -- in each column.
+--
+-- The idea: to choose and to test, lazily: as soon as two queens of an order attack each other,
+-- the rest of it is never made. A set function then asks for all boards, or whether there is one.
 module Queens (queens, boards, solvable) where
 
 import Permutation

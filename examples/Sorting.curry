@@ -1,4 +1,6 @@
 -- Sorting by search: a list in an order in which it rises.
+--
+-- The idea: a program may say what is wanted and not how it is found.
 module Sorting where
 
 import Permutation

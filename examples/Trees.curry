@@ -1,4 +1,7 @@
 -- Test data from a data type: all trees of a size, and a property of them.
+--
+-- The idea: search makes all data of a size, and a set function asks whether one of them breaks a
+-- property.
 module Trees where
 
 import SetFunctions

@@ -1,4 +1,7 @@
--- Arithmetic waits for the values of variables, which equations and functions by rules give.
+-- Numbers that aren't known yet.
+--
+-- The idea: arithmetic waits for the values of its variables, and equations and functions by rules
+-- give them. `&` goes on with one side while the other waits.
 module Waits where
 
 -- a digit, whose value is found by the rules

@@ -9,7 +9,7 @@ Some lines begin a part, whose text are the lines after it, up to the next one t
     $ curry WORDS    a command, with what it writes
     ? STATUS         the status of the command before it, which is 0 where none is told
 
-A blank line before a name belongs to no part.
+A blank line before a name belongs to no part, nor does what stands before the first part, as how a listing was worked out.
 """
 
 import re

@@ -1,5 +1,0 @@
-soup = 4 ? 5
-main = 12 ? 15 ? 18
-sweet = 6
-
-course = soup ? main ? sweet
