@@ -40,6 +40,15 @@ digit = 0 ? 1 ? 2 ? 3 ? 4 ? 5 ? 6 ? 7 ? 8 ? 9
 number :: Int
 number = ((digit * 10 + digit) * 10 + digit) * 10 + digit
 
+-- and twice as many
+more :: Int
+more = bit * 10000 + number
+
+-- a choice of the elements of a list
+anyOf :: [a] -> a
+anyOf [x]          = x
+anyOf (x : y : ys) = x ? anyOf (y : ys)
+
 -- a loop, each turn of which leaves four nodes behind
 down :: Int -> Int
 down n = if n == 0 then 0 else down (n - 1)
