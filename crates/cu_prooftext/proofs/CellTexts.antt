@@ -3,7 +3,7 @@ use Rattle.std.proofs.Common.{◌≡◌, ℕ, List, [], ◌∷◌, refl, ap, ◌
 use Rattle.std.proofs.lemmas.Grind.{flat_map-append}
 use Rattle.std.specs.List.{flat_map}
 use Rattle.cu_calculus.specs.Value as value
-use Rattle.cu_calculus.specs.Value.{Value, Values, count, list_of, values_of}
+use Rattle.cu_calculus.specs.Value.{Value, Values, list_of, values_of}
 use Rattle.cu_values.specs.Cells.{spell, spell_all}
 use Rattle.cu_values.specs.declared.cell.Cell.TheVariants as cell
 use Rattle.cu_prooftext.specs.Inside.Cells.{cell_after, cell_text, cells_text}

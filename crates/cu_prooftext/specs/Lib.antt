@@ -2,5 +2,11 @@
 
 -- The text of a proof and of the claims that it may use.
 pub mod Text
+-- What the format allows of a proof: ranges of numbers, order, nesting.
+pub mod Format
+-- Whole texts, their prefixes, and the fault of bytes that are none.
+pub mod Faults
+-- What a fault of the code says.
+pub mod Reads
 -- What private contracts and invariants of loops say.
 pub mod Inside

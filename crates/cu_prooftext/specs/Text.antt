@@ -50,7 +50,8 @@ count_text n = codes "/" ++ decimal n
 -- ---- values
 
 abbrev mutual
-  -- a value: `_` for Bottom, `v` for a variable, `k` for a constructor, `p` for a partial application
+  -- a value: `_` for Bottom, `v` for a variable, `k` for a constructor, `p` for a partial
+  -- application
   pub value_text : Value → List ℕ
   value_text value.Bottom = codes "_"
   value_text (value.Variable x) = codes "v" ++ decimal x

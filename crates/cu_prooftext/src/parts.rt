@@ -1,5 +1,5 @@
 //! What is written of numbers, literals and heads.
-ghost use Rattle.std.specs.Prelude.{◌≡◌, ◌++◌, OnOk, codes, decimal};
+ghost use Rattle.std.specs.Prelude.{◌≡◌, ◌++◌, OnOk, decimal};
 ghost use Rattle.cu_prooftext.specs.Text.{count_text, head_text, literal_text, mode_text};
 
 use cu_kernel::{Head, Lit, Mode};

@@ -1,5 +1,5 @@
 //! What is written of steps and claims, and of a whole proof.
-ghost use Rattle.std.specs.Prelude.{◌≡◌, ◌++◌, OnErr, OnOk, decimal, length, map, take};
+ghost use Rattle.std.specs.Prelude.{◌≡◌, ◌++◌, OnErr, OnOk, decimal, map};
 ghost use Rattle.std.specs.List.{flat_map};
 ghost use Rattle.cu_crwl.specs.Meaning.{claim_of, step_of, statement_of};
 ghost use Rattle.cu_prooftext.specs.Text.{binding_text, claim_text, claimed_text, further_text, heading_text, list_text, proof_text, statement_text, step_text};

@@ -1,0 +1,12 @@
+use Rattle.std.proofs.Common.{◌≡◌, length}
+use Rattle.cu_prooftext.specs.Inside.Lines.{further_bindings}
+use Rattle.cu_prooftext.specs.Inside.Loops.{with_front}
+use Rattle.cu_prooftext.proofs.lists.further_bindings.Given as goal
+
+-- the bindings so far and those that are left are all
+abbrev pub invariant-loop-after : goal.invariant-loop-after
+invariant-loop-after l =
+    with_front l.env.items (further_bindings l.last l.rest) ≡ with_front l.fn.front.items (further_bindings l.fn.found l.fn.bytes)
+
+abbrev pub decreases-loop-after : goal.decreases-loop-after
+decreases-loop-after l = length l.rest
