@@ -1,6 +1,7 @@
 -- Graphs after several layers.
 use Rattle.std.proofs.Common.{◌≡◌, ℕ, zero, suc, ◌+◌, ◌-◌, ◌<◌, ◌≤◌, List, [], ◌∷◌, ◌++◌, length, map, replicate, take, get_or, Option, None, Some, IfSome, option_to_list, refl, ap, sym, subst, ◌∙◌, arith}
 use Rattle.std.proofs.lemmas.List.{length-append, map-append, map_push, get_or-map, length-map, map-id, replicate_more, take_all}
+use Rattle.std.specs.Arc.{arc_value}
 use Rattle.cu_machine.specs.Graph.{Graph, Node, node_at}
 use Rattle.cu_frozen.specs.declared.store.Segments.{Segments}
 use Rattle.cu_frozen.specs.Layers.{Layer, Amends, AreFrozen, AreLaid, Holds, Leaves, Shows, laid, over, written}
@@ -198,10 +199,10 @@ pub size_of : (top : Layer) (below whole : Graph) → length below ≡ top.base 
 size_of top below whole fits is = ap length (sym is) ∙ length-over top below fits
 
 -- the same, where the segments are read through a pointer
-pub size_read : (kept read : Segments) (whole : Graph) → read ≡ kept → length (laid [] kept.frozen) ≡ kept.top.base
-    → over kept.top (laid [] kept.frozen) ≡ whole → length whole ≡ read.top.base + length read.top.added
+pub size_read : (kept read : Segments) (whole : Graph) → read ≡ kept → length (laid [] (arc_value kept.frozen)) ≡ kept.top.base
+    → over kept.top (laid [] (arc_value kept.frozen)) ≡ whole → length whole ≡ read.top.base + length read.top.added
 size_read kept read whole same fits is =
-    size_of kept.top (laid [] kept.frozen) whole fits is ∙ ap (λ (s : Segments). s.top.base + length s.top.added) (sym same)
+    size_of kept.top (laid [] (arc_value kept.frozen)) whole fits is ∙ ap (λ (s : Segments). s.top.base + length s.top.added) (sym same)
 
 -- ---- as many graphs as asked for
 

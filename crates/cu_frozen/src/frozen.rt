@@ -67,11 +67,11 @@ impl Frozen {
         unreachable!()
     }
 
-    /// The segments, shared with another owner.
+    /// The segments, shared with another owner, and room for one more.
     pub(crate) fn shared(&self, alloc: Global) -> Result<Frozen, AllocError>
         ensures { IfOk result (λ other. other ≡ self.now) }
     {
-        let mut segments = Vec::with_capacity(alloc, self.segments.len())?;
+        let mut segments = Vec::with_capacity(alloc, self.segments.len().saturating_add(1))?;
         for segment in &self.segments {
             segments.push(Arc::try_clone(segment)?)?;
         }

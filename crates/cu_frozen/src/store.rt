@@ -1,5 +1,6 @@
 //! A graph whose forks share the nodes that there were before the fork.
 ghost use Rattle.std.specs.Prelude.{◌≡◌, ◌<◌, [], IfOk, length};
+ghost use Rattle.std.specs.Arc.{arc_value};
 ghost use Rattle.cu_frozen.specs.Layers.{Shows, laid};
 
 use crate::frozen::Frozen;
@@ -7,6 +8,7 @@ use crate::segment::{Segment, Spot};
 use cu_graph::{Kind, NodeRef, Store};
 use std::alloc::{AllocError, Global};
 use std::marker::Model;
+use std::sync::Arc;
 
 /// A graph of frozen segments, which forks share, and a segment of its own. All
 /// of it stands behind one pointer, so that a store is moved by one word.
@@ -15,33 +17,46 @@ pub struct FrozenStore {
     segments: Box<Segments>,
 }
 
-/// The segments of a graph: those that are frozen, and the one on top of them,
-/// which is written.
+/// The segments of a graph: those that are frozen, which its forks have as one
+/// list, and the one on top of them, which is written.
 #[derive(Drop)]
 struct Segments {
     alloc: Global,
-    frozen: Frozen,
+    frozen: Arc<Frozen>,
     top: Segment,
 }
 
 impl Model for FrozenStore {
     ghost use Rattle.std.specs.Prelude.{◌≡◌, [], length};
+    ghost use Rattle.std.specs.Arc.{arc_value};
     ghost use Rattle.cu_machine.specs.Graph.{Graph};
     ghost use Rattle.cu_frozen.specs.Layers.{laid, over};
 
     ghost Value = { Graph };
 
-    ghost view = { λ s. over s.segments.value.top (laid [] s.segments.value.frozen) };
+    ghost view = { λ s. over s.segments.value.top
+        (laid [] (arc_value s.segments.value.frozen)) };
 
-    ghost invariant = { λ s. length (laid [] s.segments.value.frozen)
+    ghost invariant = { λ s. length (laid [] (arc_value s.segments.value.frozen))
         ≡ s.segments.value.top.base };
+}
+
+/// The frozen segments of an `Arc`. Where it has other owners they keep them,
+/// and each segment gets an owner more.
+fn unshared(alloc: Global, shared: Arc<Frozen>) -> Result<Frozen, AllocError>
+    ensures { IfOk result (λ frozen. frozen ≡ arc_value shared) }
+{
+    match Arc::try_unwrap(shared) {
+        Ok(frozen) => Ok(frozen),
+        Err(shared) => shared.shared(alloc),
+    }
 }
 
 impl FrozenStore {
     /// A graph of frozen segments that have so many nodes.
-    fn over(alloc: Global, frozen: Frozen, count: u32) -> Result<FrozenStore, AllocError>
-        requires { length (laid [] frozen) ≡ count }
-        ensures { IfOk result (λ store. store ≡ laid [] frozen) }
+    fn over(alloc: Global, frozen: Arc<Frozen>, count: u32) -> Result<FrozenStore, AllocError>
+        requires { length (laid [] (arc_value frozen)) ≡ count }
+        ensures { IfOk result (λ store. store ≡ laid [] (arc_value frozen)) }
     {
         let top = Segment::new(alloc, count);
         let segments = Segments { alloc, frozen, top };
@@ -66,8 +81,8 @@ impl FrozenStore {
     fn freeze(self) -> Result<Frozen, AllocError>
         ensures { IfOk result (λ frozen. laid [] frozen ≡ self) }
     {
-        let segments = Box::into_inner(self.segments);
-        segments.frozen.with(segments.alloc, segments.top)
+        let Segments { alloc, frozen, top } = Box::into_inner(self.segments);
+        unshared(alloc, frozen)?.with(alloc, top)
     }
 }
 
@@ -75,7 +90,8 @@ impl Store for FrozenStore {
     ghost content = { λ s. s };
 
     fn empty(alloc: Global) -> Result<FrozenStore, AllocError> {
-        FrozenStore::over(alloc, Frozen::new(alloc), 0)
+        let frozen = Arc::new(alloc, Frozen::new(alloc))?;
+        FrozenStore::over(alloc, frozen, 0)
     }
 
     fn len(&self) -> u32 {
@@ -118,10 +134,12 @@ impl Store for FrozenStore {
             return Ok(stores);
         }
         let frozen = self.freeze()?;
+        let shared = Arc::new(alloc, frozen)?;
         for _ in 0..count - 1 {
-            stores.push(FrozenStore::over(alloc, frozen.shared(alloc)?, nodes)?)?;
+            let other = Arc::try_clone(&shared)?;
+            stores.push(FrozenStore::over(alloc, other, nodes)?)?;
         }
-        stores.push(FrozenStore::over(alloc, frozen, nodes)?)?;
+        stores.push(FrozenStore::over(alloc, shared, nodes)?)?;
         Ok(stores)
     }
 }

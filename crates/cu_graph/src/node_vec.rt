@@ -10,6 +10,12 @@ use std::alloc::{AllocError, Global};
 use std::marker::Model;
 use std::mem::size_of;
 
+/// For how many elements more there is room at least in a list that was moved.
+const LEAST_ROOM: usize = 4;
+
+/// The most elements that a list has that is moved to have more room.
+const MOST_MOVED: usize = 1_024;
+
 /// A node: what it is, and where its arguments stand among those of all nodes.
 #[derive(Clone, Copy)]
 struct Entry {
@@ -67,6 +73,34 @@ impl Entry {
     }
 }
 
+/// Makes room in a list for so many elements more, if it is small. A large one
+/// makes room by itself.
+#[inline(always)]
+fn make_room<T: Copy>(list: &mut Vec<T>, more: usize) -> Result<(), AllocError>
+    ensures { list.new.items ≡ list.old.items }
+{
+    let count = list.len();
+    if more <= list.capacity().saturating_sub(count) || count > MOST_MOVED {
+        return Ok(());
+    }
+    move_to_room(list, more)
+}
+
+/// Moves a list to memory that is taken anew, with room for so many elements
+/// more. A list by itself makes its memory larger where it is. There glibc holds
+/// the lock of the arena that the memory is from, for which other threads wait.
+#[inline(never)]
+fn move_to_room<T: Copy>(list: &mut Vec<T>, more: usize) -> Result<(), AllocError>
+    ensures { list.new.items ≡ list.old.items }
+{
+    let count = list.len();
+    let room = count.saturating_add(more.max(count).max(LEAST_ROOM));
+    let mut moved = Vec::with_capacity(*list.allocator(), room)?;
+    moved.extend_from_slice(list.as_slice())?;
+    *list = moved;
+    Ok(())
+}
+
 /// Writes a node's arguments after those of all nodes, and its kind after the
 /// wide ones if it is wide. An `Err` changes no node.
 fn append(
@@ -84,6 +118,7 @@ fn append(
         return Err(AllocError);
     }
     let kind = SmallKind::pack(wide, kind)?;
+    make_room(all, args.len())?;
     all.extend_from_slice(args)?;
     Ok(Entry {
         kind,
@@ -137,6 +172,7 @@ impl NodeVec {
             ≡ self.old ++ record { kind = kind; args = args.now } ∷ []) }
         ensures err { OnErr result (self.new ≡ self.old) }
     {
+        make_room(&mut self.entries, 1)?;
         let entry = append(&mut self.wide, &mut self.args, kind, args)?;
         self.entries.push(entry)?;
         Ok(())
