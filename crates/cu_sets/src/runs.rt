@@ -36,6 +36,7 @@ fn only_branch_of<S: Store>(outcome: Outcome<S>) -> Onward<S>
 }
 
 /// Whether there is exactly one branch.
+#[inline(never)]
 fn only<S: Store>(branches: Vec<Branch<S>>) -> Onward<S>
     ensures { GoesOnward S.content (Go branches) result }
 {

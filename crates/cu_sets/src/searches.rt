@@ -77,6 +77,30 @@ pub(crate) fn advance_with<S: Store>(
         (λ outcome. All (λ branch. IsValid program.now (state_of S.content branch))
         (branches_of outcome)) }
 {
+    if branch.is_running() {
+        return advance_level(alloc, program, workspace, branch, limits);
+    }
+    step_with(alloc, program, workspace, branch, limits)
+}
+
+/// One step of a branch, where a search may run in it: the levels of the
+/// searches that are being stepped stand in a list.
+#[inline(never)]
+fn advance_level<S: Store>(
+    alloc: Global,
+    program: &FlatProgram,
+    workspace: &mut Workspace,
+    branch: Branch<S>,
+    limits: &Limits,
+) -> Result<Outcome<S>, AllocError>
+    requires valid { IsValid program.now (state_of S.content branch) }
+    ensures next { IfOk result (λ outcome. next_of S.content outcome
+        ≡ next program.now limits.now (state_of S.content branch)) }
+    ensures inner { IfOk result (λ outcome. IsFalse (is_inner outcome)) }
+    ensures valid { IfOk result
+        (λ outcome. All (λ branch. IsValid program.now (state_of S.content branch))
+        (branches_of outcome)) }
+{
     let mut frames = Vec::new(alloc);
     let mut turn = begin(alloc, program, workspace, branch, limits)?;
     'turns: loop {

@@ -16,6 +16,9 @@ use cu_graph::{Kind, Store};
 use indexmap::IndexSet;
 use std::alloc::{AllocError, Global};
 
+/// For how many frames more a copy of a walk has room.
+const MORE_FRAMES: usize = 8;
+
 /// What the whole value of a node needs next.
 #[derive(Drop)]
 pub(crate) enum Demand {
@@ -664,9 +667,11 @@ impl KeptWalk {
         ensures { IfOk result (λ copy. (copy.truth ≡ self.now.truth)
             × (copy.frames.items ≡ self.now.frames.items) × (copy.place ≡ self.now.place)) }
     {
+        let mut frames = Vec::with_capacity(alloc, self.frames.len().saturating_add(MORE_FRAMES))?;
+        frames.extend_from_slice(self.frames.as_slice())?;
         Ok(KeptWalk {
             truth: self.truth,
-            frames: Vec::from_slice(alloc, self.frames.as_slice())?,
+            frames,
             place: self.place,
         })
     }

@@ -3,7 +3,7 @@ use Rattle.std.proofs.Common.{◌+◌}
 use Rattle.cu_step.specs.Outcome.{state_of}
 use Rattle.cu_sets.specs.Inside.Frames.{frames_size, turn_size}
 use Rattle.cu_sets.proofs.FrameLemmas.{Stands}
-use Rattle.cu_sets.proofs.searches.advance_with.Given as goal
+use Rattle.cu_sets.proofs.searches.advance_level.Given as goal
 
 abbrev pub invariant-turns : goal.invariant-turns
 invariant-turns g l =
