@@ -1,0 +1,7 @@
+mod LineLemmas
+mod WrittenLemmas
+mod SessionLemmas
+mod AnswerLemmas
+mod PieceLemmas
+mod EndLemmas
+mod ReadLemmas

@@ -1,0 +1,2 @@
+-- What the asker that counts answers.
+pub mod Counter
