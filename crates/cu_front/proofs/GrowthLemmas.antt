@@ -15,7 +15,7 @@ use Rattle.cu_modules.specs.Walk as walk
 use Rattle.cu_translation.specs.FaultOrder as functions
 use Rattle.cu_front.specs.declared.refusal.Refusal as code
 use Rattle.cu_front.specs.declared.refusal.Refusal.TheVariants as told
-use Rattle.cu_front.specs.Refusal.{GoalFunctional, InFunctions, InNames, Refusal, SetRecursion, Signature, SynonymCycle, TreeTooBig, TypeArity, TypeClash, Walked}
+use Rattle.cu_front.specs.Refusal.{InFunctions, InNames, Refusal, SetRecursion, Signature, SynonymCycle, TreeTooBig, TypeArity, TypeClash, Walked}
 use Rattle.cu_front.specs.RefusalMeaning.{FunctionIsKnown, RefusalIsKnown, function_named, of_names, refusal_meaning}
 
 -- what a table of more names says of a refusal

@@ -1,9 +1,11 @@
 mod AloneLemmas
 mod ClashLemmas
+mod CopyLemmas
 mod CycleLemmas
 mod FunctionLemmas
 mod GoalLemmas
 mod GrowthLemmas
+pub mod LoadedLemmas
 mod ModuleLemmas
 mod NamedLemmas
 mod ReadLemmas

@@ -10,3 +10,5 @@ pub mod Typings
 pub mod StageFaults
 -- Why the lifting of a program can't be run.
 pub mod Runnable
+-- What the stages come to for a goal in modules that are loaded.
+pub mod Questions

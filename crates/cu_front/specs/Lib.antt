@@ -18,5 +18,9 @@ pub mod Programs
 pub mod Compiling
 -- What the answers of `compile` tell.
 pub mod CompileAnswers
+-- Modules that are loaded once, and asked of later.
+pub mod Loaded
+-- What the faults of `ask` tell.
+pub mod AskAnswers
 -- What private contracts and invariants of loops say.
 pub mod Inside

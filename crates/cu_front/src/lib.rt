@@ -5,9 +5,12 @@
 #![tactic(auto)]
 
 mod asked;
+mod asking;
 mod fault;
 mod goal_text;
+mod loaded;
 mod modules_alone;
+mod names_copy;
 mod outcome;
 mod programs;
 mod refusal;
@@ -17,8 +20,11 @@ mod stages;
 mod translated;
 
 pub use asked::{Asked, AskedModule};
+pub use asking::{AskFault, ask};
 pub use fault::CompileFault;
+pub use loaded::{Loaded, load};
 pub use modules_alone::compile_module;
+pub use names_copy::copy_names;
 pub use refusal::Refusal;
 pub use runnable::Compiled;
 pub use stages::compile;

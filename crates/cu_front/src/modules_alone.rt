@@ -62,7 +62,11 @@ pub fn compile_module<L: Library>(
 }
 
 /// The program of these modules.
-fn alone(alloc: Global, names: &mut Names, modules: &[Module]) -> Result<Compiled, StageFault>
+pub(crate) fn alone(
+    alloc: Global,
+    names: &mut Names,
+    modules: &[Module],
+) -> Result<Compiled, StageFault>
     requires built_in { HasBuiltIn names.old }
     requires known { All (HasModule names.old) modules.now }
     requires ordered { AreOrdered (modules_of names.old modules.now) }

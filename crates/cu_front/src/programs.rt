@@ -190,7 +190,7 @@ fn test_types(
 /// # Errors
 ///
 /// The first fault of the functions of the modules; an allocation failure.
-fn read_outcome(
+pub(crate) fn read_outcome(
     alloc: Global,
     rooted: Rooted<'_>,
     scopes: Scopes,

@@ -4,8 +4,8 @@ ghost use Rattle.std.specs.List.{All, list_all};
 ghost use Rattle.cu_calculus.specs.Code.{body_of, function_arity, is_rule};
 ghost use Rattle.cu_calculus.specs.FlatProgram as flats;
 ghost use Rattle.cu_front.specs.CompileAnswers.{HasGoal};
-ghost use Rattle.cu_front.specs.Compiling.{root_in};
-ghost use Rattle.cu_front.specs.Inside.Stages.{ArePrograms, CompileBoth, RefusesBoth};
+ghost use Rattle.cu_front.specs.Compiling.{GoalCompiles, GoalRefused, root_in};
+ghost use Rattle.cu_front.specs.Inside.Stages.{ArePrograms, CompileBoth, IsWhole, RefusesBoth};
 ghost use Rattle.cu_front.specs.Inside.StageFaults.{Tells};
 ghost use Rattle.cu_front.specs.declared.fault.StageFault.TheVariants.{NoMemory};
 ghost use Rattle.cu_flat.specs.Layout.{laid_out};
@@ -50,6 +50,33 @@ pub(crate) fn run(
 {
     let Programs { modules, whole } = programs;
     runnable(alloc, names, modules)?;
+    run_whole(alloc, names, whole)
+}
+
+/// The program of modules and a goal, which were translated under a table of
+/// fewer names or of these.
+///
+/// # Errors
+///
+/// Why the goal is refused, or else why the program can't be run; an allocation
+/// failure.
+pub(crate) fn run_whole(
+    alloc: Global,
+    names: &mut Names,
+    whole: Outcome,
+) -> Result<Compiled, StageFault>
+    ensures program { (table : List (List ℕ)) (modules : List Named) (k : ℕ) (text : List ℕ)
+        → Extends table names.old → IsWhole table modules k text whole
+        → IfOk result (λ found. GoalCompiles modules k text names.new found.program
+        (flats.program_of found.flat)) }
+    ensures fault { (table : List (List ℕ)) (modules : List Named) (k : ℕ) (text : List ℕ)
+        → Extends table names.old → IsWhole table modules k text whole
+        → IfErr result (Tells names.new (GoalRefused modules k text)) }
+    ensures types { IfOk result (λ found. IsInferred found.program found.interface) }
+    ensures goal { IfOk result (λ found. HasGoal names.new found.program found.flat) }
+    ensures layout { IfOk result (λ found. found.flat ≡ laid_out (flats.program_of found.flat)) }
+    ensures names { Extends names.old names.new }
+{
     match whole {
         Outcome::Program(program) => {
             let found = runnable(alloc, names, program)?;

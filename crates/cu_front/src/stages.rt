@@ -119,7 +119,7 @@ fn in_modules(
 }
 
 /// The number of the module of a name.
-fn root_in(names: &Names, modules: &[Module], root: &str) -> Option<u32>
+pub(crate) fn root_in(names: &Names, modules: &[Module], root: &str) -> Option<u32>
     requires { All (HasModule names.now) modules.now }
     ensures number { IfSome result (λ k.
         meant.root_in (modules_of names.now modules.now) root.now ≡ k) }
