@@ -5,3 +5,4 @@ mod ListingLemmas
 mod LineLemmas
 mod BranchLemmas
 mod TotalsLemmas
+mod NextLemmas

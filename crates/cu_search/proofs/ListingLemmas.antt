@@ -1,5 +1,5 @@
 -- What a round leaves of a listing.
-use Rattle.std.proofs.Common.{◌≡◌, ℕ, zero, suc, ◌+◌, ◌-◌, ◌≤◌, Bool, true, false, List, [], ◌∷◌, ◌++◌, Option, None, Some, length, refl, sym, ap, subst, ◌∙◌, arith, append_assoc}
+use Rattle.std.proofs.Common.{◌≡◌, ℕ, zero, suc, ◌+◌, ◌-◌, ◌<◌, ◌≤◌, Bool, true, false, List, [], ◌∷◌, ◌++◌, Option, None, Some, length, refl, sym, ap, subst, ◌∙◌, arith, append_assoc}
 use Rattle.std.proofs.Math.Dec.{eqb-suc-zero}
 use Rattle.std.proofs.lemmas.Bool.{eq-eqb, ltb-false, ne_eqb}
 use Rattle.std.proofs.lemmas.List.{append-nil}
@@ -78,6 +78,14 @@ left-goes_on s within none = left-is s within ∙ ap (λ end. after_lines (round
 pub left-ends : (s : Standing) (end : End) → s.round ≤ s.limits.rounds → end_at s ≡ Some end → left_of s ≡ after_lines (round_at s).lines (only_end end)
 left-ends s end within some = left-is s within ∙ ap (λ end. after_lines (round_at s).lines (unless_ended end (left_of (next_of s)))) some
 
+after-only_end : (lines : List Line) (end : End) → after_lines lines (only_end end) ≡ record { lines = lines; end = end }
+after-only_end lines end = rw (append-nil lines) refl
+
+-- what is left where the listing ends with the next round is that round
+pub left-last : (s : Standing) (end : End) → s.round ≤ s.limits.rounds → end_at s ≡ Some end
+    → left_of s ≡ record { lines = (round_at s).lines; end = end }
+left-last s end within some = left-ends s end within some ∙ after-only_end (round_at s).lines end
+
 -- ---- bytes
 
 bytes-after_lines : (notation : Notation) (lines : List Line) (listing : Listing)
@@ -90,8 +98,14 @@ bytes-after_lines notation (line ∷ lines) listing =
 bytes-only_end : (notation : Notation) (end : End) → listing_bytes notation (only_end end) ≡ end_text end
 bytes-only_end notation end = append-nil (end_text end)
 
+-- what is left where the listing goes on after the next round
+pub bytes-goes_on : (s : Standing) → s.round ≤ s.limits.rounds → end_at s ≡ None
+    → listing_bytes s.notation (left_of s) ≡ lines_bytes s.notation (round_at s).lines ++ listing_bytes s.notation (left_of (next_of s))
+bytes-goes_on s within none =
+    ap (listing_bytes s.notation) (left-goes_on s within none) ∙ bytes-after_lines s.notation (round_at s).lines (left_of (next_of s))
+
 -- what is left where the listing ends with the next round
-bytes-ends : (s : Standing) (end : End) → s.round ≤ s.limits.rounds → end_at s ≡ Some end
+pub bytes-ends : (s : Standing) (end : End) → s.round ≤ s.limits.rounds → end_at s ≡ Some end
     → listing_bytes s.notation (left_of s) ≡ lines_bytes s.notation (round_at s).lines ++ end_text end
 bytes-ends s end within some =
     ap (listing_bytes s.notation) (left-ends s end within some)
@@ -164,6 +178,14 @@ end_after-None limits d waits count within none =
     let narrow = if-None (nat_lt limits.step.width count) (Stopped (TooWide count) (d + 1)) None more.1 in
     let differ : d ≡ limits.rounds → ⊥ = λ same. eqb-true d limits.rounds same more.0 in
     (omega (arith, differ, within), ltb-false limits.step.width count narrow.0)
+
+-- where the listing goes on, the next round isn't the last one that the limit allows
+pub round-goes_on : (s : Standing) → s.round ≤ s.limits.rounds → end_at s ≡ None → s.round < s.limits.rounds
+round-goes_on s within none =
+    let waits = (round_at s).tally.waits in
+    let count = length (level_after s) in
+    let next = or-None (round_at s).end (end_after s.limits s.round waits count) none in
+    let more = (end_after-None s.limits s.round waits count within next).0 in omega (arith, more)
 
 -- a search after a round with this count and this level
 abbrev pub advanced : Standing → Tally → List State → Standing

@@ -10,5 +10,9 @@ pub mod Written
 pub mod Rounds
 -- Where searches of the code stand.
 pub mod Stands
+-- Where paused searches of the code stand.
+pub mod Paused
 -- What the lines of a listing come to.
 pub mod Totals
+-- The next lines of a listing, which are asked for one after another.
+pub mod NextLines

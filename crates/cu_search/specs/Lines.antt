@@ -45,6 +45,11 @@ bindings_text labels (name ∷ names) (value ∷ values) =
     codes "{" ++ (binding_text labels name value
     ++ (further_bindings labels names values ++ codes "} "))
 
+-- an answer, as its line has it after the mark of the round
+abbrev pub answer_text : Notation → List Value → Value → List ℕ
+answer_text notation bindings value =
+    bindings_text notation.labels notation.variables bindings ++ display notation.labels value
+
 -- ---- waits
 
 -- a variable that is waited for: a goal variable by its name, another variable by its number

@@ -40,7 +40,11 @@ fn begin_line(page: &mut Page, round: u64) -> Result<(), AllocError>
 }
 
 /// Writes what the goal's variables are bound to, where it has some.
-fn push_bindings(page: &mut Page, wording: &Wording, values: &[Value]) -> Result<(), AllocError>
+pub(crate) fn push_bindings(
+    page: &mut Page,
+    wording: &Wording,
+    values: &[Value],
+) -> Result<(), AllocError>
     ensures { OnOk result (page.new.line.items ≡ page.old.line.items
         ++ bindings_text (notation_of wording.now).labels
         (notation_of wording.now).variables values.now) }

@@ -1,5 +1,5 @@
 //! Counts of what was listed.
-ghost use Rattle.std.specs.Prelude.{◌≡◌, OnOk};
+ghost use Rattle.std.specs.Prelude.{◌≡◌, ◌+◌, OnOk};
 ghost use Rattle.cu_machine.specs.Listing.{one_answer, one_wait};
 
 use std::alloc::AllocError;
@@ -43,6 +43,13 @@ impl Tally {
         ensures { result ≡ self.now.waits }
     {
         self.waits
+    }
+
+    /// How many lines were listed.
+    pub(crate) fn lines(&self) -> u128
+        ensures { result ≡ self.now.answers + self.now.waits }
+    {
+        u128::from(self.answers) + u128::from(self.waits)
     }
 
     /// Counts an answer.

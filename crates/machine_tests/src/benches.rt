@@ -1,5 +1,5 @@
 //! Searches of a lowered program, as the text that they write.
-ghost use Rattle.std.specs.Prelude.{IfSome};
+ghost use Rattle.std.specs.Prelude.{◌≡◌, IfSome};
 ghost use Rattle.cu_search.specs.Rounds.{IsWorkerCount};
 ghost use Rattle.cu_search.specs.Standing.{IsGoing};
 ghost use Rattle.cu_search.specs.Stands.{standing_of};
@@ -19,15 +19,15 @@ use std::process::Abort;
 use std::thread::Threads;
 
 /// How many bytes a listing may have.
-const ROOM: usize = 4096;
+pub(crate) const ROOM: usize = 4096;
 
 /// The programs, and the names of their parts.
 #[derive(Drop)]
 pub(crate) struct Bench {
     pub(crate) alloc: Global,
-    code: FlatProgram,
-    kernel: Program,
-    names: Names,
+    pub(crate) code: FlatProgram,
+    pub(crate) kernel: Program,
+    pub(crate) names: Names,
 }
 
 impl Bench {
@@ -79,7 +79,9 @@ pub(crate) fn open<'p, S: Store>(
     goal: &'p Goal,
     limits: SearchLimits,
 ) -> Option<Search<'p, S>>
-    ensures { IfSome result (λ search. IsGoing (standing_of S.content search)) }
+    ensures going { IfSome result (λ search. IsGoing (standing_of S.content search)) }
+    ensures code { IfSome result (λ search.
+        (standing_of S.content search).code ≡ bench.entry.now.code) }
 {
     let arity = bench.code.arity_if_known(Head::Fun(goal.function))?;
     let Some(FlatBody::Rule(_, _)) = bench.code.body(goal.function) else {

@@ -19,6 +19,8 @@ mod listings;
 #[cfg(test)]
 mod operations;
 #[cfg(test)]
+mod pauses;
+#[cfg(test)]
 mod programs;
 #[cfg(test)]
 mod random;

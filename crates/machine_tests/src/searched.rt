@@ -174,7 +174,8 @@ const SORT_VALUES: usize = 11;
 /// `sortValues (set1 f coin)`
 pub(crate) const SORTED: usize = 12;
 
-const RAISED_COIN: usize = 13;
+/// `g = f coin`
+pub(crate) const RAISED_COIN: usize = 13;
 
 /// `sortValues (set0 g)`, where `g = f coin`
 pub(crate) const ALL_SORTED: usize = 14;
