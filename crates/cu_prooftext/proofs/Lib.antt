@@ -28,6 +28,8 @@ pub mod TermLaws
 pub mod WholeLaws
 -- Lines.
 pub mod LineLaws
+-- Files.
+pub mod FileLaws
 -- Steps of numbers.
 pub mod NumberSteps
 -- Steps over cells.

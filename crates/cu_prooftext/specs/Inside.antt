@@ -11,7 +11,7 @@ pub mod Loops
 pub mod Ranges
 -- The readers of the format.
 pub mod Reading
--- The readers of lines and whole texts.
+-- The readers of lines, whole texts and files.
 pub mod Lines
 -- Patterns and terms part by part.
 pub mod Frames

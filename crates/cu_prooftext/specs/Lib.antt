@@ -6,6 +6,8 @@ pub mod Text
 pub mod Format
 -- Whole texts, their prefixes, and the fault of bytes that are none.
 pub mod Faults
+-- Files: a goal, and the proof of an answer to it.
+pub mod Files
 -- What a fault of the code says.
 pub mod Reads
 -- What private contracts and invariants of loops say.

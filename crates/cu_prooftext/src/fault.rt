@@ -4,12 +4,12 @@ ghost use Rattle.cu_prooftext.specs.declared.fault.Fault.TheVariants.{NoMemory};
 
 use std::alloc::{AllocError, AllocFailed};
 
-/// Why the text of a proof isn't read.
+/// Why the text of a proof, or a file, isn't read.
 #[derive(Clone, Copy, Debug, Drop, PartialEq, Eq)]
 pub enum ProofFault {
-    /// The bytes are no text of a proof: the offset of the first byte up to
-    /// and with which no text begins, or the number of the bytes where they
-    /// end unfinished.
+    /// The bytes are no text of a proof, or no file: the offset of the first
+    /// byte up to and with which none begins, or the number of the bytes where
+    /// they end unfinished.
     BadProof(usize),
     /// An allocation failure.
     NoMemory,

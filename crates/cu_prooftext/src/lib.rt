@@ -1,9 +1,10 @@
 //! The text of proofs: what is written of a proof and of the claims that it
-//! may use, and read again.
+//! may use, and read again, and files that have a goal before such a text.
 #![tactic(auto)]
 
 mod cells;
 mod fault;
+mod files;
 mod heads;
 mod laws;
 mod lines;
@@ -21,6 +22,7 @@ mod values;
 mod writing;
 
 pub use fault::ProofFault;
-pub use laws::texts_are_of_one_proof;
+pub use files::{File, read_file};
+pub use laws::{files_are_of_one_goal, texts_are_of_one_proof};
 pub use reading::read_proof;
 pub use writing::write_proof;

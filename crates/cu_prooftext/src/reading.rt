@@ -13,7 +13,7 @@ use cu_crwl::{Claim, Claims, Proof, Step};
 use std::alloc::Global;
 
 /// Claims and steps.
-fn lines_at(alloc: Global, bytes: &[u8]) -> Read<'_, (Vec<Claim>, Vec<Step>)>
+pub(crate) fn lines_at(alloc: Global, bytes: &[u8]) -> Read<'_, (Vec<Claim>, Vec<Step>)>
     ensures { Gives (λ x. ((map claim_of x.0.0.items, map step_of x.0.1.items), x.1.now)) result
         (lines_at bytes.now) }
 {

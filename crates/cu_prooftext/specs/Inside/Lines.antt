@@ -1,5 +1,5 @@
--- The readers of steps, claims and whole texts.
-use Rattle.std.specs.Prelude.{ℕ, zero, suc, ◌+◌, Bool, true, List, [], ◌∷◌, Option, None, Some, Result, Ok, Err, codes, length, nat_lt}
+-- The readers of steps, claims, whole texts and files.
+use Rattle.std.specs.Prelude.{ℕ, zero, suc, ◌+◌, Bool, true, List, [], ◌∷◌, Option, None, Some, Result, Ok, Err, codes, drop, if◌then◌else◌, length, nat_le, nat_lt, take}
 use Rattle.cu_calculus.specs.Gives.{Claim}
 use Rattle.cu_calculus.specs.Match.{Bindings}
 use Rattle.cu_calculus.specs.Proof.{Statement, Step}
@@ -135,3 +135,22 @@ alone (x, b ∷ bs) = Err (length (b ∷ bs))
 
 abbrev pub read_alone : {A : Type 0} → Reader A → List ℕ → Result A ℕ
 read_alone r bytes = r bytes >>= alone
+
+-- ---- files
+
+-- so many bytes
+abbrev pub taken_at : ℕ → Reader (List ℕ)
+taken_at n bytes = if nat_le n (length bytes) then Ok (take n bytes, drop n bytes) else Err 0
+
+-- how many bytes a goal has, and the goal
+abbrev pub counted_at : Reader (List ℕ)
+counted_at =
+    made (λ p. p.1) (pair (after (codes "goal ") index_at) (λ n. after (codes " ") (taken_at n)))
+
+-- the first line of a file
+abbrev pub goal_at : Reader (List ℕ)
+goal_at = ended counted_at (codes "\n")
+
+-- a goal, and claims and steps
+abbrev pub file_at : Reader (List ℕ × (List Claim × List Step))
+file_at = pair goal_at (λ goal. lines_at)
