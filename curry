@@ -34,8 +34,11 @@ def run_unproved(words):
     """Runs the sources as they are, and tells the status."""
     import unproved
 
-    why = "no proved program of these sources stands here, so this runs them unproved, which takes minutes"
-    say(f"{why}; {program.TOP}/prove makes the proved program")
+    why = "no proved program of these sources stands here"
+    if words == ["session"]:
+        say(f"{why}, and no other one reads lines as they come; {program.TOP}/prove makes it")
+        return NO_ANSWER
+    say(f"{why}, so this runs them unproved, which takes minutes; {program.TOP}/prove makes the proved program")
     try:
         written, status = unproved.answer(words)
     except unproved.NoAnswer as error:

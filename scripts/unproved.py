@@ -39,6 +39,13 @@ def redirected(words, given):
     return words, folder
 
 
+def checked(words):
+    """The place of the file that a `check` reads among its words, if they name one."""
+    taken = [place for place, word in enumerate(words) if word in ("--", "--dir") or word.startswith("--dir=")]
+    left = [place for place in range(1, len(words)) if place not in taken and words[place - 1] != "--dir"]
+    return left[1] if words[:1] == ["check"] and len(left) == 2 else None
+
+
 def modules(words, folder):
     """The files of a folder that the program may ask for: those of modules whose names are words, or stand in such a file."""
     found, left = {}, {name for name in words if re.fullmatch(NAME, name.encode())}
@@ -83,7 +90,13 @@ def answer(words):
         raise NoAnswer("a word isn't UTF-8; only the proved program can answer to this") from error
     words, folder = redirected(words, "given")
     files = modules(words, folder or ".")
-    written, said = tried(["--", *words], {f"given/{name}" if folder else name: file for name, file in files.items()})
+    given = {f"given/{name}" if folder else name: file for name, file in files.items()}
+    place = checked(words)
+    if place and pathlib.Path(words[place]).exists():
+        if words[place].startswith("/") or ".." in pathlib.Path(words[place]).parts:
+            raise NoAnswer("the file isn't below this folder; only the proved program can answer to this")
+        given[words[place]] = pathlib.Path(words[place]).absolute()
+    written, said = tried(["--", *words], given)
     ended = ENDED.search(said)
     if ended:
         return written, int(ended[1])
@@ -92,11 +105,14 @@ def answer(words):
 
 
 def in_folder(words, folder):
-    """The words with which a command finds its modules where its files are laid out in this folder."""
+    """The words with which a command finds its modules, and its file, where its files are laid out in this folder."""
+    words, place = list(words), checked(words)
+    if place:
+        words[place] = f"{folder}/{words[place]}"
     _, named = redirected(words, folder)
     if named:
         return redirected(words, f"{folder}/{named}")[0]
-    if words[:1] in (["solve"], ["compile"]):
+    if words[:1] in (["solve"], ["compile"], ["check"]):
         return [words[0], "--dir", folder, *words[1:]]
     return words
 
@@ -113,7 +129,9 @@ def lay_out(runs, room):
             file.write_bytes(text)
             files[f"{folder}/{name}"] = file
         case.write_bytes(b"")
-        case.with_suffix(".stdout").write_bytes(run.written)
+        # The program knows a file that isn't there by another name too.
+        missing = b"refused 32 MissingFile "
+        case.with_suffix(".stdout").write_bytes(run.written.replace(missing, missing + f"{folder}/".encode()))
         if run.words:
             case.with_suffix(".args").write_text("".join(word + "\n" for word in in_folder(run.words, folder)))
     return files

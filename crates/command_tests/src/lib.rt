@@ -4,6 +4,8 @@
 #[cfg(test)]
 mod answers;
 #[cfg(test)]
+mod checks;
+#[cfg(test)]
 mod commands;
 #[cfg(test)]
 mod files;
@@ -13,6 +15,10 @@ mod memory;
 mod output;
 #[cfg(test)]
 mod runs;
+#[cfg(test)]
+mod sessions;
+#[cfg(test)]
+mod slow;
 #[cfg(test)]
 mod texts;
 #[cfg(test)]

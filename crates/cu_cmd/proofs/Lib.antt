@@ -1,4 +1,9 @@
+pub mod CheckLemmas
 pub mod DepthLemmas
 pub mod ReportLemmas
 pub mod SearchLemmas
 pub mod TotalsLemmas
+pub mod SessionLemmas
+pub mod QuestionLemmas
+pub mod ServeLemmas
+pub mod AskingLemmas

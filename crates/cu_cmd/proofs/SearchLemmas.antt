@@ -15,7 +15,7 @@ use Rattle.cu_search.specs.Totals.{totals_of}
 use Rattle.cu_search.specs.Written.{Adds, AddsPrefix}
 use Rattle.cu_search.specs.declared.totals.Totals.{Totals}
 use Rattle.cu_theorem.specs.Listed.{listing_of}
-use Rattle.cu_cmd.specs.Report.{listing_text, notation_of}
+use Rattle.cu_cmd.specs.Listings.{listing_text, notation_of}
 use Rattle.cu_cmd.specs.Trials.{totals_pieces, totals_text}
 
 -- the goal of a program is one

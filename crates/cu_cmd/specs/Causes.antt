@@ -31,3 +31,11 @@ IsUsage answer = ⊥
 abbrev pub IsNotUsage : Status → Type 0
 IsNotUsage status.Usage = ⊥
 IsNotUsage answer = Unit {0}
+
+-- The status is one that a session may end with.
+abbrev pub IsOfSession : Status → Type 0
+IsOfSession status.Done = Unit {0}
+IsOfSession status.ReadFault = Unit {0}
+IsOfSession status.WriteFault = Unit {0}
+IsOfSession status.NoMemory = Unit {0}
+IsOfSession answer = ⊥

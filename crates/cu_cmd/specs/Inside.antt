@@ -3,3 +3,7 @@
 
 -- How the parts of a run end, and what they wrote.
 pub mod Runs
+-- What a session has between two lines.
+pub mod Conversations
+-- What a session wrote, and what became of the counts of faults.
+pub mod Served

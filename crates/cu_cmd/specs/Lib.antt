@@ -1,5 +1,13 @@
 -- In the order in which to read them.
 
+-- The text of a goal's listing.
+pub mod Listings
+-- What a check writes.
+pub mod Checking
+-- What a session replies to its lines.
+pub mod Replies
+-- What a session writes.
+pub mod Sessions
 -- What a run writes, and the status that it ends with.
 pub mod Report
 -- The module and the goal of a trial, and what it writes.

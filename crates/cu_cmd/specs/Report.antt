@@ -1,5 +1,5 @@
 -- The report of a run, from the words to the bytes: what it writes and the status that it ends
--- with, by its words and by what the library holds.
+-- with, by its words, by what the library holds and by the input.
 use Rattle.std.specs.Prelude.{
   ◌≡◌,
   ℕ,
@@ -8,47 +8,43 @@ use Rattle.std.specs.Prelude.{
   List,
   [],
   ◌∷◌,
-  Option,
   Some,
   codes,
-  map,
   slice_get,
 }
-use Rattle.std.specs.List.{concat}
 use Rattle.cu_calculus.specs.Program as calculus
 use Rattle.cu_flattext.specs.Text.{text_of_module}
 use Rattle.cu_front.specs.Compiling.{Compiles, RootCompiles, ModulesRefused, RequestRefused}
 use Rattle.cu_front.specs.Refusal.{Refusal}
 use Rattle.cu_front.specs.RefusalLine.{refusal_line}
+use Rattle.cu_io.specs.Holdings.{Holdings}
 use Rattle.cu_kernel.specs.Kernel.{Goal, Kernel}
 use Rattle.cu_kernel.specs.TypeExpr.{TypeExpr}
 use Rattle.cu_machine.specs.Listing.{Listing}
 use Rattle.cu_machine.specs.declared.End.{End}
 use Rattle.cu_machine.specs.declared.End.TheVariants as ends
-use Rattle.cu_names.specs.Texts.{text_of}
 use Rattle.cu_names.specs.declared.names.NameId.{NameId}
-use Rattle.cu_search.specs.Lines.{Notation, pieces}
 use Rattle.cu_search.specs.Totals.{totals_of}
 use Rattle.cu_theorem.specs.Listed.{listing_of}
-use Rattle.cu_values.specs.ProgramLabels.{labels_of}
 use Rattle.cu_words.specs.Words.{
+  Checking,
   Command,
   Compile,
   Compiling,
   IsCommand,
   ReadsAs,
+  Serving,
   Solve,
   Solving,
   Trial,
   Trying,
 }
+use Rattle.cu_cmd.specs.Checking.{CheckReport}
+use Rattle.cu_cmd.specs.Listings.{listing_pieces}
+use Rattle.cu_cmd.specs.Sessions.{SessionReport}
 use Rattle.cu_cmd.specs.Trials.{totals_pieces, trial_goal, trial_held, trial_limits}
 use Rattle.cu_cmd.specs.declared.status.Status.{Status}
 use Rattle.cu_cmd.specs.declared.status.Status.TheVariants as status
-
--- the library as a function: the text of the module of a name in a folder, where there is one
-abbrev pub Folders : Type 0
-Folders = List ℕ → List ℕ → Option (List ℕ)
 
 -- ---- refusals
 
@@ -56,22 +52,7 @@ Folders = List ℕ → List ℕ → Option (List ℕ)
 abbrev pub usage_line : List ℕ
 usage_line = codes "bad command line\n"
 
--- ---- listings
-
--- the names that the listing of a goal uses, under a table of names
-abbrev pub notation_of : List (List ℕ) → Kernel → Goal → Notation
-notation_of names program goal = record {
-  labels = labels_of names program;
-  variables = map (text_of names) goal.names;
-}
-
--- the pieces of a goal's listing: its lines
-abbrev pub listing_pieces : List (List ℕ) → Kernel → Goal → Listing → List (List ℕ)
-listing_pieces names program goal found = pieces (notation_of names program goal) found
-
--- the bytes of a goal's listing
-abbrev pub listing_text : List (List ℕ) → Kernel → Goal → Listing → List ℕ
-listing_text names program goal found = concat (listing_pieces names program goal found)
+-- ---- statuses
 
 -- the status of a run whose listing has this end
 abbrev pub status_of : End → Status
@@ -85,28 +66,30 @@ status_of (ends.Stopped stop d) = status.Stopped
 
 -- What a `solve` writes, in pieces, and the status that it ends with: the line of a refusal, or the
 -- goal's listing.
-pub data SolveReport (held : Folders) (solve : Solve) : List (List ℕ) → Status → Type 0 where
+pub data SolveReport (held : Holdings) (solve : Solve) : List (List ℕ) → Status → Type 0 where
   -- The module or the goal is refused.
-  refused : (refusal : Refusal) → RequestRefused (held solve.folder) solve.name solve.goal refusal
+  refused : (refusal : Refusal)
+      → RequestRefused (held.module_at solve.folder) solve.name solve.goal refusal
       → SolveReport held solve (refusal_line refusal ∷ []) status.Refused
   -- The goal's listing is written.
   listed : (names : List (List ℕ)) (program : Kernel) (flat : calculus.Program) (goal : Goal)
       (found : Listing) (written : List (List ℕ)) (answer : Status)
-      → Compiles (held solve.folder) solve.name solve.goal names program flat
+      → Compiles (held.module_at solve.folder) solve.name solve.goal names program flat
       → program.goal ≡ Some goal → found ≡ listing_of solve.limits flat goal
       → written ≡ listing_pieces names program goal found → answer ≡ status_of found.end
       → SolveReport held solve written answer
 
 -- What a `compile` writes, in pieces, and the status that it ends with: the line of a refusal, or
 -- the module's text in FlatCurry.
-pub data CompileReport (held : Folders) (compile : Compile) : List (List ℕ) → Status → Type 0 where
+pub data CompileReport (held : Holdings) (compile : Compile) : List (List ℕ) → Status → Type 0 where
   -- The module is refused.
-  module_refused : (refusal : Refusal) → ModulesRefused (held compile.folder) compile.name refusal
+  module_refused : (refusal : Refusal)
+      → ModulesRefused (held.module_at compile.folder) compile.name refusal
       → CompileReport held compile (refusal_line refusal ∷ []) status.Refused
   -- The text of the module is written.
   printed : (names : List (List ℕ)) (program : Kernel) (interface : List TypeExpr)
       (flat : calculus.Program) (id : NameId) (text : List ℕ)
-      → RootCompiles (held compile.folder) compile.name names program interface flat
+      → RootCompiles (held.module_at compile.folder) compile.name names program interface flat
       → slice_get names id.0 ≡ Some compile.name
       → text ≡ text_of_module
       (record { names = names; kernel = program; interface = interface; flat = flat }) id
@@ -127,25 +110,31 @@ pub data TrialReport (trial : Trial) : List (List ℕ) → Status → Type 0 whe
       → written ≡ totals_pieces (totals_of found) found.end → answer ≡ status_of found.end
       → TrialReport trial written answer
 
--- What a command writes, in pieces, and the status that it ends with.
-abbrev pub CommandReport : Folders → Command → List (List ℕ) → Status → Type 0
-CommandReport held (Solving solve) = SolveReport held solve
-CommandReport held (Compiling compile) = CompileReport held compile
-CommandReport held (Trying trial) = TrialReport trial
+-- What a command writes, in pieces, and the status that it ends with, by what the library holds and
+-- by the input. A session alone reads the input.
+abbrev pub CommandReport : Holdings → List ℕ → Command → List (List ℕ) → Status → Type 0
+CommandReport held input (Solving solve) = SolveReport held solve
+CommandReport held input (Compiling compile) = CompileReport held compile
+CommandReport held input (Checking check) = CheckReport held check
+CommandReport held input Serving = SessionReport (held.module_at (codes ".")) input
+CommandReport held input (Trying trial) = TrialReport trial
 
 -- The command asks nothing of the library.
 abbrev pub AsksNothing : Command → Type 0
 AsksNothing (Solving solve) = ⊥
 AsksNothing (Compiling compile) = ⊥
+AsksNothing (Checking check) = ⊥
+AsksNothing Serving = ⊥
 AsksNothing (Trying trial) = Unit {0}
 
 -- ---- the report
 
--- What a run writes, in pieces, and the status that it ends with, by its words and by what the
--- library holds.
-pub data Report (words : List (List ℕ)) (held : Folders) : List (List ℕ) → Status → Type 0 where
+-- What a run writes, in pieces, and the status that it ends with, by its words, by what the library
+-- holds and by the input.
+pub data Report (words : List (List ℕ)) (held : Holdings) (input : List ℕ)
+    : List (List ℕ) → Status → Type 0 where
   -- The words are outside the command grammar.
-  usage : (IsCommand words → ⊥) → Report words held (usage_line ∷ []) status.Usage
+  usage : (IsCommand words → ⊥) → Report words held input (usage_line ∷ []) status.Usage
   -- The words are in the command grammar, and the command that they ask for is run.
   command : (asked : Command) (written : List (List ℕ)) (answer : Status) → ReadsAs words asked
-      → CommandReport held asked written answer → Report words held written answer
+      → CommandReport held input asked written answer → Report words held input written answer

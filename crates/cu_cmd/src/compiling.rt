@@ -26,7 +26,7 @@ pub(crate) fn compile<L: Library, S: Sink>(
     output: &mut S,
 ) -> Result<Status, RunFault>
     ensures ends { IfSome (L.holdings library.old) (λ held.
-        Ends result (CompileReport held.module_at (compile_of compile.entry))
+        Ends result (CompileReport held (compile_of compile.entry))
         (S.written output.old) (S.written output.new)) }
     ensures whole { EndsWhole result (Compiling (compile_of compile.entry))
         (S.written output.old) (S.written output.new) }

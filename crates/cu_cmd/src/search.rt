@@ -2,8 +2,8 @@
 ghost use Rattle.std.specs.Prelude.{◌≡◌, ◌≤◌, IfOk, OnErr, OnOk, Some};
 ghost use Rattle.cu_calculus.specs.FlatProgram as flats;
 ghost use Rattle.cu_cmd.specs.Report as report;
-ghost use Rattle.cu_cmd.specs.Report.{listing_text};
 ghost use Rattle.cu_cmd.specs.Inside.Runs.{HasWriteCause, IsCompleted};
+ghost use Rattle.cu_cmd.specs.Listings.{listing_text};
 ghost use Rattle.cu_flat.specs.Layout.{laid_out};
 ghost use Rattle.cu_front.specs.CompileAnswers.{HasGoal};
 ghost use Rattle.cu_kernel.specs.Kernel.{Goal};

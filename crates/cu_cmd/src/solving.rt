@@ -35,7 +35,7 @@ pub(crate) fn solve<R: Threads + Sync, G: Gate + Sync, L: Library, S: Sink>(
     requires workers { IsWorkerCount workers.now.count }
     requires width { solve.limits.step.width ≤ widest }
     ensures ends { IfSome (L.holdings library.old) (λ held.
-        Ends result (SolveReport held.module_at (solve_of solve.entry))
+        Ends result (SolveReport held (solve_of solve.entry))
         (S.written output.old) (S.written output.new)) }
     ensures whole { EndsWhole result (Solving (solve_of solve.entry))
         (S.written output.old) (S.written output.new) }

@@ -5,7 +5,8 @@ ghost use Rattle.cu_cmd.specs.Numbers.{number_of};
 /// How a run ends. The process ends with the status's number.
 #[derive(Clone, Copy, Debug, PartialEq, Eq)]
 pub enum Status {
-    /// The listing ends `no more`, and no branch waits.
+    /// The listing ends `no more`, and no branch waits; or the text of a module
+    /// or a verdict on a proof is whole.
     Done,
     /// The listing ends `no more`, and some branches wait.
     Floundered,
@@ -13,7 +14,7 @@ pub enum Status {
     Limit,
     /// The words aren't in the command grammar.
     Usage,
-    /// The module or the goal is refused.
+    /// A module, the goal or a file is refused.
     Refused,
     /// The listing ends since an operation overflows, or a branch, an answer
     /// or a level is too large.

@@ -6,21 +6,36 @@ use Rattle.cu_machine.specs.declared.SearchLimits.{SearchLimits}
 use Rattle.cu_words.specs.Numbers.{IsNumber}
 use Rattle.cu_words.specs.Words.{
   Asks,
+  Check,
+  Checking,
   Command,
   Compile,
   Compiling,
   HasLimits,
   HasNumber,
+  IsCheck,
   IsCompile,
   IsMaybeNumber,
   IsSolve,
   IsTrial,
+  Serving,
   Solve,
   Solving,
   Trial,
   Trying,
 }
-use Rattle.cu_words.proofs.ReaderLemmas.{compile_or_trial, solve_or_compile, solve_or_trial}
+use Rattle.cu_words.proofs.ReaderLemmas.{
+  check_or_session,
+  compile_or_check,
+  compile_or_session,
+  compile_or_trial,
+  solve_or_check,
+  solve_or_compile,
+  solve_or_session,
+  solve_or_trial,
+  trial_or_check,
+  trial_or_session,
+}
 
 met_once : {A : Type 0} (found : Option A) (a b : A) → found ≡ Some a → found ≡ Some b → a ≡ b
 met_once found a b one other = let same : Some a ≡ Some b = sym one ∙ other in cc
@@ -93,14 +108,41 @@ trial_once rows one other p q =
     let same : trial_by one.depth one.workers one.width one.stride ≡ trial_by other.depth other.workers other.width other.stride = cc in
     same
 
+abbrev check_by : Text → Text → Text → Check
+check_by name path folder = record { name = name; path = path; folder = folder }
+
+check_once : (rows : List Row) (one other : Check) → IsCheck rows one → IsCheck rows other → one ≡ other
+check_once rows one other p q =
+    let name = met_once (first_of (codes "MODULE") rows) one.name other.name p.name q.name in
+    let path = met_once (first_of (codes "FILE") rows) one.path other.path p.path q.path in
+    let folder = met_once (first_of (codes "dir") rows) one.folder other.folder p.folder q.folder in
+    let same : check_by one.name one.path one.folder ≡ check_by other.name other.path other.folder = cc in
+    same
+
 pub asks_once : (found : Option (Text × List Row)) (one other : Command) → Asks found one → Asks found other → one ≡ other
 asks_once None one other p q = absurd p
 asks_once (Some met) (Solving s) (Solving t) p q = ap Solving (solve_once met.1 s t p.1 q.1)
 asks_once (Some met) (Solving s) (Compiling t) p q = absurd (solve_or_compile (sym p.0 ∙ q.0))
 asks_once (Some met) (Solving s) (Trying t) p q = absurd (solve_or_trial (sym p.0 ∙ q.0))
+asks_once (Some met) (Solving s) (Checking t) p q = absurd (solve_or_check (sym p.0 ∙ q.0))
+asks_once (Some met) (Solving s) Serving p q = absurd (solve_or_session (sym p.0 ∙ q))
 asks_once (Some met) (Compiling s) (Solving t) p q = absurd (solve_or_compile (sym q.0 ∙ p.0))
 asks_once (Some met) (Compiling s) (Compiling t) p q = ap Compiling (compile_once met.1 s t p.1 q.1)
 asks_once (Some met) (Compiling s) (Trying t) p q = absurd (compile_or_trial (sym p.0 ∙ q.0))
+asks_once (Some met) (Compiling s) (Checking t) p q = absurd (compile_or_check (sym p.0 ∙ q.0))
+asks_once (Some met) (Compiling s) Serving p q = absurd (compile_or_session (sym p.0 ∙ q))
 asks_once (Some met) (Trying s) (Solving t) p q = absurd (solve_or_trial (sym q.0 ∙ p.0))
 asks_once (Some met) (Trying s) (Compiling t) p q = absurd (compile_or_trial (sym q.0 ∙ p.0))
 asks_once (Some met) (Trying s) (Trying t) p q = ap Trying (trial_once met.1 s t p.1 q.1)
+asks_once (Some met) (Trying s) (Checking t) p q = absurd (trial_or_check (sym p.0 ∙ q.0))
+asks_once (Some met) (Trying s) Serving p q = absurd (trial_or_session (sym p.0 ∙ q))
+asks_once (Some met) (Checking s) (Solving t) p q = absurd (solve_or_check (sym q.0 ∙ p.0))
+asks_once (Some met) (Checking s) (Compiling t) p q = absurd (compile_or_check (sym q.0 ∙ p.0))
+asks_once (Some met) (Checking s) (Trying t) p q = absurd (trial_or_check (sym q.0 ∙ p.0))
+asks_once (Some met) (Checking s) (Checking t) p q = ap Checking (check_once met.1 s t p.1 q.1)
+asks_once (Some met) (Checking s) Serving p q = absurd (check_or_session (sym p.0 ∙ q))
+asks_once (Some met) Serving (Solving t) p q = absurd (solve_or_session (sym q.0 ∙ p))
+asks_once (Some met) Serving (Compiling t) p q = absurd (compile_or_session (sym q.0 ∙ p))
+asks_once (Some met) Serving (Trying t) p q = absurd (trial_or_session (sym q.0 ∙ p))
+asks_once (Some met) Serving (Checking t) p q = absurd (check_or_session (sym q.0 ∙ p))
+asks_once (Some met) Serving Serving p q = refl

@@ -1,10 +1,28 @@
 -- What readers refuse, and what the matches of the command line say.
-use Rattle.std.proofs.Common.{◌≡◌, ◌∙◌, ap, sym, subst, refl, true, get_or, arith, List, [], Option, Some, None, IfNone, IfSome, codes}
+use Rattle.std.proofs.Common.{◌≡◌, ◌∙◌, ap, sym, subst, refl, true, get_or, arith, ℕ, List, [], Option, Some, None, IfNone, IfSome, codes}
 use Rattle.clap.specs.Words.{App, HasMatchesOf, IsAmong, Row, Text, fault_of, is_simple, is_simple_and_free, subcommand_of, subcommand_rows_of}
 use Rattle.clap.specs.declared.error.kind.ErrorKind.{ErrorKind}
 use Rattle.clap.specs.declared.parser.matches.ArgMatches.{ArgMatches}
 use Rattle.cu_words.specs.Command.{curry}
-use Rattle.cu_words.specs.Words.{Asks, Command, Compile, Compiling, IsCommand, IsCompile, IsSolve, IsTrial, ReadsAs, Solve, Solving, Trial, Trying}
+use Rattle.cu_words.specs.Words.{
+  Asks,
+  Check,
+  Checking,
+  Command,
+  Compile,
+  Compiling,
+  IsCheck,
+  IsCommand,
+  IsCompile,
+  IsSolve,
+  IsTrial,
+  ReadsAs,
+  Serving,
+  Solve,
+  Solving,
+  Trial,
+  Trying,
+}
 
 -- nothing has the property
 pub refuses : {A X : Type 0} (r : Option A) (P : X → Type 0) → ((x : X) → P x → ⊥) → IfNone r ((x : X) → P x → ⊥)
@@ -45,31 +63,65 @@ unread app words matches is has nothing command = nothing command.0 (subst (λ f
 pub at_fault : (app : App) (words : List Text) (kind : ErrorKind) → app ≡ curry → IsAmong kind (fault_of app words) → IsCommand words → ⊥
 at_fault app words kind is among command = subst (IsAmong kind) (ap (λ (a : App). fault_of a words) is ∙ command.1.right) among
 
--- the words of commands differ in their first letters
-differ : (one other : Text) → (get_or one 0 0 ≡ get_or other 0 0 → ⊥) → one ≡ other → ⊥
-differ one other apart same = apart (ap (λ (text : Text). get_or text 0 0) same)
+-- the words of commands differ in their first letters, or in the second
+differ : (place : ℕ) (one other : Text) → (get_or one place 0 ≡ get_or other place 0 → ⊥) → one ≡ other → ⊥
+differ place one other apart same = apart (ap (λ (text : Text). get_or text place 0) same)
 
 pub solve_or_compile : codes "solve" ≡ codes "compile" → ⊥
-solve_or_compile = differ _ _ (λ same. let first : 115 ≡ 99 = same in omega (arith, first))
+solve_or_compile = differ 0 _ _ (λ same. let first : 115 ≡ 99 = same in omega (arith, first))
 
 pub solve_or_trial : codes "solve" ≡ codes "trial" → ⊥
-solve_or_trial = differ _ _ (λ same. let first : 115 ≡ 116 = same in omega (arith, first))
+solve_or_trial = differ 0 _ _ (λ same. let first : 115 ≡ 116 = same in omega (arith, first))
+
+pub solve_or_check : codes "solve" ≡ codes "check" → ⊥
+solve_or_check = differ 0 _ _ (λ same. let first : 115 ≡ 99 = same in omega (arith, first))
+
+pub solve_or_session : codes "solve" ≡ codes "session" → ⊥
+solve_or_session = differ 1 _ _ (λ same. let second : 111 ≡ 101 = same in omega (arith, second))
 
 pub compile_or_trial : codes "compile" ≡ codes "trial" → ⊥
-compile_or_trial = differ _ _ (λ same. let first : 99 ≡ 116 = same in omega (arith, first))
+compile_or_trial = differ 0 _ _ (λ same. let first : 99 ≡ 116 = same in omega (arith, first))
+
+pub compile_or_check : codes "compile" ≡ codes "check" → ⊥
+compile_or_check = differ 1 _ _ (λ same. let second : 111 ≡ 104 = same in omega (arith, second))
+
+pub compile_or_session : codes "compile" ≡ codes "session" → ⊥
+compile_or_session = differ 0 _ _ (λ same. let first : 99 ≡ 115 = same in omega (arith, first))
+
+pub trial_or_check : codes "trial" ≡ codes "check" → ⊥
+trial_or_check = differ 0 _ _ (λ same. let first : 116 ≡ 99 = same in omega (arith, first))
+
+pub trial_or_session : codes "trial" ≡ codes "session" → ⊥
+trial_or_session = differ 0 _ _ (λ same. let first : 116 ≡ 115 = same in omega (arith, first))
+
+pub check_or_session : codes "check" ≡ codes "session" → ⊥
+check_or_session = differ 0 _ _ (λ same. let first : 99 ≡ 115 = same in omega (arith, first))
 
 -- a command of which nothing stands after its word
 pub no_solve : (rows : List Row) → ((solve : Solve) → IsSolve rows solve → ⊥) → (command : Command) → Asks (Some (codes "solve", rows)) command → ⊥
 no_solve rows none (Solving solve) asks = none solve asks.1
 no_solve rows none (Compiling compile) asks = solve_or_compile asks.0
 no_solve rows none (Trying trial) asks = solve_or_trial asks.0
+no_solve rows none (Checking check) asks = solve_or_check asks.0
+no_solve rows none Serving asks = solve_or_session asks
 
 pub no_compile : (rows : List Row) → ((compile : Compile) → IsCompile rows compile → ⊥) → (command : Command) → Asks (Some (codes "compile", rows)) command → ⊥
 no_compile rows none (Solving solve) asks = solve_or_compile (sym asks.0)
 no_compile rows none (Compiling compile) asks = none compile asks.1
 no_compile rows none (Trying trial) asks = compile_or_trial asks.0
+no_compile rows none (Checking check) asks = compile_or_check asks.0
+no_compile rows none Serving asks = compile_or_session asks
 
 pub no_trial : (rows : List Row) → ((trial : Trial) → IsTrial rows trial → ⊥) → (command : Command) → Asks (Some (codes "trial", rows)) command → ⊥
 no_trial rows none (Solving solve) asks = solve_or_trial (sym asks.0)
 no_trial rows none (Compiling compile) asks = compile_or_trial (sym asks.0)
 no_trial rows none (Trying trial) asks = none trial asks.1
+no_trial rows none (Checking check) asks = trial_or_check asks.0
+no_trial rows none Serving asks = trial_or_session asks
+
+pub no_check : (rows : List Row) → ((check : Check) → IsCheck rows check → ⊥) → (command : Command) → Asks (Some (codes "check", rows)) command → ⊥
+no_check rows none (Solving solve) asks = solve_or_check (sym asks.0)
+no_check rows none (Compiling compile) asks = compile_or_check (sym asks.0)
+no_check rows none (Trying trial) asks = trial_or_check (sym asks.0)
+no_check rows none (Checking check) asks = none check asks.1
+no_check rows none Serving asks = check_or_session asks

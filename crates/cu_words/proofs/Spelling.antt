@@ -9,7 +9,22 @@ use Rattle.clap.proofs.OnLiterals.{clap_on_literals}
 use Rattle.cu_words.specs.Command.{curry}
 use Rattle.cu_words.specs.Names.{is_module_name}
 use Rattle.cu_words.specs.Numbers.{IsIn, IsNumber}
-use Rattle.cu_words.specs.Words.{Asks, Compile, Compiling, IsInRange, IsMaybeNumber, IsTrialInRange, ReadsAs, Solve, Solving, Trial, Trying}
+use Rattle.cu_words.specs.Words.{
+  Asks,
+  Check,
+  Checking,
+  Compile,
+  Compiling,
+  IsInRange,
+  IsMaybeNumber,
+  IsTrialInRange,
+  ReadsAs,
+  Serving,
+  Solve,
+  Solving,
+  Trial,
+  Trying,
+}
 use Rattle.cu_words.proofs.NumberLemmas.{same_digits}
 
 -- a number in decimal digits
@@ -46,11 +61,11 @@ pub record Numbers (solve : Solve) : Type 0 where
 numbers : (solve : Solve) → IsInRange solve → Numbers solve
 numbers solve range = record {
   workers = maybe_number 64 solve.workers (omega arith) (omega arith) range.workers;
-  rounds = number 1000000000 solve.limits.rounds (omega arith) (omega arith) range.rounds;
-  answers = maybe_number 1000000000 solve.limits.answers (omega arith) (omega arith) range.answers;
-  nodes = number 16777216 solve.limits.step.nodes (omega arith) (omega arith) range.nodes;
-  width = number 1048576 solve.limits.step.width (omega arith) (omega arith) range.width;
-  stride = number 1000000 solve.limits.stride (omega arith) (omega arith) range.stride;
+  rounds = number 1000000000 solve.limits.rounds (omega arith) (omega arith) range.limits.rounds;
+  answers = maybe_number 1000000000 solve.limits.answers (omega arith) (omega arith) range.limits.answers;
+  nodes = number 16777216 solve.limits.step.nodes (omega arith) (omega arith) range.limits.nodes;
+  width = number 1048576 solve.limits.step.width (omega arith) (omega arith) range.limits.width;
+  stride = number 1000000 solve.limits.stride (omega arith) (omega arith) range.limits.stride;
 }
 
 -- the words that are left out where there is no such number
@@ -233,3 +248,36 @@ compiled_asks compile is_name = (refl, record { name = refl; is_name = is_name; 
 pub spelled_compile : (compile : Compile) → IsTrue (is_module_name compile.name) → (words : List Text) × ReadsAs words (Compiling compile)
 spelled_compile compile is_name =
     (compiled compile.name compile.folder, record { right = compiled_right compile.name compile.folder; asks = compiled_asks compile is_name })
+
+-- ---- proofs in files
+
+abbrev checked : (name path folder : Text) → List Text
+checked name path folder = codes "check" ∷ (codes "--dir=" ++ folder) ∷ codes "--" ∷ name ∷ path ∷ []
+
+checked_right : (name path folder : Text) → fault_of curry (checked name path folder) ≡ []
+unfolding clap_on_literals
+checked_right name path folder = refl
+
+checked_asks : (check : Check) → IsTrue (is_module_name check.name)
+    → Asks (subcommand_of curry (checked check.name check.path check.folder)) (Checking check)
+unfolding clap_on_literals
+checked_asks check is_name = (refl, record { name = refl; is_name = is_name; path = refl; folder = refl })
+
+pub spelled_check : (check : Check) → IsTrue (is_module_name check.name) → (words : List Text) × ReadsAs words (Checking check)
+spelled_check check is_name = (
+  checked check.name check.path check.folder,
+  record { right = checked_right check.name check.path check.folder; asks = checked_asks check is_name },
+)
+
+-- ---- sessions
+
+session_right : fault_of curry (codes "session" ∷ []) ≡ []
+unfolding clap_on_literals
+session_right = refl
+
+session_asks : Asks (subcommand_of curry (codes "session" ∷ [])) Serving
+unfolding clap_on_literals
+session_asks = refl
+
+pub spelled_session : (words : List Text) × ReadsAs words Serving
+spelled_session = (codes "session" ∷ [], record { right = session_right; asks = session_asks })

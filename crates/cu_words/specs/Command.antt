@@ -51,6 +51,20 @@ trial_rules = required (new_rule (codes "N"))
 abbrev pub trial : Shape
 trial = record (new_shape (codes "trial")) { rules = trial_rules }
 
+-- what follows `check` on the line: two words, and an option
+abbrev pub check_rules : List Rule
+check_rules = required (new_rule (codes "MODULE"))
+    ∷ required (new_rule (codes "FILE"))
+    ∷ or (option (codes "dir")) (codes ".")
+    ∷ []
+
+abbrev pub check : Shape
+check = record (new_shape (codes "check")) { rules = check_rules }
+
+-- nothing follows `session` on the line
+abbrev pub session : Shape
+session = new_shape (codes "session")
+
 -- the words after the program's name: a command and what follows it, with no words for help or
 -- version
 abbrev pub line : Shape
@@ -64,4 +78,4 @@ line = record (new_shape (codes "curry")) {
 }
 
 abbrev pub curry : App
-curry = record { top = line; subs = solve ∷ compile ∷ trial ∷ [] }
+curry = record { top = line; subs = solve ∷ compile ∷ trial ∷ check ∷ session ∷ [] }

@@ -9,3 +9,5 @@ pub mod Numbers
 pub mod Command
 -- What the words of a command line ask for.
 pub mod Words
+-- What the lines of a session ask for.
+pub mod Requests

@@ -4,6 +4,7 @@ use Rattle.clap.specs.Words.{Row, Text, fault_of, first_of, subcommand_of}
 use Rattle.cu_machine.specs.declared.SearchLimits.{SearchLimits}
 use Rattle.cu_words.specs.declared.asked.Asked.{Asked}
 use Rattle.cu_words.specs.declared.asked.Asked.TheVariants as asks
+use Rattle.cu_words.specs.declared.check.Check as checks
 use Rattle.cu_words.specs.declared.compile.Compile as compiles
 use Rattle.cu_words.specs.declared.solve.Solve as solves
 use Rattle.cu_words.specs.declared.trial.Trial as trials
@@ -33,11 +34,19 @@ pub record Trial : Type 0 where
   pub width : ℕ
   pub stride : ℕ
 
+-- a proof in the file of this path, over a module of a folder
+pub record Check : Type 0 where
+  pub name : List ℕ
+  pub path : List ℕ
+  pub folder : List ℕ
+
 -- a command of the line
 pub data Command : Type 0 where
   Solving : Solve → Command
   Compiling : Compile → Command
   Trying : Trial → Command
+  Checking : Check → Command
+  Serving : Command
 
 -- the text that stands in the words under this name, or else by default, is this one
 abbrev pub Has : List Row → Text → Text → Type 0
@@ -88,12 +97,21 @@ pub record IsTrial (rows : List Row) (trial : Trial) : Type 0 where
   pub width : HasNumber rows (codes "width") 1048576 trial.width
   pub stride : HasNumber rows (codes "stride") 1000000 trial.stride
 
+-- the words after `check` ask for this
+pub record IsCheck (rows : List Row) (check : Check) : Type 0 where
+  pub name : Has rows (codes "MODULE") check.name
+  pub is_name : IsTrue (is_module_name check.name)
+  pub path : Has rows (codes "FILE") check.path
+  pub folder : Has rows (codes "dir") check.folder
+
 -- the command that was met, with the words after it, is this one
 abbrev pub Asks : Option (Text × List Row) → Command → Type 0
 Asks None command = ⊥
 Asks (Some met) (Solving solve) = (met.0 ≡ codes "solve") × IsSolve met.1 solve
 Asks (Some met) (Compiling compile) = (met.0 ≡ codes "compile") × IsCompile met.1 compile
 Asks (Some met) (Trying trial) = (met.0 ≡ codes "trial") × IsTrial met.1 trial
+Asks (Some met) (Checking check) = (met.0 ≡ codes "check") × IsCheck met.1 check
+Asks (Some met) Serving = met.0 ≡ codes "session"
 
 -- `clap` finds no fault in the words, and the command that they name is this one
 pub record ReadsAs (words : List Text) (command : Command) : Type 0 where
@@ -104,14 +122,18 @@ pub record ReadsAs (words : List Text) (command : Command) : Type 0 where
 abbrev pub IsCommand : List Text → Type 0
 IsCommand words = (command : Command) × ReadsAs words command
 
+-- each limit is in the range that its option allows
+pub record AreInRange (limits : SearchLimits) : Type 0 where
+  pub rounds : IsIn 1 1000000000 limits.rounds
+  pub answers : IfSome limits.answers (IsIn 1 1000000000)
+  pub nodes : IsIn 1 16777216 limits.step.nodes
+  pub width : IsIn 1 1048576 limits.step.width
+  pub stride : IsIn 1 1000000 limits.stride
+
 -- each number of a `solve` is in the range that its option allows
 pub record IsInRange (solve : Solve) : Type 0 where
   pub workers : IfSome solve.workers (IsIn 1 64)
-  pub rounds : IsIn 1 1000000000 solve.limits.rounds
-  pub answers : IfSome solve.limits.answers (IsIn 1 1000000000)
-  pub nodes : IsIn 1 16777216 solve.limits.step.nodes
-  pub width : IsIn 1 1048576 solve.limits.step.width
-  pub stride : IsIn 1 1000000 solve.limits.stride
+  pub limits : AreInRange solve.limits
 
 pub record IsTrialInRange (trial : Trial) : Type 0 where
   pub depth : IsIn 0 14 trial.depth
@@ -123,12 +145,16 @@ abbrev pub HasItsRanges : Command → Type 0
 HasItsRanges (Solving solve) = IsInRange solve
 HasItsRanges (Compiling compile) = ⊤
 HasItsRanges (Trying trial) = IsTrialInRange trial
+HasItsRanges (Checking check) = ⊤
+HasItsRanges Serving = ⊤
 
 -- how many workers a command asks for, where its words name a number
 abbrev pub workers_asked : Command → Option ℕ
 workers_asked (Solving solve) = solve.workers
 workers_asked (Compiling compile) = None
 workers_asked (Trying trial) = trial.workers
+workers_asked (Checking check) = None
+workers_asked Serving = None
 
 -- the `solve` of the definitions that one of the reader stands for
 abbrev pub solve_of : solves.Solve → Solve
@@ -151,7 +177,16 @@ trial_of trial = record {
   stride = trial.stride;
 }
 
+abbrev pub check_of : checks.Check → Check
+check_of check = record {
+  name = check.«module».now;
+  path = check.path.now;
+  folder = check.folder.now;
+}
+
 abbrev pub asked : Asked → Command
 asked (asks.Solve solve) = Solving (solve_of solve)
 asked (asks.Compile compile) = Compiling (compile_of compile)
 asked (asks.Trial trial) = Trying (trial_of trial)
+asked (asks.Check check) = Checking (check_of check)
+asked asks.Session = Serving

@@ -1,4 +1,5 @@
 //! The commands of the line.
+use crate::check::Check;
 use crate::compile::Compile;
 use crate::solve::Solve;
 use crate::trial::Trial;
@@ -12,4 +13,8 @@ pub enum Asked<'a> {
     Compile(Compile<'a>),
     /// A trial of the search.
     Trial(Trial),
+    /// Whether the proof in a file is right.
+    Check(Check<'a>),
+    /// A session, whose lines the input has.
+    Session,
 }

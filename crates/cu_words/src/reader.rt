@@ -4,13 +4,14 @@ ghost use Rattle.std.specs.Prelude.{codes, map, option_map, string_bytes};
 ghost use Rattle.clap.specs.Words.{found_of, rows_of, first_of, subcommand_rows_of};
 ghost use Rattle.cu_words.specs.Names as names;
 ghost use Rattle.cu_words.specs.Words.{Asks, Has, HasDepth, HasItsRanges, HasLimits, HasNumber};
-ghost use Rattle.cu_words.specs.Words.{IsCommand, IsCompile, IsMaybeNumber, IsSolve};
-ghost use Rattle.cu_words.specs.Words.{IsTrial, ReadsAs, compile_of};
+ghost use Rattle.cu_words.specs.Words.{IsCheck, IsCommand, IsCompile, IsMaybeNumber, IsSolve};
+ghost use Rattle.cu_words.specs.Words.{IsTrial, ReadsAs, check_of, compile_of};
 ghost use Rattle.cu_words.specs.Words.{asked, solve_of, trial_of};
 ghost use Rattle.cu_words.specs.Words as spec;
 ghost use Rattle.cu_machine.specs.declared.SearchLimits as machine;
 
 use crate::asked::Asked;
+use crate::check::Check;
 use crate::command::command_line;
 use crate::compile::Compile;
 use crate::names::is_module_name;
@@ -49,6 +50,8 @@ fn read_command<'a>(matches: &ArgMatches<'a>) -> Option<Asked<'a>>
         ("solve", found) => asked_solve(found),
         ("compile", found) => asked_compile(found),
         ("trial", found) => asked_trial(found),
+        ("check", found) => asked_check(found),
+        ("session", _) => Some(Asked::Session),
         _ => None,
     }
 }
@@ -83,6 +86,16 @@ fn asked_trial<'a>(found: &ArgMatches<'a>) -> Option<Asked<'a>>
     Some(Asked::Trial(read_trial(found)?))
 }
 
+/// What the words after `check` ask for, as a command.
+fn asked_check<'a>(found: &ArgMatches<'a>) -> Option<Asked<'a>>
+    ensures read { IfSome result (λ command.
+        Asks (Some (codes "check", rows_of (found_of found.now))) (asked command)) }
+    ensures refused { IfNone result ((command : spec.Command) →
+        Asks (Some (codes "check", rows_of (found_of found.now))) command → ⊥) }
+{
+    Some(Asked::Check(read_check(found)?))
+}
+
 /// What the words after `solve` ask for: its module, goal, folder, workers and
 /// limits.
 fn read_solve<'a>(found: &ArgMatches<'a>) -> Option<Solve<'a>>
@@ -115,6 +128,24 @@ fn read_compile<'a>(found: &ArgMatches<'a>) -> Option<Compile<'a>>
     let module = read_module(found)?;
     let folder = text(found, "dir")?;
     Some(Compile { module, folder })
+}
+
+/// What the words after `check` ask for: its module, the path of its file, and
+/// its folder.
+fn read_check<'a>(found: &ArgMatches<'a>) -> Option<Check<'a>>
+    ensures read { IfSome result (λ check.
+        IsCheck (rows_of (found_of found.now)) (check_of check)) }
+    ensures refused { IfNone result ((check : spec.Check) →
+        IsCheck (rows_of (found_of found.now)) check → ⊥) }
+{
+    let module = read_module(found)?;
+    let path = text(found, "FILE")?;
+    let folder = text(found, "dir")?;
+    Some(Check {
+        module,
+        path,
+        folder,
+    })
 }
 
 /// What the words after `trial` ask for: its numbers.

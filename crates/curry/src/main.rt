@@ -1,4 +1,4 @@
-//! The program `curry`: it makes the real library and output, runs the
+//! The program `curry`: it makes the real library, input and output, runs the
 //! command that its words say, and ends with the status's number.
 #![tactic(auto)]
 
@@ -9,7 +9,7 @@ ghost use Rattle.std.specs.Process.{exit_status};
 ghost use Rattle.cu_cmd.specs.Numbers.{number_of};
 
 use cu_cmd::{Status, top};
-use cu_io::{FolderLibrary, OutputSink, VecSource};
+use cu_io::{FolderLibrary, InputSource, OutputSink};
 use progress::{ClearedSink, Progress};
 use std::alloc::AllocError;
 use std::env;
@@ -43,9 +43,10 @@ fn main(rt: HostRuntime) -> ExitCode {
     exit_code(status)
 }
 
-/// Runs the command over the folder and the output that the process has. Where
-/// standard error is a terminal, the progress of a long search is shown there.
-fn run<R: AllocGlobal + Files + Print + Eprint + Clock + Threads + Sync>(
+/// Runs the command over the folder, the input and the output that the process
+/// has. Where standard error is a terminal, the progress of a long search is
+/// shown there.
+fn run<R: AllocGlobal + Files + Input + Print + Eprint + Clock + Threads + Sync>(
     rt: &R,
     words: &[String],
     is_terminal: bool,
@@ -57,7 +58,7 @@ fn run<R: AllocGlobal + Files + Print + Eprint + Clock + Threads + Sync>(
         alloc,
         words,
         &mut FolderLibrary::new(rt),
-        &mut VecSource::new(Vec::new(alloc), Vec::new(alloc)),
+        &mut InputSource::new(rt.reader()),
         &mut ClearedSink::new(&progress, OutputSink::new(rt)),
         &progress,
     );

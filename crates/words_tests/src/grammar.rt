@@ -1,6 +1,6 @@
 //! The grammar of the words, row by row, from both sides.
 use cu_machine::SearchLimits;
-use cu_words::{Asked, Compile, Solve, Trial, read_words};
+use cu_words::{Asked, Check, Compile, Solve, Trial, read_words};
 use std::alloc::{AllocError, Global};
 use std::process::Abort;
 
@@ -439,6 +439,90 @@ const NO_TEXTS: [&str; 9] = [
 #[test]
 fn other_texts_are_refused(rt: HostRuntime) {
     for line in &NO_TEXTS {
+        assert!(rt; refuses(rt.alloc(), line).ok() == Some(true), "{line}");
+    }
+}
+
+/// A line that asks for a check, and its module, path and folder.
+type CheckCase = (&'static str, &'static str, &'static str, &'static str);
+
+const CHECKS: [CheckCase; 9] = [
+    ("check M F", "M", "F", "."),
+    ("check --dir=D M F", "M", "F", "D"),
+    ("check M --dir D F", "M", "F", "D"),
+    (
+        "check A.B lib/a.proof --dir lib",
+        "A.B",
+        "lib/a.proof",
+        "lib",
+    ),
+    ("check M -", "M", "-", "."),
+    ("check -- M F", "M", "F", "."),
+    ("check --dir=-x -- M -f", "M", "-f", "-x"),
+    ("check M ", "M", "", "."),
+    ("check check check", "check", "check", "."),
+];
+
+/// Whether a line asks for this check.
+fn checks(alloc: Global, case: &CheckCase) -> Result<bool, AllocError> {
+    let words = words_of(alloc, case.0)?;
+    match read_words(alloc, &words)? {
+        Some(Asked::Check(check)) => Ok(is_check(&check, case)),
+        _ => Ok(false),
+    }
+}
+
+fn is_check(check: &Check<'_>, case: &CheckCase) -> bool {
+    check.module == case.1 && check.path == case.2 && check.folder == case.3
+}
+
+#[test]
+fn checks_are_read(rt: HostRuntime) {
+    for case in &CHECKS {
+        assert!(rt; checks(rt.alloc(), case).ok() == Some(true), "{}", case.0);
+    }
+}
+
+/// Whether a line asks for a session.
+fn serves(alloc: Global, line: &str) -> Result<bool, AllocError> {
+    let words = words_of(alloc, line)?;
+    Ok(matches!(read_words(alloc, &words)?, Some(Asked::Session)))
+}
+
+#[test]
+fn sessions_are_read(rt: HostRuntime) {
+    assert!(rt; serves(rt.alloc(), "session").ok() == Some(true));
+    assert!(rt; serves(rt.alloc(), "solve session --goal session").ok() == Some(false));
+}
+
+/// Lines that ask for neither a check nor a session.
+const NEITHER: [&str; 21] = [
+    "check",
+    "check M",
+    "check --dir=D M",
+    "check M --",
+    "check M F G",
+    "check M F -- G",
+    "check 1M F",
+    "check F/M M",
+    "check M -f",
+    "check M --file F",
+    "check M F --dir",
+    "check M F --dir . --dir .",
+    "check M F --goal coin",
+    "check M F --workers 1",
+    "check --help",
+    "Check M F",
+    "checks M F",
+    "session M",
+    "session --dir .",
+    "session --workers 1",
+    "sessions",
+];
+
+#[test]
+fn neither_is_refused(rt: HostRuntime) {
+    for line in &NEITHER {
         assert!(rt; refuses(rt.alloc(), line).ok() == Some(true), "{line}");
     }
 }

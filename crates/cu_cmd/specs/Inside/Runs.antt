@@ -1,11 +1,12 @@
 -- How the parts of a run end, and what they wrote.
-use Rattle.std.specs.Prelude.{◌≡◌, ℕ, List, Option, Result, Ok, Err}
+use Rattle.std.specs.Prelude.{◌≡◌, ℕ, ◌⊎◌, List, Option, Result, Ok, Err}
 use Rattle.cu_io.specs.Rose.{Rose}
 use Rattle.cu_flattext.specs.declared.fault.PrintFault.{PrintFault}
 use Rattle.cu_flattext.specs.declared.fault.PrintFault.TheVariants as print
 use Rattle.cu_search.specs.declared.fault.SearchFault.{SearchFault}
 use Rattle.cu_search.specs.declared.fault.SearchFault.TheVariants as search
-use Rattle.cu_words.specs.Words.{Command}
+use Rattle.cu_words.specs.Words.{Command, Serving}
+use Rattle.cu_cmd.specs.Causes.{Counts}
 use Rattle.cu_cmd.specs.Written.{WritesPrefix, WritesReport, WritesWholly}
 use Rattle.cu_cmd.specs.declared.fault.RunFault.{RunFault}
 use Rattle.cu_cmd.specs.declared.fault.RunFault.TheVariants.{NoMemory, Read, Write}
@@ -36,10 +37,11 @@ Ends (Ok answer) Due before after = WritesReport answer Due before after
 Ends (Err fault) Due before after = WritesPrefix Due before after
 
 -- The whole result of a command was written, where the run didn't break off, and nothing, where
--- reading failed.
+-- reading failed and the command is no session.
 abbrev pub EndsWhole : Result Status RunFault → Command → Option (List ℕ) → Option (List ℕ)
     → Type 0
 EndsWhole (Ok answer) asked before after = WritesWholly asked answer before after
+EndsWhole (Err Read) Serving before after = Unit {0}
 EndsWhole (Err Read) asked before after = after ≡ before
 EndsWhole (Err fault) asked before after = Unit {0}
 
@@ -73,3 +75,12 @@ HasRunCause (Ok x) old new = new ≡ old
 HasRunCause (Err Read) old new = Rose old.library new.library × (new.output ≡ old.output)
 HasRunCause (Err Write) old new = Rose old.output new.output × (new.library ≡ old.library)
 HasRunCause (Err NoMemory) old new = new ≡ old
+
+-- The count of what failed rose, and the others stand.
+abbrev pub HasCommandCause : Result Status RunFault → Counts → Counts → Type 0
+HasCommandCause (Ok answer) old new = new ≡ old
+HasCommandCause (Err Read) old new =
+    (Rose old.library new.library ⊎ Rose old.input new.input) × (new.output ≡ old.output)
+HasCommandCause (Err Write) old new =
+    Rose old.output new.output × (new.library ≡ old.library) × (new.input ≡ old.input)
+HasCommandCause (Err NoMemory) old new = new ≡ old

@@ -12,4 +12,6 @@ returns c =
     let asked = ap app_of_fields c.subcommand_required.ensures ∙ ap (on_top (λ s. record s { subcommand_required = true })) no_version in
     let with_solve = c.in_ok-subcommand.ensures.shape c.in_ok-solve.ensures.local ∙ ap₂ with_subcommand asked c.in_ok-solve.ensures.shape in
     let with_compile = c.in_ok-subcommand-2.ensures.shape c.in_ok-compile.ensures.local ∙ ap₂ with_subcommand with_solve c.in_ok-compile.ensures.shape in
-    IfOk-weaker c.subcommand-3.result _ _ (λ made adds. adds.shape c.in_ok-trial.ensures.local ∙ ap₂ with_subcommand with_compile c.in_ok-trial.ensures.shape) c.subcommand-3.ensures
+    let with_trial = c.in_ok-subcommand-3.ensures.shape c.in_ok-trial.ensures.local ∙ ap₂ with_subcommand with_compile c.in_ok-trial.ensures.shape in
+    let with_check = c.in_ok-subcommand-4.ensures.shape c.in_ok-check.ensures.local ∙ ap₂ with_subcommand with_trial c.in_ok-check.ensures.shape in
+    IfOk-weaker c.subcommand-5.result _ _ (λ made adds. adds.shape c.session_command.ensures.local ∙ ap₂ with_subcommand with_check c.session_command.ensures.shape) c.subcommand-5.ensures
