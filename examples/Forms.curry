@@ -1,7 +1,5 @@
--- Each form of the language, once.
---
--- The idea: none of its own. This is the table of forms of the manual as one module, to look up
--- how a form is written.
+-- Each form of the language once, to look up how it is written: the table of forms of the manual
+-- as one module.
 module Forms where
 
 import Prelude
